@@ -1,0 +1,6 @@
+pub mod formers
+pub mod Keys
+pub mod Meaning
+pub mod Path
+pub mod Value
+pub mod Written

@@ -1,0 +1,257 @@
+ghost use Rattle.std.specs.Prelude.{◌≡◌, IfOk, IfErr, map, false};
+ghost use Rattle.cedar_expressions.specs.Value as v;
+ghost use Rattle.cedar_expressions.specs.Keys.{repeats_key, IsDue};
+ghost use Rattle.cedar_expressions.specs.Meaning.{unplaced, unary_call, binary_call, nary_call, list_call};
+
+use crate::record_keys::refuse_repeated_key;
+use crate::{
+    AddOp, BinaryCall, BinaryOp, Boxed, EntityType, Expr, ExprBuilderInfallibleBuild, ExprKind,
+    Items, ListCall, Literal, Name, NaryOp, PatternElem, Place, RecordError, SlotId, Text,
+    UnaryCall, UnaryOp, Var,
+};
+use std::alloc::{AllocError, Global};
+use std::marker::PhantomData;
+
+/// Makes `Expr`s. The marker stands for data of the nodes; only `()`, no data, has the calls.
+#[derive(Debug, Drop)]
+pub struct ExprBuilder<T> {
+    alloc: Global,
+    place: Option<Place>,
+    marker: PhantomData<T>,
+}
+
+impl ExprBuilder<()> {
+    /// The node of a kind, at the builder's place.
+    fn node(self, kind: ExprKind) -> Expr
+        ensures { result ≡ record { kind = kind; place = record { place = self.place } } }
+    {
+        Expr::at(kind, self.place)
+    }
+
+    fn boxed(&self, part: Expr) -> Result<Boxed<Expr>, AllocError>
+        ensures { IfOk result (λ boxed. boxed ≡ part) }
+    {
+        Boxed::new(self.alloc, part)
+    }
+
+    #[tactic(auto, unfolding(crate::specs::Meaning::unplaced))]
+    fn binary(self, call: BinaryCall, parts: (Expr, Expr)) -> Result<Expr, AllocError>
+        ensures { IfOk result (λ e. unplaced e ≡ binary_call call (unplaced parts.0) (unplaced parts.1)) }
+    {
+        let parts = Boxed::new(self.alloc, parts)?;
+        Ok(self.node(ExprKind::Binary(call, parts)))
+    }
+
+    #[tactic(auto, unfolding(crate::specs::Meaning::unplaced))]
+    fn unary(self, call: UnaryCall, operand: Expr) -> Result<Expr, AllocError>
+        ensures { IfOk result (λ e. unplaced e ≡ unary_call call (unplaced operand)) }
+    {
+        let operand = self.boxed(operand)?;
+        Ok(self.node(ExprKind::Unary(call, operand)))
+    }
+
+    #[tactic(auto, unfolding(crate::specs::Meaning::unplaced))]
+    fn nary(self, op: NaryOp, first: Expr, rest: Vec<Expr>) -> Result<Expr, AllocError>
+        ensures { IfOk result (λ e. unplaced e ≡ nary_call op (unplaced first) (v.values (map unplaced rest.items))) }
+    {
+        let first = self.boxed(first)?;
+        Ok(self.node(ExprKind::Nary(op, first, Items::from(rest))))
+    }
+
+    #[tactic(auto, unfolding(crate::specs::Meaning::unplaced))]
+    fn list(self, call: ListCall, items: Vec<Expr>) -> Expr
+        ensures { unplaced result ≡ list_call call (v.values (map unplaced items.items)) }
+    {
+        self.node(ExprKind::List(call, Items::from(items)))
+    }
+
+    #[tactic(auto, unfolding(crate::specs::Meaning::unplaced))]
+    fn record_node(self, pairs: Vec<(Text, Expr)>) -> Expr
+        ensures { unplaced result ≡ v.«record» (v.fields (map (λ p. (p.0, unplaced p.1)) pairs.items)) }
+    {
+        self.node(ExprKind::Record(Items::from(pairs)))
+    }
+}
+
+impl ExprBuilderInfallibleBuild for ExprBuilder<()> {
+    type Expr = Expr;
+
+    ghost meaning = { unplaced };
+
+    fn new(alloc: Global) -> ExprBuilder<()> {
+        ExprBuilder {
+            alloc,
+            place: None,
+            marker: PhantomData,
+        }
+    }
+
+    fn with_maybe_source_loc(self, place: Option<Place>) -> ExprBuilder<()> {
+        ExprBuilder {
+            alloc: self.alloc,
+            place,
+            marker: PhantomData,
+        }
+    }
+
+    #[tactic(auto, unfolding(crate::specs::Meaning::unplaced))]
+    fn val(self, literal: Literal) -> Result<Expr, AllocError> {
+        Ok(self.node(ExprKind::Val(literal)))
+    }
+
+    #[tactic(auto, unfolding(crate::specs::Meaning::unplaced))]
+    fn var(self, var: Var) -> Result<Expr, AllocError> {
+        Ok(self.node(ExprKind::Var(var)))
+    }
+
+    #[tactic(auto, unfolding(crate::specs::Meaning::unplaced))]
+    fn slot(self, slot: SlotId) -> Result<Expr, AllocError> {
+        Ok(self.node(ExprKind::Slot(slot)))
+    }
+
+    #[tactic(auto, unfolding(crate::specs::Meaning::unplaced))]
+    fn ite(self, guard: Expr, consequent: Expr, alternative: Expr) -> Result<Expr, AllocError> {
+        let parts = Boxed::new(self.alloc, (guard, consequent, alternative))?;
+        Ok(self.node(ExprKind::Ite(parts)))
+    }
+
+    fn not(self, inner: Expr) -> Result<Expr, AllocError> {
+        self.unary(UnaryCall::Op(UnaryOp::Not), inner)
+    }
+
+    fn neg(self, inner: Expr) -> Result<Expr, AllocError> {
+        self.unary(UnaryCall::Op(UnaryOp::Neg), inner)
+    }
+
+    fn and(self, left: Expr, right: Expr) -> Result<Expr, AllocError> {
+        self.binary(BinaryCall::Op(BinaryOp::And), (left, right))
+    }
+
+    fn or_nary(self, first: Expr, rest: Vec<Expr>) -> Result<Expr, AllocError>
+        ensures { IfOk result (λ e. unplaced e ≡ v.or_nary (unplaced first) (v.values (map unplaced rest.items))) }
+    {
+        self.nary(NaryOp::Or, first, rest)
+    }
+
+    fn and_naryl(self, first: Expr, rest: Vec<Expr>) -> Result<Expr, AllocError>
+        ensures { IfOk result (λ e. unplaced e ≡ v.and_naryl (unplaced first) (v.values (map unplaced rest.items))) }
+    {
+        self.nary(NaryOp::And, first, rest)
+    }
+
+    #[tactic(auto, unfolding(crate::specs::Meaning::unplaced))]
+    fn add_nary(self, first: Expr, rest: Vec<(AddOp, Expr)>) -> Result<Expr, AllocError>
+        ensures { IfOk result (λ e. unplaced e ≡ v.add_nary (unplaced first) (v.terms (map (λ t. (t.0, unplaced t.1)) rest.items))) }
+    {
+        let first = self.boxed(first)?;
+        Ok(self.node(ExprKind::Sum(first, Items::from(rest))))
+    }
+
+    fn mul_nary(self, first: Expr, rest: Vec<Expr>) -> Result<Expr, AllocError>
+        ensures { IfOk result (λ e. unplaced e ≡ v.mul_nary (unplaced first) (v.values (map unplaced rest.items))) }
+    {
+        self.nary(NaryOp::Mul, first, rest)
+    }
+
+    fn less(self, left: Expr, right: Expr) -> Result<Expr, AllocError> {
+        self.binary(BinaryCall::Op(BinaryOp::Less), (left, right))
+    }
+
+    fn lesseq(self, left: Expr, right: Expr) -> Result<Expr, AllocError> {
+        self.binary(BinaryCall::Op(BinaryOp::LessEq), (left, right))
+    }
+
+    fn greater(self, left: Expr, right: Expr) -> Result<Expr, AllocError> {
+        self.binary(BinaryCall::Op(BinaryOp::Greater), (left, right))
+    }
+
+    fn greatereq(self, left: Expr, right: Expr) -> Result<Expr, AllocError> {
+        self.binary(BinaryCall::Op(BinaryOp::GreaterEq), (left, right))
+    }
+
+    fn is_eq(self, left: Expr, right: Expr) -> Result<Expr, AllocError> {
+        self.binary(BinaryCall::Op(BinaryOp::Eq), (left, right))
+    }
+
+    fn noteq(self, left: Expr, right: Expr) -> Result<Expr, AllocError> {
+        self.binary(BinaryCall::Op(BinaryOp::NotEq), (left, right))
+    }
+
+    fn is_in(self, left: Expr, right: Expr) -> Result<Expr, AllocError> {
+        self.binary(BinaryCall::Op(BinaryOp::In), (left, right))
+    }
+
+    fn like(self, expr: Expr, pattern: Vec<PatternElem>) -> Result<Expr, AllocError> {
+        self.unary(UnaryCall::Like(Items::from(pattern)), expr)
+    }
+
+    fn is_entity_type(self, expr: Expr, entity_type: EntityType) -> Result<Expr, AllocError> {
+        self.unary(UnaryCall::Is(entity_type), expr)
+    }
+
+    fn is_in_entity_type(
+        self,
+        expr: Expr,
+        entity_type: EntityType,
+        entity: Expr,
+    ) -> Result<Expr, AllocError> {
+        self.binary(BinaryCall::IsIn(entity_type), (expr, entity))
+    }
+
+    fn extended_has_attr(
+        self,
+        expr: Expr,
+        first: Text,
+        rest: Vec<Text>,
+    ) -> Result<Expr, AllocError> {
+        self.unary(UnaryCall::ExtendedHasAttr(first, Items::from(rest)), expr)
+    }
+
+    fn get_attr(self, expr: Expr, attr: Text) -> Result<Expr, AllocError> {
+        self.unary(UnaryCall::GetAttr(attr), expr)
+    }
+
+    fn contains(self, set: Expr, element: Expr) -> Result<Expr, AllocError> {
+        self.binary(BinaryCall::Op(BinaryOp::Contains), (set, element))
+    }
+
+    fn contains_all(self, set: Expr, other: Expr) -> Result<Expr, AllocError> {
+        self.binary(BinaryCall::Op(BinaryOp::ContainsAll), (set, other))
+    }
+
+    fn contains_any(self, set: Expr, other: Expr) -> Result<Expr, AllocError> {
+        self.binary(BinaryCall::Op(BinaryOp::ContainsAny), (set, other))
+    }
+
+    fn is_empty(self, set: Expr) -> Result<Expr, AllocError> {
+        self.unary(UnaryCall::IsEmpty, set)
+    }
+
+    fn get_tag(self, entity: Expr, tag: Expr) -> Result<Expr, AllocError> {
+        self.binary(BinaryCall::Op(BinaryOp::GetTag), (entity, tag))
+    }
+
+    fn has_tag(self, entity: Expr, tag: Expr) -> Result<Expr, AllocError> {
+        self.binary(BinaryCall::Op(BinaryOp::HasTag), (entity, tag))
+    }
+
+    fn call_extension_fn(self, function: Name, args: Vec<Expr>) -> Result<Expr, AllocError>
+        ensures { IfOk result (λ e. unplaced e ≡ v.call_extension_fn function (v.values (map unplaced args.items))) }
+    {
+        Ok(self.list(ListCall::Extension(function), args))
+    }
+
+    fn set(self, elements: Vec<Expr>) -> Result<Expr, AllocError>
+        ensures { IfOk result (λ e. unplaced e ≡ v.set (v.values (map unplaced elements.items))) }
+    {
+        Ok(self.list(ListCall::Set, elements))
+    }
+
+    fn record(self, pairs: Vec<(Text, Expr)>) -> Result<Expr, RecordError>
+        ensures ok { IfOk result (λ e. (unplaced e ≡ v.«record» (v.fields (map (λ p. (p.0, unplaced p.1)) pairs.items))) × (repeats_key (map (λ p. p.0) pairs.items) ≡ false)) }
+        ensures err { IfErr result (λ error. IsDue error (map (λ p. p.0) pairs.items)) }
+    {
+        refuse_repeated_key(self.alloc, pairs.as_slice())?;
+        Ok(self.record_node(pairs))
+    }
+}

@@ -1,0 +1,35 @@
+//! The values of Cedar's expressions, and the small owners of text and lists that every tree of this repository is made of.
+#![tactic(auto)]
+
+mod boxed;
+mod builder;
+mod entity;
+mod errors;
+mod expr;
+mod expr_builder;
+mod ids;
+mod items;
+mod literal;
+mod names;
+mod operators;
+mod place;
+mod record_keys;
+mod source;
+mod text;
+mod try_clone;
+
+pub use boxed::Boxed;
+pub use builder::ExprBuilderInfallibleBuild;
+pub use entity::{Eid, EntityType, EntityUID};
+pub use errors::{ExpressionConstructionError, RecordError};
+pub use expr::{BinaryCall, BinaryOp, Expr, ExprKind, ListCall, NaryOp, UnaryCall};
+pub use expr_builder::ExprBuilder;
+pub use ids::{AnyId, Id, UnreservedId};
+pub use items::Items;
+pub use literal::{Literal, PatternElem, SlotId, Var};
+pub use names::{InternalName, Name, ReservedNameError};
+pub use operators::{AddOp, UnaryOp};
+pub use place::{NodePlace, Place, Slot};
+pub use source::Source;
+pub use text::Text;
+pub use try_clone::TryClone;

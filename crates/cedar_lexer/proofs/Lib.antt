@@ -1,0 +1,10 @@
+pub mod Bytes
+pub mod Cuts
+pub mod Fixed
+pub mod Found
+pub mod Fronts
+pub mod Marks
+pub mod Runs
+pub mod Skips
+pub mod Steps
+pub mod Strings

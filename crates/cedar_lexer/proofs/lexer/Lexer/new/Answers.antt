@@ -1,0 +1,6 @@
+-- A text begins where a character does.
+use Rattle.std.proofs.lemmas.Str.{IsCharBoundary-start}
+use Rattle.cedar_lexer.proofs.lexer.Lexer.new.Goals as goal
+
+pub invariant_of-result : goal.invariant_of-result
+invariant_of-result c = IsCharBoundary-start c.args.text.now c.utf8.text

@@ -1,0 +1,186 @@
+//! Finds the spelling at the front of a text, by its bytes.
+ghost use Rattle.std.specs.Prelude.{◌≡◌, ◌≤◌, length, slice_index, false, if◌then◌else◌};
+ghost use Rattle.std.specs.List.{prefix_len};
+ghost use Rattle.std.specs.Char.{is_ascii_digit};
+ghost use Rattle.cedar_lexer.specs.Spelling.{begins_identifier as begins, continues_identifier as continues};
+ghost use Rattle.cedar_lexer.specs.Scan as spec;
+
+use crate::token::TokenKind;
+
+/// A kind, and how many bytes its spelling has.
+type Found = (TokenKind, usize);
+
+/// The byte at `index`, or 0 past the end.
+pub(crate) fn byte_at(text: &[u8], index: usize) -> u8
+    ensures { result ≡ slice_index text.now index }
+{
+    text.get(index).copied().unwrap_or(0)
+}
+
+fn begins_identifier(byte: u8) -> bool
+    ensures { result ≡ begins byte }
+{
+    byte.is_ascii_alphabetic() || byte == b'_'
+}
+
+fn continues_identifier(byte: u8) -> bool
+    ensures { result ≡ continues byte }
+{
+    byte.is_ascii_alphanumeric() || byte == b'_'
+}
+
+fn identifier_len(text: &[u8]) -> usize
+    ensures len { result ≡ prefix_len continues text.now }
+    ensures within { result ≤ length text.now }
+{
+    text.iter()
+        .take_while(|b| continues_identifier(**b))
+        .count()
+}
+
+fn digits_len(text: &[u8]) -> usize
+    ensures { result ≡ prefix_len is_ascii_digit text.now }
+{
+    text.iter().take_while(|b| b.is_ascii_digit()).count()
+}
+
+fn number(text: &[u8]) -> Option<Found>
+    ensures { result ≡ spec.number text.now }
+{
+    Some((TokenKind::Number, digits_len(text)))
+}
+
+fn word_kind(text: &[u8]) -> TokenKind
+    ensures { result ≡ spec.kind_among spec.words text.now TokenKind.Identifier }
+{
+    match text {
+        b"true" => TokenKind::True,
+        b"false" => TokenKind::False,
+        b"if" => TokenKind::If,
+        b"permit" => TokenKind::Permit,
+        b"forbid" => TokenKind::Forbid,
+        b"when" => TokenKind::When,
+        b"unless" => TokenKind::Unless,
+        b"in" => TokenKind::In,
+        b"has" => TokenKind::Has,
+        b"like" => TokenKind::Like,
+        b"is" => TokenKind::Is,
+        b"then" => TokenKind::Then,
+        b"else" => TokenKind::Else,
+        b"principal" => TokenKind::Principal,
+        b"action" => TokenKind::Action,
+        b"resource" => TokenKind::Resource,
+        b"context" => TokenKind::Context,
+        _ => TokenKind::Identifier,
+    }
+}
+
+fn slot_kind(text: &[u8]) -> TokenKind
+    ensures { result ≡ spec.kind_among spec.slots text.now TokenKind.OtherSlot }
+{
+    match text {
+        b"?principal" => TokenKind::PrincipalSlot,
+        b"?resource" => TokenKind::ResourceSlot,
+        _ => TokenKind::OtherSlot,
+    }
+}
+
+fn word(text: &[u8]) -> Option<Found>
+    ensures { result ≡ spec.word text.now }
+{
+    let len = identifier_len(text);
+    Some((word_kind(&text[..len]), len))
+}
+
+fn slot(text: &[u8]) -> Option<Found>
+    ensures { result ≡ spec.slot text.now }
+{
+    if !begins_identifier(byte_at(text, 1)) {
+        return None;
+    }
+    let len = 1 + identifier_len(&text[1..]);
+    Some((slot_kind(&text[..len]), len))
+}
+
+/// A string, behind its opening quote. A backslash takes the next byte with it, whichever that is.
+fn string(text: &[u8]) -> Option<Found>
+    ensures { result ≡ spec.string_of (spec.string_len false text.now 1) }
+{
+    let mut escaped = false;
+    for (i, byte) in text.iter().enumerate() {
+        if escaped {
+            escaped = false;
+        } else if *byte == b'"' {
+            return Some((TokenKind::StringLit, i + 2));
+        } else {
+            escaped = *byte == b'\\';
+        }
+    }
+    None
+}
+
+fn one(kind: TokenKind) -> Option<Found>
+    ensures { result ≡ spec.one kind }
+{
+    Some((kind, 1))
+}
+
+/// The longer kind where the second byte is the one that it wants.
+fn either(longer: bool, two: TokenKind, short: Option<Found>) -> Option<Found>
+    ensures { result ≡ (if longer then spec.two two else short) }
+{
+    if longer { Some((two, 2)) } else { short }
+}
+
+fn mark(first: u8, second: u8) -> Option<Found>
+    ensures { result ≡ spec.mark first second }
+{
+    match first {
+        b'@' => one(TokenKind::At),
+        b'.' => one(TokenKind::Dot),
+        b',' => one(TokenKind::Comma),
+        b';' => one(TokenKind::Semicolon),
+        b'(' => one(TokenKind::OpenParen),
+        b')' => one(TokenKind::CloseParen),
+        b'{' => one(TokenKind::OpenBrace),
+        b'}' => one(TokenKind::CloseBrace),
+        b'[' => one(TokenKind::OpenBracket),
+        b']' => one(TokenKind::CloseBracket),
+        b'+' => one(TokenKind::Plus),
+        b'-' => one(TokenKind::Minus),
+        b'*' => one(TokenKind::Star),
+        b'%' => one(TokenKind::Percent),
+        b':' => either(second == b':', TokenKind::ColonColon, one(TokenKind::Colon)),
+        b'=' => either(second == b'=', TokenKind::EqEq, one(TokenKind::Eq)),
+        b'!' => either(second == b'=', TokenKind::NotEq, one(TokenKind::Bang)),
+        b'<' => either(second == b'=', TokenKind::LessEq, one(TokenKind::Less)),
+        b'>' => either(
+            second == b'=',
+            TokenKind::GreaterEq,
+            one(TokenKind::Greater),
+        ),
+        b'|' => either(second == b'|', TokenKind::OrOr, None),
+        b'&' => either(second == b'&', TokenKind::AndAnd, None),
+        b'/' if second != b'/' => one(TokenKind::Slash),
+        _ => None,
+    }
+}
+
+/// The longest spelling that starts the text: its kind and how many bytes it has.
+pub(crate) fn spelling(text: &[u8]) -> Option<Found>
+    ensures { result ≡ spec.spelling text.now }
+{
+    let (first, rest) = text.split_first()?;
+    let first = *first;
+    if begins_identifier(first) {
+        word(text)
+    } else if first.is_ascii_digit() {
+        number(text)
+    } else if first == b'?' {
+        slot(text)
+    } else if first == b'"' {
+        string(rest)
+    } else {
+        mark(first, byte_at(rest, 0))
+    }
+}

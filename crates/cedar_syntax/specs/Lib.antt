@@ -1,0 +1,12 @@
+pub mod Lending
+pub mod Messages
+pub mod Node
+pub mod NonEmpty
+pub mod ParseErrors
+pub mod Printed
+pub mod Printing
+pub mod RawFault
+pub mod Span
+pub mod ToASTError
+pub mod Tree
+pub mod Unplaced

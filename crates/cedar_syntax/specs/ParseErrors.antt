@@ -1,0 +1,23 @@
+-- The faults of a text, in order.
+use Rattle.std.specs.Prelude.{List, Option}
+use Rattle.cedar_syntax.specs.NonEmpty.{list_of, into_iter_left}
+use Rattle.cedar_syntax.specs.Span.{Span}
+use Rattle.cedar_syntax.specs.RawFault.{span_of_raw}
+use Rattle.cedar_syntax.specs.ToASTError.{span_of_ast}
+use Rattle.cedar_syntax.specs.declared.err.faults.ParseError.{ParseError}
+use Rattle.cedar_syntax.specs.declared.err.faults.ParseError.TheVariants.{ToCST, ToAST}
+use Rattle.cedar_syntax.specs.declared.err.faults.ParseErrors.{ParseErrors}
+use Rattle.cedar_syntax.specs.declared.err.faults.IntoIter.{IntoIter}
+
+-- all faults of the list, of which there is at least one
+abbrev pub faults_of : ParseErrors → List ParseError
+faults_of errors = list_of errors.faults
+
+-- the bytes at which a fault stands, where it has a place
+abbrev pub span_of : ParseError → Option Span
+span_of (ToCST fault) = span_of_raw fault.raw
+span_of (ToAST fault) = span_of_ast fault
+
+-- the faults that an iterator is still to give
+abbrev pub faults_left : IntoIter → List ParseError
+faults_left items = into_iter_left items.faults

@@ -1,0 +1,56 @@
+-- The parts of a fault that stopped a parse.
+use Rattle.std.specs.Prelude.{ℕ, List, [], Option, Some, None, ◌-◌}
+use Rattle.std.specs.Option.{option_map}
+use Rattle.cedar_lexer.specs.declared.token.TokenKind.{TokenKind}
+use Rattle.cedar_syntax.specs.Span.{Span}
+use Rattle.cedar_syntax.specs.declared.loc.Loc.{Loc}
+use Rattle.cedar_syntax.specs.declared.err.to_cst.RawFault.{RawFault}
+use Rattle.cedar_syntax.specs.declared.err.to_cst.RawFault.TheVariants.{InvalidToken, UnrecognizedToken, UnrecognizedEof, User, ExtraToken}
+
+-- which of the five it is
+abbrev pub number_of : RawFault → ℕ
+number_of (InvalidToken location) = 0
+number_of (UnrecognizedToken start end token expected) = 1
+number_of (UnrecognizedEof location expected) = 2
+number_of (User error) = 3
+number_of (ExtraToken start end token) = 4
+
+-- from where to where; the parser's own words have a place instead
+abbrev pub bytes_of : RawFault → ℕ × ℕ
+bytes_of (InvalidToken location) = (location, location)
+bytes_of (UnrecognizedToken start end token expected) = (start, end)
+bytes_of (UnrecognizedEof location expected) = (location, location)
+bytes_of (User error) = (0, 0)
+bytes_of (ExtraToken start end token) = (start, end)
+
+-- the refused token, or the parser's own words
+abbrev pub text_of : RawFault → List ℕ
+text_of (InvalidToken location) = []
+text_of (UnrecognizedToken start end token expected) = token
+text_of (UnrecognizedEof location expected) = []
+text_of (User error) = error.node
+text_of (ExtraToken start end token) = token
+
+-- the kinds of token that could have stood there
+abbrev pub expected_of : RawFault → List TokenKind
+expected_of (InvalidToken location) = []
+expected_of (UnrecognizedToken start end token expected) = expected
+expected_of (UnrecognizedEof location expected) = expected
+expected_of (User error) = []
+expected_of (ExtraToken start end token) = []
+
+-- the place of the parser's own words
+abbrev pub place_of : RawFault → Option Loc
+place_of (InvalidToken location) = None
+place_of (UnrecognizedToken start end token expected) = None
+place_of (UnrecognizedEof location expected) = None
+place_of (User error) = error.loc
+place_of (ExtraToken start end token) = None
+
+-- where the parse stopped: an invalid token and the end take no bytes
+abbrev pub span_of_raw : RawFault → Option Span
+span_of_raw (InvalidToken location) = Some (record { offset = location; len = 0 })
+span_of_raw (UnrecognizedToken start end token expected) = Some (record { offset = start; len = end - start })
+span_of_raw (UnrecognizedEof location expected) = Some (record { offset = location; len = 0 })
+span_of_raw (User error) = option_map (λ loc. loc.span) error.loc
+span_of_raw (ExtraToken start end token) = Some (record { offset = start; len = end - start })

@@ -1,0 +1,13 @@
+//! The faults of texts and trees, and the lists in which they are told.
+
+pub mod escape;
+pub mod faults;
+pub mod non_empty;
+pub mod to_ast;
+pub mod to_cst;
+
+pub use escape::{EscapeError, UnescapeError, UnescapeFailure};
+pub use faults::{Failure, ParseError, ParseErrors};
+pub use non_empty::NonEmpty;
+pub use to_ast::{ToASTError, ToASTErrorKind};
+pub use to_cst::{RawFault, ToCSTError};

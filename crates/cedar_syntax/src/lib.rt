@@ -1,0 +1,18 @@
+//! The syntax trees of a text, with the place of each node, and the faults that a text or a tree can have.
+#![tactic(auto)]
+
+mod clones;
+mod copy;
+mod copy_leaves;
+mod copy_traits;
+pub mod cst;
+mod display;
+pub mod err;
+mod leaves;
+pub mod loc;
+pub mod node;
+mod print;
+mod print_policies;
+mod tokens;
+
+pub use cedar_expressions::{Boxed, Items, Source, Text, TryClone};

@@ -1,0 +1,14 @@
+pub mod Agreement
+pub mod Allowed
+pub mod Answering
+pub mod Basics
+pub mod Clauses
+pub mod Complete
+pub mod Faults
+pub mod FirstPiece
+pub mod Layouts
+pub mod OneFault
+pub mod Places
+pub mod Quotes
+pub mod Sound
+pub mod Tokens

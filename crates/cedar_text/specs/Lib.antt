@@ -1,0 +1,17 @@
+pub mod Answer
+pub mod Begins
+pub mod Fault
+pub mod Faults
+pub mod Loose
+pub mod Machine
+pub mod Pattern
+pub mod Piece
+pub mod Place
+pub mod Places
+pub mod Progress
+pub mod Reading
+pub mod Runs
+pub mod Sentence
+pub mod Shape
+pub mod Trees
+pub mod Written

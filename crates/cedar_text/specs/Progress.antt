@@ -1,0 +1,84 @@
+-- How far the parser has come in a text.
+use Rattle.std.specs.Prelude.{◌≡◌, ℕ, ◌+◌, ◌-◌, Bool, true, false, cond, List, [], ◌∷◌, ◌++◌, Option, Some, None, Result, Ok, Err, length, ◌⊎◌}
+use Rattle.std.specs.Str.{IsUtf8}
+use Rattle.cedar_lexer.specs.Token.{Lexeme, lexeme_of}
+use Rattle.cedar_lexer.specs.Cut.{Cuts, StopsFrom}
+use Rattle.cedar_lexer.specs.Reading.{Reading, Answers}
+use Rattle.cedar_lexer.specs.declared.token.Token.{Token}
+use Rattle.cedar_syntax.specs.declared.err.faults.Failure.{Failure}
+use Rattle.cedar_syntax.specs.declared.err.faults.Failure.TheVariants.{Memory, Errors}
+use Rattle.cedar_syntax.specs.declared.err.faults.ParseErrors.{ParseErrors}
+use Rattle.cedar_syntax.specs.declared.err.faults.ParseError.TheVariants.{ToCST}
+use Rattle.cedar_syntax.specs.declared.err.to_cst.RawFault.{RawFault}
+use Rattle.cedar_syntax.specs.declared.err.to_cst.RawFault.TheVariants as fault
+use Rattle.cedar_syntax.specs.ParseErrors.{faults_of}
+use Rattle.cedar_text.specs.declared.entry.Entry.{Entry}
+use Rattle.cedar_text.specs.declared.entry.Parsed.{Parsed}
+use Rattle.cedar_text.specs.declared.state.State.{State}
+use Rattle.cedar_text.specs.declared.state.Outcome.TheVariants as outcome
+use Rattle.cedar_text.specs.Place.{extent_of, loc_at}
+use Rattle.cedar_text.specs.Machine.{step_of, finish_of}
+use Rattle.cedar_text.specs.Fault.{NumbersFit, end_of, StandsBehind, too_large}
+use Rattle.cedar_text.specs.Runs.{Comes, RunsTo}
+
+-- the lexer stands behind this token, or the text ends
+abbrev pub Ahead : List ℕ → List Lexeme → Option Token → Reading → Type 0
+Ahead text before (Some t) l = StandsBehind text before (lexeme_of t) × (l.source ≡ text) × (l.offset ≡ t.end) × (l.ended ≡ false)
+Ahead text before None l = Cuts text before
+
+-- some tokens of the text are read, and the next is ahead
+pub record Progress (text : List ℕ) (e : Entry) (s : State) (end : ℕ) (ahead : Option Token) (l : Reading) : Type 0 where
+  pub utf8 : IsUtf8 text
+  pub before : List Lexeme
+  pub comes : Comes text e before s
+  pub fit : NumbersFit before
+  pub ends : end ≡ end_of before
+  pub goes : Ahead text before ahead l
+
+-- the bytes that are left, and the token ahead
+abbrev pub tokens_left : Option Token → Reading → ℕ
+tokens_left None l = 0
+tokens_left (Some t) l = 1 + (length l.source - l.offset)
+
+-- a tree that the tokens of the text run to
+pub record IsRead (text : List ℕ) (e : Entry) (x : Parsed) : Type 0 where
+  pub tokens : List Lexeme
+  pub cut : Cuts text tokens
+  pub runs : RunsTo text e tokens x
+
+-- ---- what the parts of the parser answer
+
+-- the one fault of this text
+abbrev pub IsFault : List ℕ → ParseErrors → RawFault → Type 0
+IsFault src errors raw = faults_of errors ≡ ToCST record { raw = raw; src = src } ∷ []
+
+abbrev pub FailsWith : List ℕ → RawFault → Failure → Type 0
+FailsWith src raw (Memory m) = Unit {0}
+FailsWith src raw (Errors errors) = IsFault src errors raw
+
+-- the lexer's next token, if there is one
+abbrev pub GivesToken : Reading → Option Token → Reading → Type 0
+GivesToken l (Some t) u = Answers l (Some (Ok t)) u
+GivesToken l None u = Answers l None u
+
+-- its bad place
+abbrev pub StopsBadly : List ℕ → Reading → Failure → Type 0
+StopsBadly src l (Memory m) = Unit {0}
+StopsBadly src l (Errors errors) = (place : ℕ) × StopsFrom l.source l.offset [] place × IsFault src errors (fault.InvalidToken place)
+
+abbrev pub unexpected_at : Lexeme → RawFault
+unexpected_at t = fault.UnrecognizedToken t.start t.end t.text []
+
+abbrev pub large_at : List ℕ → Lexeme → RawFault
+large_at src t = fault.User record { node = too_large; loc = loc_at src (Some (extent_of t)) }
+
+-- no step by this token
+abbrev pub StopsAtToken : List ℕ → State → Lexeme → Failure → Type 0
+StopsAtToken src s t (Memory m) = Unit {0}
+StopsAtToken src s t (Errors errors) =
+    ((step_of src s t ≡ outcome.Refused) × IsFault src errors (unexpected_at t)) ⊎ ((step_of src s t ≡ outcome.TooLarge) × IsFault src errors (large_at src t))
+
+-- no tree at the end
+abbrev pub StopsAtEnd : List ℕ → State → ℕ → Failure → Type 0
+StopsAtEnd src s end (Memory m) = Unit {0}
+StopsAtEnd src s end (Errors errors) = (finish_of src s ≡ None) × IsFault src errors (fault.UnrecognizedEof end [])
