@@ -1,0 +1,3 @@
+//! Rows from the specification's tables and from the original's tests.
+mod example;
+mod lexer;
