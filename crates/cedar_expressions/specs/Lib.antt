@@ -3,4 +3,5 @@ pub mod Keys
 pub mod Meaning
 pub mod Path
 pub mod Value
+pub mod Slots
 pub mod Written

@@ -48,7 +48,7 @@ impl<T> Items<T> {
     pub fn iter(&self) -> Iter<'_, T>
         ensures { iter_rest result ≡ self.now }
     {
-        self.items.as_slice().iter()
+        self.as_slice().iter()
     }
 
     /// How many elements there are.

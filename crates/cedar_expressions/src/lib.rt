@@ -3,6 +3,7 @@
 
 mod boxed;
 mod builder;
+mod copy;
 mod entity;
 mod errors;
 mod expr;
@@ -14,6 +15,7 @@ mod names;
 mod operators;
 mod place;
 mod record_keys;
+mod slots;
 mod source;
 mod text;
 mod try_clone;

@@ -2,6 +2,7 @@ pub mod Answer
 pub mod Begins
 pub mod Fault
 pub mod Faults
+pub mod Joined
 pub mod Loose
 pub mod Machine
 pub mod Pattern

@@ -16,6 +16,7 @@ mod state;
 mod step;
 pub mod text_to_cst;
 pub mod unescape;
+pub mod util;
 
 pub use entry::{Entry, Parsed};
 pub use laws::{one_first_fault, one_tree};

@@ -1,17 +1,16 @@
 //! The README's example of library use.
+use cedar_policy_parser::{ExtStyles, parse_expression};
 use cedar_syntax::err::Failure;
-use cedar_text::text_to_cst::parse_expr;
 use std::alloc::Global;
+use std::collections::BTreeSet;
 use std::fmt;
 use std::test::Fail;
 
-/// Writes the text's tree, or each fault behind its place.
+/// Writes the text's value, or each fault behind its place.
 fn show<W: fmt::Write>(alloc: Global, text: &str, out: &mut W) -> fmt::Result {
-    match parse_expr(alloc, text) {
-        Ok(tree) => match tree.as_inner() {
-            Some(expr) => write!(out, "{expr}"),
-            None => Ok(()),
-        },
+    let styles = ExtStyles::new(BTreeSet::new(alloc), BTreeSet::new(alloc));
+    match parse_expression(alloc, text, &styles) {
+        Ok(value) => write!(out, "{value}"),
         Err(Failure::Memory(_)) => out.write_str("want of memory"),
         Err(Failure::Errors(faults)) => {
             for fault in &faults {
@@ -26,10 +25,11 @@ fn show<W: fmt::Write>(alloc: Global, text: &str, out: &mut W) -> fmt::Result {
 }
 
 #[test]
-fn shows_a_tree_or_faults(rt: HostRuntime) -> Result<(), Fail> {
+fn shows_a_value_or_faults(rt: HostRuntime) -> Result<(), Fail> {
     let rows = [
-        ("1 + 2 == 3 && !true", "1 + 2 == 3 && ! true"),
+        ("principal", "principal"),
         ("1 +", "3..3: unexpected end of input"),
+        ("1 = 2", "0..5: '=' is not a valid operator in Cedar"),
     ];
     for (text, want) in rows {
         let mut out = String::new(rt.alloc());

@@ -1,0 +1,13 @@
+pub mod Alone
+pub mod Answered
+pub mod Bare
+pub mod Complete
+pub mod Given
+pub mod Loops
+pub mod Made
+pub mod Nodes
+pub mod Outcomes
+pub mod Parsed
+pub mod Quoted
+pub mod Sound
+pub mod Steps

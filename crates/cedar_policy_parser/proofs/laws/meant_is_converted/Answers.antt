@@ -1,0 +1,5 @@
+use Rattle.cedar_policy_parser.proofs.Complete.{complete}
+use Rattle.cedar_policy_parser.proofs.laws.meant_is_converted.Goals as goal
+
+pub returns : goal.returns
+returns c src ts w h = let d = complete src h in (d.tree, d.reads, d.gives)

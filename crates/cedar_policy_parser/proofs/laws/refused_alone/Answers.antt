@@ -1,0 +1,14 @@
+use Rattle.cedar_policy_parser.proofs.Alone.{ambiguous, single_eq, bangs, dashes}
+use Rattle.cedar_policy_parser.proofs.laws.refused_alone.Goals as goal
+
+pub returns-clause-ambiguous : goal.returns-clause-ambiguous
+returns-clause-ambiguous c = ambiguous
+
+pub returns-clause-single_eq : goal.returns-clause-single_eq
+returns-clause-single_eq c = single_eq
+
+pub returns-clause-bangs : goal.returns-clause-bangs
+returns-clause-bangs c = bangs
+
+pub returns-clause-dashes : goal.returns-clause-dashes
+returns-clause-dashes c = dashes

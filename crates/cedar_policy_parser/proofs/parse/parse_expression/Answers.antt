@@ -1,0 +1,17 @@
+use Rattle.cedar_expressions.specs.Meaning.{unplaced}
+use Rattle.cedar_text.proofs.Faults.{passed_on}
+use Rattle.cedar_policy_parser.proofs.Parsed.{tree_found, read_value, read_only}
+use Rattle.cedar_policy_parser.proofs.parse.parse_expression.Goals as goal
+
+pub returns-in_err-tree-clause-only : goal.returns-in_err-tree-clause-only
+returns-in_err-tree-clause-only c ts w cut means =
+    let d = tree_found c.args.text.now ts w means in
+    passed_on c.from_residual.result c.in_err-tree.field-0.0 _ _ c.from_residual.ensures.1 (c.in_err-tree.ensures.only ts d.tree cut d.reads)
+
+pub returns-clause-value : goal.returns-clause-value
+returns-clause-value c = read_value unplaced c.args.text.now c.in_ok-tree.tree c.to_expr.result c.in_ok-tree.ensures.found c.to_expr.ensures.value
+
+pub returns-clause-only : goal.returns-clause-only
+returns-clause-only c ts w cut means =
+    let d = tree_found c.args.text.now ts w means in
+    read_only unplaced c.in_ok-tree.tree d.tree w c.to_expr.result (c.in_ok-tree.ensures.only ts d.tree cut d.reads) c.to_expr.ensures.value c.to_expr.ensures.refused d.gives

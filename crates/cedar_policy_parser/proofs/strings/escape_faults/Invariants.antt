@@ -1,0 +1,7 @@
+use Rattle.std.proofs.Common.{◌≡◌, ◌∷◌}
+use Rattle.cedar_syntax.specs.ParseErrors.{faults_of}
+use Rattle.cedar_policy_parser.specs.Levels.{told_at}
+use Rattle.cedar_policy_parser.proofs.strings.escape_faults.Given as goal
+
+abbrev pub invariant-loop-fault : goal.invariant-loop-fault
+invariant-loop-fault l = faults_of l.all ≡ told_at l.loc (l.fn.faults.head ∷ l.yielded)

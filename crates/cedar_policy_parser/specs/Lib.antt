@@ -1,0 +1,11 @@
+pub mod Alone
+pub mod Answers
+pub mod Converted
+pub mod Held
+pub mod Levels
+pub mod Outcome
+pub mod Paired
+pub mod Refused
+pub mod Seen
+pub mod Strict
+pub mod Strings
