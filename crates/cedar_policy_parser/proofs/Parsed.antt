@@ -1,5 +1,5 @@
 -- The tree of a text, what it is converted to, and what its tokens mean.
-use Rattle.std.proofs.Common.{◌≡◌, ℕ, List, Some, None, Result, Ok, Err, IfOk, IfErr, MatchResult, sym, ap, ◌∙◌}
+use Rattle.std.proofs.Common.{◌≡◌, ℕ, List, Some, None, Result, Ok, Err, IfOk, IfErr, IsErrAnd, MatchResult, inl, inr, sym, ap, ◌∙◌}
 use Rattle.cedar_lexer.specs.Cut.{Cuts}
 use Rattle.cedar_lexer.specs.Token.{Lexeme}
 use Rattle.cedar_expressions.specs.Value.{Value}
@@ -17,7 +17,7 @@ use Rattle.cedar_text.specs.Loose.{ReadsExpr, Reads}
 use Rattle.cedar_text.specs.Place.{placed}
 use Rattle.cedar_text.specs.Trees.{Cell}
 use Rattle.cedar_policy_parser.specs.Converted.{Converts, convert, value_of}
-use Rattle.cedar_policy_parser.specs.Refused.{RefusesTree}
+use Rattle.cedar_policy_parser.specs.Refused.{RefusesTree, TellsTree, RefusesText}
 use Rattle.cedar_policy_parser.specs.Strict as m
 use Rattle.cedar_policy_parser.specs.Strict.{Means}
 use Rattle.cedar_policy_parser.proofs.Complete.{ExprRead, complete}
@@ -62,3 +62,12 @@ pub read_only : {E : Type 0} (meaning : E → Value) (n o : Cell Expr) (w : Valu
     → IfErr r (λ f. RefusesTree f (tree_at expr_tree n)) → Converts (tree_at expr_tree o) w → MatchResult r (λ e. meaning e ≡ w) IsMemory
 read_only meaning n o w (Ok e) same h k g = same_value n o (meaning e) w same h g
 read_only meaning n o w (Err f) same h k g = refused_for_memory f n o w same k g
+
+pub err_on : {E : Type 0} (r : Result E Failure) (f : Failure) (Q : Failure → Type 0) → IsErrAnd r (λ e. e ≡ f) → Q f → IfErr r Q
+err_on (Ok e) f Q is q = tt
+err_on (Err e) f Q is q = rw is q
+
+pub told_of : {E : Type 0} (src : List ℕ) (n : Cell Expr) (r : Result E Failure) → (ts : List Lexeme) × Cuts src ts × Reads src entry.Expr ts (parsed.Expr n) → IfErr r (λ f. TellsTree f n)
+    → IfErr r (λ f. RefusesText f src)
+told_of src n (Ok e) d h = tt
+told_of src n (Err f) d h = inr (d.0, n, d.1, d.2, h)

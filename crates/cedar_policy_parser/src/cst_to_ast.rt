@@ -2,12 +2,8 @@
 ghost use Rattle.std.specs.Prelude.{◌≡◌, IfOk, IfErr, Some};
 ghost use Rattle.std.specs.BTreeSet.{contains};
 ghost use Rattle.cedar_syntax.specs.Unplaced.{tree_at, expr_tree};
-ghost use Rattle.cedar_policy_parser.specs.Answers.{ExprAnswers};
 ghost use Rattle.cedar_policy_parser.specs.Converted.{Converts};
-ghost use Rattle.cedar_policy_parser.specs.Held.{Held};
-ghost use Rattle.cedar_policy_parser.specs.Levels.{as_expression};
-ghost use Rattle.cedar_policy_parser.specs.Outcome.{Outcome, Refuses, next};
-ghost use Rattle.cedar_policy_parser.specs.Refused.{RefusesTree};
+ghost use Rattle.cedar_policy_parser.specs.Refused.{RefusesTree, TellsTree};
 
 use crate::convert::expr;
 use crate::join::expr_of;
@@ -66,7 +62,7 @@ impl ExprAst for Node<Option<Expr>> {
     ) -> Result<B::Expr, Failure>
         ensures value { IfOk result (λ e. Converts (tree_at expr_tree self.now) (B.meaning e)) }
         ensures refused { IfErr result (λ failure. RefusesTree failure (tree_at expr_tree self.now)) }
-        ensures told { IfErr result (λ failure. (o : Outcome Held) × ExprAnswers self.now o × Refuses failure (next o as_expression)) }
+        ensures told { IfErr result (λ failure. TellsTree failure self.now) }
     {
         expr_of::<B>(alloc, expr::<B>(alloc, self))
     }

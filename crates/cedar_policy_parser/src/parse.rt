@@ -1,10 +1,11 @@
 //! From a text to what it means.
-ghost use Rattle.std.specs.Prelude.{◌≡◌, List, MatchResult, IfOk};
+ghost use Rattle.std.specs.Prelude.{◌≡◌, List, MatchResult, IfErr, IfOk};
 ghost use Rattle.cedar_lexer.specs.Token.{Lexeme};
 ghost use Rattle.cedar_lexer.specs.Cut.{Cuts};
 ghost use Rattle.cedar_expressions.specs.Meaning.{unplaced};
 ghost use Rattle.cedar_expressions.specs.Value.{Value};
 ghost use Rattle.cedar_text.specs.Fault.{IsMemory};
+ghost use Rattle.cedar_policy_parser.specs.Refused.{RefusesText};
 ghost use Rattle.cedar_policy_parser.specs.Strict.{Means, expression};
 
 use crate::cst_to_ast::{ExprAst, ExtStyles};
@@ -21,6 +22,7 @@ use std::alloc::Global;
 pub fn parse_expression(alloc: Global, text: &str, styles: &ExtStyles) -> Result<Expr, Failure>
     ensures value { IfOk result (λ e. (ts : List Lexeme) × Cuts text.now ts × Means expression ts (unplaced e)) }
     ensures only { (ts : List Lexeme) (w : Value) → Cuts text.now ts → Means expression ts w → MatchResult result (λ e. unplaced e ≡ w) IsMemory }
+    ensures refused { IfErr result (λ failure. RefusesText failure text.now) }
 {
     let tree = parse_expr(alloc, text)?;
     tree.to_expr::<ExprBuilder<()>>(alloc, styles)
