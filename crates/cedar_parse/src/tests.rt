@@ -6,14 +6,22 @@ use std::io::{ErrorKind, Read, Write};
 use std::process::Abort;
 use std::test::Fail;
 
+mod builder;
+mod copies;
+mod counted;
+mod counting;
 mod escapes;
 mod example;
 mod expressions;
 mod expressions_read;
 mod faults;
+mod joined;
 mod lexer;
 mod places;
 mod rows;
+mod shapes;
+mod slots;
+mod values;
 
 /// What a run wrote, and its status.
 #[derive(Debug, Drop)]
