@@ -1,6 +1,18 @@
+//! A run of the program: its words, its text, what it writes and its status.
+ghost use Rattle.std.specs.Prelude.{◌≡◌, ◌⊎◌, ◌↔◌, IsTrue, IfOk, IfSome};
+ghost use Rattle.cedar_parse.specs.Ends.{AsksForExpression, IsVerdict, Ends, status_of};
+ghost use Rattle.cedar_parse.specs.declared.run.Ending.{Ending as How};
+ghost use Rattle.cedar_parse.specs.declared.run.Ending.TheVariants.{Stopped};
+ghost use Rattle.cedar_parse.specs.declared.run.Stop.TheVariants as stop;
+ghost use Rattle.cedar_parse.specs.declared.run.Verdict.TheVariants as verdict;
+ghost use Rattle.cedar_text.specs.Fault.{IsMemory};
+
 use cedar_expressions::ExprBuilder;
 use cedar_policy_parser::cst_to_ast::{ExprAst, ExtStyles};
+use cedar_policy_parser::laws::{converted_is_meant, meant_is_converted};
+use cedar_syntax::cst::Expr;
 use cedar_syntax::err::{Failure, ParseError, ParseErrors};
+use cedar_syntax::node::Node;
 use cedar_text::text_to_cst::parse_expr;
 use std::alloc::Global;
 use std::collections::BTreeSet;
@@ -9,14 +21,6 @@ use std::io::{ErrorKind, Read, Write};
 
 const USAGE: &str = "usage: cedar-parse expr|policies|format [fn:NAME | method:NAME]*";
 
-/// Why a run ends with no answer about the text.
-#[derive(Debug, Drop)]
-enum Stop {
-    Usage,
-    Memory,
-    InputOutput,
-}
-
 /// What the text turned out to be.
 #[derive(Debug, Clone, Copy)]
 enum Verdict {
@@ -24,18 +28,38 @@ enum Verdict {
     Refused,
 }
 
-impl Stop {
-    fn status(&self) -> u8 {
+/// Why a run ends with no answer about the text.
+#[derive(Debug, Clone, Copy)]
+enum Stop {
+    Memory,
+    InputOutput,
+}
+
+/// How a run ends.
+#[derive(Debug, Clone, Copy)]
+enum Ending {
+    Answered(Verdict),
+    Usage,
+    Stopped(Stop),
+}
+
+impl Ending {
+    fn status(&self) -> u8
+        ensures { result ≡ status_of self.now }
+    {
         match self {
-            Stop::Usage => 2,
-            Stop::Memory => 3,
-            Stop::InputOutput => 4,
+            Ending::Answered(Verdict::Accepted) => 0,
+            Ending::Answered(Verdict::Refused) => 1,
+            Ending::Usage => 2,
+            Ending::Stopped(Stop::Memory) => 3,
+            Ending::Stopped(Stop::InputOutput) => 4,
         }
     }
+}
 
+impl Stop {
     fn message(&self) -> &'static str {
         match self {
-            Stop::Usage => USAGE,
             Stop::Memory => "want of memory",
             Stop::InputOutput => "input or output failed",
         }
@@ -61,52 +85,63 @@ pub fn run<R: Read + Drop, O: Write, E: Write>(
     reader: R,
     out: &mut O,
     err: &mut E,
-) -> u8 {
-    match answer(alloc, words, reader, out) {
-        Ok(Verdict::Accepted) => 0,
-        Ok(Verdict::Refused) => 1,
-        Err(stop) => tell(&stop, err),
+) -> u8
+    ensures { (end : How) × Ends words.now (R.remaining reader) end × (result ≡ status_of end) }
+{
+    if !asks_for_an_expression(words) {
+        return tell(Ending::Usage, USAGE, err);
+    }
+    match answer(alloc, reader, out) {
+        Ok(verdict) => Ending::Answered(verdict).status(),
+        Err(stop) => tell(Ending::Stopped(stop), stop.message(), err),
     }
 }
 
 /// Ends a run for which no memory was left before it began.
-pub fn refuse<E: Write>(err: &mut E) -> u8 {
-    tell(&Stop::Memory, err)
+pub fn refuse<E: Write>(err: &mut E) -> u8
+    ensures { (result ≡ status_of (Stopped stop.Memory)) ⊎ (result ≡ status_of (Stopped stop.InputOutput)) }
+{
+    tell(Ending::Stopped(Stop::Memory), Stop::Memory.message(), err)
 }
 
-/// Says on `err` why the run ended, and answers its status.
-fn tell<E: Write>(stop: &Stop, err: &mut E) -> u8 {
-    match writeln!(err, "{}", stop.message()) {
-        Ok(()) => stop.status(),
-        Err(_) => Stop::InputOutput.status(),
+/// Says on `err` why the run ended, and answers its status, or that of a write that failed.
+fn tell<E: Write>(ending: Ending, message: &str, err: &mut E) -> u8
+    ensures { (result ≡ status_of ending) ⊎ (result ≡ status_of (Stopped stop.InputOutput)) }
+{
+    match writeln!(err, "{message}") {
+        Ok(()) => ending.status(),
+        Err(_) => Ending::Stopped(Stop::InputOutput).status(),
     }
-}
-
-fn answer<R: Read + Drop, O: Write>(
-    alloc: Global,
-    words: &[String],
-    reader: R,
-    out: &mut O,
-) -> Result<Verdict, Stop> {
-    if !asks_for_an_expression(words) {
-        return Err(Stop::Usage);
-    }
-    let text = io::read_to_string(alloc, reader)?;
-    let verdict = expression(alloc, text.as_str(), out)?;
-    out.flush()?;
-    Ok(verdict)
 }
 
 /// The only command yet is the one word `expr`.
-fn asks_for_an_expression(words: &[String]) -> bool {
+fn asks_for_an_expression(words: &[String]) -> bool
+    ensures { IsTrue result ↔ AsksForExpression words.now }
+{
     match words {
         [word] => word.as_str() == "expr",
         _ => false,
     }
 }
 
+fn answer<R: Read + Drop, O: Write>(
+    alloc: Global,
+    reader: R,
+    out: &mut O,
+) -> Result<Verdict, Stop>
+    ensures { IfOk result (λ v. IfSome (R.remaining reader) (λ text. IsVerdict text v)) }
+{
+    let text = io::read_to_string(alloc, reader)?;
+    let verdict = expression(alloc, text.as_str(), out)?;
+    out.flush()?;
+    Ok(verdict)
+}
+
 /// Prints the text's tree and `ok`, or its faults.
-fn expression<O: Write>(alloc: Global, text: &str, out: &mut O) -> Result<Verdict, Stop> {
+fn expression<O: Write>(alloc: Global, text: &str, out: &mut O) -> Result<Verdict, Stop>
+    ensures { IfOk result (λ v. IsVerdict text.now v) }
+{
+    meant_is_converted();
     let tree = match parse_expr(alloc, text) {
         Ok(tree) => tree,
         Err(failure) => return refused(failure, out),
@@ -115,14 +150,22 @@ fn expression<O: Write>(alloc: Global, text: &str, out: &mut O) -> Result<Verdic
     if let Err(failure) = tree.to_expr::<ExprBuilder<()>>(alloc, &styles) {
         return refused(failure, out);
     }
+    converted_is_meant();
+    print_tree(&tree, out)?;
+    Ok(Verdict::Accepted)
+}
+
+fn print_tree<O: Write>(tree: &Node<Option<Expr>>, out: &mut O) -> Result<(), Stop> {
     if let Some(expr) = tree.as_inner() {
         writeln!(out, "{expr}")?;
     }
     writeln!(out, "ok")?;
-    Ok(Verdict::Accepted)
+    Ok(())
 }
 
-fn refused<O: Write>(failure: Failure, out: &mut O) -> Result<Verdict, Stop> {
+fn refused<O: Write>(failure: Failure, out: &mut O) -> Result<Verdict, Stop>
+    ensures { IfOk result (λ v. (v ≡ verdict.Refused) × ¬ (IsMemory failure)) }
+{
     match failure {
         Failure::Memory(_) => Err(Stop::Memory),
         Failure::Errors(faults) => {

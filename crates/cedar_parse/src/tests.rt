@@ -15,6 +15,7 @@ mod example;
 mod expressions;
 mod expressions_read;
 mod faults;
+mod flattened;
 mod joined;
 mod lexer;
 mod places;

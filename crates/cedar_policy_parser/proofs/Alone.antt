@@ -28,7 +28,7 @@ ok_value : (x : Outcome Value) (w : Value) → given x ≡ Some w → x ≡ Ok w
 ok_value (Ok v) w h = let same : Some v ≡ Some w = h in cc
 ok_value (Err fs) w h = cc
 
-held_value : (o : Outcome Held) (w : Value) → value_of (seen o) ≡ Some w → (s : Held) × (o ≡ Ok s) × (as_expression s ≡ Ok w)
+pub held_value : (o : Outcome Held) (w : Value) → value_of (seen o) ≡ Some w → (s : Held) × (o ≡ Ok s) × (as_expression s ≡ Ok w)
 held_value (Ok s) w e = (s, refl, ok_value (as_expression s) w (given_expression (Ok s) ∙ e))
 held_value (Err fs) w e = cc
 

@@ -34,7 +34,8 @@ use Rattle.cedar_policy_parser.proofs.Quoted.{string_given}
 use Rattle.cedar_syntax.specs.declared.cst.Str.TheVariants as str
 use Rattle.cedar_text.specs.Loose.{Spot, one, number_of, between_quotes, fits, ReadsRelOp, ReadsAddOp, ReadsMultOp, ReadsVariable, ReadsSigns, ReadsLiteral, ReadsExpr, ReadsOr, ReadsAnds, ReadsAnd, ReadsRelations, ReadsRelation, ReadsAdds, ReadsAdd, ReadsMults, ReadsMult, ReadsUnaries, ReadsUnary, ReadsMember, ReadsPrimary}
 use Rattle.cedar_policy_parser.specs.Converted as c
-use Rattle.cedar_policy_parser.specs.Converted.{Special, Part, convert, parts, value_of, bodies, added, compared, related, operand, repeated, bare_number, number_in, variable_of, largest, combined}
+use Rattle.cedar_policy_parser.specs.Converted.{Special, Part, convert, parts, value_of, bodies, added, compared, related, operand, bare_number, number_in, variable_of, combined}
+use Rattle.cedar_policy_parser.specs.Strict.{repeated, largest}
 use Rattle.cedar_policy_parser.specs.Strict as m
 use Rattle.cedar_policy_parser.specs.Strict.{Sort, Means, Joined, Added, Relates, IsVariable, IsNumeral}
 use Rattle.cedar_policy_parser.proofs.Made.{convert_or_alone, convert_if, convert_or, convert_and, convert_common, convert_add, convert_mult, convert_unary, convert_member, bare_member, convert_literally, bare_literally, convert_variable, bare_variable, convert_paren, bare_paren}

@@ -41,7 +41,8 @@ use Rattle.cedar_policy_parser.specs.Converted as c
 use Rattle.cedar_policy_parser.specs.Held as held
 use Rattle.cedar_policy_parser.specs.Held.{Held, special_of}
 use Rattle.cedar_policy_parser.specs.Strings.{escape_faults, unescaped}
-use Rattle.cedar_policy_parser.specs.Converted.{Special, expression, variable, Part, combined_if, text_of, quoted, convert, parts, part, operand, value_of, as_value, chained, chosen, signed, bare_number, number_in, named, variable_of, relate, literal_number, largest}
+use Rattle.cedar_policy_parser.specs.Converted.{Special, expression, variable, Part, combined_if, text_of, quoted, convert, parts, part, operand, value_of, as_value, chained, chosen, signed, bare_number, number_in, named, variable_of, relate, literal_number}
+use Rattle.cedar_policy_parser.specs.Strict.{repeated, largest}
 use Rattle.cedar_policy_parser.specs.Outcome.{Outcome, next, given}
 use Rattle.cedar_policy_parser.specs.Levels.{as_expression, as_held, as_string, string_outcome, quoted_at, disjoined, conjoined, summed, multiplied, one_more, or_outcome, and_outcome, add_outcome, mult_outcome, relation_outcome, factor, compared_at, signed_outcome, needs_number, needs_operand, if_outcome, paren_outcome, literal_outcome, variable_at, word_of, named_at, name_outcome}
 use Rattle.cedar_policy_parser.specs.Answers as a
@@ -165,12 +166,12 @@ given_relation place zero (Err fs) (Err gs) e = refl
 given_relation place (suc zero) (Err fs) (Err gs) e = refl
 given_relation place (suc (suc n)) (Err fs) (Err gs) e = refl
 
-applied_to : (n : ℕ) (f : Value → Value) (x : Outcome Value) → seen (next x (λ a. Ok (held.expression (c.repeated (suc n) f a)))) ≡ option_map (λ a. expression (c.repeated (suc n) f a)) (given x)
+applied_to : (n : ℕ) (f : Value → Value) (x : Outcome Value) → seen (next x (λ a. Ok (held.expression (repeated (suc n) f a)))) ≡ option_map (λ a. expression (repeated (suc n) f a)) (given x)
 applied_to n f (Ok a) = refl
 applied_to n f (Err fs) = refl
 
-given_applied : (n : ℕ) (f : Value → Value) (o : Outcome Held) → seen (next (next o as_expression) (λ x. Ok (held.expression (c.repeated (suc n) f x)))) ≡ option_map (λ x. expression (c.repeated (suc n) f x)) (value_of (seen o))
-given_applied n f o = applied_to n f (next o as_expression) ∙ ap (λ w. option_map (λ x. expression (c.repeated (suc n) f x)) w) (given_expression o)
+given_applied : (n : ℕ) (f : Value → Value) (o : Outcome Held) → seen (next (next o as_expression) (λ x. Ok (held.expression (repeated (suc n) f x)))) ≡ option_map (λ x. expression (repeated (suc n) f x)) (value_of (seen o))
+given_applied n f o = applied_to n f (next o as_expression) ∙ ap (λ w. option_map (λ x. expression (repeated (suc n) f x)) w) (given_expression o)
 
 given_number_at : (b : Bool) (x : Held) (fs : List ParseError) → seen (cond b (Ok x) (Err fs)) ≡ cond b (Some (special_of x)) None
 given_number_at true x fs = refl

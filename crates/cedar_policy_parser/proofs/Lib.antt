@@ -9,5 +9,6 @@ pub mod Nodes
 pub mod Outcomes
 pub mod Parsed
 pub mod Quoted
+pub mod Quotients
 pub mod Sound
 pub mod Steps

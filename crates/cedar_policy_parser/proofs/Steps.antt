@@ -11,7 +11,8 @@ use Rattle.cedar_syntax.specs.Tree.{Tree, Rest, Level, Operator, disjunction, co
 use Rattle.cedar_syntax.specs.Unplaced.{rest_of}
 use Rattle.cedar_text.specs.Trees.{bangs_of, dashes_of, sign_limit}
 use Rattle.cedar_policy_parser.specs.Converted as c
-use Rattle.cedar_policy_parser.specs.Converted.{Special, Part, convert, parts, part, operand, value_of, as_value, chained, combined, combined_if, chosen, expression, variable, repeated, bodies, added, related, relate, literal_number, largest}
+use Rattle.cedar_policy_parser.specs.Converted.{Special, Part, convert, parts, part, operand, value_of, as_value, chained, combined, combined_if, chosen, expression, variable, bodies, added, related, relate, literal_number}
+use Rattle.cedar_policy_parser.specs.Strict.{repeated, largest}
 
 -- ---- lists
 

@@ -1,4 +1,5 @@
--- What the conversion of a node gives: a case for each form of a tree.
+-- What the conversion of a node gives: a case for each form of a tree, from its parts by the rule of its level (`Levels`). An empty node and a form that isn't
+-- reached yet are refused at the node's place.
 use Rattle.std.specs.Prelude.{◌≡◌, true, List, [], ◌∷◌, ◌++◌, Option, Some, None, Ok, length}
 use Rattle.cedar_syntax.specs.declared.loc.Loc.{Loc}
 use Rattle.cedar_expressions.specs.declared.operators.AddOp.{AddOp}

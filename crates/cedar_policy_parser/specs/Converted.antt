@@ -1,5 +1,6 @@
--- What a tree is converted to, if to anything.
-use Rattle.std.specs.Prelude.{◌≡◌, ℕ, zero, suc, ◌^◌, nat_le, Bool, true, false, List, [], ◌∷◌, map, Option, Some, None, option_map, if◌then◌else◌, pos, neg_ℤ}
+-- What a tree is converted to, if to anything: the rules of the conversion of trees to expressions (Cedar's `cst_to_ast`), places and faults aside. The forms
+-- that aren't reached yet have none. The grammar of meanings (`Strict`) says the same of tokens, with no tree; that both agree is a law.
+use Rattle.std.specs.Prelude.{◌≡◌, ℕ, zero, suc, nat_le, Bool, true, false, List, [], ◌∷◌, map, Option, Some, None, option_map, if◌then◌else◌, pos, neg_ℤ}
 use Rattle.cedar_syntax.specs.declared.err.escape.UnescapeError.{UnescapeError}
 use Rattle.cedar_syntax.specs.declared.cst.Str.{Str}
 use Rattle.cedar_syntax.specs.declared.cst.Str.TheVariants as str
@@ -19,6 +20,7 @@ use Rattle.cedar_expressions.specs.Value as v
 use Rattle.cedar_expressions.specs.Value.{Value, values, terms}
 use Rattle.cedar_syntax.specs.Tree as t
 use Rattle.cedar_syntax.specs.Tree.{Tree, Rest, Level, Operator, missing, ite, chain, has, like, is, is_in, unary, member, field, call, index, number, truth, falsity, string, name, slot, entity, reference, ref_init, parens, set, record_of, init, word, annotation, variable_def, condition, empty_condition, policy, policies, none, more, disjunction, conjunction, relation, sum, product}
+use Rattle.cedar_policy_parser.specs.Strict.{repeated, largest}
 use Rattle.cedar_policy_parser.specs.Strings.{escape_faults, unescaped}
 
 -- An expression, or what is one but may be something else where it stands bare.
@@ -109,14 +111,6 @@ chained level (Some s) None = None
 chained level None ps = None
 
 -- ---- signs
-
-abbrev pub repeated : ℕ → (Value → Value) → Value → Value
-repeated zero f x = x
-repeated (suc n) f x = f (repeated n f x)
-
--- 9223372036854775808, the first number that is no literal but behind a `-`
-abbrev pub largest : ℕ
-largest = 2 ^ 63
 
 -- the last `-` and a number are one literal, n more `-` stand before it
 abbrev pub negative : ℕ → ℕ → Option Special

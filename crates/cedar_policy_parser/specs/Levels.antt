@@ -1,4 +1,5 @@
--- What each level of an expression gives, of what its parts give: the order of the faults.
+-- What each level of an expression gives, of what its parts give: a value, or the faults in their order. The kinds are those of Cedar's `cst_to_ast`; parts are
+-- told from the first to the last, and what joins them after its parts. A relation's and a product's own faults stand at the whole node's place.
 use Rattle.std.specs.Prelude.{ℕ, zero, suc, nat_le, Bool, true, false, List, [], ◌∷◌, ◌++◌, map, Option, Some, None, Ok, Err, if◌then◌else◌, pos, neg_ℤ}
 use Rattle.cedar_expressions.specs.declared.operators.UnaryOp.TheVariants as signs
 use Rattle.cedar_expressions.specs.declared.literal.Var.{Var}
@@ -23,7 +24,8 @@ use Rattle.cedar_syntax.specs.declared.cst.Literal.TheVariants as lit
 use Rattle.cedar_syntax.specs.Tree.{Operator}
 use Rattle.cedar_policy_parser.specs.Held.{Held, expression, variable, bare_truth, bare_string}
 use Rattle.cedar_policy_parser.specs.Strings.{escape_faults, unescaped}
-use Rattle.cedar_policy_parser.specs.Converted.{Part, bodies, added, relate, repeated, largest, variable_of}
+use Rattle.cedar_policy_parser.specs.Converted.{Part, bodies, added, relate, variable_of}
+use Rattle.cedar_policy_parser.specs.Strict.{repeated, largest}
 use Rattle.cedar_policy_parser.specs.Outcome.{Outcome, fault_at, both, next}
 
 -- a node with nothing in it, or with a form that isn't reached yet

@@ -1,4 +1,4 @@
--- A value with what stands before it.
+-- A value with what stands before it. Only contracts of private functions name it.
 use Rattle.std.specs.Prelude.{◌≡◌, Result, Ok, Err}
 use Rattle.cedar_syntax.specs.declared.err.faults.Failure.{Failure}
 

@@ -1,4 +1,4 @@
--- What the program holds while it converts, without places.
+-- What the program holds while it converts, without places. Only contracts of private functions name it.
 use Rattle.std.specs.Prelude.{ℕ, List, map, Result, Ok, Err}
 use Rattle.cedar_syntax.specs.ParseErrors.{faults_of}
 use Rattle.cedar_syntax.specs.declared.err.faults.ParseErrors.{ParseErrors}

@@ -1,5 +1,7 @@
--- The strict grammar: which tokens mean which expression. There is no tree and no fault in it.
-use Rattle.std.specs.Prelude.{◌≡◌, ◌≤◌, ◌<◌, ◌^◌, ◌+◌, ℕ, true, false, List, [], ◌∷◌, ◌++◌, length, pos, neg_ℤ}
+-- The strict grammar: which tokens mean which expression. There is no tree and no fault in it. Its levels, from the loosest operator to the tightest, and
+-- what each form means are those of the grammar and of the operators' pages in Cedar's reference: a relation has one operator at most, `/` and `%` mean
+-- nothing, at most four signs stand before an operand, a literal number fits 64 bits with its sign.
+use Rattle.std.specs.Prelude.{◌≡◌, ◌≤◌, ◌<◌, ◌^◌, ◌+◌, ℕ, zero, suc, true, false, List, [], ◌∷◌, ◌++◌, length, pos, neg_ℤ}
 use Rattle.cedar_lexer.specs.Token.{Lexeme}
 use Rattle.cedar_lexer.specs.declared.token.TokenKind.{TokenKind}
 use Rattle.cedar_lexer.specs.declared.token.TokenKind.TheVariants as kind
@@ -12,7 +14,15 @@ use Rattle.cedar_expressions.specs.Value.{Value, values, terms}
 use Rattle.cedar_text.specs.Loose.{Spot, one, number_of, between_quotes, ReadsSigns, ReadsAddOp}
 use Rattle.cedar_text.specs.Piece.{IsUnescaped}
 use Rattle.cedar_text.specs.Trees.{sign_limit}
-use Rattle.cedar_policy_parser.specs.Converted.{repeated}
+
+-- a sign applied as often as it stands there
+abbrev pub repeated : ℕ → (Value → Value) → Value → Value
+repeated zero f x = x
+repeated (suc n) f x = f (repeated n f x)
+
+-- 9223372036854775808, the first number that is no literal but behind a `-`
+abbrev pub largest : ℕ
+largest = 2 ^ 63
 
 -- What tokens are read as, from the loosest to the tightest. A sort's tokens are also those of the sort before it.
 pub data Sort : Type 0 where
@@ -71,7 +81,7 @@ mutual
     -- one to four `!` apply `not` as often
     negated : {ts us : List Lexeme} {a : Value} {n : ℕ} → ReadsSigns kind.Bang ts n → n ≤ sign_limit → Means member us a → Means signed (ts ++ us) (repeated n v.not a)
     -- of one to four `-` before a NUMBER that is the whole operand the last one and the number are one literal, each other applies `neg`
-    negative : {ts : List Lexeme} (n : ℕ) (p : Spot) → ReadsSigns kind.Minus ts (n + 1) → n < sign_limit → number_of p.text ≤ 2 ^ 63
+    negative : {ts : List Lexeme} (n : ℕ) (p : Spot) → ReadsSigns kind.Minus ts (n + 1) → n < sign_limit → number_of p.text ≤ largest
         → Means signed (ts ++ one kind.Number p) (repeated n v.neg (v.val (literals.Long (neg_ℤ (pos (number_of p.text))))))
     -- before any other operand each of one to four `-` applies `neg`
     opposite : {ts us : List Lexeme} {a : Value} {n : ℕ} → ReadsSigns kind.Minus ts n → n ≤ sign_limit → (IsNumeral us → ⊥) → Means member us a → Means signed (ts ++ us) (repeated n v.neg a)
@@ -79,7 +89,7 @@ mutual
     bare : {ts : List Lexeme} {a : Value} → Means primary ts a → Means member ts a
     truth : (p : Spot) → Means primary (one kind.True p) (v.val (literals.Bool true))
     falsity : (p : Spot) → Means primary (one kind.False p) (v.val (literals.Bool false))
-    numeral : (p : Spot) → number_of p.text < 2 ^ 63 → Means primary (one kind.Number p) (v.val (literals.Long (pos (number_of p.text))))
+    numeral : (p : Spot) → number_of p.text < largest → Means primary (one kind.Number p) (v.val (literals.Long (pos (number_of p.text))))
     -- a string without escape faults stands for its unescaped text
     text : {unescaped : List ℕ} (p : Spot) → IsUnescaped (between_quotes p.text) unescaped → Means primary (one kind.StringLit p) (v.val (literals.String unescaped))
     variable : {k : TokenKind} {x : Var} (p : Spot) → IsVariable k x → Means primary (one k p) (v.var x)

@@ -1,4 +1,8 @@
 //! The conversion of expressions: each call opens one node, converts its parts and joins what they gave.
+//!
+//! A node with one part goes through a function with a small frame, so that a level of nesting takes little of the stack; a node with several goes to
+//! the function of its level's chain. That one takes the node itself, by which the proof sees that the calls end, so it opens the node again and has an
+//! arm for what its caller has already taken.
 ghost use Rattle.cedar_policy_parser.specs.Answers.{ExprAnswers, OrAnswers, AndAnswers, RelationAnswers, AddAnswers, MultAnswers, UnaryAnswers, MemberAnswers, PrimaryAnswers};
 ghost use Rattle.cedar_policy_parser.specs.Held.{Held};
 ghost use Rattle.cedar_policy_parser.specs.Outcome.{Outcome, Gives};
@@ -66,8 +70,7 @@ fn conditional<B: ExprBuilderInfallibleBuild>(
     }
 }
 
-/// A disjunction, or its one part: that goes through a function with a small frame, here and at each level below, so that a
-/// level of nesting takes little of the stack.
+/// A disjunction, or its one part.
 #[cycle(convert)]
 #[inline(never)]
 fn or<B: ExprBuilderInfallibleBuild>(

@@ -1,5 +1,5 @@
 //! Literals, names and signs.
-ghost use Rattle.std.specs.Prelude.{◌≡◌, ◌≤◌, ◌^◌, Option, MatchOption, pos, neg_ℤ, true, false, Ok};
+ghost use Rattle.std.specs.Prelude.{◌≡◌, ◌≤◌, Option, MatchOption, pos, neg_ℤ, true, false, Ok};
 ghost use Rattle.cedar_expressions.specs.Value as v;
 ghost use Rattle.cedar_syntax.specs.Unplaced.{literal_in, tree_at, primary_tree, member_tree};
 ghost use Rattle.cedar_policy_parser.specs.Converted as c;
@@ -7,6 +7,7 @@ ghost use Rattle.cedar_policy_parser.specs.Held.{Held};
 ghost use Rattle.cedar_policy_parser.specs.Outcome.{Outcome, Gives};
 ghost use Rattle.cedar_policy_parser.specs.Levels.{literal_outcome, quoted_at, name_outcome, number_outcome, signed_outcome, needs_operand, negated_number};
 ghost use Rattle.cedar_policy_parser.specs.Seen.{plain};
+ghost use Rattle.cedar_policy_parser.specs.Strict.{repeated, largest};
 
 use crate::join::expr_of;
 use crate::special::{ExprOrSpecial, builder_at, place_of, refusal, unreached};
@@ -27,7 +28,7 @@ fn repeat_not<B: ExprBuilderInfallibleBuild>(
     count: u8,
     inner: B::Expr,
 ) -> Result<B::Expr, Failure>
-    ensures { Gives B.meaning result (Ok (c.repeated count v.not (B.meaning inner))) }
+    ensures { Gives B.meaning result (Ok (repeated count v.not (B.meaning inner))) }
 {
     let mut all = inner;
     for i in 0..count {
@@ -42,7 +43,7 @@ fn repeat_neg<B: ExprBuilderInfallibleBuild>(
     count: u8,
     inner: B::Expr,
 ) -> Result<B::Expr, Failure>
-    ensures { Gives B.meaning result (Ok (c.repeated count v.neg (B.meaning inner))) }
+    ensures { Gives B.meaning result (Ok (repeated count v.neg (B.meaning inner))) }
 {
     let mut all = inner;
     for i in 0..count {
@@ -52,7 +53,7 @@ fn repeat_neg<B: ExprBuilderInfallibleBuild>(
 }
 
 fn negated(number: u64) -> i64
-    requires { number ≤ 2 ^ 63 }
+    requires { number ≤ largest }
     ensures { result ≡ neg_ℤ (pos number) }
 {
     if number == LARGEST {

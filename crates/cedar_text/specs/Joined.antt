@@ -4,6 +4,7 @@ use Rattle.cedar_syntax.specs.ParseErrors.{faults_of}
 use Rattle.cedar_syntax.specs.declared.err.faults.Failure.{Failure}
 use Rattle.cedar_syntax.specs.declared.err.faults.Failure.TheVariants.{Memory, Errors}
 use Rattle.cedar_syntax.specs.declared.err.faults.ParseError.{ParseError}
+use Rattle.cedar_text.specs.Fault.{IsMemory}
 
 abbrev pub faults_told : Failure → List ParseError
 faults_told (Memory error) = []
@@ -14,14 +15,10 @@ abbrev pub faults_in : {T : Type 0} → Result T Failure → List ParseError
 faults_in (Ok value) = []
 faults_in (Err failure) = faults_told failure
 
-abbrev pub IsWant : Failure → Type 0
-IsWant (Memory error) = Unit {0}
-IsWant (Errors errors) = ⊥
-
 -- the part is want of memory
 abbrev pub WantsMemory : {T : Type 0} → Result T Failure → Type 0
 WantsMemory (Ok value) = ⊥
-WantsMemory (Err failure) = IsWant failure
+WantsMemory (Err failure) = IsMemory failure
 
 -- The failure of two parts, some of which fail: want of memory, or their faults one after another where no part is want of memory.
 abbrev pub TellsBoth : {T U : Type 0} → Failure → Result T Failure → Result U Failure → Type 0
@@ -35,6 +32,6 @@ TellsFaults (Errors errors) faults = faults_of errors ≡ faults
 
 -- The failure of two parts that both fail.
 abbrev pub TellsAll : Failure → Failure → Failure → Type 0
-TellsAll told (Memory error) second = IsWant told
-TellsAll told (Errors errors) (Memory error) = IsWant told
+TellsAll told (Memory error) second = IsMemory told
+TellsAll told (Errors errors) (Memory error) = IsMemory told
 TellsAll told (Errors errors) (Errors more) = TellsFaults told (faults_of errors ++ faults_of more)

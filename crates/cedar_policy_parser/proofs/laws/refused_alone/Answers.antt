@@ -1,4 +1,5 @@
 use Rattle.cedar_policy_parser.proofs.Alone.{ambiguous, single_eq, bangs, dashes}
+use Rattle.cedar_policy_parser.proofs.Quotients.{refused_quotients}
 use Rattle.cedar_policy_parser.proofs.laws.refused_alone.Goals as goal
 
 pub returns-clause-ambiguous : goal.returns-clause-ambiguous
@@ -6,6 +7,9 @@ returns-clause-ambiguous c = ambiguous
 
 pub returns-clause-single_eq : goal.returns-clause-single_eq
 returns-clause-single_eq c = single_eq
+
+pub returns-clause-quotients : goal.returns-clause-quotients
+returns-clause-quotients c = refused_quotients
 
 pub returns-clause-bangs : goal.returns-clause-bangs
 returns-clause-bangs c = bangs

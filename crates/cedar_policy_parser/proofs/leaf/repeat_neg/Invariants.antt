@@ -1,6 +1,6 @@
 use Rattle.std.proofs.Common.{◌≡◌}
 use Rattle.cedar_expressions.specs.Value as v
-use Rattle.cedar_policy_parser.specs.Converted.{repeated}
+use Rattle.cedar_policy_parser.specs.Strict.{repeated}
 use Rattle.cedar_policy_parser.proofs.leaf.repeat_neg.Given as goal
 
 abbrev pub invariant-loop-i : goal.invariant-loop-i
