@@ -1,2 +1,6 @@
+pub mod Deciding
+pub mod EqualExprs
+pub mod EqualParts
+pub mod Opened
 pub mod Repeats
 pub mod SlotsAt

@@ -108,6 +108,8 @@ impl TryClone for Expr {
 }
 
 impl Clone for Expr {
+    ghost is_clone = { λ x y. y ≡ x };
+
     fn clone(&self) -> Result<Expr, AllocError> {
         Expr::try_clone(self)
     }

@@ -88,6 +88,8 @@ impl TryClone for Eid {
 }
 
 impl Clone for Eid {
+    ghost is_clone = { λ x y. y ≡ x };
+
     fn clone(&self) -> Result<Eid, AllocError> {
         self.try_clone()
     }
@@ -102,6 +104,8 @@ impl TryClone for EntityType {
 }
 
 impl Clone for EntityType {
+    ghost is_clone = { λ x y. y ≡ x };
+
     fn clone(&self) -> Result<EntityType, AllocError> {
         self.try_clone()
     }
@@ -117,6 +121,8 @@ impl TryClone for EntityUID {
 }
 
 impl Clone for EntityUID {
+    ghost is_clone = { λ x y. y ≡ x };
+
     fn clone(&self) -> Result<EntityUID, AllocError> {
         self.try_clone()
     }

@@ -84,6 +84,8 @@ impl TryClone for ExpressionConstructionError {
 }
 
 impl Clone for ExpressionConstructionError {
+    ghost is_clone = { λ x y. y ≡ x };
+
     fn clone(&self) -> Result<ExpressionConstructionError, AllocError> {
         self.try_clone()
     }

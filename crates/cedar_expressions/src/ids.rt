@@ -267,6 +267,8 @@ impl TryClone for AnyId {
 }
 
 impl Clone for AnyId {
+    ghost is_clone = { λ x y. y ≡ x };
+
     fn clone(&self) -> Result<AnyId, AllocError> {
         self.try_clone()
     }
@@ -281,6 +283,8 @@ impl TryClone for Id {
 }
 
 impl Clone for Id {
+    ghost is_clone = { λ x y. y ≡ x };
+
     fn clone(&self) -> Result<Id, AllocError> {
         self.try_clone()
     }
@@ -295,6 +299,8 @@ impl TryClone for UnreservedId {
 }
 
 impl Clone for UnreservedId {
+    ghost is_clone = { λ x y. y ≡ x };
+
     fn clone(&self) -> Result<UnreservedId, AllocError> {
         self.try_clone()
     }

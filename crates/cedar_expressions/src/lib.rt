@@ -10,6 +10,7 @@ mod expr;
 mod expr_builder;
 mod ids;
 mod items;
+pub mod laws;
 mod literal;
 mod names;
 mod operators;

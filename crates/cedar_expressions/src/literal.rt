@@ -1,3 +1,5 @@
+ghost use Rattle.std.specs.Prelude.{◌≡◌};
+
 use crate::{EntityUID, Text, TryClone};
 use std::alloc::AllocError;
 use std::fmt;
@@ -46,6 +48,8 @@ impl TryClone for Literal {
 }
 
 impl Clone for Literal {
+    ghost is_clone = { λ x y. y ≡ x };
+
     fn clone(&self) -> Result<Literal, AllocError> {
         self.try_clone()
     }

@@ -220,6 +220,8 @@ impl TryClone for InternalName {
 }
 
 impl Clone for InternalName {
+    ghost is_clone = { λ x y. y ≡ x };
+
     fn clone(&self) -> Result<InternalName, AllocError> {
         self.try_clone()
     }
@@ -234,6 +236,8 @@ impl TryClone for Name {
 }
 
 impl Clone for Name {
+    ghost is_clone = { λ x y. y ≡ x };
+
     fn clone(&self) -> Result<Name, AllocError> {
         self.try_clone()
     }
@@ -248,6 +252,8 @@ impl TryClone for ReservedNameError {
 }
 
 impl Clone for ReservedNameError {
+    ghost is_clone = { λ x y. y ≡ x };
+
     fn clone(&self) -> Result<ReservedNameError, AllocError> {
         self.try_clone()
     }

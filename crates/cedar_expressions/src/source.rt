@@ -145,6 +145,8 @@ impl fmt::Display for Source {
 }
 
 impl Clone for Source {
+    ghost is_clone = { λ x y. y ≡ x };
+
     fn clone(&self) -> Result<Source, AllocError> {
         self.share()
     }

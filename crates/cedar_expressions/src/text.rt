@@ -138,6 +138,8 @@ impl fmt::Display for Text {
 }
 
 impl Clone for Text {
+    ghost is_clone = { λ x y. y ≡ x };
+
     fn clone(&self) -> Result<Text, AllocError> {
         Text::from_str(self.alloc(), self.as_str())
     }

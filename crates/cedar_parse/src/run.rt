@@ -1,7 +1,10 @@
 //! A run of the program: its words, its text, what it writes and its status.
-ghost use Rattle.std.specs.Prelude.{◌≡◌, ◌⊎◌, ◌↔◌, IsTrue, IfOk, IfSome};
-ghost use Rattle.cedar_parse.specs.Ends.{AsksForExpression, IsVerdict, Ends, status_of};
-ghost use Rattle.cedar_parse.specs.declared.run.Ending.{Ending as How};
+ghost use Rattle.std.specs.Prelude.{◌≡◌, ◌⊎◌, ◌↔◌, IsTrue, IfOk, IfErr, IfSome};
+ghost use Rattle.cedar_expressions.specs.Value.{Value};
+ghost use Rattle.cedar_syntax.specs.Unplaced.{tree_at, expr_tree};
+ghost use Rattle.cedar_policy_parser.specs.Converted.{Converts};
+ghost use Rattle.cedar_policy_parser.specs.Refused.{RefusesTree};
+ghost use Rattle.cedar_parse.specs.Ends.{AsksForExpression, IsMeant, IsVerdict, status_of};
 ghost use Rattle.cedar_parse.specs.declared.run.Ending.TheVariants.{Stopped};
 ghost use Rattle.cedar_parse.specs.declared.run.Stop.TheVariants as stop;
 ghost use Rattle.cedar_parse.specs.declared.run.Verdict.TheVariants as verdict;
@@ -86,7 +89,6 @@ pub fn run<R: Read + Drop, O: Write, E: Write>(
     out: &mut O,
     err: &mut E,
 ) -> u8
-    ensures { (end : How) × Ends words.now (R.remaining reader) end × (result ≡ status_of end) }
 {
     if !asks_for_an_expression(words) {
         return tell(Ending::Usage, USAGE, err);
@@ -141,26 +143,44 @@ fn answer<R: Read + Drop, O: Write>(
 fn expression<O: Write>(alloc: Global, text: &str, out: &mut O) -> Result<Verdict, Stop>
     ensures { IfOk result (λ v. IsVerdict text.now v) }
 {
-    meant_is_converted();
-    let tree = match parse_expr(alloc, text) {
-        Ok(tree) => tree,
-        Err(failure) => return refused(failure, out),
-    };
-    let styles = ExtStyles::new(BTreeSet::new(alloc), BTreeSet::new(alloc));
-    if let Err(failure) = tree.to_expr::<ExprBuilder<()>>(alloc, &styles) {
-        return refused(failure, out);
+    match meant(alloc, text) {
+        Ok(tree) => print_tree(&tree, out),
+        Err(failure) => refused(failure, out),
     }
-    converted_is_meant();
-    print_tree(&tree, out)?;
-    Ok(Verdict::Accepted)
 }
 
-fn print_tree<O: Write>(tree: &Node<Option<Expr>>, out: &mut O) -> Result<(), Stop> {
+/// The tree of a text that means an expression.
+fn meant(alloc: Global, text: &str) -> Result<Node<Option<Expr>>, Failure>
+    ensures meant { IfOk result (λ tree. IsMeant text.now) }
+    ensures only { IsMeant text.now → IfErr result IsMemory }
+{
+    meant_is_converted();
+    converted_is_meant();
+    let tree = parse_expr(alloc, text)?;
+    convert(alloc, &tree)?;
+    Ok(tree)
+}
+
+/// Refuses a tree that stands for no expression.
+fn convert(alloc: Global, tree: &Node<Option<Expr>>) -> Result<(), Failure>
+    ensures value { IfOk result (λ done. (w : Value) × Converts (tree_at expr_tree tree.now) w) }
+    ensures refused { IfErr result (λ failure. RefusesTree failure (tree_at expr_tree tree.now)) }
+{
+    let styles = ExtStyles::new(BTreeSet::new(alloc), BTreeSet::new(alloc));
+    match tree.to_expr::<ExprBuilder<()>>(alloc, &styles) {
+        Ok(_) => Ok(()),
+        Err(failure) => Err(failure),
+    }
+}
+
+fn print_tree<O: Write>(tree: &Node<Option<Expr>>, out: &mut O) -> Result<Verdict, Stop>
+    ensures { IfOk result (λ v. v ≡ verdict.Accepted) }
+{
     if let Some(expr) = tree.as_inner() {
         writeln!(out, "{expr}")?;
     }
     writeln!(out, "ok")?;
-    Ok(())
+    Ok(Verdict::Accepted)
 }
 
 fn refused<O: Write>(failure: Failure, out: &mut O) -> Result<Verdict, Stop>

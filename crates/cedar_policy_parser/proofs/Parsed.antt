@@ -1,5 +1,5 @@
 -- The tree of a text, what it is converted to, and what its tokens mean.
-use Rattle.std.proofs.Common.{◌≡◌, ℕ, List, Some, None, Result, Ok, Err, IfOk, IfErr, IsErrAnd, MatchResult, inl, inr, sym, ap, ◌∙◌}
+use Rattle.std.proofs.Common.{◌≡◌, ℕ, List, Some, None, Result, Ok, Err, IfOk, IfErr, IsErrAnd, MatchResult, inr, sym, ap, ◌∙◌}
 use Rattle.cedar_lexer.specs.Cut.{Cuts}
 use Rattle.cedar_lexer.specs.Token.{Lexeme}
 use Rattle.cedar_expressions.specs.Value.{Value}

@@ -1,14 +1,14 @@
 -- Where the operands of a product have values, it is refused for its quotients and remainders alone, in order.
-use Rattle.std.proofs.Common.{◌≡◌, ℕ, List, [], ◌∷◌, ◌++◌, map, Option, Some, None, Ok, Err, refl, sym, ap, ◌∙◌, subst, append_assoc}
+use Rattle.std.proofs.Common.{◌≡◌, List, [], ◌∷◌, ◌++◌, map, Option, Ok, Err, refl, sym, ap, ◌∙◌, subst, append_assoc}
 use Rattle.std.proofs.lemmas.List.{append-nil}
 use Rattle.cedar_expressions.specs.Value.{Value}
 use Rattle.cedar_syntax.specs.declared.loc.Loc.{Loc}
-use Rattle.cedar_syntax.specs.declared.cst.Mult.{Mult, out-Mult}
+use Rattle.cedar_syntax.specs.declared.cst.Mult.{Mult}
 use Rattle.cedar_syntax.specs.declared.cst.MultOp.{MultOp}
 use Rattle.cedar_syntax.specs.declared.cst.MultOp.TheVariants as mul
 use Rattle.cedar_syntax.specs.declared.cst.Unary.{Unary}
 use Rattle.cedar_syntax.specs.declared.err.faults.ParseError.{ParseError}
-use Rattle.cedar_syntax.specs.Tree.{Tree, Rest, Operator, multiply, chain, missing, product, none, more}
+use Rattle.cedar_syntax.specs.Tree.{Tree, Rest, multiply, chain, missing, product}
 use Rattle.cedar_syntax.specs.Unplaced.{mult_tree, unary_tree, tree_at, rest_of, mult_part, mult_unplaced}
 use Rattle.cedar_syntax.proofs.Levels.{at_some, at_none, mult_out}
 use Rattle.cedar_text.specs.Trees.{Cell}

@@ -1,0 +1,14 @@
+use Rattle.cedar_text.specs.Fault.{IsMemory}
+use Rattle.cedar_parse.proofs.Verdicts.{read_only, refused_for_memory, err_on}
+use Rattle.cedar_parse.proofs.run.meant.Goals as goal
+
+pub returns-in_err-tree-clause-only : goal.returns-in_err-tree-clause-only
+returns-in_err-tree-clause-only c meant =
+    let d = read_only c.meant_is_converted.ensures c.args.text.now c.in_err-tree.ensures.only meant in
+    err_on c.from_residual.result c.in_err-tree.field-0.0 IsMemory c.from_residual.ensures.1 d.3
+
+pub returns-in_err-convert-clause-only : goal.returns-in_err-convert-clause-only
+returns-in_err-convert-clause-only c meant =
+    let d = read_only c.meant_is_converted.ensures c.args.text.now c.in_ok-tree.ensures.only meant in
+    let f = c.in_err-convert.field-0.0 in
+    err_on c.from_residual-in_err-convert.result f IsMemory c.from_residual-in_err-convert.ensures.1 (refused_for_memory f c.in_ok-tree.tree d.0 d.1 d.3 c.in_err-convert.ensures.refused d.2)
