@@ -4,7 +4,8 @@ ghost use Rattle.cedar_expressions.specs.Value.{Value};
 ghost use Rattle.cedar_syntax.specs.Unplaced.{tree_at, expr_tree};
 ghost use Rattle.cedar_policy_parser.specs.Converted.{Converts};
 ghost use Rattle.cedar_policy_parser.specs.Refused.{RefusesTree};
-ghost use Rattle.cedar_parse.specs.Ends.{AsksForExpression, IsMeant, IsVerdict, status_of};
+ghost use Rattle.cedar_parse.specs.Ends.{AsksForExpression, IsMeant, IsVerdict, Ends, status_of};
+ghost use Rattle.cedar_parse.specs.declared.run.Ending.{Ending as How};
 ghost use Rattle.cedar_parse.specs.declared.run.Ending.TheVariants.{Stopped};
 ghost use Rattle.cedar_parse.specs.declared.run.Stop.TheVariants as stop;
 ghost use Rattle.cedar_parse.specs.declared.run.Verdict.TheVariants as verdict;
@@ -89,6 +90,7 @@ pub fn run<R: Read + Drop, O: Write, E: Write>(
     out: &mut O,
     err: &mut E,
 ) -> u8
+    ensures { (end : How) × Ends words.now (R.remaining reader) end × (result ≡ status_of end) }
 {
     if !asks_for_an_expression(words) {
         return tell(Ending::Usage, USAGE, err);
