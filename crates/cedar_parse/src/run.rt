@@ -128,11 +128,7 @@ fn asks_for_an_expression(words: &[String]) -> bool
     }
 }
 
-fn answer<R: Read + Drop, O: Write>(
-    alloc: Global,
-    reader: R,
-    out: &mut O,
-) -> Result<Verdict, Stop>
+fn answer<R: Read + Drop, O: Write>(alloc: Global, reader: R, out: &mut O) -> Result<Verdict, Stop>
     ensures { IfOk result (λ v. IfSome (R.remaining reader) (λ text. IsVerdict text v)) }
 {
     let text = io::read_to_string(alloc, reader)?;

@@ -8,10 +8,7 @@ use std::test::Fail;
 
 /// A fault that has this number.
 fn fault(number: u64) -> ParseError {
-    ParseError::ToAST(ToASTError::new(
-        ToASTErrorKind::IntegerLiteralTooLarge(number),
-        None,
-    ))
+    ParseError::ToAST(ToASTError::new(ToASTErrorKind::IntegerLiteralTooLarge(number), None))
 }
 
 /// A fault for each number, of which there is at least one.
