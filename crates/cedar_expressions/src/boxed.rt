@@ -92,6 +92,8 @@ impl<T: Hash> Hash for Boxed<T> {
 }
 
 impl<T: Clone> Clone for Boxed<T> {
+    ghost is_clone = { T.is_clone };
+
     fn clone(&self) -> Result<Boxed<T>, AllocError> {
         Ok(Boxed {
             inner: self.inner.clone()?,

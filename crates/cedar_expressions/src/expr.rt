@@ -1,4 +1,5 @@
 ghost use Rattle.std.specs.Prelude.{◌≡◌};
+ghost use Rattle.cedar_expressions.specs.Placed.{place_of};
 
 use crate::{
     AddOp, Boxed, EntityType, Items, Literal, Name, NodePlace, PatternElem, Place, SlotId, Text,
@@ -122,7 +123,7 @@ impl Expr {
 
     /// Where the expression stands, if that is known.
     pub fn place(&self) -> Option<Place>
-        ensures { result ≡ self.now.place.place }
+        ensures { result ≡ place_of self.now }
     {
         self.place.get()
     }

@@ -1,5 +1,6 @@
 ghost use Rattle.std.specs.Prelude.{◌≡◌, [], ◌∷◌, ◌++◌, length, ◌↔◌, IsTrue, OnOk, OnErr, MatchOption};
 ghost use Rattle.std.specs.Slice.Iter.{iter_rest};
+ghost use Rattle.std.specs.List.{AllZip};
 ghost use Rattle.std.specs.Cmp.Lexicographic.{pointwise, lists_per, lists_equiv, slice_cmp, slice_partial_cmp, lists_po, lists_total, lists_agrees, lists_ties};
 ghost use Rattle.std.specs.Hash as fed;
 ghost use Rattle.std.specs.Hash.{items_Alike};
@@ -153,6 +154,8 @@ impl<T: Hash> Hash for Items<T> {
 }
 
 impl<T: Clone> Clone for Items<T> {
+    ghost is_clone = { AllZip T.is_clone };
+
     fn clone(&self) -> Result<Items<T>, AllocError> {
         Ok(Items {
             items: self.items.clone()?,

@@ -1,4 +1,5 @@
 ghost use Rattle.std.specs.Prelude.{◌≡◌, true};
+ghost use Rattle.cedar_expressions.specs.Placed.{marked_place};
 ghost use Rattle.std.specs.Cmp.Rules.{comparing};
 ghost use Rattle.std.proofs.Common.{rules};
 
@@ -29,7 +30,7 @@ pub struct NodePlace {
 impl NodePlace {
     /// The place.
     pub fn get(self) -> Option<Place>
-        ensures { result ≡ self.place }
+        ensures { result ≡ marked_place self }
     {
         self.place
     }

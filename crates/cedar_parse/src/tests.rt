@@ -22,6 +22,7 @@ mod places;
 mod rows;
 mod shapes;
 mod slots;
+mod tree_copies;
 mod values;
 
 /// What a run wrote, and its status.

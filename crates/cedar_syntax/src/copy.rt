@@ -79,6 +79,14 @@ fn copy_add(node: &Node<Option<Add>>) -> Result<Node<Option<Add>>, AllocError>
 }
 
 #[cycle(copy)]
+fn copy_boxed(part: &Boxed<Node<Option<Add>>>) -> Result<Boxed<Node<Option<Add>>>, AllocError>
+    ensures { IfOk result (λ copy. copy ≡ part.now) }
+{
+    let copy = copy_add(part.as_ref())?;
+    Boxed::new(part.alloc(), copy)
+}
+
+#[cycle(copy)]
 fn copy_mult(node: &Node<Option<Mult>>) -> Result<Node<Option<Mult>>, AllocError>
     ensures { IfOk result (λ copy. copy ≡ node.now) }
 {
@@ -286,14 +294,14 @@ impl Relation {
                 let target = copy_add(target)?;
                 Ok(Relation::Has {
                     target,
-                    field: copy_add(field)?,
+                    field: copy_boxed(field)?,
                 })
             }
             Relation::Like { target, pattern } => {
                 let target = copy_add(target)?;
                 Ok(Relation::Like {
                     target,
-                    pattern: copy_add(pattern)?,
+                    pattern: copy_boxed(pattern)?,
                 })
             }
             Relation::IsIn {
@@ -302,7 +310,7 @@ impl Relation {
                 in_entity,
             } => {
                 let target = copy_add(target)?;
-                let entity_type = copy_add(entity_type)?;
+                let entity_type = copy_boxed(entity_type)?;
                 match in_entity {
                     None => Ok(Relation::IsIn {
                         target,
@@ -312,7 +320,7 @@ impl Relation {
                     Some(entity) => Ok(Relation::IsIn {
                         target,
                         entity_type,
-                        in_entity: Some(copy_add(entity)?),
+                        in_entity: Some(copy_boxed(entity)?),
                     }),
                 }
             }

@@ -110,16 +110,16 @@ pub enum Relation {
     },
     Has {
         target: Node<Option<Add>>,
-        field: Node<Option<Add>>,
+        field: Boxed<Node<Option<Add>>>,
     },
     Like {
         target: Node<Option<Add>>,
-        pattern: Node<Option<Add>>,
+        pattern: Boxed<Node<Option<Add>>>,
     },
     IsIn {
         target: Node<Option<Add>>,
-        entity_type: Node<Option<Add>>,
-        in_entity: Option<Node<Option<Add>>>,
+        entity_type: Boxed<Node<Option<Add>>>,
+        in_entity: Option<Boxed<Node<Option<Add>>>>,
     },
 }
 

@@ -1,5 +1,5 @@
 //! Closes what is begun: the chain of each level with its last operand, up to the whole expression.
-ghost use Rattle.std.specs.Prelude.{◌≡◌, IfOk};
+ghost use Rattle.std.specs.Prelude.{◌≡◌, IfOk, IsOkAnd};
 ghost use Rattle.cedar_text.specs.Place.{join};
 ghost use Rattle.cedar_text.specs.Trees.{if_of};
 ghost use Rattle.cedar_text.specs.Machine.{ranged, node_of, linked, marked, onward, pending, unary_at, made_mult, made_add, made_relation, made_and, made_or, made_expr, branched, whole};
@@ -24,6 +24,14 @@ pub type Comparison = Pending<Add, RelOp>;
 pub type Sum = Pending<Mult, AddOp>;
 
 pub type Product = Pending<Unary, MultOp>;
+
+/// What is held beside what was made. It is one value where making can be refused, so that a caller drops nothing on its way out.
+pub fn beside<A: Drop, B>(held: A, made: Result<B, AllocError>) -> Result<(A, B), AllocError>
+    ensures { IfOk result (λ both. IsOkAnd made (λ one. both ≡ (held, one))) }
+{
+    let made = made?;
+    Ok((held, made))
+}
 
 /// The chain with one more operand.
 pub fn link<T: Drop>(
@@ -222,7 +230,8 @@ pub fn close_and(
 ) -> Result<Ranged<And>, AllocError>
     ensures { IfOk result (λ closed. closed ≡ made_and (linked source.now and (made_relation (marked source.now relation (made_add (marked source.now add (made_mult (marked source.now mult (unary_at source.now operand))))))))) }
 {
-    let relation = close_relation(alloc, source, relation, add, mult, operand)?;
+    let relation = close_relation(alloc, source, relation, add, mult, operand);
+    let (and, relation) = beside(and, relation)?;
     let Chain {
         initial,
         extended,
@@ -319,7 +328,8 @@ pub fn close_expr(
         add,
         mult,
     } = levels;
-    let and = close_and(alloc, source, and, relation, add, mult, operand)?;
+    let and = close_and(alloc, source, and, relation, add, mult, operand);
+    let ((branches, or), and) = beside((branches, or), and)?;
     let or = close_or(alloc, source, or, and)?;
     let expr = as_expr(alloc, source, or)?;
     close_branches(alloc, source, branches, expr)
