@@ -11,7 +11,7 @@ use Rattle.cedar_syntax.specs.declared.cst.RelOp.TheVariants as rel
 use Rattle.cedar_syntax.specs.declared.cst.Relation.{Relation}
 use Rattle.cedar_syntax.specs.declared.cst.Unary.{Unary, out-Unary}
 use Rattle.cedar_syntax.specs.declared.err.to_ast.ToASTErrorKind.TheVariants.{AmbiguousOperators, InvalidSingleEq, UnaryOpLimit}
-use Rattle.cedar_syntax.specs.Tree.{Tree, Rest, Operator, compare, chain, unary, missing, relation, none, more}
+use Rattle.cedar_syntax.specs.Tree.{Tree, Rest, Level, Operator, compare, chain, unary, missing, relation, none, more}
 use Rattle.cedar_syntax.specs.Unplaced.{add_tree, relation_tree, unary_tree, member_tree, typed, tree_at, rest_of, rel_part, rel_unplaced}
 use Rattle.cedar_syntax.proofs.Levels.{at_some, at_none, relation_common, relation_has, relation_like, relation_typed, unary_out}
 use Rattle.cedar_text.specs.Trees.{Cell}
@@ -37,10 +37,10 @@ ok_parts (Ok qs) ps e = let same : Some qs ≡ Some ps = e in cc
 ok_parts (Err fs) ps e = cc
 
 -- the parts of a chain
-chain_first : {t u : Tree} {r s : Rest} → chain relation t r ≡ chain relation u s → t ≡ u
+pub chain_first : {level : Level} {t u : Tree} {r s : Rest} → chain level t r ≡ chain level u s → t ≡ u
 chain_first e = cc
 
-chain_rest : {t u : Tree} {r s : Rest} → chain relation t r ≡ chain relation u s → r ≡ s
+pub chain_rest : {level : Level} {t u : Tree} {r s : Rest} → chain level t r ≡ chain level u s → r ≡ s
 chain_rest e = cc
 
 not_typed : (x y : Tree) (z : Option (Cell Tree)) (t : Tree) (r : Rest) → typed x y z ≡ chain relation t r → ⊥

@@ -19,7 +19,7 @@ use Rattle.cedar_policy_parser.specs.Converted.{Part, convert, value_of}
 use Rattle.cedar_policy_parser.specs.Held.{Held}
 use Rattle.cedar_policy_parser.specs.Levels.{as_expression, one_more, factor, mult_outcome}
 use Rattle.cedar_policy_parser.specs.Outcome.{Outcome, next}
-use Rattle.cedar_policy_parser.proofs.Alone.{held_value}
+use Rattle.cedar_policy_parser.proofs.Alone.{held_value, chain_first, chain_rest}
 use Rattle.cedar_policy_parser.proofs.Given.{given_unary_node}
 
 -- the factors behind the first one, as a tree has them
@@ -66,12 +66,6 @@ refused : (first : Outcome Held) (s : Held) (ps : Outcome (List Part)) (fs : Lis
 refused (Ok x) s (Ok ps) fs e h some = absurd (some h)
 refused (Ok x) s (Err gs) fs e h some = ap Err (sym h.0)
 refused (Err hs) s ps fs e h some = cc
-
-chain_first : {t u : Tree} {r s : Rest} → chain product t r ≡ chain product u s → t ≡ u
-chain_first e = cc
-
-chain_rest : {t u : Tree} {r s : Rest} → chain product t r ≡ chain product u s → r ≡ s
-chain_rest e = cc
 
 pub refused_quotients : (n : Cell Mult) (t : Tree) (rest : Rest) (o : Outcome Held) → tree_at mult_tree n ≡ chain product t rest → HasValue t → OperandsHaveValues rest
     → ¬ (quotients n.loc rest ≡ []) → MultAnswers n o → o ≡ Err (quotients n.loc rest)
