@@ -16,6 +16,7 @@ mod expressions;
 mod expressions_read;
 mod faults;
 mod flattened;
+mod hand_built;
 mod joined;
 mod lexer;
 mod places;

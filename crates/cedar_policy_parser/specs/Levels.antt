@@ -7,7 +7,7 @@ use Rattle.cedar_expressions.specs.declared.literal.Literal.TheVariants as liter
 use Rattle.cedar_expressions.specs.Value as v
 use Rattle.cedar_expressions.specs.Value.{Value, values, terms}
 use Rattle.cedar_syntax.specs.declared.loc.Loc.{Loc}
-use Rattle.cedar_syntax.specs.declared.err.to_ast.ToASTErrorKind.TheVariants.{EmptyNodeInvariantViolation, AmbiguousOperators, InvalidSingleEq, UnaryOpLimit, IntegerLiteralTooLarge, UnsupportedDivision, UnsupportedModulo, Unescape}
+use Rattle.cedar_syntax.specs.declared.err.to_ast.ToASTErrorKind.TheVariants.{EmptyNodeInvariantViolation, AmbiguousOperators, InvalidSingleEq, UnaryOpLimit, IntegerLiteralTooLarge, UnsupportedDivision, UnsupportedModulo, InvalidString, Unescape}
 use Rattle.cedar_syntax.specs.declared.err.escape.UnescapeError.{UnescapeError}
 use Rattle.cedar_syntax.specs.declared.err.faults.ParseError.{ParseError}
 use Rattle.cedar_syntax.specs.declared.err.faults.ParseError.TheVariants.{ToAST}
@@ -183,7 +183,7 @@ number_outcome place n = if nat_le largest n then Err (fault_at (IntegerLiteralT
 -- a string, which has the place of its literal
 abbrev pub written_at : Option Loc → Option Loc → Str → Outcome Held
 written_at place own (str.String raw) = Ok (bare_string (string_outcome place (escape_faults raw) (unescaped raw)))
-written_at place own (str.Invalid raw) = unreached own
+written_at place own (str.Invalid raw) = Err (fault_at (InvalidString raw) own)
 
 abbrev pub quoted_at : Option Loc → Option Loc → Option Str → Outcome Held
 quoted_at place own (Some s) = written_at place own s

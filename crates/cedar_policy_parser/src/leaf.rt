@@ -10,7 +10,7 @@ ghost use Rattle.cedar_policy_parser.specs.Seen.{plain};
 ghost use Rattle.cedar_policy_parser.specs.Strict.{repeated, largest};
 
 use crate::join::expr_of;
-use crate::special::{ExprOrSpecial, builder_at, place_of, refusal, unreached};
+use crate::special::{ExprOrSpecial, builder_at, invalid_string, place_of, refusal, unreached};
 use crate::strings::unescape;
 use cedar_expressions::{ExprBuilderInfallibleBuild, Literal, UnaryOp, Var};
 use cedar_syntax::cst::{self, Ident, NegOp};
@@ -184,7 +184,7 @@ fn quoted<E>(
             let text = unescape(alloc, raw.as_str(), loc)?;
             Ok(ExprOrSpecial::StrLit(text, place_of(loc)))
         }
-        Some(cst::Str::Invalid(_)) => Err(unreached(alloc, &node.loc)),
+        Some(cst::Str::Invalid(raw)) => Err(invalid_string(alloc, raw, &node.loc)),
         None => Err(unreached(alloc, &node.loc)),
     }
 }

@@ -65,6 +65,16 @@ pub(crate) fn into_expr<B: ExprBuilderInfallibleBuild>(
     }
 }
 
+/// A string that no text is written as, with its raw text.
+pub(crate) fn invalid_string(alloc: Global, raw: &Text, loc: &Option<Loc>) -> Failure
+    ensures { TellsAlone result (ToASTErrorKind.InvalidString raw.now) loc.now }
+{
+    match raw.try_clone() {
+        Ok(raw) => refusal(alloc, ToASTErrorKind::InvalidString(raw), loc),
+        Err(error) => Failure::Memory(error),
+    }
+}
+
 /// A node with nothing in it, or with a form that isn't converted yet.
 pub(crate) fn unreached(alloc: Global, loc: &Option<Loc>) -> Failure
     ensures { TellsAlone result ToASTErrorKind.EmptyNodeInvariantViolation loc.now }

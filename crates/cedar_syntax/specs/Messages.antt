@@ -10,7 +10,7 @@ use Rattle.cedar_syntax.specs.declared.err.escape.UnescapeFailure.TheVariants.{M
 use Rattle.cedar_syntax.specs.declared.err.to_cst.RawFault.{RawFault}
 use Rattle.cedar_syntax.specs.declared.err.to_cst.RawFault.TheVariants.{InvalidToken, UnrecognizedToken, UnrecognizedEof, User, ExtraToken}
 use Rattle.cedar_syntax.specs.declared.err.to_ast.ToASTErrorKind.{ToASTErrorKind}
-use Rattle.cedar_syntax.specs.declared.err.to_ast.ToASTErrorKind.TheVariants.{EmptyNodeInvariantViolation, AmbiguousOperators, InvalidSingleEq, UnaryOpLimit, IntegerLiteralTooLarge, UnsupportedDivision, UnsupportedModulo, ArbitraryVariable, Unescape}
+use Rattle.cedar_syntax.specs.declared.err.to_ast.ToASTErrorKind.TheVariants.{EmptyNodeInvariantViolation, AmbiguousOperators, InvalidSingleEq, UnaryOpLimit, IntegerLiteralTooLarge, UnsupportedDivision, UnsupportedModulo, ArbitraryVariable, InvalidString, Unescape}
 use Rattle.cedar_syntax.specs.declared.err.faults.ParseError.{ParseError}
 use Rattle.cedar_syntax.specs.declared.err.faults.ParseError.TheVariants.{ToCST, ToAST}
 use Rattle.cedar_syntax.specs.declared.err.faults.Failure.{Failure}
@@ -45,6 +45,7 @@ kind_message (IntegerLiteralTooLarge number) = codes "integer literal `" ++ (dec
 kind_message UnsupportedDivision = codes "division is not supported"
 kind_message UnsupportedModulo = codes "remainder/modulo is not supported"
 kind_message (ArbitraryVariable name) = codes "invalid variable: " ++ name
+kind_message (InvalidString text) = codes "invalid string literal: " ++ text
 kind_message (Unescape fault) = escape_message fault
 
 abbrev pub fault_message : ParseError → List ℕ

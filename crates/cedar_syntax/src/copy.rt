@@ -1,8 +1,8 @@
 ghost use Rattle.std.specs.Prelude.{◌≡◌, IfOk};
 
 use crate::cst::{
-    Add, And, Expr, ExprData, ExprImpl, MemAccess, Member, Mult, Or, Primary, RecInit, Relation,
-    Unary,
+    Add, And, Expr, ExprData, ExprImpl, MemAccess, Member, Mult, Or, Primary, RecInit, Ref,
+    Relation, Unary,
 };
 use crate::node::Node;
 use cedar_expressions::{Boxed, Items, TryClone};
@@ -83,6 +83,13 @@ fn copy_boxed(part: &Boxed<Node<Option<Add>>>) -> Result<Boxed<Node<Option<Add>>
     ensures { IfOk result (λ copy. copy ≡ part.now) }
 {
     let copy = copy_add(part.as_ref())?;
+    Boxed::new(part.alloc(), copy)
+}
+
+fn copy_ref(part: &Boxed<Node<Option<Ref>>>) -> Result<Boxed<Node<Option<Ref>>>, AllocError>
+    ensures { IfOk result (λ copy. copy ≡ part.now) }
+{
+    let copy = part.as_ref().try_clone()?;
     Boxed::new(part.alloc(), copy)
 }
 
@@ -385,7 +392,7 @@ impl Primary {
     {
         match self {
             Primary::Literal(value) => Ok(Primary::Literal(value.try_clone()?)),
-            Primary::Ref(value) => Ok(Primary::Ref(value.try_clone()?)),
+            Primary::Ref(value) => Ok(Primary::Ref(copy_ref(value)?)),
             Primary::Name(value) => Ok(Primary::Name(value.try_clone()?)),
             Primary::Slot(value) => Ok(Primary::Slot(value.try_clone()?)),
             Primary::Expr(value) => Ok(Primary::Expr(copy_expr(value)?)),

@@ -190,7 +190,7 @@ pub enum MemAccess {
 #[derive(Debug, Drop, PartialEq, Eq)]
 pub enum Primary {
     Literal(Node<Option<Literal>>),
-    Ref(Node<Option<Ref>>),
+    Ref(Boxed<Node<Option<Ref>>>),
     Name(Node<Option<Name>>),
     Slot(Node<Option<Slot>>),
     Expr(Node<Option<Expr>>),

@@ -1,5 +1,5 @@
 //! Closes what is begun: the chain of each level with its last operand, up to the whole expression.
-ghost use Rattle.std.specs.Prelude.{◌≡◌, IfOk, IsOkAnd};
+ghost use Rattle.std.specs.Prelude.{◌≡◌, IfOk};
 ghost use Rattle.cedar_text.specs.Place.{join};
 ghost use Rattle.cedar_text.specs.Trees.{if_of};
 ghost use Rattle.cedar_text.specs.Machine.{ranged, node_of, linked, marked, onward, pending, unary_at, made_mult, made_add, made_relation, made_and, made_or, made_expr, branched, whole};
@@ -15,29 +15,21 @@ use cedar_syntax::cst::{
 use cedar_syntax::node::Node;
 use std::alloc::{AllocError, Global};
 
-pub type Conjunction = Chain<Relation, Node<Option<Relation>>>;
+pub type Conjunction = Boxed<Chain<Relation, Node<Option<Relation>>>>;
 
-pub type Disjunction = Chain<And, Node<Option<And>>>;
+pub type Disjunction = Boxed<Chain<And, Node<Option<And>>>>;
 
-pub type Comparison = Pending<Add, RelOp>;
+pub type Comparison = Boxed<Pending<Add, RelOp>>;
 
-pub type Sum = Pending<Mult, AddOp>;
+pub type Sum = Boxed<Pending<Mult, AddOp>>;
 
-pub type Product = Pending<Unary, MultOp>;
-
-/// What is held beside what was made. It is one value where making can be refused, so that a caller drops nothing on its way out.
-pub fn beside<A: Drop, B>(held: A, made: Result<B, AllocError>) -> Result<(A, B), AllocError>
-    ensures { IfOk result (λ both. IsOkAnd made (λ one. both ≡ (held, one))) }
-{
-    let made = made?;
-    Ok((held, made))
-}
+pub type Product = Boxed<Pending<Unary, MultOp>>;
 
 /// The chain with one more operand.
 pub fn link<T: Drop>(
     alloc: Global,
     source: &Source,
-    begun: Option<Chain<T, Node<Option<T>>>>,
+    begun: Option<Boxed<Chain<T, Node<Option<T>>>>>,
     item: Ranged<T>,
 ) -> Result<Chain<T, Node<Option<T>>>, AllocError>
     ensures { IfOk result (λ chain. chain ≡ linked source.now begun item) }
@@ -56,7 +48,7 @@ pub fn link<T: Drop>(
                 initial,
                 mut extended,
                 extent,
-            } = chain;
+            } = chain.into_inner();
             let extent = joined(extent, item.extent);
             extended.push(node_of(source, item)?)?;
             Ok(Chain {
@@ -72,7 +64,7 @@ pub fn link<T: Drop>(
 pub fn link_marked<T: Drop, O: Drop>(
     alloc: Global,
     source: &Source,
-    begun: Option<Pending<T, O>>,
+    begun: Option<Boxed<Pending<T, O>>>,
     item: Ranged<T>,
 ) -> Result<Chain<T, (O, Node<Option<T>>)>, AllocError>
     ensures { IfOk result (λ chain. chain ≡ marked source.now begun item) }
@@ -87,7 +79,7 @@ pub fn link_marked<T: Drop, O: Drop>(
             })
         }
         Some(pending) => {
-            let Pending { chain, op } = pending;
+            let Pending { chain, op } = pending.into_inner();
             let Chain {
                 initial,
                 mut extended,
@@ -108,31 +100,31 @@ pub fn link_marked<T: Drop, O: Drop>(
 pub fn link_on<T: Drop>(
     alloc: Global,
     source: &Source,
-    begun: Option<Chain<T, Node<Option<T>>>>,
+    begun: Option<Boxed<Chain<T, Node<Option<T>>>>>,
     item: Ranged<T>,
     operator: Extent,
-) -> Result<Chain<T, Node<Option<T>>>, AllocError>
+) -> Result<Boxed<Chain<T, Node<Option<T>>>>, AllocError>
     ensures { IfOk result (λ chain. chain ≡ onward (linked source.now begun item) operator) }
 {
     let mut chain = link(alloc, source, begun, item)?;
     chain.extent = joined(chain.extent, Some(operator));
-    Ok(chain)
+    Boxed::new(alloc, chain)
 }
 
 /// The chain with its operator, one more operand and the operator behind that.
 pub fn link_pending<T: Drop, O: Drop>(
     alloc: Global,
     source: &Source,
-    begun: Option<Pending<T, O>>,
+    begun: Option<Boxed<Pending<T, O>>>,
     item: Ranged<T>,
     op: O,
     operator: Extent,
-) -> Result<Pending<T, O>, AllocError>
+) -> Result<Boxed<Pending<T, O>>, AllocError>
     ensures { IfOk result (λ next. next ≡ pending (marked source.now begun item) op operator) }
 {
     let mut chain = link_marked(alloc, source, begun, item)?;
     chain.extent = joined(chain.extent, Some(operator));
-    Ok(Pending { chain, op })
+    Boxed::new(alloc, Pending { chain, op })
 }
 
 /// The operand with its signs and accesses.
@@ -230,8 +222,7 @@ pub fn close_and(
 ) -> Result<Ranged<And>, AllocError>
     ensures { IfOk result (λ closed. closed ≡ made_and (linked source.now and (made_relation (marked source.now relation (made_add (marked source.now add (made_mult (marked source.now mult (unary_at source.now operand))))))))) }
 {
-    let relation = close_relation(alloc, source, relation, add, mult, operand);
-    let (and, relation) = beside(and, relation)?;
+    let relation = close_relation(alloc, source, relation, add, mult, operand)?;
     let Chain {
         initial,
         extended,
@@ -328,8 +319,7 @@ pub fn close_expr(
         add,
         mult,
     } = levels;
-    let and = close_and(alloc, source, and, relation, add, mult, operand);
-    let ((branches, or), and) = beside((branches, or), and)?;
+    let and = close_and(alloc, source, and, relation, add, mult, operand)?;
     let or = close_or(alloc, source, or, and)?;
     let expr = as_expr(alloc, source, or)?;
     close_branches(alloc, source, branches, expr)

@@ -3,8 +3,8 @@ ghost use Rattle.std.specs.Prelude.{◌≡◌, IfOk};
 ghost use Rattle.cedar_text.specs.Machine.{linked, marked, onward, pending, unary_at, made_mult, made_add, made_relation, made_and, mult_at, add_at, relation_at, and_at, opening, going_on, after_multiply, after_sum, after_compare, after_and, after_or};
 
 use crate::close::{
-    Comparison, Conjunction, Product, Sum, beside, close_add, close_and, close_mult,
-    close_relation, close_unary, link_on, link_pending,
+    Comparison, Conjunction, Product, Sum, close_add, close_and, close_mult, close_relation,
+    close_unary, link_on, link_pending,
 };
 use crate::extent::Extent;
 use crate::stack::Stack;
@@ -98,8 +98,7 @@ fn go_on_and(
 ) -> Result<Conjunction, AllocError>
     ensures { IfOk result (λ next. next ≡ onward (linked source.now and (made_relation (marked source.now relation (made_add (marked source.now add (made_mult (marked source.now mult (unary_at source.now operand)))))))) operator) }
 {
-    let relation = close_relation(alloc, source, relation, add, mult, operand);
-    let (and, relation) = beside(and, relation)?;
+    let relation = close_relation(alloc, source, relation, add, mult, operand)?;
     link_on(alloc, source, and, relation, operator)
 }
 
@@ -218,8 +217,7 @@ pub fn and_then(
         add,
         mult,
     } = levels;
-    let and = go_on_and(alloc, source, and, relation, add, mult, operand, operator);
-    let ((stack, branches, or), and) = beside((stack, branches, or), and)?;
+    let and = go_on_and(alloc, source, and, relation, add, mult, operand, operator)?;
     let levels = Levels {
         branches,
         or,
@@ -250,8 +248,7 @@ pub fn or_else(
         add,
         mult,
     } = levels;
-    let and = close_and(alloc, source, and, relation, add, mult, operand);
-    let ((stack, branches, or), and) = beside((stack, branches, or), and)?;
+    let and = close_and(alloc, source, and, relation, add, mult, operand)?;
     let or = link_on(alloc, source, or, and, operator)?;
     let levels = Levels {
         branches,

@@ -2,7 +2,7 @@
 
 use crate::extent::Extent;
 use crate::stack::Stack;
-use cedar_expressions::Items;
+use cedar_expressions::{Boxed, Items};
 use cedar_syntax::cst::{
     Add, AddOp, And, Expr, MemAccess, Mult, MultOp, NegOp, Primary, RelOp, Relation, Unary,
 };
@@ -38,15 +38,16 @@ pub struct Branch {
     pub extent: Option<Extent>,
 }
 
-/// What is begun before an operand, each level with the operator at its end.
+/// What is begun before an operand, each level with the operator at its end. A level that is begun has memory of its own,
+/// so that a state that moves from token to token is small.
 #[derive(Drop)]
 pub struct Levels {
     pub branches: Stack<Branch>,
-    pub or: Option<Chain<And, Node<Option<And>>>>,
-    pub and: Option<Chain<Relation, Node<Option<Relation>>>>,
-    pub relation: Option<Pending<Add, RelOp>>,
-    pub add: Option<Pending<Mult, AddOp>>,
-    pub mult: Option<Pending<Unary, MultOp>>,
+    pub or: Option<Boxed<Chain<And, Node<Option<And>>>>>,
+    pub and: Option<Boxed<Chain<Relation, Node<Option<Relation>>>>>,
+    pub relation: Option<Boxed<Pending<Add, RelOp>>>,
+    pub add: Option<Boxed<Pending<Mult, AddOp>>>,
+    pub mult: Option<Boxed<Pending<Unary, MultOp>>>,
 }
 
 /// The signs before an operand.

@@ -103,11 +103,11 @@ fn words_are_variables_and_truth_values(rt: HostRuntime) -> Result<(), Fail> {
 #[test]
 fn parentheses_nest(rt: HostRuntime) -> Result<(), Fail> {
     let mut text = String::new(rt.alloc());
-    for _ in 0..100 {
+    for _ in 0..500 {
         text.push('(')?;
     }
     text.push('1')?;
-    for _ in 0..100 {
+    for _ in 0..500 {
         text.push(')')?;
     }
     means(&rt, text.as_str(), &long(rt.alloc(), 1)?);

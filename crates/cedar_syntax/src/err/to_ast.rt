@@ -28,6 +28,8 @@ pub enum ToASTErrorKind {
     UnsupportedModulo,
     /// a name that is no variable
     ArbitraryVariable(Text),
+    /// a string that no text is written as
+    InvalidString(Text),
     /// a piece of a string that is no escape
     Unescape(UnescapeError),
 }
@@ -51,6 +53,9 @@ impl ToASTErrorKind {
             ToASTErrorKind::UnsupportedModulo => Ok(ToASTErrorKind::UnsupportedModulo),
             ToASTErrorKind::ArbitraryVariable(name) => {
                 Ok(ToASTErrorKind::ArbitraryVariable(name.try_clone()?))
+            }
+            ToASTErrorKind::InvalidString(text) => {
+                Ok(ToASTErrorKind::InvalidString(text.try_clone()?))
             }
             ToASTErrorKind::Unescape(fault) => Ok(ToASTErrorKind::Unescape(fault.try_clone()?)),
         }
@@ -107,6 +112,7 @@ impl fmt::Display for ToASTErrorKind {
             ToASTErrorKind::UnsupportedDivision => f.write_str("division is not supported"),
             ToASTErrorKind::UnsupportedModulo => f.write_str("remainder/modulo is not supported"),
             ToASTErrorKind::ArbitraryVariable(name) => write!(f, "invalid variable: {name}"),
+            ToASTErrorKind::InvalidString(text) => write!(f, "invalid string literal: {text}"),
             ToASTErrorKind::Unescape(fault) => write!(f, "{fault}"),
         }
     }
