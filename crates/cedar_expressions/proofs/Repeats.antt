@@ -1,13 +1,12 @@
 -- How a search from the left finds a key that stands twice.
 use Rattle.std.proofs.Common.{not, ◌≡◌, ℕ, Bool, true, false, ◌||◌, List, [], ◌∷◌, ◌++◌, refl, ap, sym, ◌∙◌, subst, cond, map, take, drop, length, get_or, ◌<◌, ◌+◌, arith}
-use Rattle.std.specs.List.{list_any, Contains}
+use Rattle.std.specs.List.{list_any}
 use Rattle.std.specs.Str.{bytes_eq}
 use Rattle.std.specs.Cmp.Lexicographic.{nat_list_eq_equiv, texts_ties, slice_cmp}
 use Rattle.std.specs.Ordering.{nat_cmp, is_eq}
-use Rattle.std.proofs.lemmas.List.{take_more, map-append, take-append-drop}
-use Rattle.std.proofs.lemmas.List.Elements.{Contains-append_left, Contains-append_right}
+use Rattle.std.proofs.lemmas.List.{take_more, map-append, take-append-drop, append_assoc}
 use Rattle.std.proofs.lemmas.List.Folds.{list_any-append}
-use Rattle.cedar_expressions.specs.Keys.{repeats_key}
+use Rattle.cedar_expressions.specs.Keys.{repeats_key, StandsAgain}
 
 or-true : (a : Bool) → (a || true) ≡ true
 or-true true = refl
@@ -80,13 +79,13 @@ module _ {T : Type 0} where
   keys-at pairs i p k h e same = keys-split pairs (i + 1) ∙ ap (λ z. z ++ keys (drop (i + 1) pairs)) (keys-more pairs i p k h e same)
 
   -- what is told of a key that was there before
-  pub repeated : (pairs : List (List ℕ × T)) (i : ℕ) (p : List ℕ × T) (k : List ℕ) → i < length pairs → p ≡ get_or pairs i p → k ≡ p.0 → list_any (bytes_eq k) (keys (take i pairs)) ≡ true → (repeats_key (keys pairs) ≡ true) × Contains (keys pairs) k
-  repeated pairs i p k h e same old =
+  pub repeated : (pairs : List (List ℕ × T)) (i : ℕ) (p : List ℕ × T) (k : List ℕ) → i < length pairs → p ≡ get_or pairs i p → k ≡ p.0 → repeats_key (keys (take i pairs)) ≡ false → list_any (bytes_eq k) (keys (take i pairs)) ≡ true → (repeats_key (keys pairs) ≡ true) × StandsAgain k (keys pairs)
+  repeated pairs i p k h e same single old =
       let whole = keys-at pairs i p k h e same in
       let ks = keys (take i pairs) in
       let rest = keys (drop (i + 1) pairs) in (
         ap repeats_key whole ∙ repeats-more (ks ++ k ∷ []) rest (now-repeated ks k old),
-        subst (λ (xs : List (List ℕ)). Contains xs k) (sym whole) (Contains-append_left (ks ++ k ∷ []) rest k (Contains-append_right ks (k ∷ []) k (0, omega arith, refl))),
+        (ks, rest, whole ∙ append_assoc ks (k ∷ []) rest, old, single),
       )
 
 pub absent : (b : Bool) → not b ≡ true → b ≡ false

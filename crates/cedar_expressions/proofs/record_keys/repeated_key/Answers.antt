@@ -20,5 +20,5 @@ returns-then-not-branch g c =
     let ks = keys (take c.loop-key.key-index c.args.pairs.now) in
     let same = c.in_ok-try_clone.ensures in
     let old = present _ (sym c.in_ok-insert.ensures.added ∙ c.if-not-branch.true) in
-    repeated c.args.pairs.now c.loop-key.key-index c.loop-key-item.result c.in_ok-try_clone.field-0 c.loop-key-test.true c.loop-key-item.is same
+    repeated c.args.pairs.now c.loop-key.key-index c.loop-key-item.result c.in_ok-try_clone.field-0 c.loop-key-test.true c.loop-key-item.is same c.loop-key.invariant.0
     (ap (λ z. list_any (bytes_eq z) ks) (same ∙ sym c.as_str.ensures) ∙ (sym (c.loop-key.invariant.1 c.as_str.result) ∙ old))
