@@ -1,5 +1,5 @@
 -- How a search from the left finds a key that stands twice.
-use Rattle.std.proofs.Common.{not, ◌≡◌, ℕ, Bool, true, false, ◌||◌, List, [], ◌∷◌, ◌++◌, refl, ap, sym, ◌∙◌, subst, cond, map, take, drop, length, get_or, ◌<◌, ◌+◌, arith}
+use Rattle.std.proofs.Common.{not, ◌≡◌, ℕ, Bool, true, false, ◌||◌, List, [], ◌∷◌, ◌++◌, refl, ap, sym, ◌∙◌, cond, map, take, drop, length, get_or, ◌<◌, ◌+◌}
 use Rattle.std.specs.List.{list_any}
 use Rattle.std.specs.Str.{bytes_eq}
 use Rattle.std.specs.Cmp.Lexicographic.{nat_list_eq_equiv, texts_ties, slice_cmp}

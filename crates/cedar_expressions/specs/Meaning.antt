@@ -1,5 +1,4 @@
 -- An expression without its places: the builder calls that made it.
-use Rattle.std.specs.Prelude.{ℕ, List, [], ◌∷◌, map}
 use Rattle.cedar_expressions.specs.declared.operators.UnaryOp.{UnaryOp}
 use Rattle.cedar_expressions.specs.declared.operators.UnaryOp.TheVariants as operator
 use Rattle.cedar_expressions.specs.declared.expr.UnaryCall.{UnaryCall}

@@ -1,6 +1,7 @@
 -- How values are written.
-use Rattle.std.specs.Prelude.{ℕ, List, [], ◌∷◌, ◌++◌, Bool, if◌then◌else◌, codes}
-use Rattle.std.specs.Fmt.{signed_decimal}
+use Rattle.std.specs.Prelude.{ℕ, List, ◌++◌, if◌then◌else◌, codes}
+use Rattle.std.specs.Fmt.{signed_decimal, decimal}
+use Rattle.std.specs.Char.{encode_utf8}
 use Rattle.cedar_expressions.specs.declared.operators.AddOp.{AddOp}
 use Rattle.cedar_expressions.specs.declared.operators.AddOp.TheVariants.{Plus, Minus}
 use Rattle.cedar_expressions.specs.declared.operators.UnaryOp.{UnaryOp}
@@ -12,6 +13,19 @@ use Rattle.cedar_expressions.specs.declared.literal.Var.TheVariants as var
 use Rattle.cedar_expressions.specs.declared.literal.SlotId.{SlotId}
 use Rattle.cedar_expressions.specs.declared.literal.SlotId.TheVariants as slot
 use Rattle.cedar_expressions.specs.declared.entity.EntityUID.{EntityUID}
+use Rattle.cedar_expressions.specs.declared.literal.PatternElem.{PatternElem}
+use Rattle.cedar_expressions.specs.declared.literal.PatternElem.TheVariants as element
+use Rattle.cedar_expressions.specs.declared.errors.ExpressionConstructionError.{ExpressionConstructionError}
+use Rattle.cedar_expressions.specs.declared.errors.RecordError.{RecordError}
+use Rattle.cedar_expressions.specs.declared.errors.RecordError.TheVariants.{Memory, Construction}
+use Rattle.cedar_expressions.specs.declared.names.ReservedNameError.{ReservedNameError}
+use Rattle.cedar_expressions.specs.declared.place.Place.{Place}
+use Rattle.cedar_expressions.specs.declared.expr.Expr.{Expr}
+use Rattle.cedar_expressions.specs.declared.expr.ExprKind.{ExprKind}
+use Rattle.cedar_expressions.specs.declared.expr.ExprKind.TheOpen.{ExprKind-F}
+use Rattle.cedar_expressions.specs.declared.expr.ExprKind.TheViews.{out-ExprKind}
+use Rattle.cedar_expressions.specs.declared.expr.ListCall.{ListCall}
+use Rattle.cedar_expressions.specs.declared.expr.ListCall.TheVariants as list
 use Rattle.cedar_expressions.specs.Path.{name_text}
 
 -- operators by their signs
@@ -47,3 +61,42 @@ literal_text (literal.Bool b) = if b then codes "true" else codes "false"
 literal_text (literal.Long number) = signed_decimal number
 literal_text (literal.String text) = quoted text
 literal_text (literal.EntityUID entity) = entity_text entity
+
+-- an element of a pattern: its character, or a star
+abbrev pub element_text : PatternElem → List ℕ
+element_text (element.Char character) = encode_utf8 character
+element_text element.Wildcard = codes "*"
+
+abbrev pub place_text : Place → List ℕ
+place_text place = decimal place.length ++ (codes " bytes from " ++ (decimal place.offset ++ codes " on"))
+
+-- what an expression is: a constant, a variable or a slot as it stands, all else in words
+abbrev pub list_call_text : ListCall → List ℕ
+list_call_text list.Set = codes "[..]"
+list_call_text (list.Extension function) = name_text function ++ codes "(..)"
+
+abbrev pub kind_text : ExprKind-F ExprKind Expr → List ℕ
+kind_text (ExprKind-F.Val constant) = literal_text constant
+kind_text (ExprKind-F.Var variable) = var_text variable
+kind_text (ExprKind-F.Slot id) = slot_text id
+kind_text (ExprKind-F.Ite _) = codes "if .. then .. else .."
+kind_text (ExprKind-F.Unary _ _) = codes "an operation on an expression"
+kind_text (ExprKind-F.Binary _ _) = codes "an operation on expressions"
+kind_text (ExprKind-F.Nary _ _ _) = codes "an operation on expressions"
+kind_text (ExprKind-F.Sum _ _) = codes "an operation on expressions"
+kind_text (ExprKind-F.List call _) = list_call_text call
+kind_text (ExprKind-F.Record _) = codes "{..}"
+
+abbrev pub expr_text : Expr → List ℕ
+expr_text e = kind_text (out-ExprKind e.kind)
+
+-- what refusals say
+abbrev pub duplicate_text : ExpressionConstructionError → List ℕ
+duplicate_text error = codes "duplicate key `" ++ (error.key ++ codes "` in record")
+
+abbrev pub record_error_text : RecordError → List ℕ
+record_error_text (Memory _) = codes "want of memory"
+record_error_text (Construction error) = duplicate_text error
+
+abbrev pub reserved_text : ReservedNameError → List ℕ
+reserved_text error = codes "the name `" ++ (name_text error.name ++ codes "` is reserved: it holds `__cedar`")

@@ -5,7 +5,7 @@ use std::hash::{Hash, Hasher};
 use std::marker::Model;
 
 /// A `Box` that contracts see as its value.
-#[derive(Debug, Drop)]
+#[derive(Debug)]
 pub struct Boxed<T> {
     inner: Box<T>,
 }
@@ -56,6 +56,15 @@ impl<T: Drop> Boxed<T> {
         Ok(Boxed {
             inner: Box::new(alloc, value)?,
         })
+    }
+}
+
+/// The value is dropped in a frame of its own, so that what holds a box takes no room for what is in it.
+impl<T: Drop> Drop for Boxed<T> {
+    #[inline(never)]
+    fn drop(self) {
+        let Boxed { inner } = self;
+        let _ = Box::into_inner(inner);
     }
 }
 

@@ -28,6 +28,11 @@ impl ExpressionConstructionError {
 }
 
 impl fmt::Display for ExpressionConstructionError {
+    ghost use Rattle.std.proofs.Common.{Some};
+    ghost use Rattle.cedar_expressions.specs.Written.{duplicate_text};
+
+    ghost output = { λ error. Some (duplicate_text error) };
+
     fn fmt<W: fmt::Write>(&self, f: &mut fmt::Formatter<W>) -> fmt::Result {
         write!(f, "duplicate key `{}` in record", self.key)
     }
@@ -65,6 +70,11 @@ impl<T: Drop> From<AllocFailed<T>> for RecordError {
 }
 
 impl fmt::Display for RecordError {
+    ghost use Rattle.std.proofs.Common.{Some};
+    ghost use Rattle.cedar_expressions.specs.Written.{record_error_text};
+
+    ghost output = { λ error. Some (record_error_text error) };
+
     fn fmt<W: fmt::Write>(&self, f: &mut fmt::Formatter<W>) -> fmt::Result {
         match self {
             RecordError::Memory(_) => f.write_str("want of memory"),

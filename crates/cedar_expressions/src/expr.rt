@@ -165,6 +165,11 @@ impl TryClone for ListCall {
 
 /// Constants, variables and slots are written as they stand, all else by what it is.
 impl fmt::Display for Expr {
+    ghost use Rattle.std.proofs.Common.{Some};
+    ghost use Rattle.cedar_expressions.specs.Written.{expr_text};
+
+    ghost output = { λ e. Some (expr_text e) };
+
     fn fmt<W: fmt::Write>(&self, f: &mut fmt::Formatter<W>) -> fmt::Result {
         match &self.kind {
             ExprKind::Val(literal) => literal.fmt(f),

@@ -120,6 +120,11 @@ impl fmt::Display for SlotId {
 }
 
 impl fmt::Display for PatternElem {
+    ghost use Rattle.std.proofs.Common.{Some};
+    ghost use Rattle.cedar_expressions.specs.Written.{element_text};
+
+    ghost output = { λ element. Some (element_text element) };
+
     fn fmt<W: fmt::Write>(&self, f: &mut fmt::Formatter<W>) -> fmt::Result {
         match self {
             PatternElem::Char(character) => write!(f, "{character}"),

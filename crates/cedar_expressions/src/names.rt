@@ -174,6 +174,11 @@ impl ReservedNameError {
 }
 
 impl fmt::Display for ReservedNameError {
+    ghost use Rattle.std.proofs.Common.{Some};
+    ghost use Rattle.cedar_expressions.specs.Written.{reserved_text};
+
+    ghost output = { λ error. Some (reserved_text error) };
+
     fn fmt<W: fmt::Write>(&self, f: &mut fmt::Formatter<W>) -> fmt::Result {
         write!(
             f,

@@ -71,6 +71,11 @@ impl TryClone for Slot {
 }
 
 impl fmt::Display for Place {
+    ghost use Rattle.std.proofs.Common.{Some};
+    ghost use Rattle.cedar_expressions.specs.Written.{place_text};
+
+    ghost output = { λ place. Some (place_text place) };
+
     fn fmt<W: fmt::Write>(&self, f: &mut fmt::Formatter<W>) -> fmt::Result {
         write!(f, "{} bytes from {} on", self.length, self.offset)
     }

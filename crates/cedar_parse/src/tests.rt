@@ -17,6 +17,7 @@ mod expressions_read;
 mod faults;
 mod flattened;
 mod hand_built;
+mod held;
 mod joined;
 mod lexer;
 mod places;

@@ -1,4 +1,4 @@
-ghost use Rattle.std.specs.Prelude.{◌≡◌, IfOk};
+ghost use Rattle.std.specs.Prelude.{◌≡◌, IfOk, IsOkAnd};
 
 use crate::cst::{
     Add, And, Expr, ExprData, ExprImpl, MemAccess, Member, Mult, Or, Primary, RecInit, Ref,
@@ -84,6 +84,14 @@ fn copy_boxed(part: &Boxed<Node<Option<Add>>>) -> Result<Boxed<Node<Option<Add>>
 {
     let copy = copy_add(part.as_ref())?;
     Boxed::new(part.alloc(), copy)
+}
+
+/// What is held beside what was made. Where making can be refused, a caller then drops nothing on its way out.
+fn beside<A: Drop, B>(held: A, made: Result<B, AllocError>) -> Result<(A, B), AllocError>
+    ensures { IfOk result (λ both. IsOkAnd made (λ one. both ≡ (held, one))) }
+{
+    let made = made?;
+    Ok((held, made))
 }
 
 fn copy_ref(part: &Boxed<Node<Option<Ref>>>) -> Result<Boxed<Node<Option<Ref>>>, AllocError>
@@ -299,17 +307,13 @@ impl Relation {
             }
             Relation::Has { target, field } => {
                 let target = copy_add(target)?;
-                Ok(Relation::Has {
-                    target,
-                    field: copy_boxed(field)?,
-                })
+                let (target, field) = beside(target, copy_boxed(field))?;
+                Ok(Relation::Has { target, field })
             }
             Relation::Like { target, pattern } => {
                 let target = copy_add(target)?;
-                Ok(Relation::Like {
-                    target,
-                    pattern: copy_boxed(pattern)?,
-                })
+                let (target, pattern) = beside(target, copy_boxed(pattern))?;
+                Ok(Relation::Like { target, pattern })
             }
             Relation::IsIn {
                 target,
@@ -317,18 +321,22 @@ impl Relation {
                 in_entity,
             } => {
                 let target = copy_add(target)?;
-                let entity_type = copy_boxed(entity_type)?;
+                let (target, entity_type) = beside(target, copy_boxed(entity_type))?;
                 match in_entity {
                     None => Ok(Relation::IsIn {
                         target,
                         entity_type,
                         in_entity: None,
                     }),
-                    Some(entity) => Ok(Relation::IsIn {
-                        target,
-                        entity_type,
-                        in_entity: Some(copy_boxed(entity)?),
-                    }),
+                    Some(entity) => {
+                        let parts = beside((target, entity_type), copy_boxed(entity));
+                        let ((target, entity_type), entity) = parts?;
+                        Ok(Relation::IsIn {
+                            target,
+                            entity_type,
+                            in_entity: Some(entity),
+                        })
+                    }
                 }
             }
         }

@@ -1,10 +1,11 @@
 //! The builder: each call but those of two expressions is called, and the node that it makes compared.
 use super::expressions::{name, text};
+use super::held::{both, equal, list_of_two};
 use super::joined::operands;
 use super::shapes::{Shape, made};
 use cedar_expressions::{
     AddOp, EntityType, Expr, ExprBuilder, ExprBuilderInfallibleBuild, Literal, Name, NaryOp,
-    PatternElem, SlotId, UnaryOp, Var,
+    PatternElem, Place, SlotId, UnaryOp, Var,
 };
 use std::alloc::{AllocError, Global};
 use std::test::Fail;
@@ -12,6 +13,11 @@ use std::test::Fail;
 /// A builder without a place.
 pub(super) fn build(alloc: Global) -> ExprBuilder<()> {
     ExprBuilder::new(alloc)
+}
+
+/// A builder at a place.
+pub(super) fn build_at(alloc: Global, place: Place) -> ExprBuilder<()> {
+    build(alloc).with_maybe_source_loc(Some(place))
 }
 
 /// The constant that a number is.
@@ -68,15 +74,13 @@ fn calls_of_one_with_an_operator(rt: HostRuntime) -> Result<(), Fail> {
 
 /// `1.a`.
 fn get_attr(alloc: Global) -> Result<Expr, AllocError> {
-    let one = long(alloc, 1)?;
-    let attribute = text(alloc, "a")?;
+    let (one, attribute) = both(long(alloc, 1), text(alloc, "a"))?;
     build(alloc).get_attr(one, attribute)
 }
 
 /// `1 has a`.
 fn has_attr(alloc: Global) -> Result<Expr, AllocError> {
-    let one = long(alloc, 1)?;
-    let attribute = text(alloc, "a")?;
+    let (one, attribute) = both(long(alloc, 1), text(alloc, "a"))?;
     build(alloc).extended_has_attr(one, attribute, Vec::new(alloc))
 }
 
@@ -102,8 +106,7 @@ fn any_text(alloc: Global) -> Result<Vec<PatternElem>, AllocError> {
 
 /// `1 like "*"`.
 fn like(alloc: Global) -> Result<Expr, AllocError> {
-    let pattern = any_text(alloc)?;
-    let one = long(alloc, 1)?;
+    let (one, pattern) = both(long(alloc, 1), any_text(alloc))?;
     build(alloc).like(one, pattern)
 }
 
@@ -147,30 +150,24 @@ fn the_call_of_two_with_a_type(rt: HostRuntime) -> Result<(), Fail> {
 
 /// Two numbers.
 fn two(alloc: Global) -> Result<Vec<Expr>, AllocError> {
-    let mut items = Vec::new(alloc);
-    items.push(long(alloc, 2)?)?;
-    items.push(long(alloc, 3)?)?;
-    Ok(items)
+    list_of_two(alloc, long(alloc, 2), long(alloc, 3))
 }
 
 /// `1 || 2 || 3`.
 fn or(alloc: Global) -> Result<Expr, AllocError> {
-    let rest = two(alloc)?;
-    let first = long(alloc, 1)?;
+    let (first, rest) = both(long(alloc, 1), two(alloc))?;
     build(alloc).or_nary(first, rest)
 }
 
 /// `1 && 2 && 3`.
 fn and(alloc: Global) -> Result<Expr, AllocError> {
-    let rest = two(alloc)?;
-    let first = long(alloc, 1)?;
+    let (first, rest) = both(long(alloc, 1), two(alloc))?;
     build(alloc).and_naryl(first, rest)
 }
 
 /// `1 * 2 * 3`.
 fn mul(alloc: Global) -> Result<Expr, AllocError> {
-    let rest = two(alloc)?;
-    let first = long(alloc, 1)?;
+    let (first, rest) = both(long(alloc, 1), two(alloc))?;
     build(alloc).mul_nary(first, rest)
 }
 
@@ -184,16 +181,20 @@ fn calls_of_a_list_with_an_operator(rt: HostRuntime) -> Result<(), Fail> {
 
 #[test]
 fn operators_differ(rt: HostRuntime) -> Result<(), Fail> {
-    let and = and(rt.alloc())?;
-    assert!(rt; mul(rt.alloc())? != and);
+    assert!(rt; !equal(mul(rt.alloc()), and(rt.alloc()))?);
     Ok(())
+}
+
+/// `- 2`, as it stands in a sum.
+fn behind_minus(alloc: Global) -> Result<Vec<(AddOp, Expr)>, AllocError> {
+    let mut terms = Vec::new(alloc);
+    terms.push((AddOp::Minus, long(alloc, 2)?))?;
+    Ok(terms)
 }
 
 /// `1 - 2`.
 pub(super) fn difference(alloc: Global) -> Result<Expr, AllocError> {
-    let mut terms = Vec::new(alloc);
-    terms.push((AddOp::Minus, long(alloc, 2)?))?;
-    let first = long(alloc, 1)?;
+    let (first, terms) = both(long(alloc, 1), behind_minus(alloc))?;
     build(alloc).add_nary(first, terms)
 }
 

@@ -1,6 +1,7 @@
 //! Copies of expressions, their places, and records.
-use super::builder::{build, difference, extension_call, long};
+use super::builder::{build, build_at, difference, extension_call, long};
 use super::expressions::{name, text};
+use super::held::{both, copies, equal, list_of_two};
 use cedar_expressions::{
     Expr, ExprBuilderInfallibleBuild, ExprKind, Literal, Place, RecordError, Text,
 };
@@ -9,16 +10,12 @@ use std::test::Fail;
 
 /// A pair of a record.
 fn pair(alloc: Global, key: &str, number: i64) -> Result<(Text, Expr), AllocError> {
-    let key = text(alloc, key)?;
-    Ok((key, long(alloc, number)?))
+    both(text(alloc, key), long(alloc, number))
 }
 
 /// The pairs of a record.
 fn pairs(alloc: Global) -> Result<Vec<(Text, Expr)>, AllocError> {
-    let mut pairs = Vec::new(alloc);
-    pairs.push(pair(alloc, "b", 1)?)?;
-    pairs.push(pair(alloc, "a", 2)?)?;
-    Ok(pairs)
+    list_of_two(alloc, pair(alloc, "b", 1), pair(alloc, "a", 2))
 }
 
 /// A record of two pairs.
@@ -30,7 +27,10 @@ fn two_pairs(alloc: Global) -> Result<Expr, Fail> {
 /// The first key of a record.
 fn first_key(expr: &Expr) -> Option<&str> {
     match expr.kind() {
-        ExprKind::Record(pairs) => pairs.as_slice().first().map(|pair| pair.0.as_str()),
+        ExprKind::Record(pairs) => {
+            let (key, _) = pairs.as_slice().first()?;
+            Some(key.as_str())
+        }
         _ => None,
     }
 }
@@ -42,12 +42,10 @@ fn a_record_keeps_the_order_of_its_pairs(rt: HostRuntime) -> Result<(), Fail> {
     Ok(())
 }
 
-/// Three pairs, of which the last has the first's key.
+/// Three pairs, of which the last has the second's key.
 fn repeated_pairs(alloc: Global) -> Result<Vec<(Text, Expr)>, AllocError> {
-    let mut pairs = Vec::new(alloc);
-    pairs.push(pair(alloc, "a", 1)?)?;
-    pairs.push(pair(alloc, "b", 2)?)?;
-    pairs.push(pair(alloc, "a", 1)?)?;
+    let (mut pairs, repeated) = both(pairs(alloc), pair(alloc, "a", 2))?;
+    pairs.push(repeated)?;
     Ok(pairs)
 }
 
@@ -68,9 +66,7 @@ const PLACE: Place = Place {
 
 /// A number at a place.
 fn placed(alloc: Global) -> Result<Expr, AllocError> {
-    build(alloc)
-        .with_maybe_source_loc(Some(PLACE))
-        .val(Literal::Long(1))
+    build_at(alloc, PLACE).val(Literal::Long(1))
 }
 
 /// The place of an expression's copy.
@@ -87,52 +83,29 @@ fn a_node_keeps_its_place(rt: HostRuntime) -> Result<(), Fail> {
     Ok(())
 }
 
-/// Whether an expression equals the constant that a number is.
-fn equals_number(expr: &Expr, alloc: Global, number: i64) -> Result<bool, AllocError> {
-    let constant = long(alloc, number)?;
-    Ok(*expr == constant)
-}
-
 #[test]
 fn equality_looks_at_no_place(rt: HostRuntime) -> Result<(), Fail> {
-    let placed = placed(rt.alloc())?;
-    assert!(rt; equals_number(&placed, rt.alloc(), 1)?);
-    assert!(rt; !equals_number(&placed, rt.alloc(), 2)?);
+    let alloc = rt.alloc();
+    assert!(rt; equal(placed(alloc), long(alloc, 1))?);
+    assert!(rt; !equal(placed(alloc), long(alloc, 2))?);
     Ok(())
-}
-
-/// Whether both ways to copy an expression give an equal one.
-fn copies_equal(expr: &Expr) -> Result<bool, AllocError> {
-    Ok(copy_equals(expr)? && clone_equals(expr)?)
-}
-
-/// Whether a copy of an expression equals it.
-fn copy_equals(expr: &Expr) -> Result<bool, AllocError> {
-    Ok(expr.try_clone()? == *expr)
-}
-
-/// Whether a clone of an expression equals it.
-fn clone_equals(expr: &Expr) -> Result<bool, AllocError> {
-    Ok(expr.clone()? == *expr)
 }
 
 #[test]
 fn a_sum_is_copied(rt: HostRuntime) -> Result<(), Fail> {
-    let sum = difference(rt.alloc())?;
-    assert!(rt; copies_equal(&sum)?);
+    assert!(rt; copies(difference(rt.alloc())?)?);
     Ok(())
 }
 
 #[test]
 fn a_call_is_copied(rt: HostRuntime) -> Result<(), Fail> {
-    let call = extension_call(rt.alloc(), name(rt.alloc(), "A", "f")?)?;
-    assert!(rt; copies_equal(&call)?);
+    let function = name(rt.alloc(), "A", "f")?;
+    assert!(rt; copies(extension_call(rt.alloc(), function)?)?);
     Ok(())
 }
 
 #[test]
 fn a_record_is_copied(rt: HostRuntime) -> Result<(), Fail> {
-    let record = two_pairs(rt.alloc())?;
-    assert!(rt; copies_equal(&record)?);
+    assert!(rt; copies(two_pairs(rt.alloc())?)?);
     Ok(())
 }

@@ -4,6 +4,7 @@ ghost use Rattle.cedar_expressions.specs.Value as v;
 ghost use Rattle.cedar_expressions.specs.Keys.{repeats_key, IsDue};
 ghost use Rattle.cedar_expressions.specs.Meaning.{unplaced};
 
+use super::held::beside;
 use cedar_expressions::{
     AddOp, EntityType, Expr, ExprBuilder, ExprBuilderInfallibleBuild, Literal, Name, PatternElem,
     Place, RecordError, SlotId, Text, Var,
@@ -150,7 +151,7 @@ impl ExprBuilderInfallibleBuild for CountingBuilder {
     fn or_nary(self, first: Counted, rest: Vec<Counted>) -> Result<Counted, AllocError>
         ensures { IfOk result (λ e. unplaced e.expr ≡ v.or_nary (unplaced first.expr) (v.values (map (λ c. unplaced c.expr) rest.items))) }
     {
-        let (rest, nodes) = split_items(self.alloc, rest)?;
+        let (first, (rest, nodes)) = beside(first, split_items(self.alloc, rest))?;
         let nodes = nodes.saturating_add(first.nodes);
         Ok(Counted::over(nodes, self.inner.or_nary(first.expr, rest)?))
     }
@@ -158,7 +159,7 @@ impl ExprBuilderInfallibleBuild for CountingBuilder {
     fn and_naryl(self, first: Counted, rest: Vec<Counted>) -> Result<Counted, AllocError>
         ensures { IfOk result (λ e. unplaced e.expr ≡ v.and_naryl (unplaced first.expr) (v.values (map (λ c. unplaced c.expr) rest.items))) }
     {
-        let (rest, nodes) = split_items(self.alloc, rest)?;
+        let (first, (rest, nodes)) = beside(first, split_items(self.alloc, rest))?;
         let nodes = nodes.saturating_add(first.nodes);
         Ok(Counted::over(nodes, self.inner.and_naryl(first.expr, rest)?))
     }
@@ -166,7 +167,7 @@ impl ExprBuilderInfallibleBuild for CountingBuilder {
     fn add_nary(self, first: Counted, rest: Vec<(AddOp, Counted)>) -> Result<Counted, AllocError>
         ensures { IfOk result (λ e. unplaced e.expr ≡ v.add_nary (unplaced first.expr) (v.terms (map (λ t. (t.0, unplaced t.1.expr)) rest.items))) }
     {
-        let (rest, nodes) = split_terms(self.alloc, rest)?;
+        let (first, (rest, nodes)) = beside(first, split_terms(self.alloc, rest))?;
         let nodes = nodes.saturating_add(first.nodes);
         Ok(Counted::over(nodes, self.inner.add_nary(first.expr, rest)?))
     }
@@ -174,7 +175,7 @@ impl ExprBuilderInfallibleBuild for CountingBuilder {
     fn mul_nary(self, first: Counted, rest: Vec<Counted>) -> Result<Counted, AllocError>
         ensures { IfOk result (λ e. unplaced e.expr ≡ v.mul_nary (unplaced first.expr) (v.values (map (λ c. unplaced c.expr) rest.items))) }
     {
-        let (rest, nodes) = split_items(self.alloc, rest)?;
+        let (first, (rest, nodes)) = beside(first, split_items(self.alloc, rest))?;
         let nodes = nodes.saturating_add(first.nodes);
         Ok(Counted::over(nodes, self.inner.mul_nary(first.expr, rest)?))
     }

@@ -1,7 +1,9 @@
 //! Rows for the calls of `unescape`: raw texts, and what they stand for. The values come from the table of escapes and from the
 //! original's tests.
 use cedar_expressions::PatternElem;
-use cedar_text::unescape::{EscapeError, UnescapeFailure, to_pattern, to_unescaped_string};
+use cedar_text::unescape::{
+    EscapeError, UnescapeError, UnescapeFailure, to_pattern, to_unescaped_string,
+};
 use std::process::Abort;
 use std::test::Fail;
 
@@ -11,6 +13,13 @@ type Told = (EscapeError, usize, usize);
 /// A raw text and its faults.
 type Refused = (&'static str, &'static [Told]);
 
+/// The fault is of this kind and at these bytes.
+fn is_told(rt: &impl Abort, raw: &str, fault: &UnescapeError, (kind, start, end): Told) {
+    assert!(rt; fault.kind() == kind, "{raw:?}");
+    assert!(rt; fault.range() == (start..end), "{raw:?}");
+    assert!(rt; fault.input() == raw, "{raw:?}");
+}
+
 /// The failure tells these faults: of what kind, and at which bytes.
 fn tells(rt: &impl Abort, raw: &str, failure: &UnescapeFailure, wanted: &[Told]) {
     let UnescapeFailure::Errors(faults) = failure else {
@@ -18,15 +27,10 @@ fn tells(rt: &impl Abort, raw: &str, failure: &UnescapeFailure, wanted: &[Told])
         return;
     };
     assert_eq!(rt; faults.len(), wanted.len(), "{raw:?}");
-    for (i, (kind, start, end)) in wanted.iter().enumerate() {
+    for (i, told) in wanted.iter().enumerate() {
         match faults.get(i) {
             None => assert!(rt; false, "{raw:?}"),
-            Some(fault) => {
-                assert_eq!(rt; fault.kind(), *kind, "{raw:?}");
-                assert_eq!(rt; fault.range().start, *start, "{raw:?}");
-                assert_eq!(rt; fault.range().end, *end, "{raw:?}");
-                assert_eq!(rt; fault.input(), raw);
-            }
+            Some(fault) => is_told(rt, raw, fault, *told),
         }
     }
 }

@@ -1,6 +1,6 @@
 //! The README's example of library use.
 use cedar_policy_parser::{ExtStyles, parse_expression};
-use cedar_syntax::err::Failure;
+use cedar_syntax::err::{Failure, ParseErrors};
 use std::alloc::Global;
 use std::collections::BTreeSet;
 use std::fmt;
@@ -12,16 +12,19 @@ fn show<W: fmt::Write>(alloc: Global, text: &str, out: &mut W) -> fmt::Result {
     match parse_expression(alloc, text, &styles) {
         Ok(value) => write!(out, "{value}"),
         Err(Failure::Memory(_)) => out.write_str("want of memory"),
-        Err(Failure::Errors(faults)) => {
-            for fault in &faults {
-                match fault.primary_source_span() {
-                    Some(span) => write!(out, "{}..{}: {fault}", span.offset(), span.end())?,
-                    None => write!(out, "-: {fault}")?,
-                }
-            }
-            Ok(())
+        Err(Failure::Errors(faults)) => show_faults(&faults, out),
+    }
+}
+
+/// Writes each fault behind its place.
+fn show_faults<W: fmt::Write>(faults: &ParseErrors, out: &mut W) -> fmt::Result {
+    for fault in faults {
+        match fault.primary_source_span() {
+            Some(span) => write!(out, "{}..{}: {fault}", span.offset(), span.end())?,
+            None => write!(out, "-: {fault}")?,
         }
     }
+    Ok(())
 }
 
 #[test]

@@ -1,8 +1,9 @@
 //! Names, values and wrappers: each public call that can answer want of memory is called, and its answer compared.
+use super::held::{beside, copies, list_of_two};
 use super::places::shows;
 use cedar_expressions::{
     AddOp, AnyId, Boxed, Eid, EntityType, EntityUID, Id, InternalName, Items, Literal, Name,
-    SlotId, Source, Text, TryClone, UnaryOp, UnreservedId, Var,
+    ReservedNameError, SlotId, Source, Text, TryClone, UnaryOp, UnreservedId, Var,
 };
 use std::alloc::{AllocError, Global};
 use std::test::Fail;
@@ -67,18 +68,17 @@ fn identifiers_by_their_spelling(rt: HostRuntime) -> Result<(), Fail> {
 #[test]
 fn a_reserved_identifier_is_refused(rt: HostRuntime) -> Result<(), Fail> {
     assert!(rt; UnreservedId::try_from(id(rt.alloc(), "cedar")?).is_ok());
-    let Err(refused) = UnreservedId::try_from(id(rt.alloc(), "__cedar")?) else {
-        return Err(Fail::from("not refused"));
-    };
-    assert_eq!(rt; refused.name().basename().as_str(), "__cedar");
-    Ok(())
+    match UnreservedId::try_from(id(rt.alloc(), "__cedar")?) {
+        Err(refused) => shows(&rt, refused.name(), "__cedar"),
+        Ok(_) => Err(Fail::from("not refused")),
+    }
 }
 
 #[test]
 fn identifiers_copy_and_compare(rt: HostRuntime) -> Result<(), Fail> {
-    let a = id(rt.alloc(), "a")?;
-    assert_eq!(rt; a.try_clone()?, a);
-    assert!(rt; a < id(rt.alloc(), "b")?);
+    let (a, b) = beside(id(rt.alloc(), "a")?, id(rt.alloc(), "b"))?;
+    assert!(rt; a < b);
+    assert!(rt; copies(a)?);
     Ok(())
 }
 
@@ -93,38 +93,49 @@ fn names_as_written(rt: HostRuntime) -> Result<(), Fail> {
 
 #[test]
 fn names_are_copied(rt: HostRuntime) -> Result<(), Fail> {
-    let user = name(rt.alloc(), "App", "User")?;
-    let copy = user.try_clone()?;
-    assert_eq!(rt; copy, user);
-    assert_eq!(rt; copy, name(rt.alloc(), "App", "User")?);
+    assert!(rt; copies(name(rt.alloc(), "App", "User")?)?);
     Ok(())
 }
 
 #[test]
 fn names_are_ordered(rt: HostRuntime) -> Result<(), Fail> {
-    let group = name(rt.alloc(), "App", "Group")?;
-    assert!(rt; group < name(rt.alloc(), "App", "User")?);
+    let alloc = rt.alloc();
+    let (group, user) = beside(name(alloc, "App", "Group")?, name(alloc, "App", "User"))?;
+    assert!(rt; group < user);
     Ok(())
 }
 
-const RESERVED_NAMES: [(&str, &str); 2] = [("App", "__cedar"), ("__cedar", "App")];
+const RESERVED_NAMES: [(&str, &str, &str); 2] = [
+    ("App", "__cedar", "App::__cedar"),
+    ("__cedar", "App", "__cedar::App"),
+];
+
+/// The refusal of a name that is reserved.
+fn refusal(name: InternalName) -> Result<ReservedNameError, Fail> {
+    match Name::try_from(name) {
+        Err(refused) => Ok(refused),
+        Ok(_) => Err(Fail::from("not refused")),
+    }
+}
 
 #[test]
 fn reserved_names_are_refused(rt: HostRuntime) -> Result<(), Fail> {
-    for (first, last) in RESERVED_NAMES {
-        let reserved = internal_name(rt.alloc(), first, last)?;
-        let Err(refused) = Name::try_from(reserved.try_clone()?) else {
-            return Err(Fail::from("not refused"));
-        };
-        assert_eq!(rt; *refused.name(), reserved);
+    for (first, last, written) in RESERVED_NAMES {
+        let refused = refusal(internal_name(rt.alloc(), first, last)?)?;
+        shows(&rt, refused.name(), written)?;
     }
     Ok(())
 }
 
+/// An entity's identifier that has a quote.
+fn eid(alloc: Global) -> Result<Eid, Fail> {
+    Ok(Eid::new(text(alloc, "a\"b")?))
+}
+
 /// An entity whose identifier has a quote.
 fn entity(alloc: Global) -> Result<EntityUID, Fail> {
-    let user = EntityType::from(name(alloc, "App", "User")?);
-    Ok(EntityUID::from_components(user, Eid::new(text(alloc, "a\"b")?)))
+    let (user, quoted) = beside(name(alloc, "App", "User")?, eid(alloc))?;
+    Ok(EntityUID::from_components(EntityType::from(user), quoted))
 }
 
 #[test]
@@ -136,10 +147,8 @@ fn entities_as_written(rt: HostRuntime) -> Result<(), Fail> {
 
 #[test]
 fn entities_are_copied(rt: HostRuntime) -> Result<(), Fail> {
-    let entity = entity(rt.alloc())?;
-    assert_eq!(rt; entity.try_clone()?, entity);
-    let literal = Literal::EntityUID(entity);
-    assert_eq!(rt; literal.try_clone()?, literal);
+    assert!(rt; copies(entity(rt.alloc())?)?);
+    assert!(rt; copies(Literal::EntityUID(entity(rt.alloc())?))?);
     Ok(())
 }
 
@@ -165,10 +174,7 @@ fn variables_and_slots_as_written(rt: HostRuntime) -> Result<(), Fail> {
 
 /// Two texts.
 fn two_texts(alloc: Global) -> Result<Items<Text>, AllocError> {
-    let mut items = Items::new(alloc);
-    items.push(text(alloc, "b")?)?;
-    items.push(text(alloc, "a")?)?;
-    Ok(items)
+    Ok(Items::from(list_of_two(alloc, text(alloc, "b"), text(alloc, "a"))?))
 }
 
 /// The bytes of all texts together.
@@ -194,8 +200,8 @@ fn items_copy_and_compare(rt: HostRuntime) -> Result<(), Fail> {
 #[test]
 fn boxes_copy_and_compare(rt: HostRuntime) -> Result<(), Fail> {
     let boxed = Boxed::new(rt.alloc(), text(rt.alloc(), "a")?)?;
-    assert_eq!(rt; boxed.try_clone()?, boxed);
     assert_eq!(rt; boxed.as_ref().as_str(), "a");
+    assert!(rt; copies(boxed)?);
     Ok(())
 }
 

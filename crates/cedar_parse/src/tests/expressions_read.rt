@@ -1,6 +1,8 @@
 //! `parse_expr`: texts and their trees or faults, with places.
+use super::places::shows;
 use cedar_syntax::cst::Expr;
 use cedar_syntax::err::{Failure, ParseError, ParseErrors, ToCSTError};
+use cedar_syntax::loc::SourceSpan;
 use cedar_syntax::node::Node;
 use cedar_text::text_to_cst::parse_expr;
 use std::alloc::{AllocError, Global};
@@ -62,9 +64,7 @@ fn is_printed(
     printed: &str,
 ) -> Result<(), Fail> {
     let node = tree.as_inner().ok_or("an empty node")?;
-    let text = format!(in rt.alloc(); "{node}")?;
-    assert_eq!(rt; text.as_str(), printed);
-    Ok(())
+    shows(rt, node, printed)
 }
 
 #[test]
@@ -130,13 +130,10 @@ fn is_told(
     end: usize,
     message: &str,
 ) -> Result<(), Fail> {
-    let span = fault.primary_source_span().ok_or("no place")?;
-    assert_eq!(rt; span.offset(), start, "{message}");
-    assert_eq!(rt; span.end(), end, "{message}");
-    let text = format!(in rt.alloc(); "{fault}")?;
-    assert_eq!(rt; text.as_str(), message);
+    let wanted = SourceSpan::between(start, end);
+    assert!(rt; fault.primary_source_span() == Some(wanted), "{message}");
     assert!(rt; fault.expected_kinds().is_empty());
-    Ok(())
+    shows(rt, fault, message)
 }
 
 #[test]

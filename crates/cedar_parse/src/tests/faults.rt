@@ -1,4 +1,5 @@
 //! Faults of escapes, of texts and of trees, as a caller meets them.
+use super::held::{beside, copies};
 use super::places::{POLICY, place, shows};
 use cedar_expressions::{Items, Source, Text, UnaryOp};
 use cedar_lexer::token::TokenKind;
@@ -50,22 +51,33 @@ fn escape_faults_tell_their_piece(rt: HostRuntime) -> Result<(), Fail> {
 #[test]
 fn a_failure_to_unescape_says_its_first_fault(rt: HostRuntime) -> Result<(), Fail> {
     let faults = both_escapes(rt.alloc())?;
-    let failure = UnescapeFailure::from(faults.try_clone()?);
-    assert_eq!(rt; UnescapeFailure::Errors(faults), failure);
-    shows(&rt, &failure, FIRST_MESSAGE)
+    shows(&rt, &UnescapeFailure::from(faults), FIRST_MESSAGE)
 }
 
 #[test]
 fn an_escape_fault_is_a_fault_of_a_tree(rt: HostRuntime) -> Result<(), Fail> {
-    let faults = both_escapes(rt.alloc())?;
-    let kind = ToASTErrorKind::from(faults.head.try_clone()?);
+    let kind = ToASTErrorKind::from(first_escape(rt.alloc())?);
     shows(&rt, &kind, FIRST_MESSAGE)
+}
+
+#[test]
+fn faults_of_escapes_are_copied(rt: HostRuntime) -> Result<(), Fail> {
+    assert!(rt; copies(first_escape(rt.alloc())?)?);
+    assert!(rt; copies(both_escapes(rt.alloc())?)?);
+    assert!(rt; copies(UnescapeFailure::from(both_escapes(rt.alloc())?))?);
+    Ok(())
 }
 
 #[test]
 fn want_of_memory_is_told(rt: HostRuntime) -> Result<(), Fail> {
     shows(&rt, &UnescapeFailure::from(AllocError), "want of memory")?;
     shows(&rt, &Failure::from(AllocError), "want of memory")
+}
+
+/// What is wrong with a text, as its fault.
+fn in_text(alloc: Global, raw: RawFault, text: &str) -> Result<ToCSTError, AllocError> {
+    let (raw, src) = beside(raw, RcStr::from_str(alloc, text))?;
+    Ok(ToCSTError::new(raw, src))
 }
 
 /// The fault of a text that ends early.
@@ -76,7 +88,7 @@ fn early_end(alloc: Global) -> Result<ToCSTError, AllocError> {
         location: 4,
         expected,
     };
-    Ok(ToCSTError::new(raw, RcStr::from_str(alloc, "1 + ")?))
+    in_text(alloc, raw, "1 + ")
 }
 
 /// The fault of a token that can't stand there.
@@ -87,13 +99,12 @@ fn stray_token(alloc: Global) -> Result<ToCSTError, AllocError> {
         token: Text::from_str(alloc, ")")?,
         expected: Items::new(alloc),
     };
-    Ok(ToCSTError::new(raw, RcStr::from_str(alloc, ") ~")?))
+    in_text(alloc, raw, ") ~")
 }
 
 /// The fault of bytes that are no token.
 fn invalid_token(alloc: Global) -> Result<ToCSTError, AllocError> {
-    let raw = RawFault::InvalidToken { location: 2 };
-    Ok(ToCSTError::new(raw, RcStr::from_str(alloc, "1 ~")?))
+    in_text(alloc, RawFault::InvalidToken { location: 2 }, "1 ~")
 }
 
 #[test]
@@ -101,7 +112,6 @@ fn an_early_end_has_its_place_and_message(rt: HostRuntime) -> Result<(), Fail> {
     let end = early_end(rt.alloc())?;
     assert_eq!(rt; end.primary_source_span(), Some(SourceSpan::between(4, 4)));
     assert_eq!(rt; end.expected_kinds(), [TokenKind::Identifier].as_slice());
-    assert_eq!(rt; end.try_clone()?, end);
     shows(&rt, &end, "unexpected end of input")
 }
 
@@ -122,30 +132,38 @@ fn an_invalid_token_has_its_place_and_message(rt: HostRuntime) -> Result<(), Fai
         invalid.primary_source_span(),
         Some(SourceSpan::between(2, 2))
     );
-    assert!(rt; invalid != stray_token(rt.alloc())?);
-    shows(&rt, &invalid, "invalid token")
+    shows(&rt, &invalid, "invalid token")?;
+    let (invalid, stray) = beside(invalid, stray_token(rt.alloc()))?;
+    assert!(rt; invalid != stray);
+    Ok(())
 }
 
 /// A fault of the user's at two bytes behind this offset.
 fn too_large(alloc: Global, offset: usize) -> Result<RawFault, Fail> {
-    let text = Text::from_str(alloc, "too large")?;
+    let (place, text) = beside(place(alloc, offset, 2)?, Text::from_str(alloc, "too large"))?;
     Ok(RawFault::User {
-        error: Node::with_source_loc(text, place(alloc, offset, 2)?),
+        error: Node::with_source_loc(text, place),
     })
 }
 
 #[test]
 fn raw_faults_are_equal_at_one_place_alone(rt: HostRuntime) -> Result<(), Fail> {
-    let here = too_large(rt.alloc(), 0)?;
-    assert!(rt; here != too_large(rt.alloc(), 1)?);
-    assert_eq!(rt; here.try_clone()?, here);
+    let (here, there) = beside(too_large(rt.alloc(), 0)?, too_large(rt.alloc(), 1))?;
+    assert!(rt; here != there);
+    Ok(())
+}
+
+#[test]
+fn faults_of_texts_are_copied(rt: HostRuntime) -> Result<(), Fail> {
+    assert!(rt; copies(too_large(rt.alloc(), 0)?)?);
+    assert!(rt; copies(early_end(rt.alloc())?)?);
+    assert!(rt; copies(stray_token(rt.alloc())?)?);
     Ok(())
 }
 
 #[test]
 fn a_raw_fault_of_the_user_has_its_own_place(rt: HostRuntime) -> Result<(), Fail> {
-    let raw = too_large(rt.alloc(), 1)?;
-    let fault = ToCSTError::new(raw, RcStr::from_str(rt.alloc(), POLICY)?);
+    let fault = in_text(rt.alloc(), too_large(rt.alloc(), 1)?, POLICY)?;
     assert_eq!(rt;
         fault.primary_source_span(),
         Some(SourceSpan::between(1, 3))
@@ -224,7 +242,9 @@ fn three_faults(alloc: Global) -> Result<ParseErrors, Fail> {
 fn starts(alloc: Global, faults: &ParseErrors) -> Result<Vec<usize>, AllocError> {
     let mut starts = Vec::new(alloc);
     for fault in faults {
-        starts.push(fault.primary_source_span().map_or(0, |span| span.offset()))?;
+        if let Some(span) = fault.primary_source_span() {
+            starts.push(span.offset())?;
+        }
     }
     Ok(starts)
 }
@@ -267,8 +287,20 @@ fn a_list_of_faults_hands_them_on(rt: HostRuntime) -> Result<(), Fail> {
 
 #[test]
 fn a_failure_says_what_its_faults_say(rt: HostRuntime) -> Result<(), Fail> {
-    let faults = three_faults(rt.alloc())?;
-    let failure = Failure::from(faults.try_clone()?);
-    let said = format!(in rt.alloc(); "{faults}")?;
-    shows(&rt, &failure, said.as_str())
+    let failure = Failure::from(three_faults(rt.alloc())?);
+    shows(
+        &rt,
+        &failure,
+        "integer literal `18446744073709551615` is too large",
+    )
+}
+
+#[test]
+fn faults_of_trees_are_copied(rt: HostRuntime) -> Result<(), Fail> {
+    assert!(rt; copies(ToASTErrorKind::UnsupportedModulo)?);
+    assert!(rt; copies(large_number(rt.alloc(), 3)?)?);
+    assert!(rt; copies(ParseError::from(large_number(rt.alloc(), 3)?))?);
+    assert!(rt; copies(three_faults(rt.alloc())?)?);
+    assert!(rt; copies(Failure::from(three_faults(rt.alloc())?))?);
+    Ok(())
 }

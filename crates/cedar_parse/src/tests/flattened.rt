@@ -54,14 +54,22 @@ fn two_values_are_joined(rt: HostRuntime) -> Result<(), Fail> {
     Ok(())
 }
 
+/// A part that wants memory.
+fn memory() -> Result<u8, Failure> {
+    Err(Failure::Memory(AllocError))
+}
+
+/// Whether want of memory is the answer.
+fn wants_memory(joined: Result<(u8, u8), Failure>) -> bool {
+    matches!(joined, Err(Failure::Memory(_)))
+}
+
 #[test]
 fn want_of_memory_in_a_part_is_the_answer(rt: HostRuntime) -> Result<(), Fail> {
-    let memory: Result<u8, Failure> = Err(Failure::Memory(AllocError));
-    let joined = flatten_tuple_2(part(rt.alloc(), &[1])?, memory);
-    assert!(rt; joined == Err(Failure::Memory(AllocError)));
-    let memory: Result<u8, Failure> = Err(Failure::Memory(AllocError));
-    let joined = flatten_tuple_2(memory, part(rt.alloc(), &[1])?);
-    assert!(rt; joined == Err(Failure::Memory(AllocError)));
+    let faulty = part(rt.alloc(), &[1])?;
+    assert!(rt; wants_memory(flatten_tuple_2(faulty, memory())));
+    let faulty = part(rt.alloc(), &[1])?;
+    assert!(rt; wants_memory(flatten_tuple_2(memory(), faulty)));
     Ok(())
 }
 

@@ -1,6 +1,7 @@
 //! Trees that no text has: what hinders their conversion.
 use super::expressions::text;
 use super::places::shows;
+use super::tree_copies::node;
 use cedar_expressions::ExprBuilder;
 use cedar_policy_parser::cst_to_ast::{ExprAst, ExtStyles};
 use cedar_syntax::cst::{
@@ -13,10 +14,6 @@ use cedar_syntax::{Boxed, Items};
 use std::alloc::{AllocError, Global};
 use std::collections::BTreeSet;
 use std::test::Fail;
-
-fn node<T>(value: T) -> Node<Option<T>> {
-    Node::new(Some(value))
-}
 
 /// An operand without signs and accesses.
 fn unary(alloc: Global, primary: Node<Option<Primary>>) -> Unary {

@@ -1,5 +1,6 @@
 //! The builder's calls of two expressions: each is called, and the node that it makes compared.
 use super::builder::{build, long};
+use super::held::both;
 use super::shapes::{Shape, made};
 use cedar_expressions::{BinaryOp, Expr, ExprBuilderInfallibleBuild};
 use std::alloc::{AllocError, Global};
@@ -7,8 +8,7 @@ use std::test::Fail;
 
 /// Two numbers.
 pub(super) fn operands(alloc: Global) -> Result<(Expr, Expr), AllocError> {
-    let left = long(alloc, 1)?;
-    Ok((left, long(alloc, 2)?))
+    both(long(alloc, 1), long(alloc, 2))
 }
 
 /// `1 && 2`.

@@ -1,4 +1,5 @@
 //! Places and nodes, as a caller meets them.
+use super::held::{beside, copies};
 use cedar_expressions::Text;
 use cedar_syntax::err::{Failure, ParseErrors};
 use cedar_syntax::loc::{Loc, SourceSpan};
@@ -70,8 +71,8 @@ fn a_place_moves_within_its_text(rt: HostRuntime) -> Result<(), Fail> {
 #[test]
 fn a_place_is_copied_and_gives_its_range(rt: HostRuntime) -> Result<(), Fail> {
     let inside = place(rt.alloc(), 43, 6)?;
-    assert_eq!(rt; inside.try_clone()?, inside);
-    assert_eq!(rt; SourceSpan::from(&inside), SourceSpan::between(43, 49));
+    assert!(rt; SourceSpan::from(&inside) == SourceSpan::between(43, 49));
+    assert!(rt; copies(inside)?);
     Ok(())
 }
 
@@ -87,22 +88,22 @@ fn a_cut_character_has_no_snippet(rt: HostRuntime) -> Result<(), Fail> {
 
 #[test]
 fn nodes_compare_by_their_value(rt: HostRuntime) -> Result<(), Fail> {
-    let here = Node::with_source_loc(1u8, place(rt.alloc(), 0, 1)?);
-    let there = Node::with_maybe_source_loc(1u8, Some(place(rt.alloc(), 5, 1)?));
-    let nowhere = Node::new(2u8);
-    assert_eq!(rt; here, there);
-    assert!(rt; here < nowhere);
+    let (here, there) = beside(place(rt.alloc(), 0, 1)?, place(rt.alloc(), 5, 1))?;
+    let here = Node::with_source_loc(1u8, here);
+    let there = Node::with_maybe_source_loc(1u8, Some(there));
+    assert!(rt; here == there);
+    assert!(rt; here < Node::new(2u8));
     assert!(rt; here.loc() != there.loc());
     shows(&rt, &here, "1")
 }
 
 #[test]
 fn a_node_is_copied_with_its_place(rt: HostRuntime) -> Result<(), Fail> {
-    let word = Text::from_str(rt.alloc(), "a")?;
-    let text = Node::with_source_loc(word, place(rt.alloc(), 2, 1)?);
+    let (place, word) = beside(place(rt.alloc(), 2, 1)?, Text::from_str(rt.alloc(), "a"))?;
+    let text = Node::with_source_loc(word, place);
     let copy = text.try_clone()?;
-    assert_eq!(rt; copy.loc(), text.loc());
-    assert_eq!(rt; copy, text);
+    assert!(rt; copy.loc() == text.loc());
+    assert!(rt; copy == text);
     Ok(())
 }
 
@@ -112,9 +113,9 @@ fn a_node_lends_its_value(rt: HostRuntime) -> Result<(), Fail> {
     let lent = node.as_ref()?;
     assert_eq!(rt; *lent.node, 3);
     let copy = lent.copied();
-    assert_eq!(rt; copy.loc(), node.loc());
+    assert!(rt; copy.loc() == node.loc());
     let owned = node.as_ref()?.cloned()?;
-    assert_eq!(rt; owned, copy);
+    assert!(rt; owned == copy);
     Ok(())
 }
 
@@ -165,11 +166,8 @@ fn tells_of_an_empty_node(
     rt: &(impl Abort + AllocGlobal),
     faults: &ParseErrors,
 ) -> Result<(), Fail> {
-    assert_eq!(rt; faults.len(), 1);
-    assert_eq!(rt;
-        faults.primary_source_span(),
-        Some(SourceSpan::between(7, 10))
-    );
+    assert!(rt; faults.len() == 1);
+    assert!(rt; faults.primary_source_span() == Some(SourceSpan::between(7, 10)));
     shows(
         rt,
         faults,

@@ -1,5 +1,6 @@
 //! The program's rows: a text, and the lines and the status that it gives.
 use super::{check, transcript_of};
+use std::process::Abort;
 use std::test::Fail;
 
 /// A text, the output for it, and the status.
@@ -108,29 +109,26 @@ const STRINGS: [Row; 4] = [
     ),
 ];
 
-#[test]
-fn reads_strings(rt: HostRuntime) -> Result<(), Fail> {
-    for (text, out, status) in STRINGS {
+/// The program's runs on these texts end so.
+fn gives(rt: &(impl Abort + AllocGlobal), rows: &[Row]) -> Result<(), Fail> {
+    for (text, out, status) in rows {
         let got = transcript_of(rt.alloc(), &["expr"], text.as_bytes())?;
-        check(&rt, &got, status, out, "");
+        check(rt, &got, *status, out, "");
     }
     Ok(())
+}
+
+#[test]
+fn reads_strings(rt: HostRuntime) -> Result<(), Fail> {
+    gives(&rt, &STRINGS)
 }
 
 #[test]
 fn prints_accepted_texts(rt: HostRuntime) -> Result<(), Fail> {
-    for (text, out, status) in ACCEPTED {
-        let got = transcript_of(rt.alloc(), &["expr"], text.as_bytes())?;
-        check(&rt, &got, status, out, "");
-    }
-    Ok(())
+    gives(&rt, &ACCEPTED)
 }
 
 #[test]
 fn lists_the_faults_of_other_texts(rt: HostRuntime) -> Result<(), Fail> {
-    for (text, out, status) in REFUSED {
-        let got = transcript_of(rt.alloc(), &["expr"], text.as_bytes())?;
-        check(&rt, &got, status, out, "");
-    }
-    Ok(())
+    gives(&rt, &REFUSED)
 }

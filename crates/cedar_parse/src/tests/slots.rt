@@ -1,5 +1,6 @@
 //! The slots of an expression.
-use super::builder::build;
+use super::builder::{build, build_at};
+use super::held::{both, list_of_two};
 use cedar_expressions::{Expr, ExprBuilderInfallibleBuild, Place, Slot, SlotId};
 use std::alloc::{AllocError, Global};
 use std::test::Fail;
@@ -11,15 +12,12 @@ const PLACE: Place = Place {
 
 /// `?resource` at a place.
 fn placed_slot(alloc: Global) -> Result<Expr, AllocError> {
-    build(alloc)
-        .with_maybe_source_loc(Some(PLACE))
-        .slot(SlotId::Resource)
+    build_at(alloc, PLACE).slot(SlotId::Resource)
 }
 
 /// `?principal`, and `?resource` at a place.
 fn operands(alloc: Global) -> Result<(Expr, Expr), AllocError> {
-    let left = build(alloc).slot(SlotId::Principal)?;
-    Ok((left, placed_slot(alloc)?))
+    both(build(alloc).slot(SlotId::Principal), placed_slot(alloc))
 }
 
 /// `?principal == ?resource`, of which the right one has a place.
@@ -30,10 +28,11 @@ fn compared_slots(alloc: Global) -> Result<Expr, AllocError> {
 
 /// The comparison and `?principal`.
 fn two(alloc: Global) -> Result<Vec<Expr>, AllocError> {
-    let mut items = Vec::new(alloc);
-    items.push(compared_slots(alloc)?)?;
-    items.push(build(alloc).slot(SlotId::Principal)?)?;
-    Ok(items)
+    list_of_two(
+        alloc,
+        compared_slots(alloc),
+        build(alloc).slot(SlotId::Principal),
+    )
 }
 
 /// The slots of a set of the two.

@@ -1,23 +1,17 @@
 //! A copy of each type of syntax tree, made by hand, equals its source.
 use super::expressions::text;
+use super::held::{both, copies};
 use cedar_syntax::cst::{
     Add, AddOp, And, Annotation, Cond, Expr, ExprData, ExprImpl, Ident, Literal, MemAccess, Member,
     Mult, MultOp, Name, NegOp, Or, Policies, Policy, PolicyImpl, Primary, RecInit, Ref, RefInit,
     RelOp, Relation, Slot, Str, Unary, VariableDef,
 };
 use cedar_syntax::node::Node;
-use cedar_syntax::{Boxed, Items, TryClone};
+use cedar_syntax::{Boxed, Items};
 use std::alloc::{AllocError, Global};
 use std::test::Fail;
 
-/// Whether both ways to copy a value give an equal one.
-fn copies<T: TryClone + Clone + PartialEq + Drop>(value: T) -> Result<bool, AllocError> {
-    let copy = value.try_clone()?;
-    let clone = value.clone()?;
-    Ok(copy == value && clone == value)
-}
-
-fn node<T>(value: T) -> Node<Option<T>> {
+pub(super) fn node<T>(value: T) -> Node<Option<T>> {
     Node::new(Some(value))
 }
 
@@ -76,39 +70,43 @@ fn compared(alloc: Global) -> Result<Relation, AllocError> {
 }
 
 fn has(alloc: Global) -> Result<Relation, AllocError> {
+    let field = boxed(alloc)?;
     Ok(Relation::Has {
         target: Node::new(None),
-        field: boxed(alloc)?,
+        field,
     })
 }
 
 fn like(alloc: Global) -> Result<Relation, AllocError> {
+    let pattern = boxed(alloc)?;
     Ok(Relation::Like {
         target: Node::new(None),
-        pattern: boxed(alloc)?,
+        pattern,
     })
 }
 
 fn is_in(alloc: Global) -> Result<Relation, AllocError> {
-    let entity_type = boxed(alloc)?;
+    let (entity_type, entity) = both(boxed(alloc), boxed(alloc))?;
     Ok(Relation::IsIn {
         target: Node::new(None),
         entity_type,
-        in_entity: Some(boxed(alloc)?),
+        in_entity: Some(entity),
     })
 }
 
 fn and(alloc: Global) -> Result<And, AllocError> {
+    let extended = one(alloc, node(compared(alloc)?))?;
     Ok(And {
         initial: Node::new(None),
-        extended: one(alloc, node(compared(alloc)?))?,
+        extended,
     })
 }
 
 fn or(alloc: Global) -> Result<Or, AllocError> {
+    let extended = one(alloc, node(and(alloc)?))?;
     Ok(Or {
         initial: Node::new(None),
-        extended: one(alloc, node(and(alloc)?))?,
+        extended,
     })
 }
 
@@ -131,7 +129,8 @@ fn conditional(alloc: Global) -> Result<ExprData, AllocError> {
 }
 
 fn rec_init(alloc: Global) -> Result<RecInit, AllocError> {
-    Ok(RecInit(Node::new(None), node(expr(alloc)?)))
+    let value = node(expr(alloc)?);
+    Ok(RecInit(Node::new(None), value))
 }
 
 fn name(alloc: Global) -> Result<Name, AllocError> {
@@ -167,13 +166,15 @@ fn uid(alloc: Global) -> Result<Ref, AllocError> {
 }
 
 fn ref_init(alloc: Global) -> Result<RefInit, AllocError> {
-    Ok(RefInit(node(Ident::In), node(literal(alloc)?)))
+    let value = node(literal(alloc)?);
+    Ok(RefInit(node(Ident::In), value))
 }
 
 fn reference(alloc: Global) -> Result<Ref, AllocError> {
+    let rinits = one(alloc, node(ref_init(alloc)?))?;
     Ok(Ref::Ref {
         path: Node::new(None),
-        rinits: one(alloc, node(ref_init(alloc)?))?,
+        rinits,
     })
 }
 
@@ -232,18 +233,20 @@ fn annotation() -> Annotation {
 }
 
 fn variable(alloc: Global) -> Result<VariableDef, AllocError> {
+    let value = node(expr(alloc)?);
     Ok(VariableDef {
         variable: node(Ident::Principal),
         unused_type_name: None,
         entity_type: None,
-        ineq: Some((RelOp::Eq, node(expr(alloc)?))),
+        ineq: Some((RelOp::Eq, value)),
     })
 }
 
 fn condition(alloc: Global) -> Result<Cond, AllocError> {
+    let value = node(expr(alloc)?);
     Ok(Cond {
         cond: node(Ident::When),
-        expr: Some(node(expr(alloc)?)),
+        expr: Some(value),
     })
 }
 

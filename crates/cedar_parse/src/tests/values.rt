@@ -1,60 +1,60 @@
 //! What `parse_expression` makes of a text, against the value that the builder's calls make.
-use cedar_expressions::{AddOp, Expr, ExprBuilder, ExprBuilderInfallibleBuild, Literal, Text, Var};
+use super::builder::{build, long};
+use super::held::{beside, both};
+use cedar_expressions::{AddOp, Expr, ExprBuilderInfallibleBuild, Literal, Text, Var};
 use cedar_policy_parser::{ExtStyles, parse_expression};
 use std::alloc::{AllocError, Global};
 use std::collections::BTreeSet;
 use std::process::Abort;
 use std::test::Fail;
 
-fn builder(alloc: Global) -> ExprBuilder<()> {
-    ExprBuilder::new(alloc)
-}
-
-fn long(alloc: Global, number: i64) -> Result<Expr, AllocError> {
-    builder(alloc).val(Literal::Long(number))
-}
-
 fn truth(alloc: Global, value: bool) -> Result<Expr, AllocError> {
-    builder(alloc).val(Literal::Bool(value))
+    build(alloc).val(Literal::Bool(value))
+}
+
+/// The value of a text that has one.
+fn value(alloc: Global, text: &str) -> Result<Expr, Fail> {
+    let styles = ExtStyles::new(BTreeSet::new(alloc), BTreeSet::new(alloc));
+    match parse_expression(alloc, text, &styles) {
+        Ok(value) => Ok(value),
+        Err(_) => Err(Fail::from("the text is refused")),
+    }
 }
 
 /// The text has this value, places aside.
-fn means(rt: &(impl Abort + AllocGlobal), text: &str, wanted: &Expr) {
-    let alloc = rt.alloc();
-    let styles = ExtStyles::new(BTreeSet::new(alloc), BTreeSet::new(alloc));
-    match parse_expression(alloc, text, &styles) {
-        Ok(value) => assert!(rt; value == *wanted, "{text}: {value:?}"),
-        Err(_) => assert!(rt; false, "{text} is refused"),
-    }
+fn means(
+    rt: &(impl Abort + AllocGlobal),
+    text: &str,
+    wanted: Result<Expr, AllocError>,
+) -> Result<(), Fail> {
+    let (value, wanted) = beside(value(rt.alloc(), text)?, wanted)?;
+    assert!(rt; value == wanted, "{text}");
+    Ok(())
 }
 
 #[test]
 fn a_minus_and_a_number_are_one_literal(rt: HostRuntime) -> Result<(), Fail> {
-    means(&rt, "-9223372036854775808", &long(rt.alloc(), i64::MIN)?);
-    means(&rt, "9223372036854775807", &long(rt.alloc(), i64::MAX)?);
-    means(&rt, "-0", &long(rt.alloc(), 0)?);
-    Ok(())
+    means(&rt, "-9223372036854775808", long(rt.alloc(), i64::MIN))?;
+    means(&rt, "9223372036854775807", long(rt.alloc(), i64::MAX))?;
+    means(&rt, "-0", long(rt.alloc(), 0))
 }
 
 #[test]
 fn a_further_minus_applies_neg(rt: HostRuntime) -> Result<(), Fail> {
     let literal = long(rt.alloc(), -5)?;
-    means(&rt, "--5", &builder(rt.alloc()).neg(literal)?);
-    Ok(())
+    means(&rt, "--5", build(rt.alloc()).neg(literal))
 }
 
 #[test]
 fn a_number_in_parentheses_is_not_bare(rt: HostRuntime) -> Result<(), Fail> {
     let literal = long(rt.alloc(), 5)?;
-    means(&rt, "-(5)", &builder(rt.alloc()).neg(literal)?);
-    Ok(())
+    means(&rt, "-(5)", build(rt.alloc()).neg(literal))
 }
 
 /// `1 - -1`: a first operand, and the literal -1 behind a minus.
 fn difference(alloc: Global) -> Result<Expr, AllocError> {
-    let rest = behind_minus(alloc)?;
-    let first = long(alloc, 1)?;
-    builder(alloc).add_nary(first, rest)
+    let (first, rest) = both(long(alloc, 1), behind_minus(alloc))?;
+    build(alloc).add_nary(first, rest)
 }
 
 fn behind_minus(alloc: Global) -> Result<Vec<(AddOp, Expr)>, AllocError> {
@@ -65,39 +65,35 @@ fn behind_minus(alloc: Global) -> Result<Vec<(AddOp, Expr)>, AllocError> {
 
 #[test]
 fn a_sum_keeps_its_operators(rt: HostRuntime) -> Result<(), Fail> {
-    means(&rt, "1 - -1", &difference(rt.alloc())?);
-    Ok(())
+    means(&rt, "1 - -1", difference(rt.alloc()))
 }
 
 fn negated_twice(alloc: Global) -> Result<Expr, AllocError> {
-    let once = builder(alloc).not(truth(alloc, true)?)?;
-    builder(alloc).not(once)
+    let once = build(alloc).not(truth(alloc, true)?)?;
+    build(alloc).not(once)
 }
 
 #[test]
 fn two_bangs_apply_not_twice(rt: HostRuntime) -> Result<(), Fail> {
-    means(&rt, "!!true", &negated_twice(rt.alloc())?);
-    Ok(())
+    means(&rt, "!!true", negated_twice(rt.alloc()))
 }
 
 fn text(alloc: Global, text: &str) -> Result<Expr, AllocError> {
-    let text = Text::from(String::from_str(alloc, text)?);
-    builder(alloc).val(Literal::String(text))
+    let text = Text::from_str(alloc, text)?;
+    build(alloc).val(Literal::String(text))
 }
 
 #[test]
 fn a_string_stands_for_its_unescaped_text(rt: HostRuntime) -> Result<(), Fail> {
-    means(&rt, "\"a\\u{62}c\"", &text(rt.alloc(), "abc")?);
-    means(&rt, "(\"\\x42\\u{5_A}\")", &text(rt.alloc(), "BZ")?);
-    Ok(())
+    means(&rt, "\"a\\u{62}c\"", text(rt.alloc(), "abc"))?;
+    means(&rt, "(\"\\x42\\u{5_A}\")", text(rt.alloc(), "BZ"))
 }
 
 #[test]
 fn words_are_variables_and_truth_values(rt: HostRuntime) -> Result<(), Fail> {
-    means(&rt, "principal", &builder(rt.alloc()).var(Var::Principal)?);
-    means(&rt, "context", &builder(rt.alloc()).var(Var::Context)?);
-    means(&rt, "(false)", &truth(rt.alloc(), false)?);
-    Ok(())
+    means(&rt, "principal", build(rt.alloc()).var(Var::Principal))?;
+    means(&rt, "context", build(rt.alloc()).var(Var::Context))?;
+    means(&rt, "(false)", truth(rt.alloc(), false))
 }
 
 #[test]
@@ -110,6 +106,5 @@ fn parentheses_nest(rt: HostRuntime) -> Result<(), Fail> {
     for _ in 0..500 {
         text.push(')')?;
     }
-    means(&rt, text.as_str(), &long(rt.alloc(), 1)?);
-    Ok(())
+    means(&rt, text.as_str(), long(rt.alloc(), 1))
 }

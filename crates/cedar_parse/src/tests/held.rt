@@ -1,0 +1,51 @@
+//! Calls over values of any type. A value that is dropped on the way out of a `?` is dear to prove where it is a tree: here the proof doesn't
+//! see what it is.
+ghost use Rattle.std.specs.Prelude.{◌≡◌, IfOk, IsOkAnd};
+
+use cedar_expressions::TryClone;
+use std::alloc::{AllocError, Global};
+
+/// What is held, beside what was made.
+pub(super) fn beside<A: Drop, B, E>(held: A, made: Result<B, E>) -> Result<(A, B), E>
+    ensures { IfOk result (λ both. IsOkAnd made (λ one. both ≡ (held, one))) }
+{
+    let made = made?;
+    Ok((held, made))
+}
+
+/// Two values that were made, one beside the other.
+pub(super) fn both<A: Drop, B: Drop>(
+    first: Result<A, AllocError>,
+    second: Result<B, AllocError>,
+) -> Result<(A, B), AllocError> {
+    beside(first?, second)
+}
+
+/// A list of two values that were made.
+pub(super) fn list_of_two<T: Drop>(
+    alloc: Global,
+    first: Result<T, AllocError>,
+    second: Result<T, AllocError>,
+) -> Result<Vec<T>, AllocError> {
+    let (first, second) = both(first, second)?;
+    let mut list = Vec::new(alloc);
+    list.push(first)?;
+    list.push(second)?;
+    Ok(list)
+}
+
+/// Whether two values that were made are equal.
+pub(super) fn equal<T: PartialEq + Drop>(
+    left: Result<T, AllocError>,
+    right: Result<T, AllocError>,
+) -> Result<bool, AllocError> {
+    let (left, right) = both(left, right)?;
+    Ok(left == right)
+}
+
+/// Whether both ways to copy a value give an equal one.
+pub(super) fn copies<T: TryClone + Clone + PartialEq + Drop>(value: T) -> Result<bool, AllocError> {
+    let copy = value.try_clone()?;
+    let clone = value.clone()?;
+    Ok(copy == value && clone == value)
+}
