@@ -19,6 +19,7 @@ mod flattened;
 mod hand_built;
 mod held;
 mod joined;
+mod leaf_copies;
 mod lexer;
 mod places;
 mod rows;

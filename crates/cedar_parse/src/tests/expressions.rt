@@ -14,12 +14,12 @@ pub(super) fn text(alloc: Global, bytes: &str) -> Result<Text, AllocError> {
 }
 
 /// The identifier that a word is.
-fn id(alloc: Global, word: &str) -> Result<Id, Fail> {
+pub(super) fn id(alloc: Global, word: &str) -> Result<Id, Fail> {
     Ok(Id::new(text(alloc, word)?).ok_or("no identifier")?)
 }
 
 /// A name of two parts, which may be reserved.
-fn internal_name(alloc: Global, first: &str, last: &str) -> Result<InternalName, Fail> {
+pub(super) fn internal_name(alloc: Global, first: &str, last: &str) -> Result<InternalName, Fail> {
     let mut path = Vec::new(alloc);
     path.push(id(alloc, first)?)?;
     Ok(InternalName::new(id(alloc, last)?, path))
@@ -111,7 +111,7 @@ const RESERVED_NAMES: [(&str, &str, &str); 2] = [
 ];
 
 /// The refusal of a name that is reserved.
-fn refusal(name: InternalName) -> Result<ReservedNameError, Fail> {
+pub(super) fn refusal(name: InternalName) -> Result<ReservedNameError, Fail> {
     match Name::try_from(name) {
         Err(refused) => Ok(refused),
         Ok(_) => Err(Fail::from("not refused")),

@@ -43,9 +43,14 @@ pub(super) fn equal<T: PartialEq + Drop>(
     Ok(left == right)
 }
 
+/// Whether a copy of a value equals it.
+pub(super) fn copy_equals<T: TryClone + PartialEq + Drop>(value: &T) -> Result<bool, AllocError> {
+    let copy = value.try_clone()?;
+    Ok(copy == *value)
+}
+
 /// Whether both ways to copy a value give an equal one.
 pub(super) fn copies<T: TryClone + Clone + PartialEq + Drop>(value: T) -> Result<bool, AllocError> {
-    let copy = value.try_clone()?;
     let clone = value.clone()?;
-    Ok(copy == value && clone == value)
+    Ok(clone == value && copy_equals(&value)?)
 }
