@@ -3,8 +3,9 @@ use super::expressions::{id, internal_name, name, refusal, text};
 use super::held::{copies, copy_equals};
 use cedar_expressions::{
     AddOp, AnyId, BinaryCall, Eid, EntityType, ExpressionConstructionError, ListCall, PatternElem,
-    Place, Slot, SlotId, UnaryCall, UnaryOp, UnreservedId, Var,
+    Place, Slot, SlotId, Source, UnaryCall, UnaryOp, UnreservedId, Var,
 };
+use cedar_syntax::node::Node;
 use std::test::Fail;
 
 #[test]
@@ -65,5 +66,14 @@ fn calls_are_copied(rt: HostRuntime) -> Result<(), Fail> {
 fn a_refusal_of_a_record_is_copied(rt: HostRuntime) -> Result<(), Fail> {
     let key = text(rt.alloc(), "a")?;
     assert!(rt; copies(ExpressionConstructionError::duplicate_key(key))?);
+    Ok(())
+}
+
+#[test]
+fn what_holds_parts_is_copied(rt: HostRuntime) -> Result<(), Fail> {
+    assert!(rt; copy_equals(&Some(text(rt.alloc(), "a")?))?);
+    assert!(rt; copy_equals(&(text(rt.alloc(), "a")?, SlotId::Principal))?);
+    assert!(rt; copies(Source::from_str(rt.alloc(), "abc")?)?);
+    assert!(rt; copies(Node::new(text(rt.alloc(), "a")?))?);
     Ok(())
 }
