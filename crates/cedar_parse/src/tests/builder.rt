@@ -1,13 +1,13 @@
-//! The builder: each call but those of two expressions is called, and the node that it makes compared.
-use super::expressions::{name, text};
-use super::held::{both, equal, list_of_two};
-use super::joined::operands;
-use super::shapes::{Shape, made};
+//! The builder: each call is made, and the node that it makes compared.
+use super::held::{beside, both, copies, equal, list_of_two};
+use super::names::{name, text};
+use super::shapes::{Shape, shape_of};
 use cedar_expressions::{
-    AddOp, EntityType, Expr, ExprBuilder, ExprBuilderInfallibleBuild, Literal, Name, NaryOp,
-    PatternElem, Place, SlotId, UnaryOp, Var,
+    AddOp, BinaryOp, EntityType, Expr, ExprBuilder, ExprBuilderInfallibleBuild, ExprKind, Literal,
+    NaryOp, PatternElem, Place, RecordError, Slot, SlotId, Text, UnaryOp, Var,
 };
 use std::alloc::{AllocError, Global};
+use std::process::Abort;
 use std::test::Fail;
 
 /// A builder without a place.
@@ -15,86 +15,104 @@ pub(super) fn build(alloc: Global) -> ExprBuilder<()> {
     ExprBuilder::new(alloc)
 }
 
-/// A builder at a place.
-pub(super) fn build_at(alloc: Global, place: Place) -> ExprBuilder<()> {
-    build(alloc).with_maybe_source_loc(Some(place))
-}
-
 /// The constant that a number is.
 pub(super) fn long(alloc: Global, number: i64) -> Result<Expr, AllocError> {
     build(alloc).val(Literal::Long(number))
 }
 
-#[test]
-fn calls_of_no_expression(rt: HostRuntime) -> Result<(), Fail> {
-    let alloc = rt.alloc();
-    assert_eq!(rt; made(long(alloc, 1))?, Shape::Number(1));
-    assert_eq!(rt;
-        made(build(alloc).var(Var::Action))?,
-        Shape::Var(Var::Action)
-    );
-    assert_eq!(rt;
-        made(build(alloc).slot(SlotId::Resource))?,
-        Shape::Slot(SlotId::Resource)
-    );
+/// Two numbers.
+fn operands(alloc: Global) -> Result<(Expr, Expr), AllocError> {
+    both(long(alloc, 1), long(alloc, 2))
+}
+
+/// Two numbers.
+fn two(alloc: Global) -> Result<Vec<Expr>, AllocError> {
+    list_of_two(alloc, long(alloc, 2), long(alloc, 3))
+}
+
+/// A sign and its operand.
+pub(super) fn prefixed(alloc: Global, op: UnaryOp, number: i64) -> Result<Expr, AllocError> {
+    let operand = long(alloc, number)?;
+    match op {
+        UnaryOp::Not => build(alloc).not(operand),
+        UnaryOp::Neg => build(alloc).neg(operand),
+    }
+}
+
+/// An operator and its two operands.
+fn joined(alloc: Global, op: BinaryOp) -> Result<Expr, AllocError> {
+    let (left, right) = operands(alloc)?;
+    let builder = build(alloc);
+    match op {
+        BinaryOp::And => builder.and(left, right),
+        BinaryOp::Less => builder.less(left, right),
+        BinaryOp::LessEq => builder.lesseq(left, right),
+        BinaryOp::Greater => builder.greater(left, right),
+        BinaryOp::GreaterEq => builder.greatereq(left, right),
+        BinaryOp::Eq => builder.is_eq(left, right),
+        BinaryOp::NotEq => builder.noteq(left, right),
+        BinaryOp::In => builder.is_in(left, right),
+        BinaryOp::Contains => builder.contains(left, right),
+        BinaryOp::ContainsAll => builder.contains_all(left, right),
+        BinaryOp::ContainsAny => builder.contains_any(left, right),
+        BinaryOp::GetTag => builder.get_tag(left, right),
+        BinaryOp::HasTag => builder.has_tag(left, right),
+    }
+}
+
+/// A first operand and two more.
+fn repeated(alloc: Global, op: NaryOp) -> Result<Expr, AllocError> {
+    let (first, rest) = both(long(alloc, 1), two(alloc))?;
+    match op {
+        NaryOp::Or => build(alloc).or_nary(first, rest),
+        NaryOp::And => build(alloc).and_naryl(first, rest),
+        NaryOp::Mul => build(alloc).mul_nary(first, rest),
+    }
+}
+
+/// `1 - n`.
+pub(super) fn difference(alloc: Global, number: i64) -> Result<Expr, AllocError> {
+    let mut terms = Vec::new(alloc);
+    terms.push((AddOp::Minus, long(alloc, number)?))?;
+    let (terms, first) = beside(terms, long(alloc, 1))?;
+    build(alloc).add_nary(first, terms)
+}
+
+/// The builder's call made a node of this kind.
+fn makes(rt: &impl Abort, made: Result<Expr, AllocError>, wanted: Shape) -> Result<(), Fail> {
+    let made = made?;
+    assert!(rt; shape_of(&made) == wanted);
     Ok(())
 }
 
-/// `if 1 then 2 else 3`.
-fn conditional(alloc: Global) -> Result<Expr, AllocError> {
-    let (guard, consequent) = operands(alloc)?;
-    let alternative = long(alloc, 3)?;
-    build(alloc).ite(guard, consequent, alternative)
-}
+const OPERATORS: [BinaryOp; 13] = [
+    BinaryOp::And,
+    BinaryOp::Less,
+    BinaryOp::LessEq,
+    BinaryOp::Greater,
+    BinaryOp::GreaterEq,
+    BinaryOp::Eq,
+    BinaryOp::NotEq,
+    BinaryOp::In,
+    BinaryOp::Contains,
+    BinaryOp::ContainsAll,
+    BinaryOp::ContainsAny,
+    BinaryOp::GetTag,
+    BinaryOp::HasTag,
+];
 
 #[test]
-fn the_call_of_three(rt: HostRuntime) -> Result<(), Fail> {
-    assert_eq!(rt; made(conditional(rt.alloc()))?, Shape::Conditional);
-    Ok(())
-}
-
-/// `!1`.
-fn not(alloc: Global) -> Result<Expr, AllocError> {
-    let one = long(alloc, 1)?;
-    build(alloc).not(one)
-}
-
-/// `-1`.
-fn neg(alloc: Global) -> Result<Expr, AllocError> {
-    let one = long(alloc, 1)?;
-    build(alloc).neg(one)
-}
-
-#[test]
-fn calls_of_one_with_an_operator(rt: HostRuntime) -> Result<(), Fail> {
-    assert_eq!(rt; made(not(rt.alloc()))?, Shape::Prefixed(UnaryOp::Not));
-    assert_eq!(rt; made(neg(rt.alloc()))?, Shape::Prefixed(UnaryOp::Neg));
-    Ok(())
-}
-
-/// `1.a`.
-fn get_attr(alloc: Global) -> Result<Expr, AllocError> {
-    let (one, attribute) = both(long(alloc, 1), text(alloc, "a"))?;
-    build(alloc).get_attr(one, attribute)
-}
-
-/// `1 has a`.
-fn has_attr(alloc: Global) -> Result<Expr, AllocError> {
-    let (one, attribute) = both(long(alloc, 1), text(alloc, "a"))?;
-    build(alloc).extended_has_attr(one, attribute, Vec::new(alloc))
-}
-
-#[test]
-fn calls_of_one_with_an_attribute(rt: HostRuntime) -> Result<(), Fail> {
-    assert_eq!(rt; made(get_attr(rt.alloc()))?, Shape::GetAttr);
-    assert_eq!(rt; made(has_attr(rt.alloc()))?, Shape::HasAttr);
-    Ok(())
-}
-
-/// `1.isEmpty()`.
-fn is_empty(alloc: Global) -> Result<Expr, AllocError> {
-    let one = long(alloc, 1)?;
-    build(alloc).is_empty(one)
+fn calls_with_an_operator(rt: HostRuntime) -> Result<(), Fail> {
+    for op in OPERATORS {
+        makes(&rt, joined(rt.alloc(), op), Shape::Joined(op))?;
+    }
+    for op in [NaryOp::Or, NaryOp::And, NaryOp::Mul] {
+        makes(&rt, repeated(rt.alloc(), op), Shape::Repeated(op))?;
+    }
+    for op in [UnaryOp::Not, UnaryOp::Neg] {
+        makes(&rt, prefixed(rt.alloc(), op, 1), Shape::Prefixed(op))?;
+    }
+    makes(&rt, difference(rt.alloc(), 2), Shape::Sum)
 }
 
 /// The pattern `*`.
@@ -104,125 +122,164 @@ fn any_text(alloc: Global) -> Result<Vec<PatternElem>, AllocError> {
     Ok(pattern)
 }
 
-/// `1 like "*"`.
-fn like(alloc: Global) -> Result<Expr, AllocError> {
-    let (one, pattern) = both(long(alloc, 1), any_text(alloc))?;
-    build(alloc).like(one, pattern)
-}
-
 #[test]
-fn calls_of_one_that_test(rt: HostRuntime) -> Result<(), Fail> {
-    assert_eq!(rt; made(is_empty(rt.alloc()))?, Shape::IsEmpty);
-    assert_eq!(rt; made(like(rt.alloc()))?, Shape::Like);
-    Ok(())
-}
-
-/// A type of entities.
-fn entity_type(alloc: Global) -> Result<EntityType, Fail> {
-    Ok(EntityType::from(name(alloc, "A", "B")?))
-}
-
-/// `1 is` a type.
-fn of_type(alloc: Global, entity_type: EntityType) -> Result<Expr, AllocError> {
+fn calls_of_at_most_one(rt: HostRuntime) -> Result<(), Fail> {
+    let alloc = rt.alloc();
+    makes(&rt, long(alloc, 1), Shape::Number(1))?;
+    makes(&rt, build(alloc).var(Var::Action), Shape::Var(Var::Action))?;
+    makes(
+        &rt,
+        build(alloc).slot(SlotId::Resource),
+        Shape::Slot(SlotId::Resource),
+    )?;
     let one = long(alloc, 1)?;
-    build(alloc).is_entity_type(one, entity_type)
-}
-
-/// `1 is` a type `in 2`.
-fn of_type_within(alloc: Global, entity_type: EntityType) -> Result<Expr, AllocError> {
-    let (one, two) = operands(alloc)?;
-    build(alloc).is_in_entity_type(one, entity_type, two)
-}
-
-#[test]
-fn the_call_of_one_with_a_type(rt: HostRuntime) -> Result<(), Fail> {
-    let entity_type = entity_type(rt.alloc())?;
-    assert_eq!(rt; made(of_type(rt.alloc(), entity_type))?, Shape::Is);
-    Ok(())
-}
-
-#[test]
-fn the_call_of_two_with_a_type(rt: HostRuntime) -> Result<(), Fail> {
-    let entity_type = entity_type(rt.alloc())?;
-    assert_eq!(rt; made(of_type_within(rt.alloc(), entity_type))?, Shape::IsIn);
-    Ok(())
-}
-
-/// Two numbers.
-fn two(alloc: Global) -> Result<Vec<Expr>, AllocError> {
-    list_of_two(alloc, long(alloc, 2), long(alloc, 3))
-}
-
-/// `1 || 2 || 3`.
-fn or(alloc: Global) -> Result<Expr, AllocError> {
-    let (first, rest) = both(long(alloc, 1), two(alloc))?;
-    build(alloc).or_nary(first, rest)
-}
-
-/// `1 && 2 && 3`.
-fn and(alloc: Global) -> Result<Expr, AllocError> {
-    let (first, rest) = both(long(alloc, 1), two(alloc))?;
-    build(alloc).and_naryl(first, rest)
-}
-
-/// `1 * 2 * 3`.
-fn mul(alloc: Global) -> Result<Expr, AllocError> {
-    let (first, rest) = both(long(alloc, 1), two(alloc))?;
-    build(alloc).mul_nary(first, rest)
+    makes(&rt, build(alloc).is_empty(one), Shape::IsEmpty)?;
+    let (one, pattern) = both(long(alloc, 1), any_text(alloc))?;
+    makes(&rt, build(alloc).like(one, pattern), Shape::Like)?;
+    let (one, attribute) = both(long(alloc, 1), text(alloc, "a"))?;
+    makes(&rt, build(alloc).get_attr(one, attribute), Shape::GetAttr)?;
+    let (one, attribute) = both(long(alloc, 1), text(alloc, "a"))?;
+    let no_more = Vec::new(alloc);
+    makes(
+        &rt,
+        build(alloc).extended_has_attr(one, attribute, no_more),
+        Shape::HasAttr,
+    )
 }
 
 #[test]
-fn calls_of_a_list_with_an_operator(rt: HostRuntime) -> Result<(), Fail> {
-    assert_eq!(rt; made(or(rt.alloc()))?, Shape::Repeated(NaryOp::Or));
-    assert_eq!(rt; made(and(rt.alloc()))?, Shape::Repeated(NaryOp::And));
-    assert_eq!(rt; made(mul(rt.alloc()))?, Shape::Repeated(NaryOp::Mul));
-    Ok(())
-}
-
-#[test]
-fn operators_differ(rt: HostRuntime) -> Result<(), Fail> {
-    assert!(rt; !equal(mul(rt.alloc()), and(rt.alloc()))?);
-    Ok(())
-}
-
-/// `- 2`, as it stands in a sum.
-fn behind_minus(alloc: Global) -> Result<Vec<(AddOp, Expr)>, AllocError> {
-    let mut terms = Vec::new(alloc);
-    terms.push((AddOp::Minus, long(alloc, 2)?))?;
-    Ok(terms)
-}
-
-/// `1 - 2`.
-pub(super) fn difference(alloc: Global) -> Result<Expr, AllocError> {
-    let (first, terms) = both(long(alloc, 1), behind_minus(alloc))?;
-    build(alloc).add_nary(first, terms)
-}
-
-/// A set of two numbers.
-fn set(alloc: Global) -> Result<Expr, AllocError> {
+fn calls_of_several(rt: HostRuntime) -> Result<(), Fail> {
+    let alloc = rt.alloc();
+    let ((guard, consequent), alternative) = both(operands(alloc), long(alloc, 3))?;
+    makes(
+        &rt,
+        build(alloc).ite(guard, consequent, alternative),
+        Shape::Conditional,
+    )?;
     let items = two(alloc)?;
-    build(alloc).set(items)
+    makes(&rt, build(alloc).set(items), Shape::Set)
 }
 
 /// A call of an extension's function.
-pub(super) fn extension_call(alloc: Global, function: Name) -> Result<Expr, AllocError> {
-    let arguments = two(alloc)?;
-    build(alloc).call_extension_fn(function, arguments)
+fn extension_call(alloc: Global) -> Result<Expr, Fail> {
+    let (function, arguments) = beside(name(alloc, "A", "f")?, two(alloc))?;
+    Ok(build(alloc).call_extension_fn(function, arguments)?)
 }
 
 #[test]
-fn other_calls_of_a_list(rt: HostRuntime) -> Result<(), Fail> {
-    assert_eq!(rt; made(difference(rt.alloc()))?, Shape::Sum);
-    assert_eq!(rt; made(set(rt.alloc()))?, Shape::Set);
+fn calls_with_a_name(rt: HostRuntime) -> Result<(), Fail> {
+    let alloc = rt.alloc();
+    let (entity_type, one) = beside(name(alloc, "A", "B")?, long(alloc, 1))?;
+    let entity_type = EntityType::from(entity_type);
+    makes(
+        &rt,
+        build(alloc).is_entity_type(one, entity_type),
+        Shape::Is,
+    )?;
+    let (entity_type, (one, two)) = beside(name(alloc, "A", "B")?, operands(alloc))?;
+    let entity_type = EntityType::from(entity_type);
+    makes(
+        &rt,
+        build(alloc).is_in_entity_type(one, entity_type, two),
+        Shape::IsIn,
+    )?;
+    makes(&rt, Ok(extension_call(alloc)?), Shape::Extension)
+}
+
+/// A pair of a record.
+fn pair(alloc: Global, key: &str, number: i64) -> Result<(Text, Expr), AllocError> {
+    both(text(alloc, key), long(alloc, number))
+}
+
+/// The record of two pairs.
+fn record(alloc: Global, first: &str, second: &str) -> Result<Expr, RecordError> {
+    let pairs = list_of_two(alloc, pair(alloc, first, 1), pair(alloc, second, 2))?;
+    build(alloc).record(pairs)
+}
+
+/// The first key of a record.
+fn first_key(expr: &Expr) -> Option<&str> {
+    match expr.kind() {
+        ExprKind::Record(pairs) => {
+            let (key, _) = pairs.as_slice().first()?;
+            Some(key.as_str())
+        }
+        _ => None,
+    }
+}
+
+#[test]
+fn a_record_keeps_its_order_and_refuses_a_repeated_key(rt: HostRuntime) -> Result<(), Fail> {
+    let made = record(rt.alloc(), "b", "a")?;
+    assert_eq!(rt; first_key(&made), Some("b"));
+    match record(rt.alloc(), "a", "a") {
+        Err(RecordError::Construction(error)) => assert_eq!(rt; error.key(), "a"),
+        _ => return Err(Fail::from("not refused")),
+    }
     Ok(())
 }
 
 #[test]
-fn the_call_of_an_extension(rt: HostRuntime) -> Result<(), Fail> {
-    let function = name(rt.alloc(), "A", "f")?;
-    assert_eq!(rt;
-        made(extension_call(rt.alloc(), function))?,
-        Shape::Extension
-    );
+fn expressions_are_copied(rt: HostRuntime) -> Result<(), Fail> {
+    copies(&rt, difference(rt.alloc(), 2)?)?;
+    copies(&rt, extension_call(rt.alloc())?)?;
+    copies(&rt, record(rt.alloc(), "b", "a")?)
+}
+
+const PLACE: Place = Place {
+    offset: 3,
+    length: 4,
+};
+
+/// A builder at a place.
+fn build_at(alloc: Global) -> ExprBuilder<()> {
+    build(alloc).with_maybe_source_loc(Some(PLACE))
+}
+
+#[test]
+fn equality_looks_at_no_place(rt: HostRuntime) -> Result<(), Fail> {
+    let alloc = rt.alloc();
+    let placed = build_at(alloc).val(Literal::Long(1))?;
+    assert_eq!(rt; placed.place(), Some(PLACE));
+    assert_eq!(rt; placed.try_clone()?.place(), Some(PLACE));
+    assert!(rt; equal(Ok(placed), long(alloc, 1))?);
+    assert!(rt; !equal(long(alloc, 1), long(alloc, 2))?);
+    assert!(rt; !equal(repeated(alloc, NaryOp::Mul), repeated(alloc, NaryOp::And))?);
+    Ok(())
+}
+
+/// A set of `?principal == ?resource`, of which the right one has a place, and `?principal`.
+fn set_of_slots(alloc: Global) -> Result<Expr, AllocError> {
+    let slot = build(alloc).slot(SlotId::Principal);
+    let (left, right) = both(slot, build_at(alloc).slot(SlotId::Resource))?;
+    let items = list_of_two(
+        alloc,
+        build(alloc).is_eq(left, right),
+        build(alloc).slot(SlotId::Principal),
+    )?;
+    build(alloc).set(items)
+}
+
+/// The slots that stand in the set, from the left.
+const SLOTS: [Slot; 3] = [
+    Slot {
+        id: SlotId::Principal,
+        place: None,
+    },
+    Slot {
+        id: SlotId::Resource,
+        place: Some(PLACE),
+    },
+    Slot {
+        id: SlotId::Principal,
+        place: None,
+    },
+];
+
+#[test]
+fn slots_from_the_left(rt: HostRuntime) -> Result<(), Fail> {
+    let set = set_of_slots(rt.alloc())?;
+    let slots = set.slots(rt.alloc())?;
+    assert!(rt; slots.as_slice() == SLOTS.as_slice());
     Ok(())
 }

@@ -1,26 +1,25 @@
-//! A second builder, which counts the calls that make an expression.
+//! A second builder, which counts the calls of another that make an expression.
 ghost use Rattle.std.specs.Prelude.{◌≡◌, IfOk, IfErr, map, false};
 ghost use Rattle.cedar_expressions.specs.Value as v;
 ghost use Rattle.cedar_expressions.specs.Keys.{repeats_key, IsDue};
-ghost use Rattle.cedar_expressions.specs.Meaning.{unplaced};
 
 use super::held::beside;
 use cedar_expressions::{
-    AddOp, EntityType, Expr, ExprBuilder, ExprBuilderInfallibleBuild, Literal, Name, PatternElem,
-    Place, RecordError, SlotId, Text, Var,
+    AddOp, EntityType, ExprBuilderInfallibleBuild, Literal, Name, PatternElem, Place, RecordError,
+    SlotId, Text, Var,
 };
 use std::alloc::{AllocError, Global};
 
 /// An expression with the number of builder calls that made it.
 #[derive(Drop)]
-pub struct Counted {
-    expr: Expr,
+pub struct Counted<E> {
+    expr: E,
     nodes: usize,
 }
 
-impl Counted {
+impl<E: Drop> Counted<E> {
     /// An expression made by one call of parts that have so many nodes together.
-    fn over(parts: usize, expr: Expr) -> Counted
+    fn over(parts: usize, expr: E) -> Counted<E>
         ensures { result.expr ≡ expr }
     {
         Counted {
@@ -37,16 +36,19 @@ impl Counted {
     }
 }
 
-/// Makes `Counted`s as `ExprBuilder` makes `Expr`s, and counts the calls.
+/// Makes what a builder makes, and counts the calls.
 #[derive(Drop)]
-pub struct CountingBuilder {
+pub struct CountingBuilder<B> {
     alloc: Global,
-    inner: ExprBuilder<()>,
+    inner: B,
 }
 
 /// The expressions of a list, and how many nodes they have together.
-fn split_items(alloc: Global, items: Vec<Counted>) -> Result<(Vec<Expr>, usize), AllocError>
-    ensures { IfOk result (λ parts. map unplaced parts.0.items ≡ map (λ c. unplaced c.expr) items.items) }
+fn split_items<B: ExprBuilderInfallibleBuild>(
+    alloc: Global,
+    items: Vec<Counted<B::Expr>>,
+) -> Result<(Vec<B::Expr>, usize), AllocError>
+    ensures { IfOk result (λ parts. map B.meaning parts.0.items ≡ map (λ c. B.meaning c.expr) items.items) }
 {
     let mut exprs = Vec::new(alloc);
     let mut nodes = 0usize;
@@ -58,11 +60,11 @@ fn split_items(alloc: Global, items: Vec<Counted>) -> Result<(Vec<Expr>, usize),
 }
 
 /// The same of the later operands of a sum.
-fn split_terms(
+fn split_terms<B: ExprBuilderInfallibleBuild>(
     alloc: Global,
-    terms: Vec<(AddOp, Counted)>,
-) -> Result<(Vec<(AddOp, Expr)>, usize), AllocError>
-    ensures { IfOk result (λ parts. v.terms (map (λ t. (t.0, unplaced t.1)) parts.0.items) ≡ v.terms (map (λ t. (t.0, unplaced t.1.expr)) terms.items)) }
+    terms: Vec<(AddOp, Counted<B::Expr>)>,
+) -> Result<(Vec<(AddOp, B::Expr)>, usize), AllocError>
+    ensures { IfOk result (λ parts. v.terms (map (λ t. (t.0, B.meaning t.1)) parts.0.items) ≡ v.terms (map (λ t. (t.0, B.meaning t.1.expr)) terms.items)) }
 {
     let mut exprs = Vec::new(alloc);
     let mut nodes = 0usize;
@@ -74,11 +76,11 @@ fn split_terms(
 }
 
 /// The same of the pairs of a record, with their keys.
-fn split_pairs(
+fn split_pairs<B: ExprBuilderInfallibleBuild>(
     alloc: Global,
-    pairs: Vec<(Text, Counted)>,
-) -> Result<(Vec<(Text, Expr)>, usize), AllocError>
-    ensures fields { IfOk result (λ parts. v.fields (map (λ p. (p.0, unplaced p.1)) parts.0.items) ≡ v.fields (map (λ p. (p.0, unplaced p.1.expr)) pairs.items)) }
+    pairs: Vec<(Text, Counted<B::Expr>)>,
+) -> Result<(Vec<(Text, B::Expr)>, usize), AllocError>
+    ensures fields { IfOk result (λ parts. v.fields (map (λ p. (p.0, B.meaning p.1)) parts.0.items) ≡ v.fields (map (λ p. (p.0, B.meaning p.1.expr)) pairs.items)) }
     ensures keys { IfOk result (λ parts. map (λ p. p.0) parts.0.items ≡ map (λ p. p.0) pairs.items) }
 {
     let mut exprs = Vec::new(alloc);
@@ -90,43 +92,43 @@ fn split_pairs(
     Ok((exprs, nodes))
 }
 
-impl ExprBuilderInfallibleBuild for CountingBuilder {
-    type Expr = Counted;
+impl<B: ExprBuilderInfallibleBuild> ExprBuilderInfallibleBuild for CountingBuilder<B> {
+    type Expr = Counted<B::Expr>;
 
-    ghost meaning = { λ counted. unplaced counted.expr };
+    ghost meaning = { λ counted. B.meaning counted.expr };
 
-    fn new(alloc: Global) -> CountingBuilder {
+    fn new(alloc: Global) -> CountingBuilder<B> {
         CountingBuilder {
             alloc,
-            inner: ExprBuilder::new(alloc),
+            inner: B::new(alloc),
         }
     }
 
-    fn with_maybe_source_loc(self, place: Option<Place>) -> CountingBuilder {
+    fn with_maybe_source_loc(self, place: Option<Place>) -> CountingBuilder<B> {
         CountingBuilder {
             alloc: self.alloc,
             inner: self.inner.with_maybe_source_loc(place),
         }
     }
 
-    fn val(self, literal: Literal) -> Result<Counted, AllocError> {
+    fn val(self, literal: Literal) -> Result<Counted<B::Expr>, AllocError> {
         Ok(Counted::over(0, self.inner.val(literal)?))
     }
 
-    fn var(self, var: Var) -> Result<Counted, AllocError> {
+    fn var(self, var: Var) -> Result<Counted<B::Expr>, AllocError> {
         Ok(Counted::over(0, self.inner.var(var)?))
     }
 
-    fn slot(self, slot: SlotId) -> Result<Counted, AllocError> {
+    fn slot(self, slot: SlotId) -> Result<Counted<B::Expr>, AllocError> {
         Ok(Counted::over(0, self.inner.slot(slot)?))
     }
 
     fn ite(
         self,
-        guard: Counted,
-        consequent: Counted,
-        alternative: Counted,
-    ) -> Result<Counted, AllocError> {
+        guard: Counted<B::Expr>,
+        consequent: Counted<B::Expr>,
+        alternative: Counted<B::Expr>,
+    ) -> Result<Counted<B::Expr>, AllocError> {
         let branches = consequent.nodes.saturating_add(alternative.nodes);
         let nodes = guard.nodes.saturating_add(branches);
         let expr = self
@@ -135,91 +137,147 @@ impl ExprBuilderInfallibleBuild for CountingBuilder {
         Ok(Counted::over(nodes, expr))
     }
 
-    fn not(self, inner: Counted) -> Result<Counted, AllocError> {
+    fn not(self, inner: Counted<B::Expr>) -> Result<Counted<B::Expr>, AllocError> {
         Ok(Counted::over(inner.nodes, self.inner.not(inner.expr)?))
     }
 
-    fn neg(self, inner: Counted) -> Result<Counted, AllocError> {
+    fn neg(self, inner: Counted<B::Expr>) -> Result<Counted<B::Expr>, AllocError> {
         Ok(Counted::over(inner.nodes, self.inner.neg(inner.expr)?))
     }
 
-    fn and(self, left: Counted, right: Counted) -> Result<Counted, AllocError> {
+    fn and(
+        self,
+        left: Counted<B::Expr>,
+        right: Counted<B::Expr>,
+    ) -> Result<Counted<B::Expr>, AllocError> {
         let nodes = left.nodes.saturating_add(right.nodes);
         Ok(Counted::over(nodes, self.inner.and(left.expr, right.expr)?))
     }
 
-    fn or_nary(self, first: Counted, rest: Vec<Counted>) -> Result<Counted, AllocError>
-        ensures { IfOk result (λ e. unplaced e.expr ≡ v.or_nary (unplaced first.expr) (v.values (map (λ c. unplaced c.expr) rest.items))) }
+    fn or_nary(
+        self,
+        first: Counted<B::Expr>,
+        rest: Vec<Counted<B::Expr>>,
+    ) -> Result<Counted<B::Expr>, AllocError>
+        ensures { IfOk result (λ e. B.meaning e.expr ≡ v.or_nary (B.meaning first.expr) (v.values (map (λ c. B.meaning c.expr) rest.items))) }
     {
-        let (first, (rest, nodes)) = beside(first, split_items(self.alloc, rest))?;
+        let (first, (rest, nodes)) = beside(first, split_items::<B>(self.alloc, rest))?;
         let nodes = nodes.saturating_add(first.nodes);
         Ok(Counted::over(nodes, self.inner.or_nary(first.expr, rest)?))
     }
 
-    fn and_naryl(self, first: Counted, rest: Vec<Counted>) -> Result<Counted, AllocError>
-        ensures { IfOk result (λ e. unplaced e.expr ≡ v.and_naryl (unplaced first.expr) (v.values (map (λ c. unplaced c.expr) rest.items))) }
+    fn and_naryl(
+        self,
+        first: Counted<B::Expr>,
+        rest: Vec<Counted<B::Expr>>,
+    ) -> Result<Counted<B::Expr>, AllocError>
+        ensures { IfOk result (λ e. B.meaning e.expr ≡ v.and_naryl (B.meaning first.expr) (v.values (map (λ c. B.meaning c.expr) rest.items))) }
     {
-        let (first, (rest, nodes)) = beside(first, split_items(self.alloc, rest))?;
+        let (first, (rest, nodes)) = beside(first, split_items::<B>(self.alloc, rest))?;
         let nodes = nodes.saturating_add(first.nodes);
         Ok(Counted::over(nodes, self.inner.and_naryl(first.expr, rest)?))
     }
 
-    fn add_nary(self, first: Counted, rest: Vec<(AddOp, Counted)>) -> Result<Counted, AllocError>
-        ensures { IfOk result (λ e. unplaced e.expr ≡ v.add_nary (unplaced first.expr) (v.terms (map (λ t. (t.0, unplaced t.1.expr)) rest.items))) }
+    fn add_nary(
+        self,
+        first: Counted<B::Expr>,
+        rest: Vec<(AddOp, Counted<B::Expr>)>,
+    ) -> Result<Counted<B::Expr>, AllocError>
+        ensures { IfOk result (λ e. B.meaning e.expr ≡ v.add_nary (B.meaning first.expr) (v.terms (map (λ t. (t.0, B.meaning t.1.expr)) rest.items))) }
     {
-        let (first, (rest, nodes)) = beside(first, split_terms(self.alloc, rest))?;
+        let (first, (rest, nodes)) = beside(first, split_terms::<B>(self.alloc, rest))?;
         let nodes = nodes.saturating_add(first.nodes);
         Ok(Counted::over(nodes, self.inner.add_nary(first.expr, rest)?))
     }
 
-    fn mul_nary(self, first: Counted, rest: Vec<Counted>) -> Result<Counted, AllocError>
-        ensures { IfOk result (λ e. unplaced e.expr ≡ v.mul_nary (unplaced first.expr) (v.values (map (λ c. unplaced c.expr) rest.items))) }
+    fn mul_nary(
+        self,
+        first: Counted<B::Expr>,
+        rest: Vec<Counted<B::Expr>>,
+    ) -> Result<Counted<B::Expr>, AllocError>
+        ensures { IfOk result (λ e. B.meaning e.expr ≡ v.mul_nary (B.meaning first.expr) (v.values (map (λ c. B.meaning c.expr) rest.items))) }
     {
-        let (first, (rest, nodes)) = beside(first, split_items(self.alloc, rest))?;
+        let (first, (rest, nodes)) = beside(first, split_items::<B>(self.alloc, rest))?;
         let nodes = nodes.saturating_add(first.nodes);
         Ok(Counted::over(nodes, self.inner.mul_nary(first.expr, rest)?))
     }
 
-    fn less(self, left: Counted, right: Counted) -> Result<Counted, AllocError> {
+    fn less(
+        self,
+        left: Counted<B::Expr>,
+        right: Counted<B::Expr>,
+    ) -> Result<Counted<B::Expr>, AllocError> {
         let nodes = left.nodes.saturating_add(right.nodes);
         Ok(Counted::over(nodes, self.inner.less(left.expr, right.expr)?))
     }
 
-    fn lesseq(self, left: Counted, right: Counted) -> Result<Counted, AllocError> {
+    fn lesseq(
+        self,
+        left: Counted<B::Expr>,
+        right: Counted<B::Expr>,
+    ) -> Result<Counted<B::Expr>, AllocError> {
         let nodes = left.nodes.saturating_add(right.nodes);
         Ok(Counted::over(nodes, self.inner.lesseq(left.expr, right.expr)?))
     }
 
-    fn greater(self, left: Counted, right: Counted) -> Result<Counted, AllocError> {
+    fn greater(
+        self,
+        left: Counted<B::Expr>,
+        right: Counted<B::Expr>,
+    ) -> Result<Counted<B::Expr>, AllocError> {
         let nodes = left.nodes.saturating_add(right.nodes);
         Ok(Counted::over(nodes, self.inner.greater(left.expr, right.expr)?))
     }
 
-    fn greatereq(self, left: Counted, right: Counted) -> Result<Counted, AllocError> {
+    fn greatereq(
+        self,
+        left: Counted<B::Expr>,
+        right: Counted<B::Expr>,
+    ) -> Result<Counted<B::Expr>, AllocError> {
         let nodes = left.nodes.saturating_add(right.nodes);
         Ok(Counted::over(nodes, self.inner.greatereq(left.expr, right.expr)?))
     }
 
-    fn is_eq(self, left: Counted, right: Counted) -> Result<Counted, AllocError> {
+    fn is_eq(
+        self,
+        left: Counted<B::Expr>,
+        right: Counted<B::Expr>,
+    ) -> Result<Counted<B::Expr>, AllocError> {
         let nodes = left.nodes.saturating_add(right.nodes);
         Ok(Counted::over(nodes, self.inner.is_eq(left.expr, right.expr)?))
     }
 
-    fn noteq(self, left: Counted, right: Counted) -> Result<Counted, AllocError> {
+    fn noteq(
+        self,
+        left: Counted<B::Expr>,
+        right: Counted<B::Expr>,
+    ) -> Result<Counted<B::Expr>, AllocError> {
         let nodes = left.nodes.saturating_add(right.nodes);
         Ok(Counted::over(nodes, self.inner.noteq(left.expr, right.expr)?))
     }
 
-    fn is_in(self, left: Counted, right: Counted) -> Result<Counted, AllocError> {
+    fn is_in(
+        self,
+        left: Counted<B::Expr>,
+        right: Counted<B::Expr>,
+    ) -> Result<Counted<B::Expr>, AllocError> {
         let nodes = left.nodes.saturating_add(right.nodes);
         Ok(Counted::over(nodes, self.inner.is_in(left.expr, right.expr)?))
     }
 
-    fn like(self, expr: Counted, pattern: Vec<PatternElem>) -> Result<Counted, AllocError> {
+    fn like(
+        self,
+        expr: Counted<B::Expr>,
+        pattern: Vec<PatternElem>,
+    ) -> Result<Counted<B::Expr>, AllocError> {
         Ok(Counted::over(expr.nodes, self.inner.like(expr.expr, pattern)?))
     }
 
-    fn is_entity_type(self, expr: Counted, entity_type: EntityType) -> Result<Counted, AllocError> {
+    fn is_entity_type(
+        self,
+        expr: Counted<B::Expr>,
+        entity_type: EntityType,
+    ) -> Result<Counted<B::Expr>, AllocError> {
         Ok(Counted::over(
             expr.nodes,
             self.inner.is_entity_type(expr.expr, entity_type)?,
@@ -228,10 +286,10 @@ impl ExprBuilderInfallibleBuild for CountingBuilder {
 
     fn is_in_entity_type(
         self,
-        expr: Counted,
+        expr: Counted<B::Expr>,
         entity_type: EntityType,
-        entity: Counted,
-    ) -> Result<Counted, AllocError> {
+        entity: Counted<B::Expr>,
+    ) -> Result<Counted<B::Expr>, AllocError> {
         let nodes = expr.nodes.saturating_add(entity.nodes);
         Ok(Counted::over(
             nodes,
@@ -242,68 +300,92 @@ impl ExprBuilderInfallibleBuild for CountingBuilder {
 
     fn extended_has_attr(
         self,
-        expr: Counted,
+        expr: Counted<B::Expr>,
         first: Text,
         rest: Vec<Text>,
-    ) -> Result<Counted, AllocError> {
+    ) -> Result<Counted<B::Expr>, AllocError> {
         Ok(Counted::over(
             expr.nodes,
             self.inner.extended_has_attr(expr.expr, first, rest)?,
         ))
     }
 
-    fn get_attr(self, expr: Counted, attr: Text) -> Result<Counted, AllocError> {
+    fn get_attr(self, expr: Counted<B::Expr>, attr: Text) -> Result<Counted<B::Expr>, AllocError> {
         Ok(Counted::over(expr.nodes, self.inner.get_attr(expr.expr, attr)?))
     }
 
-    fn contains(self, set: Counted, element: Counted) -> Result<Counted, AllocError> {
+    fn contains(
+        self,
+        set: Counted<B::Expr>,
+        element: Counted<B::Expr>,
+    ) -> Result<Counted<B::Expr>, AllocError> {
         let nodes = set.nodes.saturating_add(element.nodes);
         Ok(Counted::over(nodes, self.inner.contains(set.expr, element.expr)?))
     }
 
-    fn contains_all(self, set: Counted, other: Counted) -> Result<Counted, AllocError> {
+    fn contains_all(
+        self,
+        set: Counted<B::Expr>,
+        other: Counted<B::Expr>,
+    ) -> Result<Counted<B::Expr>, AllocError> {
         let nodes = set.nodes.saturating_add(other.nodes);
         Ok(Counted::over(nodes, self.inner.contains_all(set.expr, other.expr)?))
     }
 
-    fn contains_any(self, set: Counted, other: Counted) -> Result<Counted, AllocError> {
+    fn contains_any(
+        self,
+        set: Counted<B::Expr>,
+        other: Counted<B::Expr>,
+    ) -> Result<Counted<B::Expr>, AllocError> {
         let nodes = set.nodes.saturating_add(other.nodes);
         Ok(Counted::over(nodes, self.inner.contains_any(set.expr, other.expr)?))
     }
 
-    fn is_empty(self, set: Counted) -> Result<Counted, AllocError> {
+    fn is_empty(self, set: Counted<B::Expr>) -> Result<Counted<B::Expr>, AllocError> {
         Ok(Counted::over(set.nodes, self.inner.is_empty(set.expr)?))
     }
 
-    fn get_tag(self, entity: Counted, tag: Counted) -> Result<Counted, AllocError> {
+    fn get_tag(
+        self,
+        entity: Counted<B::Expr>,
+        tag: Counted<B::Expr>,
+    ) -> Result<Counted<B::Expr>, AllocError> {
         let nodes = entity.nodes.saturating_add(tag.nodes);
         Ok(Counted::over(nodes, self.inner.get_tag(entity.expr, tag.expr)?))
     }
 
-    fn has_tag(self, entity: Counted, tag: Counted) -> Result<Counted, AllocError> {
+    fn has_tag(
+        self,
+        entity: Counted<B::Expr>,
+        tag: Counted<B::Expr>,
+    ) -> Result<Counted<B::Expr>, AllocError> {
         let nodes = entity.nodes.saturating_add(tag.nodes);
         Ok(Counted::over(nodes, self.inner.has_tag(entity.expr, tag.expr)?))
     }
 
-    fn call_extension_fn(self, function: Name, args: Vec<Counted>) -> Result<Counted, AllocError>
-        ensures { IfOk result (λ e. unplaced e.expr ≡ v.call_extension_fn function (v.values (map (λ c. unplaced c.expr) args.items))) }
+    fn call_extension_fn(
+        self,
+        function: Name,
+        args: Vec<Counted<B::Expr>>,
+    ) -> Result<Counted<B::Expr>, AllocError>
+        ensures { IfOk result (λ e. B.meaning e.expr ≡ v.call_extension_fn function (v.values (map (λ c. B.meaning c.expr) args.items))) }
     {
-        let (args, nodes) = split_items(self.alloc, args)?;
+        let (args, nodes) = split_items::<B>(self.alloc, args)?;
         Ok(Counted::over(nodes, self.inner.call_extension_fn(function, args)?))
     }
 
-    fn set(self, elements: Vec<Counted>) -> Result<Counted, AllocError>
-        ensures { IfOk result (λ e. unplaced e.expr ≡ v.set (v.values (map (λ c. unplaced c.expr) elements.items))) }
+    fn set(self, elements: Vec<Counted<B::Expr>>) -> Result<Counted<B::Expr>, AllocError>
+        ensures { IfOk result (λ e. B.meaning e.expr ≡ v.set (v.values (map (λ c. B.meaning c.expr) elements.items))) }
     {
-        let (elements, nodes) = split_items(self.alloc, elements)?;
+        let (elements, nodes) = split_items::<B>(self.alloc, elements)?;
         Ok(Counted::over(nodes, self.inner.set(elements)?))
     }
 
-    fn record(self, pairs: Vec<(Text, Counted)>) -> Result<Counted, RecordError>
-        ensures ok { IfOk result (λ e. (unplaced e.expr ≡ v.«record» (v.fields (map (λ p. (p.0, unplaced p.1.expr)) pairs.items))) × (repeats_key (map (λ p. p.0) pairs.items) ≡ false)) }
+    fn record(self, pairs: Vec<(Text, Counted<B::Expr>)>) -> Result<Counted<B::Expr>, RecordError>
+        ensures ok { IfOk result (λ e. (B.meaning e.expr ≡ v.«record» (v.fields (map (λ p. (p.0, B.meaning p.1.expr)) pairs.items))) × (repeats_key (map (λ p. p.0) pairs.items) ≡ false)) }
         ensures err { IfErr result (λ error. IsDue error (map (λ p. p.0) pairs.items)) }
     {
-        let (pairs, nodes) = split_pairs(self.alloc, pairs)?;
+        let (pairs, nodes) = split_pairs::<B>(self.alloc, pairs)?;
         Ok(Counted::over(nodes, self.inner.record(pairs)?))
     }
 }

@@ -20,19 +20,21 @@ fn is_told(rt: &impl Abort, raw: &str, fault: &UnescapeError, (kind, start, end)
     assert!(rt; fault.input() == raw, "{raw:?}");
 }
 
-/// The failure tells these faults: of what kind, and at which bytes.
-fn tells(rt: &impl Abort, raw: &str, failure: &UnescapeFailure, wanted: &[Told]) {
-    let UnescapeFailure::Errors(faults) = failure else {
-        assert!(rt; false, "no memory for {raw:?}");
-        return;
+/// The answer is these faults, in order: of what kind, and at which bytes.
+fn tells<T: Drop>(
+    rt: &impl Abort,
+    raw: &str,
+    answer: Result<T, UnescapeFailure>,
+    wanted: &[Told],
+) -> Result<(), Fail> {
+    let Err(UnescapeFailure::Errors(faults)) = answer else {
+        return Err(Fail::from("not refused"));
     };
     assert_eq!(rt; faults.len(), wanted.len(), "{raw:?}");
-    for (i, told) in wanted.iter().enumerate() {
-        match faults.get(i) {
-            None => assert!(rt; false, "{raw:?}"),
-            Some(fault) => is_told(rt, raw, fault, *told),
-        }
+    for (fault, told) in faults.iter().zip(wanted) {
+        is_told(rt, raw, fault, *told);
     }
+    Ok(())
 }
 
 /// Raw texts and the texts that they stand for.
@@ -153,22 +155,11 @@ const UNICODE_FAULTS: [Refused; 15] = [
 ];
 
 #[test]
-fn escape_faults_are_told(rt: HostRuntime) -> Result<(), Fail> {
-    for (raw, faults) in SHORT_FAULTS {
-        match to_unescaped_string(rt.alloc(), raw) {
-            Ok(_) => assert!(rt; false, "{raw:?}"),
-            Err(failure) => tells(&rt, raw, &failure, faults),
-        }
-    }
-    Ok(())
-}
-
-#[test]
-fn unicode_escape_faults_are_told(rt: HostRuntime) -> Result<(), Fail> {
-    for (raw, faults) in UNICODE_FAULTS {
-        match to_unescaped_string(rt.alloc(), raw) {
-            Ok(_) => assert!(rt; false, "{raw:?}"),
-            Err(failure) => tells(&rt, raw, &failure, faults),
+fn faults_of_strings_are_told(rt: HostRuntime) -> Result<(), Fail> {
+    let tables: [&[Refused]; 2] = [&SHORT_FAULTS, &UNICODE_FAULTS];
+    for rows in tables {
+        for (raw, faults) in rows {
+            tells(&rt, raw, to_unescaped_string(rt.alloc(), raw), faults)?;
         }
     }
     Ok(())
@@ -241,12 +232,9 @@ const PATTERN_FAULTS: [Refused; 4] = [
 ];
 
 #[test]
-fn pattern_faults_are_told(rt: HostRuntime) -> Result<(), Fail> {
+fn faults_of_patterns_are_told(rt: HostRuntime) -> Result<(), Fail> {
     for (raw, faults) in PATTERN_FAULTS {
-        match to_pattern(rt.alloc(), raw) {
-            Ok(_) => assert!(rt; false, "{raw:?}"),
-            Err(failure) => tells(&rt, raw, &failure, faults),
-        }
+        tells(&rt, raw, to_pattern(rt.alloc(), raw), faults)?;
     }
     Ok(())
 }

@@ -1,6 +1,7 @@
-//! Faults of escapes, of texts and of trees, as a caller meets them.
-use super::held::{beside, copies};
-use super::places::{POLICY, place, shows};
+//! Faults of escapes, of texts and of trees, alone, in lists and joined.
+use super::held::{beside, copies, shows};
+use super::names::text;
+use super::places::{POLICY, place};
 use cedar_expressions::{Items, Source, Text, UnaryOp};
 use cedar_lexer::token::TokenKind;
 use cedar_syntax::err::{
@@ -9,7 +10,9 @@ use cedar_syntax::err::{
 };
 use cedar_syntax::loc::SourceSpan;
 use cedar_syntax::node::Node;
+use cedar_text::util::flatten_tuple_2;
 use std::alloc::{AllocError, Global};
+use std::process::Abort;
 use std::rc::RcStr;
 use std::test::Fail;
 
@@ -21,51 +24,42 @@ const FIRST_MESSAGE: &str = "the input `\\*` is not a valid escape";
 
 /// The fault of the escape `\*`.
 fn first_escape(alloc: Global) -> Result<UnescapeError, AllocError> {
-    let text = String::from_str(alloc, RAW)?;
-    UnescapeError::new(alloc, EscapeError::InvalidEscape, text, 3..5)
-}
-
-/// The fault of the escape `\b`.
-fn second_escape(alloc: Global) -> Result<UnescapeError, AllocError> {
-    let raw = Source::from_str(alloc, RAW)?;
-    Ok(UnescapeError::in_source(EscapeError::InvalidEscape, raw.share()?, 5..7))
+    let raw = String::from_str(alloc, RAW)?;
+    UnescapeError::new(alloc, EscapeError::InvalidEscape, raw, 3..5)
 }
 
 /// Both faults in order.
 fn both_escapes(alloc: Global) -> Result<NonEmpty<UnescapeError>, AllocError> {
-    let mut faults = NonEmpty::new(alloc, first_escape(alloc)?);
-    faults.push(second_escape(alloc)?)?;
+    let (first, raw) = beside(first_escape(alloc)?, Source::from_str(alloc, RAW))?;
+    let second = UnescapeError::in_source(EscapeError::InvalidEscape, raw, 5..7);
+    let mut faults = NonEmpty::new(alloc, first);
+    faults.push(second)?;
     Ok(faults)
 }
 
 #[test]
 fn escape_faults_tell_their_piece(rt: HostRuntime) -> Result<(), Fail> {
-    let first = first_escape(rt.alloc())?;
-    assert!(rt; first.kind() == EscapeError::InvalidEscape);
-    assert_eq!(rt; first.range(), 3..5);
-    let second = second_escape(rt.alloc())?;
-    assert_eq!(rt; first.input(), second.input());
-    shows(&rt, &first, FIRST_MESSAGE)
+    let alloc = rt.alloc();
+    let faults = both_escapes(alloc)?;
+    assert_eq!(rt; faults.len(), 2);
+    for (fault, range) in faults.iter().zip([3..5, 5..7]) {
+        assert!(rt; fault.kind() == EscapeError::InvalidEscape);
+        assert_eq!(rt; fault.range(), range);
+        assert_eq!(rt; fault.input(), RAW);
+    }
+    shows(&rt, &UnescapeFailure::from(faults), FIRST_MESSAGE)?;
+    shows(
+        &rt,
+        &ToASTErrorKind::from(first_escape(alloc)?),
+        FIRST_MESSAGE,
+    )
 }
 
 #[test]
-fn a_failure_to_unescape_says_its_first_fault(rt: HostRuntime) -> Result<(), Fail> {
-    let faults = both_escapes(rt.alloc())?;
-    shows(&rt, &UnescapeFailure::from(faults), FIRST_MESSAGE)
-}
-
-#[test]
-fn an_escape_fault_is_a_fault_of_a_tree(rt: HostRuntime) -> Result<(), Fail> {
-    let kind = ToASTErrorKind::from(first_escape(rt.alloc())?);
-    shows(&rt, &kind, FIRST_MESSAGE)
-}
-
-#[test]
-fn faults_of_escapes_are_copied(rt: HostRuntime) -> Result<(), Fail> {
-    assert!(rt; copies(first_escape(rt.alloc())?)?);
-    assert!(rt; copies(both_escapes(rt.alloc())?)?);
-    assert!(rt; copies(UnescapeFailure::from(both_escapes(rt.alloc())?))?);
-    Ok(())
+fn escape_faults_are_copied(rt: HostRuntime) -> Result<(), Fail> {
+    copies(&rt, first_escape(rt.alloc())?)?;
+    copies(&rt, both_escapes(rt.alloc())?)?;
+    copies(&rt, UnescapeFailure::from(both_escapes(rt.alloc())?))
 }
 
 #[test]
@@ -96,137 +90,113 @@ fn stray_token(alloc: Global) -> Result<ToCSTError, AllocError> {
     let raw = RawFault::UnrecognizedToken {
         start: 0,
         end: 1,
-        token: Text::from_str(alloc, ")")?,
+        token: text(alloc, ")")?,
         expected: Items::new(alloc),
     };
     in_text(alloc, raw, ") ~")
 }
 
-/// The fault of bytes that are no token.
-fn invalid_token(alloc: Global) -> Result<ToCSTError, AllocError> {
-    in_text(alloc, RawFault::InvalidToken { location: 2 }, "1 ~")
-}
-
-#[test]
-fn an_early_end_has_its_place_and_message(rt: HostRuntime) -> Result<(), Fail> {
-    let end = early_end(rt.alloc())?;
-    assert_eq!(rt; end.primary_source_span(), Some(SourceSpan::between(4, 4)));
-    assert_eq!(rt; end.expected_kinds(), [TokenKind::Identifier].as_slice());
-    shows(&rt, &end, "unexpected end of input")
-}
-
-#[test]
-fn a_stray_token_has_its_place_and_message(rt: HostRuntime) -> Result<(), Fail> {
-    let token = stray_token(rt.alloc())?;
-    assert_eq!(rt;
-        token.primary_source_span(),
-        Some(SourceSpan::between(0, 1))
-    );
-    shows(&rt, &token, "unexpected token `)`")
-}
-
-#[test]
-fn an_invalid_token_has_its_place_and_message(rt: HostRuntime) -> Result<(), Fail> {
-    let invalid = invalid_token(rt.alloc())?;
-    assert_eq!(rt;
-        invalid.primary_source_span(),
-        Some(SourceSpan::between(2, 2))
-    );
-    shows(&rt, &invalid, "invalid token")?;
-    let (invalid, stray) = beside(invalid, stray_token(rt.alloc()))?;
-    assert!(rt; invalid != stray);
-    Ok(())
-}
-
 /// A fault of the user's at two bytes behind this offset.
 fn too_large(alloc: Global, offset: usize) -> Result<RawFault, Fail> {
-    let (place, text) = beside(place(alloc, offset, 2)?, Text::from_str(alloc, "too large"))?;
+    let (place, text) = beside(place(alloc, offset, 2)?, text(alloc, "too large"))?;
     Ok(RawFault::User {
         error: Node::with_source_loc(text, place),
     })
+}
+
+/// The fault is at this place, expects these kinds, says this and is copied.
+fn is_told(
+    rt: &(impl Abort + AllocGlobal),
+    fault: ToCSTError,
+    span: SourceSpan,
+    expected: &[TokenKind],
+    message: &str,
+) -> Result<(), Fail> {
+    assert_eq!(rt; fault.primary_source_span(), Some(span));
+    assert_eq!(rt; fault.expected_kinds(), expected);
+    shows(rt, &fault, message)?;
+    copies(rt, fault)
+}
+
+#[test]
+fn faults_of_texts_have_their_place_and_message(rt: HostRuntime) -> Result<(), Fail> {
+    let alloc = rt.alloc();
+    let at_end = SourceSpan::between(4, 4);
+    is_told(
+        &rt,
+        early_end(alloc)?,
+        at_end,
+        &[TokenKind::Identifier],
+        "unexpected end of input",
+    )?;
+    let first = SourceSpan::between(0, 1);
+    is_told(&rt, stray_token(alloc)?, first, &[], "unexpected token `)`")?;
+    let invalid = in_text(alloc, RawFault::InvalidToken { location: 2 }, "1 ~")?;
+    is_told(
+        &rt,
+        invalid,
+        SourceSpan::between(2, 2),
+        &[],
+        "invalid token",
+    )?;
+    let large = in_text(alloc, too_large(alloc, 1)?, POLICY)?;
+    is_told(&rt, large, SourceSpan::between(1, 3), &[], "too large")
 }
 
 #[test]
 fn raw_faults_are_equal_at_one_place_alone(rt: HostRuntime) -> Result<(), Fail> {
     let (here, there) = beside(too_large(rt.alloc(), 0)?, too_large(rt.alloc(), 1))?;
     assert!(rt; here != there);
-    Ok(())
+    copies(&rt, here)
 }
 
-#[test]
-fn faults_of_texts_are_copied(rt: HostRuntime) -> Result<(), Fail> {
-    assert!(rt; copies(too_large(rt.alloc(), 0)?)?);
-    assert!(rt; copies(early_end(rt.alloc())?)?);
-    assert!(rt; copies(stray_token(rt.alloc())?)?);
-    Ok(())
-}
-
-#[test]
-fn a_raw_fault_of_the_user_has_its_own_place(rt: HostRuntime) -> Result<(), Fail> {
-    let fault = in_text(rt.alloc(), too_large(rt.alloc(), 1)?, POLICY)?;
-    assert_eq!(rt;
-        fault.primary_source_span(),
-        Some(SourceSpan::between(1, 3))
-    );
-    shows(&rt, &fault, "too large")
-}
-
-#[test]
-fn kinds_of_operators_say_what_is_wrong(rt: HostRuntime) -> Result<(), Fail> {
-    shows(
-        &rt,
-        &ToASTErrorKind::AmbiguousOperators,
+/// The kinds that hold no text of their own, and what they say.
+const KINDS: [(ToASTErrorKind, &str); 7] = [
+    (
+        ToASTErrorKind::AmbiguousOperators,
         "multiple relational operators (>, ==, in, etc.) must be used with parentheses to make ordering explicit",
-    )?;
-    shows(
-        &rt,
-        &ToASTErrorKind::InvalidSingleEq,
+    ),
+    (
+        ToASTErrorKind::InvalidSingleEq,
         "'=' is not a valid operator in Cedar",
-    )?;
-    shows(
-        &rt,
-        &ToASTErrorKind::UnsupportedDivision,
+    ),
+    (
+        ToASTErrorKind::UnsupportedDivision,
         "division is not supported",
-    )?;
-    shows(
-        &rt,
-        &ToASTErrorKind::UnsupportedModulo,
+    ),
+    (
+        ToASTErrorKind::UnsupportedModulo,
         "remainder/modulo is not supported",
-    )
-}
+    ),
+    (
+        ToASTErrorKind::UnaryOpLimit(UnaryOp::Not),
+        "too many occurrences of `!`",
+    ),
+    (
+        ToASTErrorKind::UnaryOpLimit(UnaryOp::Neg),
+        "too many occurrences of `-`",
+    ),
+    (
+        ToASTErrorKind::IntegerLiteralTooLarge(9223372036854775808),
+        "integer literal `9223372036854775808` is too large",
+    ),
+];
 
 #[test]
-fn kinds_with_a_value_say_what_is_wrong(rt: HostRuntime) -> Result<(), Fail> {
-    shows(
-        &rt,
-        &ToASTErrorKind::UnaryOpLimit(UnaryOp::Not),
-        "too many occurrences of `!`",
-    )?;
-    shows(
-        &rt,
-        &ToASTErrorKind::UnaryOpLimit(UnaryOp::Neg),
-        "too many occurrences of `-`",
-    )?;
-    shows(
-        &rt,
-        &ToASTErrorKind::IntegerLiteralTooLarge(9223372036854775808),
-        "integer literal `9223372036854775808` is too large",
-    )?;
-    let name = Text::from_str(rt.alloc(), "a::b")?;
-    shows(
-        &rt,
-        &ToASTErrorKind::ArbitraryVariable(name),
-        "invalid variable: a::b",
-    )
+fn kinds_say_what_is_wrong(rt: HostRuntime) -> Result<(), Fail> {
+    for (kind, message) in &KINDS {
+        shows(&rt, kind, message)?;
+    }
+    let name = ToASTErrorKind::ArbitraryVariable(text(rt.alloc(), "a::b")?);
+    shows(&rt, &name, "invalid variable: a::b")?;
+    copies(&rt, name)
 }
 
 /// The fault of a number that is too large, at a byte.
 fn large_number(alloc: Global, offset: usize) -> Result<ToASTError, Fail> {
     let place = place(alloc, offset, 1)?;
-    Ok(ToASTError::new(
-        ToASTErrorKind::IntegerLiteralTooLarge(18446744073709551615),
-        Some(place),
-    ))
+    let kind = ToASTErrorKind::IntegerLiteralTooLarge(18446744073709551615);
+    Ok(ToASTError::new(kind, Some(place)))
 }
 
 /// Three faults, each made another way.
@@ -238,47 +208,30 @@ fn three_faults(alloc: Global) -> Result<ParseErrors, Fail> {
     Ok(faults)
 }
 
-/// Where each of the faults starts.
-fn starts(alloc: Global, faults: &ParseErrors) -> Result<Vec<usize>, AllocError> {
-    let mut starts = Vec::new(alloc);
-    for fault in faults {
-        if let Some(span) = fault.primary_source_span() {
-            starts.push(span.offset())?;
-        }
-    }
-    Ok(starts)
-}
+/// What a list of them says: what its first fault says.
+const LARGE: &str = "integer literal `18446744073709551615` is too large";
 
-#[test]
-fn a_list_of_faults_says_the_first(rt: HostRuntime) -> Result<(), Fail> {
-    let faults = three_faults(rt.alloc())?;
+/// Where each of the faults stands.
+fn stand_at(rt: &impl Abort, faults: &ParseErrors, starts: [usize; 3]) {
     assert_eq!(rt; faults.len(), 3);
-    assert_eq!(rt;
-        faults.primary_source_span(),
-        Some(SourceSpan::between(3, 4))
-    );
-    shows(
-        &rt,
-        &faults,
-        "integer literal `18446744073709551615` is too large",
-    )
+    assert_eq!(rt; faults.iter().count(), 3);
+    assert!(rt; faults.get(3).is_none());
+    assert_eq!(rt; faults.get(0), Some(faults.first()));
+    for (fault, start) in faults.iter().zip(starts) {
+        assert_eq!(rt;
+            fault.primary_source_span().map(|span| span.offset()),
+            Some(start)
+        );
+    }
 }
 
 #[test]
 fn a_list_of_faults_keeps_their_order(rt: HostRuntime) -> Result<(), Fail> {
     let faults = three_faults(rt.alloc())?;
-    assert!(rt; faults.get(3).is_none());
-    assert_eq!(rt; faults.get(0), Some(faults.first()));
-    assert_eq!(rt; faults.iter().count(), 3);
-    let starts = starts(rt.alloc(), &faults)?;
-    assert_eq!(rt; starts.as_slice(), [3, 4, 9].as_slice());
-    Ok(())
-}
-
-#[test]
-fn a_list_of_faults_hands_them_on(rt: HostRuntime) -> Result<(), Fail> {
+    stand_at(&rt, &faults, [3, 4, 9]);
+    shows(&rt, &faults, LARGE)?;
     let mut last = None;
-    for fault in three_faults(rt.alloc())? {
+    for fault in faults {
         last = fault.primary_source_span();
     }
     assert_eq!(rt; last, Some(SourceSpan::between(9, 10)));
@@ -286,21 +239,88 @@ fn a_list_of_faults_hands_them_on(rt: HostRuntime) -> Result<(), Fail> {
 }
 
 #[test]
-fn a_failure_says_what_its_faults_say(rt: HostRuntime) -> Result<(), Fail> {
-    let failure = Failure::from(three_faults(rt.alloc())?);
-    shows(
-        &rt,
-        &failure,
-        "integer literal `18446744073709551615` is too large",
-    )
+fn faults_of_trees_are_copied(rt: HostRuntime) -> Result<(), Fail> {
+    let alloc = rt.alloc();
+    copies(&rt, large_number(alloc, 3)?)?;
+    copies(&rt, ParseError::from(large_number(alloc, 3)?))?;
+    copies(&rt, three_faults(alloc)?)?;
+    let failure = Failure::from(three_faults(alloc)?);
+    shows(&rt, &failure, LARGE)?;
+    copies(&rt, failure)
 }
 
 #[test]
-fn faults_of_trees_are_copied(rt: HostRuntime) -> Result<(), Fail> {
-    assert!(rt; copies(ToASTErrorKind::UnsupportedModulo)?);
-    assert!(rt; copies(large_number(rt.alloc(), 3)?)?);
-    assert!(rt; copies(ParseError::from(large_number(rt.alloc(), 3)?))?);
-    assert!(rt; copies(three_faults(rt.alloc())?)?);
-    assert!(rt; copies(Failure::from(three_faults(rt.alloc())?))?);
+fn a_node_tells_a_fault_at_its_place(rt: HostRuntime) -> Result<(), Fail> {
+    let node = Node::with_source_loc(7, place(rt.alloc(), 43, 6)?);
+    let told = node.to_ast_err(ToASTErrorKind::AmbiguousOperators)?;
+    assert!(rt; *told.kind() == ToASTErrorKind::AmbiguousOperators);
+    assert_eq!(rt; told.span(), Some(SourceSpan::between(43, 49)));
     Ok(())
+}
+
+#[test]
+fn lists_are_put_one_after_another(rt: HostRuntime) -> Result<(), Fail> {
+    let mut numbers = NonEmpty::new(rt.alloc(), 1);
+    numbers.push(2)?;
+    let mut more = NonEmpty::new(rt.alloc(), 3);
+    more.push(4)?;
+    numbers.append(more)?;
+    let all: [i32; 4] = [1, 2, 3, 4];
+    assert!(rt; numbers.iter().eq(all.iter()));
+    Ok(())
+}
+
+/// A fault for each number: the value 7 where there are none.
+fn part(alloc: Global, numbers: &[u64]) -> Result<Result<u8, Failure>, AllocError> {
+    let Some((first, others)) = numbers.split_first() else {
+        return Ok(Ok(7));
+    };
+    let mut faults = ParseErrors::from_parse_error(alloc, fault(*first));
+    for number in others {
+        faults.as_mut().push(fault(*number))?;
+    }
+    Ok(Err(Failure::Errors(faults)))
+}
+
+/// A fault that has this number.
+fn fault(number: u64) -> ParseError {
+    ParseError::ToAST(ToASTError::new(ToASTErrorKind::IntegerLiteralTooLarge(number), None))
+}
+
+/// The faults of two parts, and those of both.
+const JOINED: [(&[u64], &[u64], &[u64]); 4] = [
+    (&[1], &[], &[1]),
+    (&[], &[2], &[2]),
+    (&[1], &[2], &[1, 2]),
+    (&[1, 2], &[3, 4], &[1, 2, 3, 4]),
+];
+
+/// Two parts joined.
+fn joined(
+    alloc: Global,
+    first: &[u64],
+    second: &[u64],
+) -> Result<Result<(u8, u8), Failure>, AllocError> {
+    let (first, second) = beside(part(alloc, first)?, part(alloc, second))?;
+    Ok(flatten_tuple_2(first, second))
+}
+
+#[test]
+fn parts_are_joined_with_their_faults_in_order(rt: HostRuntime) -> Result<(), Fail> {
+    let alloc = rt.alloc();
+    for (first, second, both) in &JOINED {
+        let (both, joined) = beside(part(alloc, both)?, joined(alloc, first, second))?;
+        assert!(rt; joined.err() == both.err());
+    }
+    assert!(rt; joined(alloc, &[], &[])? == Ok((7, 7)));
+    let memory = flatten_tuple_2(part(alloc, &[1])?, wants_memory());
+    assert!(rt; matches!(memory, Err(Failure::Memory(_))));
+    let memory = flatten_tuple_2(wants_memory(), part(alloc, &[1])?);
+    assert!(rt; matches!(memory, Err(Failure::Memory(_))));
+    Ok(())
+}
+
+/// A part that wants memory.
+fn wants_memory() -> Result<u8, Failure> {
+    Err(Failure::Memory(AllocError))
 }

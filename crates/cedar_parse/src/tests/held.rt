@@ -4,6 +4,9 @@ ghost use Rattle.std.specs.Prelude.{◌≡◌, IfOk, IsOkAnd};
 
 use cedar_expressions::TryClone;
 use std::alloc::{AllocError, Global};
+use std::fmt;
+use std::process::Abort;
+use std::test::Fail;
 
 /// What is held, beside what was made.
 pub(super) fn beside<A: Drop, B, E>(held: A, made: Result<B, E>) -> Result<(A, B), E>
@@ -43,14 +46,41 @@ pub(super) fn equal<T: PartialEq + Drop>(
     Ok(left == right)
 }
 
-/// Whether a copy of a value equals it.
-pub(super) fn copy_equals<T: TryClone + PartialEq + Drop>(value: &T) -> Result<bool, AllocError> {
+/// A copy of the value equals it.
+pub(super) fn is_copied<T: TryClone + PartialEq + Drop>(
+    rt: &impl Abort,
+    value: &T,
+) -> Result<(), Fail> {
     let copy = value.try_clone()?;
-    Ok(copy == *value)
+    assert!(rt; copy == *value);
+    Ok(())
 }
 
-/// Whether both ways to copy a value give an equal one.
-pub(super) fn copies<T: TryClone + Clone + PartialEq + Drop>(value: T) -> Result<bool, AllocError> {
+/// Both ways to copy a value give an equal one.
+pub(super) fn copies_of<T: TryClone + Clone + PartialEq + Drop>(
+    rt: &impl Abort,
+    value: &T,
+) -> Result<(), Fail> {
     let clone = value.clone()?;
-    Ok(clone == value && copy_equals(&value)?)
+    assert!(rt; clone == *value);
+    is_copied(rt, value)
+}
+
+/// The same of a value that is at hand for this alone.
+pub(super) fn copies<T: TryClone + Clone + PartialEq + Drop>(
+    rt: &impl Abort,
+    value: T,
+) -> Result<(), Fail> {
+    copies_of(rt, &value)
+}
+
+/// The value's own text is this one.
+pub(super) fn shows<T: fmt::Display>(
+    rt: &(impl Abort + AllocGlobal),
+    value: &T,
+    text: &str,
+) -> Result<(), Fail> {
+    let shown = format!(in rt.alloc(); "{value}")?;
+    assert_eq!(rt; shown.as_str(), text);
+    Ok(())
 }

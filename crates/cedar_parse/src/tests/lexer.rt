@@ -10,33 +10,16 @@ fn next_kind(lexer: &mut Lexer<'_>) -> Option<TokenKind> {
     }
 }
 
-/// The place of the invalid token behind so many tokens.
-fn invalid_behind(text: &str, tokens: usize) -> Option<usize> {
-    let mut lexer = Lexer::new(text);
-    for _ in 0..tokens {
-        match lexer.next() {
-            Some(Ok(_)) => {}
-            _ => return None,
-        }
-    }
-    let place = match lexer.next() {
-        Some(Err(invalid)) => Some(invalid.location),
-        _ => None,
-    };
-    // After an invalid token the lexer has ended.
-    if lexer.next().is_some() { None } else { place }
-}
-
-/// How many tokens a text has, if it has no bad place.
-fn token_count(text: &str) -> Option<usize> {
+/// How many tokens stand before the text's end or its bad place, and where that is.
+fn tokens_of(text: &str) -> (usize, Option<usize>) {
     let mut count = 0usize;
     for answer in Lexer::new(text) {
         match answer {
             Ok(_) => count = count.wrapping_add(1),
-            Err(_) => return None,
+            Err(invalid) => return (count, Some(invalid.location)),
         }
     }
-    Some(count)
+    (count, None)
 }
 
 const ALL: &str =
@@ -127,37 +110,60 @@ fn longest_spelling_wins(rt: HostRuntime) {
     assert!(rt; lexer.next().is_none());
 }
 
+/// Texts and their tokens' kinds.
+const KINDS: [(&str, &[TokenKind]); 2] = [
+    (
+        "trueish true _in ?if ?action",
+        &[
+            TokenKind::Identifier,
+            TokenKind::True,
+            TokenKind::Identifier,
+            TokenKind::OtherSlot,
+            TokenKind::OtherSlot,
+        ],
+    ),
+    ("", &[]),
+];
+
 #[test]
 fn words_and_identifiers(rt: HostRuntime) {
-    let mut lexer = Lexer::new("trueish true _in ?if ?action");
-    for kind in [
-        TokenKind::Identifier,
-        TokenKind::True,
-        TokenKind::Identifier,
-        TokenKind::OtherSlot,
-        TokenKind::OtherSlot,
-    ] {
-        assert_eq!(rt; next_kind(&mut lexer).expect(&rt, "a token"), kind);
+    for (text, kinds) in KINDS {
+        let mut lexer = Lexer::new(text);
+        for kind in kinds {
+            assert_eq!(rt; next_kind(&mut lexer).expect(&rt, "a token"), *kind);
+        }
+        assert!(rt; lexer.next().is_none());
     }
+}
+
+/// Texts, how many tokens they have, and where they are no longer one.
+const CUTS: [(&str, usize, Option<usize>); 13] = [
+    ("\"abc", 0, Some(0)),
+    ("\"a\\", 0, Some(0)),
+    ("'a'", 0, Some(0)),
+    ("? principal", 0, Some(0)),
+    ("\u{FEFF}1", 0, Some(0)),
+    ("principal & action", 1, Some(10)),
+    ("1 \u{E9}", 1, Some(2)),
+    ("1\u{A0}+\u{2003}2\u{B}", 3, None),
+    ("1 // a\u{2028}+ 2", 1, None),
+    ("1 // a\r+ 2", 3, None),
+    ("1 // a\n+ 2", 3, None),
+    ("//", 0, None),
+    ("\"a\\\u{E9}\\\"\u{E9}\nb\"", 1, None),
+];
+
+#[test]
+fn white_space_comments_and_bad_places(rt: HostRuntime) {
+    for (text, count, bad) in CUTS {
+        assert_eq!(rt; tokens_of(text), (count, bad), "{text:?}");
+    }
+}
+
+/// After an invalid token, and after the end, the lexer has ended.
+#[test]
+fn a_lexer_ends_once(rt: HostRuntime) {
+    let mut lexer = Lexer::new("~ 1");
+    assert!(rt; lexer.next().is_some());
     assert!(rt; lexer.next().is_none());
-}
-
-#[test]
-fn invalid_tokens_stand_at_their_byte(rt: HostRuntime) {
-    for text in ["\"abc", "\"a\\", "'a'", "? principal", "\u{FEFF}1"] {
-        assert_eq!(rt; invalid_behind(text, 0), Some(0));
-    }
-    assert_eq!(rt; invalid_behind("principal & action", 1), Some(10));
-    assert_eq!(rt; invalid_behind("1 \u{E9}", 1), Some(2));
-}
-
-#[test]
-fn white_space_and_comments_are_passed_over(rt: HostRuntime) {
-    assert_eq!(rt; token_count("1\u{A0}+\u{2003}2\u{B}"), Some(3));
-    assert_eq!(rt; token_count("1 // a\u{2028}+ 2"), Some(1));
-    assert_eq!(rt; token_count("1 // a\r+ 2"), Some(3));
-    assert_eq!(rt; token_count("1 // a\n+ 2"), Some(3));
-    assert_eq!(rt; token_count("//"), Some(0));
-    assert_eq!(rt; token_count(""), Some(0));
-    assert_eq!(rt; token_count("\"a\\\u{E9}\\\"\u{E9}\nb\""), Some(1));
 }

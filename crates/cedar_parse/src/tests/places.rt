@@ -1,11 +1,10 @@
 //! Places and nodes, as a caller meets them.
-use super::held::{beside, copies};
-use cedar_expressions::Text;
+use super::held::{beside, copies, shows};
+use super::names::text;
 use cedar_syntax::err::{Failure, ParseErrors};
 use cedar_syntax::loc::{Loc, SourceSpan};
 use cedar_syntax::node::Node;
 use std::alloc::Global;
-use std::fmt;
 use std::process::Abort;
 use std::rc::RcStr;
 use std::test::Fail;
@@ -17,17 +16,6 @@ pub(super) const POLICY: &str = "permit(principal, action, resource) when { a ==
 pub(super) fn place(alloc: Global, offset: usize, len: usize) -> Result<Loc, Fail> {
     let span = SourceSpan::new(offset, len).ok_or("a range past the end")?;
     Ok(Loc::new(span, RcStr::from_str(alloc, POLICY)?))
-}
-
-/// The value's own text is this one.
-pub(super) fn shows<T: fmt::Display>(
-    rt: &(impl Abort + AllocGlobal),
-    value: &T,
-    text: &str,
-) -> Result<(), Fail> {
-    let shown = format!(in rt.alloc(); "{value}")?;
-    assert_eq!(rt; shown.as_str(), text);
-    Ok(())
 }
 
 #[test]
@@ -42,44 +30,26 @@ fn a_range_ends_within_the_largest_number(rt: HostRuntime) {
 }
 
 #[test]
-fn a_place_shows_its_snippet(rt: HostRuntime) -> Result<(), Fail> {
+fn a_place_shows_its_snippet_and_moves(rt: HostRuntime) -> Result<(), Fail> {
     let inside = place(rt.alloc(), 43, 6)?;
     assert_eq!(rt; inside.snippet(), Some("a == b"));
-    assert_eq!(rt; inside.start(), 43);
-    assert_eq!(rt; inside.end(), 49);
+    assert_eq!(rt; (inside.start(), inside.end()), (43, 49));
+    assert!(rt; SourceSpan::from(&inside) == SourceSpan::between(43, 49));
     let shown = format!(in rt.alloc(); "{inside:?}")?;
     assert_eq!(rt; shown.as_str(), "Loc(`a == b`)");
-    Ok(())
-}
-
-#[test]
-fn a_place_past_the_end_has_no_snippet(rt: HostRuntime) -> Result<(), Fail> {
-    let outside = place(rt.alloc(), 43, 60)?;
-    assert!(rt; outside.snippet().is_none());
-    Ok(())
-}
-
-#[test]
-fn a_place_moves_within_its_text(rt: HostRuntime) -> Result<(), Fail> {
-    let inside = place(rt.alloc(), 43, 6)?;
     let moved = inside.span(SourceSpan::between(0, 6))?;
     assert_eq!(rt; moved.snippet(), Some("permit"));
     assert_eq!(rt; SourceSpan::from(moved), SourceSpan::between(0, 6));
-    Ok(())
+    copies(&rt, inside)
 }
 
 #[test]
-fn a_place_is_copied_and_gives_its_range(rt: HostRuntime) -> Result<(), Fail> {
-    let inside = place(rt.alloc(), 43, 6)?;
-    assert!(rt; SourceSpan::from(&inside) == SourceSpan::between(43, 49));
-    assert!(rt; copies(inside)?);
-    Ok(())
-}
-
-#[test]
-fn a_cut_character_has_no_snippet(rt: HostRuntime) -> Result<(), Fail> {
-    let src = RcStr::from_str(rt.alloc(), "1 é")?;
-    let cut = Loc::new(SourceSpan::between(2, 3), src);
+fn a_place_that_is_no_range_has_no_snippet(rt: HostRuntime) -> Result<(), Fail> {
+    assert!(rt; place(rt.alloc(), 43, 60)?.snippet().is_none());
+    let cut = Loc::new(
+        SourceSpan::between(2, 3),
+        RcStr::from_str(rt.alloc(), "1 é")?,
+    );
     assert!(rt; cut.snippet().is_none());
     let whole = cut.span(SourceSpan::between(2, 4))?;
     assert_eq!(rt; whole.snippet(), Some("é"));
@@ -99,12 +69,12 @@ fn nodes_compare_by_their_value(rt: HostRuntime) -> Result<(), Fail> {
 
 #[test]
 fn a_node_is_copied_with_its_place(rt: HostRuntime) -> Result<(), Fail> {
-    let (place, word) = beside(place(rt.alloc(), 2, 1)?, Text::from_str(rt.alloc(), "a"))?;
-    let text = Node::with_source_loc(word, place);
-    let copy = text.try_clone()?;
-    assert!(rt; copy.loc() == text.loc());
-    assert!(rt; copy == text);
-    Ok(())
+    let (place, word) = beside(place(rt.alloc(), 2, 1)?, text(rt.alloc(), "a"))?;
+    let node = Node::with_source_loc(word, place);
+    let copy = node.try_clone()?;
+    assert!(rt; copy.loc() == node.loc());
+    assert!(rt; copy == node);
+    copies(&rt, node)
 }
 
 #[test]
@@ -124,40 +94,43 @@ fn a_node_is_written_and_mapped(rt: HostRuntime) -> Result<(), Fail> {
     let mut node = Node::with_source_loc(3u8, place(rt.alloc(), 2, 2)?);
     *node.as_mut()?.node = 4;
     assert_eq!(rt; node.node, 4);
-    let half = node.map(|value| value / 2);
-    let (value, place) = half.into_inner();
+    let (value, place) = node.map(|value| value / 2).into_inner();
     assert_eq!(rt; value, 2);
     assert!(rt; place.is_some());
     Ok(())
 }
 
-/// A node that holds a number.
-fn full_node(alloc: Global) -> Result<Node<Option<u8>>, Fail> {
-    Ok(Node::with_source_loc(Some(5), place(alloc, 1, 1)?))
-}
-
-/// A node that holds nothing.
-fn empty_node(alloc: Global) -> Result<Node<Option<u8>>, Fail> {
-    Ok(Node::with_source_loc(None, place(alloc, 7, 3)?))
+/// A node with a place, which may hold a number.
+fn node(alloc: Global, value: Option<u8>) -> Result<Node<Option<u8>>, Fail> {
+    Ok(Node::with_source_loc(value, place(alloc, 7, 3)?))
 }
 
 #[test]
 fn a_full_node_gives_its_value(rt: HostRuntime) -> Result<(), Fail> {
-    let full = full_node(rt.alloc())?;
+    let full = node(rt.alloc(), Some(5))?;
     assert_eq!(rt; full.as_inner().copied(), Some(5));
     assert!(rt; full.collapse()?.is_some());
     match full.try_as_inner(rt.alloc()) {
         Ok(value) => assert_eq!(rt; *value, 5),
         Err(_) => assert!(rt; false),
     }
+    assert_eq!(rt; full.apply(|value, _| Some(*value)), Some(5));
+    assert_eq!(rt; full.into_apply(|value, _| Some(value)), Some(5));
     Ok(())
 }
 
 #[test]
-fn a_full_node_hands_its_value_to_a_function(rt: HostRuntime) -> Result<(), Fail> {
-    let full = full_node(rt.alloc())?;
-    assert_eq!(rt; full.apply(|value, _| Some(*value)), Some(5));
-    assert_eq!(rt; full.into_apply(|value, _| Some(value)), Some(5));
+fn an_empty_node_is_refused_at_its_place(rt: HostRuntime) -> Result<(), Fail> {
+    let empty = node(rt.alloc(), None)?;
+    assert!(rt; empty.collapse()?.is_none());
+    match empty.try_as_inner(rt.alloc()) {
+        Err(Failure::Errors(faults)) => tells_of_an_empty_node(&rt, &faults)?,
+        _ => return Err(Fail::from("not refused")),
+    }
+    match empty.try_into_inner() {
+        Err(fault) => assert_eq!(rt; fault.span(), Some(SourceSpan::between(7, 10))),
+        Ok(_) => assert!(rt; false),
+    }
     Ok(())
 }
 
@@ -173,23 +146,4 @@ fn tells_of_an_empty_node(
         faults,
         "internal invariant violated. Parsed data node should not be empty",
     )
-}
-
-#[test]
-fn an_empty_node_is_refused_at_its_place(rt: HostRuntime) -> Result<(), Fail> {
-    let empty = empty_node(rt.alloc())?;
-    assert!(rt; empty.collapse()?.is_none());
-    match empty.try_as_inner(rt.alloc()) {
-        Err(Failure::Errors(faults)) => tells_of_an_empty_node(&rt, &faults),
-        _ => Err(Fail::from("not refused")),
-    }
-}
-
-#[test]
-fn an_empty_node_gives_a_fault_for_its_value(rt: HostRuntime) -> Result<(), Fail> {
-    match empty_node(rt.alloc())?.try_into_inner() {
-        Err(fault) => assert_eq!(rt; fault.span(), Some(SourceSpan::between(7, 10))),
-        Ok(_) => assert!(rt; false),
-    }
-    Ok(())
 }

@@ -3,10 +3,9 @@ use cedar_expressions::{
     BinaryCall, BinaryOp, Expr, ExprKind, ListCall, Literal, NaryOp, SlotId, UnaryCall, UnaryOp,
     Var,
 };
-use std::alloc::AllocError;
 
 /// The kind of a node, without its parts.
-#[derive(Debug, Clone, Copy, PartialEq, Eq)]
+#[derive(Clone, Copy, PartialEq)]
 pub(super) enum Shape {
     Number(i64),
     OtherConstant,
@@ -29,26 +28,21 @@ pub(super) enum Shape {
 }
 
 /// The kind of a node.
-fn shape_of(expr: &Expr) -> Shape {
+pub(super) fn shape_of(expr: &Expr) -> Shape {
     match expr.kind() {
-        ExprKind::Val(literal) => constant_shape(literal),
+        ExprKind::Val(Literal::Long(number)) => Shape::Number(*number),
+        ExprKind::Val(_) => Shape::OtherConstant,
         ExprKind::Var(var) => Shape::Var(*var),
         ExprKind::Slot(slot) => Shape::Slot(*slot),
         ExprKind::Ite(_) => Shape::Conditional,
         ExprKind::Unary(call, _) => unary_shape(call),
-        ExprKind::Binary(call, _) => binary_shape(call),
+        ExprKind::Binary(BinaryCall::Op(op), _) => Shape::Joined(*op),
+        ExprKind::Binary(BinaryCall::IsIn(_), _) => Shape::IsIn,
         ExprKind::Nary(op, _, _) => Shape::Repeated(*op),
         ExprKind::Sum(_, _) => Shape::Sum,
-        ExprKind::List(call, _) => list_shape(call),
+        ExprKind::List(ListCall::Set, _) => Shape::Set,
+        ExprKind::List(ListCall::Extension(_), _) => Shape::Extension,
         ExprKind::Record(_) => Shape::Record,
-    }
-}
-
-/// The kind of a constant.
-fn constant_shape(literal: &Literal) -> Shape {
-    match literal {
-        Literal::Long(number) => Shape::Number(*number),
-        _ => Shape::OtherConstant,
     }
 }
 
@@ -62,25 +56,4 @@ fn unary_shape(call: &UnaryCall) -> Shape {
         UnaryCall::GetAttr(_) => Shape::GetAttr,
         UnaryCall::ExtendedHasAttr(_, _) => Shape::HasAttr,
     }
-}
-
-/// The kind of a call of two expressions.
-fn binary_shape(call: &BinaryCall) -> Shape {
-    match call {
-        BinaryCall::Op(op) => Shape::Joined(*op),
-        BinaryCall::IsIn(_) => Shape::IsIn,
-    }
-}
-
-/// The kind of a call of a list.
-fn list_shape(call: &ListCall) -> Shape {
-    match call {
-        ListCall::Set => Shape::Set,
-        ListCall::Extension(_) => Shape::Extension,
-    }
-}
-
-/// The kind of the node that a call of the builder made.
-pub(super) fn made(answer: Result<Expr, AllocError>) -> Result<Shape, AllocError> {
-    Ok(shape_of(&answer?))
 }

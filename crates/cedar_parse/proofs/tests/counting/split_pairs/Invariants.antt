@@ -1,9 +1,9 @@
 use Rattle.std.proofs.Common.{◌≡◌, map, List, ℕ}
-use Rattle.cedar_expressions.specs.Meaning.{unplaced}
 use Rattle.cedar_expressions.specs.Value.{Value}
 use Rattle.cedar_parse.proofs.tests.counting.split_pairs.Given as goal
 
 abbrev pub invariant-loop-key : goal.invariant-loop-key
-invariant-loop-key l =
-    (map {B = List ℕ × Value} (λ p. (p.0, unplaced p.1)) l.exprs.items ≡ map (λ p. (p.0, unplaced p.1.expr)) l.yielded)
+invariant-loop-key g l =
+    (map {B = List ℕ × Value} (λ p. (p.0, g.B.ExprBuilderInfallibleBuild.meaning p.1)) l.exprs.items
+        ≡ map (λ p. (p.0, g.B.ExprBuilderInfallibleBuild.meaning p.1.expr)) l.yielded)
     × (map (λ p. p.0) l.exprs.items ≡ map (λ p. p.0) l.yielded)

@@ -1,0 +1,337 @@
+//! Runs of the program over memory: its rows, and readers and writers that fail.
+use crate::run::run;
+use std::alloc::{AllocError, Global};
+use std::io;
+use std::io::{ErrorKind, Read, Write};
+use std::process::Abort;
+use std::test::Fail;
+
+/// The words of a run, its input, its status, its output, and what it says on the stream of errors.
+type Row = (
+    &'static [&'static str],
+    &'static [u8],
+    u8,
+    &'static str,
+    &'static str,
+);
+
+const EXPR: &[&str] = &["expr"];
+
+const USAGE_LINE: &str = "usage: cedar-parse expr|policies|format [fn:NAME | method:NAME]*\n";
+
+/// Words that ask for nothing that there is, and input that isn't UTF-8.
+const ENDED_EARLY: [Row; 7] = [
+    (&[], b"\xff1 + 2", 2, "", USAGE_LINE),
+    (&["policies"], b"\xff1 + 2", 2, "", USAGE_LINE),
+    (&["format"], b"\xff1 + 2", 2, "", USAGE_LINE),
+    (&["expression"], b"\xff1 + 2", 2, "", USAGE_LINE),
+    (&["expr", "fn:f"], b"\xff1 + 2", 2, "", USAGE_LINE),
+    (&["expr", "expr"], b"\xff1 + 2", 2, "", USAGE_LINE),
+    (EXPR, b"1 + \xff", 4, "", "input or output failed\n"),
+];
+
+/// Texts that mean something.
+const ACCEPTED: [Row; 9] = [
+    (
+        EXPR,
+        b"1 + 2 == 3 && !true",
+        0,
+        "1 + 2 == 3 && ! true\nok\n",
+        "",
+    ),
+    (
+        EXPR,
+        b"!!!!true && 9223372036854775807 > 0",
+        0,
+        "! ! ! ! true && 9223372036854775807 > 0\nok\n",
+        "",
+    ),
+    (EXPR, b"1 - -1", 0, "1 - - 1\nok\n", ""),
+    (
+        EXPR,
+        b"if true then 1 else -2",
+        0,
+        "if true then 1 else - 2\nok\n",
+        "",
+    ),
+    (
+        EXPR,
+        b"-9223372036854775808",
+        0,
+        "- 9223372036854775808\nok\n",
+        "",
+    ),
+    (EXPR, b"--5", 0, "- - 5\nok\n", ""),
+    (EXPR, b"-(5)", 0, "- ( 5 )\nok\n", ""),
+    (
+        EXPR,
+        b"principal || action",
+        0,
+        "principal || action\nok\n",
+        "",
+    ),
+    (EXPR, b"2*(3) // a comment", 0, "2 * ( 3 )\nok\n", ""),
+];
+
+/// Texts with faults.
+const REFUSED: [Row; 20] = [
+    (EXPR, b"", 1, "0..0: unexpected end of input\n", ""),
+    (EXPR, b"1 +", 1, "3..3: unexpected end of input\n", ""),
+    (EXPR, b"1 2", 1, "2..3: unexpected token `2`\n", ""),
+    (EXPR, b"1 & 2", 1, "2..2: invalid token\n", ""),
+    (EXPR, b") ~", 1, "0..1: unexpected token `)`\n", ""),
+    (
+        EXPR,
+        b"99999999999999999999 ~",
+        1,
+        "0..20: integer parse error: number too large to fit in target type\n",
+        "",
+    ),
+    (EXPR, b"1 ~", 1, "2..2: invalid token\n", ""),
+    (
+        EXPR,
+        b"1 = 2",
+        1,
+        "0..5: '=' is not a valid operator in Cedar\n",
+        "",
+    ),
+    (
+        EXPR,
+        b"!!!!!true",
+        1,
+        "0..9: too many occurrences of `!`\n",
+        "",
+    ),
+    (
+        EXPR,
+        b"-----true",
+        1,
+        "0..9: too many occurrences of `-`\n",
+        "",
+    ),
+    (
+        EXPR,
+        b"9223372036854775808",
+        1,
+        "0..19: integer literal `9223372036854775808` is too large\n",
+        "",
+    ),
+    (
+        EXPR,
+        b"-(9223372036854775808)",
+        1,
+        "2..21: integer literal `9223372036854775808` is too large\n",
+        "",
+    ),
+    (
+        EXPR,
+        b"-9223372036854775809",
+        1,
+        "0..20: integer literal `9223372036854775809` is too large\n",
+        "",
+    ),
+    (
+        EXPR,
+        b"principal == 5555555555555555555555",
+        1,
+        "13..35: integer parse error: number too large to fit in target type\n",
+        "",
+    ),
+    (
+        EXPR,
+        b"principal == -5555555555555555555555",
+        1,
+        "14..36: integer parse error: number too large to fit in target type\n",
+        "",
+    ),
+    (
+        EXPR,
+        b"principal < action < resource",
+        1,
+        "0..29: multiple relational operators (>, ==, in, etc.) must be used with parentheses to make ordering explicit\n",
+        "",
+    ),
+    (
+        EXPR,
+        b"9223372036854775808 < 1 < 9223372036854775808",
+        1,
+        "0..19: integer literal `9223372036854775808` is too large\n26..45: integer literal `9223372036854775808` is too large\n0..45: multiple relational operators (>, ==, in, etc.) must be used with parentheses to make ordering explicit\n",
+        "",
+    ),
+    (
+        EXPR,
+        b"1 / 2 % 3",
+        1,
+        "0..9: division is not supported\n0..9: remainder/modulo is not supported\n",
+        "",
+    ),
+    (
+        EXPR,
+        b"1 + if true then 1 else 2",
+        1,
+        "4..6: unexpected token `if`\n",
+        "",
+    ),
+    (EXPR, b"(1", 1, "2..2: unexpected end of input\n", ""),
+];
+
+/// Strings: accepted where no escape is a fault; a first operand that stands bare is no fault yet.
+const STRINGS: [Row; 4] = [
+    (
+        EXPR,
+        b"\"abc\" == \"a\\u{62}c\"",
+        0,
+        "\"abc\" == \"a\\u{62}c\"\nok\n",
+        "",
+    ),
+    (
+        EXPR,
+        b"\"\\q\"",
+        1,
+        "0..4: the input `\\q` is not a valid escape\n",
+        "",
+    ),
+    (
+        EXPR,
+        b"\"\\x4\" + \"\\u{D800}\"",
+        1,
+        "8..18: the input `\\u{D800}` is not a valid escape\n",
+        "",
+    ),
+    (
+        EXPR,
+        b"1 + \"\\q\\x4\"",
+        1,
+        "4..11: the input `\\q` is not a valid escape\n4..11: the input `\\x4` is not a valid escape\n",
+        "",
+    ),
+];
+
+/// The program's words.
+fn owned(alloc: Global, words: &[&str]) -> Result<Vec<String>, AllocError> {
+    let mut owned = Vec::new(alloc);
+    for word in words {
+        owned.push(String::from_str(alloc, word)?)?;
+    }
+    Ok(owned)
+}
+
+/// Runs over memory, with a writer of errors of its own: the status, and what was written there.
+fn run_on<R: Read + Drop, O: Write>(
+    alloc: Global,
+    words: &[&str],
+    reader: R,
+    out: &mut O,
+) -> Result<(u8, Vec<u8>), AllocError> {
+    let words = owned(alloc, words)?;
+    let mut err = Vec::new(alloc);
+    let status = run(alloc, words.as_slice(), reader, out, &mut err);
+    Ok((status, err))
+}
+
+#[test]
+fn each_row_ends_so(rt: HostRuntime) -> Result<(), Fail> {
+    let tables: [&[Row]; 4] = [&ENDED_EARLY, &ACCEPTED, &REFUSED, &STRINGS];
+    for rows in tables {
+        for (words, input, status, written, said) in rows {
+            let mut out = Vec::new(rt.alloc());
+            let (got, err) = run_on(rt.alloc(), words, *input, &mut out)?;
+            assert_eq!(rt; got, *status, "{written}");
+            assert_eq!(rt; out.as_slice(), written.as_bytes());
+            assert_eq!(rt; err.as_slice(), said.as_bytes());
+        }
+    }
+    Ok(())
+}
+
+/// Gives its bytes one at a time, and fails at the read with this number, counted from 0.
+#[derive(Drop)]
+struct FailingReader<'a> {
+    rest: &'a [u8],
+    reads_left: usize,
+}
+
+impl Read for FailingReader<'_> {
+    fn read(&mut self, buf: &mut [u8]) -> io::Result<usize> {
+        if self.reads_left == 0 {
+            return Err(io::Error::from(ErrorKind::BrokenPipe));
+        }
+        self.reads_left -= 1;
+        match (self.rest.split_first(), buf.split_first_mut()) {
+            (Some((byte, rest)), Some((place, _))) => {
+                *place = *byte;
+                self.rest = rest;
+                Ok(1)
+            }
+            _ => Ok(0),
+        }
+    }
+}
+
+#[test]
+fn tells_of_a_read_that_fails(rt: HostRuntime) -> Result<(), Fail> {
+    for reads_left in 0..3 {
+        let reader = FailingReader {
+            rest: b"1+2",
+            reads_left,
+        };
+        let mut out = Vec::new(rt.alloc());
+        let (status, err) = run_on(rt.alloc(), EXPR, reader, &mut out)?;
+        assert_eq!(rt; status, 4);
+        assert!(rt; out.is_empty());
+        assert_eq!(rt; err.as_slice(), b"input or output failed\n".as_slice());
+    }
+    Ok(())
+}
+
+/// Takes so many writes, and then fails.
+#[derive(Drop)]
+struct FailingWriter {
+    writes_left: usize,
+    taken: Vec<u8>,
+}
+
+impl Write for FailingWriter {
+    fn write(&mut self, buf: &[u8]) -> io::Result<usize> {
+        if self.writes_left == 0 {
+            return Err(io::Error::from(ErrorKind::BrokenPipe));
+        }
+        self.writes_left -= 1;
+        self.taken.extend_from_slice(buf)?;
+        Ok(buf.len())
+    }
+
+    fn flush(&mut self) -> io::Result<()> {
+        Ok(())
+    }
+}
+
+/// Runs on a text with each number of writes that are taken, until the run ends as it does on a sound writer.
+fn fails_at_each_write(
+    rt: &(impl Abort + AllocGlobal),
+    text: &str,
+    want: &str,
+    status: u8,
+) -> Result<(), Fail> {
+    for writes_left in 0..200 {
+        let mut out = FailingWriter {
+            writes_left,
+            taken: Vec::new(rt.alloc()),
+        };
+        let (got, _) = run_on(rt.alloc(), EXPR, text.as_bytes(), &mut out)?;
+        if got == status {
+            assert_eq!(rt; out.taken.as_slice(), want.as_bytes());
+            assert!(rt; writes_left > 0, "no write was needed");
+            return Ok(());
+        }
+        assert_eq!(rt; got, 4, "with {writes_left} writes");
+    }
+    assert!(rt; false, "no number of writes was enough");
+    Ok(())
+}
+
+#[test]
+fn tells_of_a_write_that_fails(rt: HostRuntime) -> Result<(), Fail> {
+    fails_at_each_write(&rt, "1", "1\nok\n", 0)?;
+    fails_at_each_write(&rt, "", "0..0: unexpected end of input\n", 1)
+}
