@@ -210,8 +210,7 @@ fn first_key(expr: &Expr) -> Option<&str> {
 
 #[test]
 fn a_record_keeps_its_order_and_refuses_a_repeated_key(rt: HostRuntime) -> Result<(), Fail> {
-    let made = record(rt.alloc(), "b", "a")?;
-    assert_eq!(rt; first_key(&made), Some("b"));
+    assert_eq!(rt; first_key(&record(rt.alloc(), "b", "a")?), Some("b"));
     match record(rt.alloc(), "a", "a") {
         Err(RecordError::Construction(error)) => assert_eq!(rt; error.key(), "a"),
         _ => return Err(Fail::from("not refused")),
@@ -236,13 +235,24 @@ fn build_at(alloc: Global) -> ExprBuilder<()> {
     build(alloc).with_maybe_source_loc(Some(PLACE))
 }
 
+/// The place of an expression's copy.
+fn copied_place(expr: &Expr) -> Result<Option<Place>, AllocError> {
+    let copy = expr.try_clone()?;
+    Ok(copy.place())
+}
+
+#[test]
+fn a_node_keeps_its_place(rt: HostRuntime) -> Result<(), Fail> {
+    let placed = build_at(rt.alloc()).val(Literal::Long(1))?;
+    assert_eq!(rt; placed.place(), Some(PLACE));
+    assert_eq!(rt; copied_place(&placed)?, Some(PLACE));
+    Ok(())
+}
+
 #[test]
 fn equality_looks_at_no_place(rt: HostRuntime) -> Result<(), Fail> {
     let alloc = rt.alloc();
-    let placed = build_at(alloc).val(Literal::Long(1))?;
-    assert_eq!(rt; placed.place(), Some(PLACE));
-    assert_eq!(rt; placed.try_clone()?.place(), Some(PLACE));
-    assert!(rt; equal(Ok(placed), long(alloc, 1))?);
+    assert!(rt; equal(build_at(alloc).val(Literal::Long(1)), long(alloc, 1))?);
     assert!(rt; !equal(long(alloc, 1), long(alloc, 2))?);
     assert!(rt; !equal(repeated(alloc, NaryOp::Mul), repeated(alloc, NaryOp::And))?);
     Ok(())
@@ -276,10 +286,14 @@ const SLOTS: [Slot; 3] = [
     },
 ];
 
+/// The slots of the set.
+fn slots_of_set(alloc: Global) -> Result<Vec<Slot>, AllocError> {
+    let set = set_of_slots(alloc)?;
+    set.slots(alloc)
+}
+
 #[test]
 fn slots_from_the_left(rt: HostRuntime) -> Result<(), Fail> {
-    let set = set_of_slots(rt.alloc())?;
-    let slots = set.slots(rt.alloc())?;
-    assert!(rt; slots.as_slice() == SLOTS.as_slice());
+    assert!(rt; slots_of_set(rt.alloc())?.as_slice() == SLOTS.as_slice());
     Ok(())
 }

@@ -1,5 +1,5 @@
 //! Faults of escapes, of texts and of trees, alone, in lists and joined.
-use super::held::{beside, copies, shows};
+use super::held::{agrees, beside, copies, says, says_and_copies, shows};
 use super::names::text;
 use super::places::{POLICY, place};
 use cedar_expressions::{Items, Source, Text, UnaryOp};
@@ -12,6 +12,7 @@ use cedar_syntax::loc::SourceSpan;
 use cedar_syntax::node::Node;
 use cedar_text::util::flatten_tuple_2;
 use std::alloc::{AllocError, Global};
+use std::ops::Range;
 use std::process::Abort;
 use std::rc::RcStr;
 use std::test::Fail;
@@ -37,20 +38,22 @@ fn both_escapes(alloc: Global) -> Result<NonEmpty<UnescapeError>, AllocError> {
     Ok(faults)
 }
 
-#[test]
-fn escape_faults_tell_their_piece(rt: HostRuntime) -> Result<(), Fail> {
-    let alloc = rt.alloc();
-    let faults = both_escapes(alloc)?;
+/// The faults are of this kind, in the raw text, and at these bytes.
+fn tell_their_piece(rt: &impl Abort, faults: &NonEmpty<UnescapeError>, ranges: [Range<usize>; 2]) {
     assert_eq!(rt; faults.len(), 2);
-    for (fault, range) in faults.iter().zip([3..5, 5..7]) {
+    for (fault, range) in faults.iter().zip(ranges) {
         assert!(rt; fault.kind() == EscapeError::InvalidEscape);
         assert_eq!(rt; fault.range(), range);
         assert_eq!(rt; fault.input(), RAW);
     }
-    shows(&rt, &UnescapeFailure::from(faults), FIRST_MESSAGE)?;
-    shows(
+}
+
+#[test]
+fn escape_faults_tell_their_piece(rt: HostRuntime) -> Result<(), Fail> {
+    tell_their_piece(&rt, &both_escapes(rt.alloc())?, [3..5, 5..7]);
+    says(
         &rt,
-        &ToASTErrorKind::from(first_escape(alloc)?),
+        ToASTErrorKind::from(first_escape(rt.alloc())?),
         FIRST_MESSAGE,
     )
 }
@@ -59,13 +62,14 @@ fn escape_faults_tell_their_piece(rt: HostRuntime) -> Result<(), Fail> {
 fn escape_faults_are_copied(rt: HostRuntime) -> Result<(), Fail> {
     copies(&rt, first_escape(rt.alloc())?)?;
     copies(&rt, both_escapes(rt.alloc())?)?;
-    copies(&rt, UnescapeFailure::from(both_escapes(rt.alloc())?))
+    let failure = UnescapeFailure::from(both_escapes(rt.alloc())?);
+    says_and_copies(&rt, failure, FIRST_MESSAGE)
 }
 
 #[test]
 fn want_of_memory_is_told(rt: HostRuntime) -> Result<(), Fail> {
-    shows(&rt, &UnescapeFailure::from(AllocError), "want of memory")?;
-    shows(&rt, &Failure::from(AllocError), "want of memory")
+    says(&rt, UnescapeFailure::from(AllocError), "want of memory")?;
+    says(&rt, Failure::from(AllocError), "want of memory")
 }
 
 /// What is wrong with a text, as its fault.
@@ -114,8 +118,7 @@ fn is_told(
 ) -> Result<(), Fail> {
     assert_eq!(rt; fault.primary_source_span(), Some(span));
     assert_eq!(rt; fault.expected_kinds(), expected);
-    shows(rt, &fault, message)?;
-    copies(rt, fault)
+    says_and_copies(rt, fault, message)
 }
 
 #[test]
@@ -145,9 +148,10 @@ fn faults_of_texts_have_their_place_and_message(rt: HostRuntime) -> Result<(), F
 
 #[test]
 fn raw_faults_are_equal_at_one_place_alone(rt: HostRuntime) -> Result<(), Fail> {
+    copies(&rt, too_large(rt.alloc(), 0)?)?;
     let (here, there) = beside(too_large(rt.alloc(), 0)?, too_large(rt.alloc(), 1))?;
     assert!(rt; here != there);
-    copies(&rt, here)
+    Ok(())
 }
 
 /// The kinds that hold no text of their own, and what they say.
@@ -187,9 +191,12 @@ fn kinds_say_what_is_wrong(rt: HostRuntime) -> Result<(), Fail> {
     for (kind, message) in &KINDS {
         shows(&rt, kind, message)?;
     }
-    let name = ToASTErrorKind::ArbitraryVariable(text(rt.alloc(), "a::b")?);
-    shows(&rt, &name, "invalid variable: a::b")?;
-    copies(&rt, name)
+    let name = text(rt.alloc(), "a::b")?;
+    says_and_copies(
+        &rt,
+        ToASTErrorKind::ArbitraryVariable(name),
+        "invalid variable: a::b",
+    )
 }
 
 /// The fault of a number that is too large, at a byte.
@@ -211,8 +218,12 @@ fn three_faults(alloc: Global) -> Result<ParseErrors, Fail> {
 /// What a list of them says: what its first fault says.
 const LARGE: &str = "integer literal `18446744073709551615` is too large";
 
-/// Where each of the faults stands.
-fn stand_at(rt: &impl Abort, faults: &ParseErrors, starts: [usize; 3]) {
+/// The faults stand there, in this order, and the list says what the first says.
+fn stand_at(
+    rt: &(impl Abort + AllocGlobal),
+    faults: &ParseErrors,
+    starts: [usize; 3],
+) -> Result<(), Fail> {
     assert_eq!(rt; faults.len(), 3);
     assert_eq!(rt; faults.iter().count(), 3);
     assert!(rt; faults.get(3).is_none());
@@ -223,19 +234,25 @@ fn stand_at(rt: &impl Abort, faults: &ParseErrors, starts: [usize; 3]) {
             Some(start)
         );
     }
+    shows(rt, faults, LARGE)
 }
 
-#[test]
-fn a_list_of_faults_keeps_their_order(rt: HostRuntime) -> Result<(), Fail> {
-    let faults = three_faults(rt.alloc())?;
-    stand_at(&rt, &faults, [3, 4, 9]);
-    shows(&rt, &faults, LARGE)?;
+/// Where the last of the faults stands, which are handed on one by one.
+fn last_place(faults: ParseErrors) -> Option<SourceSpan> {
     let mut last = None;
     for fault in faults {
         last = fault.primary_source_span();
     }
-    assert_eq!(rt; last, Some(SourceSpan::between(9, 10)));
-    Ok(())
+    last
+}
+
+#[test]
+fn a_list_of_faults_keeps_their_order(rt: HostRuntime) -> Result<(), Fail> {
+    assert_eq!(rt;
+        last_place(three_faults(rt.alloc())?),
+        Some(SourceSpan::between(9, 10))
+    );
+    stand_at(&rt, &three_faults(rt.alloc())?, [3, 4, 9])
 }
 
 #[test]
@@ -244,9 +261,7 @@ fn faults_of_trees_are_copied(rt: HostRuntime) -> Result<(), Fail> {
     copies(&rt, large_number(alloc, 3)?)?;
     copies(&rt, ParseError::from(large_number(alloc, 3)?))?;
     copies(&rt, three_faults(alloc)?)?;
-    let failure = Failure::from(three_faults(alloc)?);
-    shows(&rt, &failure, LARGE)?;
-    copies(&rt, failure)
+    says_and_copies(&rt, Failure::from(three_faults(alloc)?), LARGE)
 }
 
 #[test]
@@ -305,18 +320,47 @@ fn joined(
     Ok(flatten_tuple_2(first, second))
 }
 
+/// The faults of two parts joined, if there are any.
+fn faults_joined(
+    alloc: Global,
+    first: &[u64],
+    second: &[u64],
+) -> Result<Option<Failure>, AllocError> {
+    Ok(joined(alloc, first, second)?.err())
+}
+
+/// The faults of one part, if there are any.
+fn faults_of(alloc: Global, numbers: &[u64]) -> Result<Option<Failure>, AllocError> {
+    Ok(part(alloc, numbers)?.err())
+}
+
 #[test]
-fn parts_are_joined_with_their_faults_in_order(rt: HostRuntime) -> Result<(), Fail> {
+fn failing_parts_tell_all_their_faults_in_order(rt: HostRuntime) -> Result<(), Fail> {
     let alloc = rt.alloc();
     for (first, second, both) in &JOINED {
-        let (both, joined) = beside(part(alloc, both)?, joined(alloc, first, second))?;
-        assert!(rt; joined.err() == both.err());
+        let told = faults_joined(alloc, first, second)?;
+        agrees(&rt, told, faults_of(alloc, both), "parts joined")?;
     }
-    assert!(rt; joined(alloc, &[], &[])? == Ok((7, 7)));
-    let memory = flatten_tuple_2(part(alloc, &[1])?, wants_memory());
-    assert!(rt; matches!(memory, Err(Failure::Memory(_))));
-    let memory = flatten_tuple_2(wants_memory(), part(alloc, &[1])?);
-    assert!(rt; matches!(memory, Err(Failure::Memory(_))));
+    Ok(())
+}
+
+/// The values of two parts that don't fail.
+fn values_joined(alloc: Global) -> Result<Option<(u8, u8)>, AllocError> {
+    Ok(joined(alloc, &[], &[])?.ok())
+}
+
+/// Whether want of memory is the answer.
+fn is_memory(joined: Result<(u8, u8), Failure>) -> bool {
+    matches!(joined, Err(Failure::Memory(_)))
+}
+
+#[test]
+fn values_are_joined_and_want_of_memory_is_the_answer(rt: HostRuntime) -> Result<(), Fail> {
+    assert_eq!(rt; values_joined(rt.alloc())?, Some((7, 7)));
+    let faulty = part(rt.alloc(), &[1])?;
+    assert!(rt; is_memory(flatten_tuple_2(faulty, wants_memory())));
+    let faulty = part(rt.alloc(), &[1])?;
+    assert!(rt; is_memory(flatten_tuple_2(wants_memory(), faulty)));
     Ok(())
 }
 

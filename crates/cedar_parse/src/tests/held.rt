@@ -46,6 +46,18 @@ pub(super) fn equal<T: PartialEq + Drop>(
     Ok(left == right)
 }
 
+/// A value equals another that was made.
+pub(super) fn agrees<T: PartialEq + Drop>(
+    rt: &impl Abort,
+    value: T,
+    wanted: Result<T, AllocError>,
+    told: &str,
+) -> Result<(), Fail> {
+    let wanted = wanted?;
+    assert!(rt; value == wanted, "{told}");
+    Ok(())
+}
+
 /// A copy of the value equals it.
 pub(super) fn is_copied<T: TryClone + PartialEq + Drop>(
     rt: &impl Abort,
@@ -83,4 +95,23 @@ pub(super) fn shows<T: fmt::Display>(
     let shown = format!(in rt.alloc(); "{value}")?;
     assert_eq!(rt; shown.as_str(), text);
     Ok(())
+}
+
+/// The same of a value that is at hand for this alone.
+pub(super) fn says<T: fmt::Display + Drop>(
+    rt: &(impl Abort + AllocGlobal),
+    value: T,
+    text: &str,
+) -> Result<(), Fail> {
+    shows(rt, &value, text)
+}
+
+/// The value's own text is this one, and both ways to copy it give an equal one.
+pub(super) fn says_and_copies<T: fmt::Display + TryClone + Clone + PartialEq + Drop>(
+    rt: &(impl Abort + AllocGlobal),
+    value: T,
+    text: &str,
+) -> Result<(), Fail> {
+    shows(rt, &value, text)?;
+    copies_of(rt, &value)
 }

@@ -1,5 +1,7 @@
 //! Names, entities, words and wrappers: what is refused, how they are written, and that a copy equals its source.
-use super::held::{beside, copies, copies_of, is_copied, list_of_two, shows};
+use super::held::{
+    beside, copies, copies_of, is_copied, list_of_two, says, says_and_copies, shows,
+};
 use cedar_expressions::{
     AddOp, AnyId, BinaryCall, Boxed, Eid, EntityType, EntityUID, ExpressionConstructionError, Id,
     InternalName, Items, ListCall, Literal, Name, PatternElem, Place, ReservedNameError, Slot,
@@ -103,16 +105,21 @@ fn reserved_names_are_refused(rt: HostRuntime) -> Result<(), Fail> {
 }
 
 #[test]
-fn names_are_written_ordered_and_copied(rt: HostRuntime) -> Result<(), Fail> {
+fn names_are_ordered(rt: HostRuntime) -> Result<(), Fail> {
     let alloc = rt.alloc();
     let (group, user) = beside(name(alloc, "App", "Group")?, name(alloc, "App", "User"))?;
     assert!(rt; group < user);
     assert_eq!(rt; user.basename().as_str(), "User");
-    shows(&rt, &user, "App::User")?;
-    let single = Name::from(UnreservedId::try_from(id(alloc, "ip")?)?);
-    shows(&rt, &single, "ip")?;
-    copies(&rt, internal_name(alloc, "__cedar", "A")?)?;
-    copies(&rt, user)
+    Ok(())
+}
+
+#[test]
+fn names_are_written_and_copied(rt: HostRuntime) -> Result<(), Fail> {
+    let alloc = rt.alloc();
+    says_and_copies(&rt, name(alloc, "App", "User")?, "App::User")?;
+    let single = UnreservedId::try_from(id(alloc, "ip")?)?;
+    says(&rt, Name::from(single), "ip")?;
+    copies(&rt, internal_name(alloc, "__cedar", "A")?)
 }
 
 /// An entity whose identifier has a quote.
@@ -125,8 +132,7 @@ fn entity(alloc: Global) -> Result<EntityUID, Fail> {
 fn entities_are_written_and_copied(rt: HostRuntime) -> Result<(), Fail> {
     let entity = entity(rt.alloc())?;
     assert_eq!(rt; entity.eid().as_str(), "a\"b");
-    shows(&rt, &entity, "App::User::\"a\"b\"")?;
-    copies(&rt, entity)
+    says_and_copies(&rt, entity, "App::User::\"a\"b\"")
 }
 
 #[test]
@@ -209,6 +215,5 @@ fn items_are_copied_read_and_taken(rt: HostRuntime) -> Result<(), Fail> {
 fn sources_are_shared(rt: HostRuntime) -> Result<(), Fail> {
     let source = Source::from_str(rt.alloc(), "abc")?;
     assert_eq!(rt; source.share()?, source);
-    shows(&rt, &source, "abc")?;
-    copies(&rt, source)
+    says_and_copies(&rt, source, "abc")
 }

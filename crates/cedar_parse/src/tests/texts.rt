@@ -1,7 +1,7 @@
 //! What texts become: `parse_expr` with its trees and faults, and `parse_expression` with its values.
 use super::builder::{build, difference, long, prefixed};
 use super::counting::CountingBuilder;
-use super::held::{beside, shows};
+use super::held::{agrees, shows};
 use super::names::text;
 use cedar_expressions::{
     Expr as Value, ExprBuilder, ExprBuilderInfallibleBuild, Literal, UnaryOp, Var,
@@ -218,9 +218,7 @@ fn means(
     text: &str,
     wanted: Result<Value, AllocError>,
 ) -> Result<(), Fail> {
-    let (value, wanted) = beside(value(rt.alloc(), text)?, wanted)?;
-    assert!(rt; value == wanted, "{text}");
-    Ok(())
+    agrees(rt, value(rt.alloc(), text)?, wanted, text)
 }
 
 /// `!!true`.
