@@ -20,12 +20,12 @@ pub(super) fn long(alloc: Global, number: i64) -> Result<Expr, AllocError> {
     build(alloc).val(Literal::Long(number))
 }
 
-/// Two numbers.
+/// Two numbers, one beside the other.
 fn operands(alloc: Global) -> Result<(Expr, Expr), AllocError> {
     both(long(alloc, 1), long(alloc, 2))
 }
 
-/// Two numbers.
+/// A list of two numbers.
 fn two(alloc: Global) -> Result<Vec<Expr>, AllocError> {
     list_of_two(alloc, long(alloc, 2), long(alloc, 3))
 }

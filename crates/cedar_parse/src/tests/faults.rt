@@ -60,7 +60,7 @@ fn escape_faults_tell_their_piece(rt: HostRuntime) -> Result<(), Fail> {
 
 #[test]
 fn escape_faults_are_copied(rt: HostRuntime) -> Result<(), Fail> {
-    copies(&rt, first_escape(rt.alloc())?)?;
+    says_and_copies(&rt, first_escape(rt.alloc())?, FIRST_MESSAGE)?;
     copies(&rt, both_escapes(rt.alloc())?)?;
     let failure = UnescapeFailure::from(both_escapes(rt.alloc())?);
     says_and_copies(&rt, failure, FIRST_MESSAGE)
@@ -285,7 +285,7 @@ fn lists_are_put_one_after_another(rt: HostRuntime) -> Result<(), Fail> {
     Ok(())
 }
 
-/// A fault for each number: the value 7 where there are none.
+/// A part that fails with a fault for each number, or is the value 7 where there is none.
 fn part(alloc: Global, numbers: &[u64]) -> Result<Result<u8, Failure>, AllocError> {
     let Some((first, others)) = numbers.split_first() else {
         return Ok(Ok(7));

@@ -160,7 +160,7 @@ fn white_space_comments_and_bad_places(rt: HostRuntime) {
     }
 }
 
-/// After an invalid token, and after the end, the lexer has ended.
+/// After an invalid token the lexer has ended, whatever stands behind it.
 #[test]
 fn a_lexer_ends_once(rt: HostRuntime) {
     let mut lexer = Lexer::new("~ 1");

@@ -33,7 +33,7 @@ pub(super) fn name(alloc: Global, first: &str, last: &str) -> Result<Name, Fail>
 }
 
 /// A text, whether it is an identifier of any kind, and whether it is one that isn't a reserved word.
-const IDENTIFIERS: [(&str, bool, bool); 21] = [
+const IDENTIFIERS: [(&str, bool, bool); 22] = [
     ("a", true, true),
     ("_", true, true),
     ("A9_z", true, true),
@@ -54,6 +54,7 @@ const IDENTIFIERS: [(&str, bool, bool); 21] = [
     ("", false, false),
     ("9", false, false),
     ("a-b", false, false),
+    ("a b", false, false),
     ("é", false, false),
 ];
 

@@ -18,7 +18,7 @@ use std::collections::BTreeSet;
 use std::process::Abort;
 use std::test::Fail;
 
-/// A text's tree.
+/// A text's tree or its faults.
 pub(super) fn parsed(alloc: Global, text: &str) -> Result<Node<Option<Expr>>, Failure> {
     parse_expr(alloc, text)
 }

@@ -188,10 +188,11 @@ fn condition(expr: Node<Option<Expr>>) -> Cond {
 /// A policy of one annotation, one variable and one condition.
 fn policy_impl(alloc: Global) -> Result<PolicyImpl, Fail> {
     let (left, right) = beside(tree(alloc, "1")?, tree(alloc, "2"))?;
-    let compared = one(alloc, node(variable(left)));
-    let (variables, conds) = both(compared, one(alloc, node(condition(right))))?;
-    let (rest, annotations) = beside((variables, conds), one(alloc, node(annotation())))?;
-    let (variables, conds) = rest;
+    let conditions = both(
+        one(alloc, node(variable(left))),
+        one(alloc, node(condition(right))),
+    );
+    let ((variables, conds), annotations) = both(conditions, one(alloc, node(annotation())))?;
     Ok(PolicyImpl {
         annotations,
         effect: node(Ident::Permit),
