@@ -26,21 +26,21 @@ use std::io::{ErrorKind, Read, Write};
 const USAGE: &str = "usage: cedar-parse expr|policies|format [fn:NAME | method:NAME]*";
 
 /// What the text turned out to be.
-#[derive(Debug, Clone, Copy)]
+#[derive(Clone, Copy)]
 enum Verdict {
     Accepted,
     Refused,
 }
 
 /// Why a run ends with no answer about the text.
-#[derive(Debug, Clone, Copy)]
+#[derive(Clone, Copy)]
 enum Stop {
     Memory,
     InputOutput,
 }
 
 /// How a run ends.
-#[derive(Debug, Clone, Copy)]
+#[derive(Clone, Copy)]
 enum Ending {
     Answered(Verdict),
     Usage,
@@ -143,7 +143,7 @@ fn expression<O: Write>(alloc: Global, text: &str, out: &mut O) -> Result<Verdic
 {
     match meant(alloc, text) {
         Ok(tree) => print_tree(&tree, out),
-        Err(failure) => refused(failure, out),
+        Err(failure) => refused(&failure, out),
     }
 }
 
@@ -165,10 +165,7 @@ fn convert(alloc: Global, tree: &Node<Option<Expr>>) -> Result<(), Failure>
     ensures refused { IfErr result (λ failure. RefusesTree failure (tree_at expr_tree tree.now)) }
 {
     let styles = ExtStyles::new(BTreeSet::new(alloc), BTreeSet::new(alloc));
-    match tree.to_expr::<ExprBuilder<()>>(alloc, &styles) {
-        Ok(_) => Ok(()),
-        Err(failure) => Err(failure),
-    }
+    tree.to_expr::<ExprBuilder<()>>(alloc, &styles).and(Ok(()))
 }
 
 fn print_tree<O: Write>(tree: &Node<Option<Expr>>, out: &mut O) -> Result<Verdict, Stop>
@@ -181,13 +178,13 @@ fn print_tree<O: Write>(tree: &Node<Option<Expr>>, out: &mut O) -> Result<Verdic
     Ok(Verdict::Accepted)
 }
 
-fn refused<O: Write>(failure: Failure, out: &mut O) -> Result<Verdict, Stop>
-    ensures { IfOk result (λ v. (v ≡ verdict.Refused) × ¬ (IsMemory failure)) }
+fn refused<O: Write>(failure: &Failure, out: &mut O) -> Result<Verdict, Stop>
+    ensures { IfOk result (λ v. (v ≡ verdict.Refused) × ¬ (IsMemory failure.now)) }
 {
     match failure {
         Failure::Memory(_) => Err(Stop::Memory),
         Failure::Errors(faults) => {
-            print_faults(&faults, out)?;
+            print_faults(faults, out)?;
             Ok(Verdict::Refused)
         }
     }

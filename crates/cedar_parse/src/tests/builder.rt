@@ -1,49 +1,44 @@
 //! The builder: each call is made, and the node that it makes compared.
-use super::held::{beside, both, copies, equal, list_of_two};
+use super::held::{copies, copy_of, equal, list_of_two, made, refusal, seen};
 use super::names::{name, text};
 use super::shapes::{Shape, shape_of};
 use cedar_expressions::{
     AddOp, BinaryOp, EntityType, Expr, ExprBuilder, ExprBuilderInfallibleBuild, ExprKind, Literal,
     NaryOp, PatternElem, Place, RecordError, Slot, SlotId, Text, UnaryOp, Var,
 };
-use std::alloc::{AllocError, Global};
+use std::alloc::AllocError;
 use std::process::Abort;
-use std::test::Fail;
 
 /// A builder without a place.
-pub(super) fn build(alloc: Global) -> ExprBuilder<()> {
-    ExprBuilder::new(alloc)
+pub(super) fn build(rt: &impl AllocGlobal) -> ExprBuilder<()> {
+    ExprBuilder::new(rt.alloc())
 }
 
 /// The constant that a number is.
-pub(super) fn long(alloc: Global, number: i64) -> Result<Expr, AllocError> {
-    build(alloc).val(Literal::Long(number))
-}
-
-/// Two numbers, one beside the other.
-fn operands(alloc: Global) -> Result<(Expr, Expr), AllocError> {
-    both(long(alloc, 1), long(alloc, 2))
+pub(super) fn long(rt: &(impl Abort + AllocGlobal), number: i64) -> Expr {
+    made(rt, build(rt).val(Literal::Long(number)))
 }
 
 /// A list of two numbers.
-fn two(alloc: Global) -> Result<Vec<Expr>, AllocError> {
-    list_of_two(alloc, long(alloc, 2), long(alloc, 3))
+fn two(rt: &(impl Abort + AllocGlobal)) -> Vec<Expr> {
+    list_of_two(rt, long(rt, 2), long(rt, 3))
 }
 
 /// A sign and its operand.
-pub(super) fn prefixed(alloc: Global, op: UnaryOp, number: i64) -> Result<Expr, AllocError> {
-    let operand = long(alloc, number)?;
-    match op {
-        UnaryOp::Not => build(alloc).not(operand),
-        UnaryOp::Neg => build(alloc).neg(operand),
-    }
+pub(super) fn prefixed(rt: &(impl Abort + AllocGlobal), op: UnaryOp, number: i64) -> Expr {
+    let operand = long(rt, number);
+    let node = match op {
+        UnaryOp::Not => build(rt).not(operand),
+        UnaryOp::Neg => build(rt).neg(operand),
+    };
+    made(rt, node)
 }
 
 /// An operator and its two operands.
-fn joined(alloc: Global, op: BinaryOp) -> Result<Expr, AllocError> {
-    let (left, right) = operands(alloc)?;
-    let builder = build(alloc);
-    match op {
+fn joined(rt: &(impl Abort + AllocGlobal), op: BinaryOp) -> Expr {
+    let (left, right) = (long(rt, 1), long(rt, 2));
+    let builder = build(rt);
+    let node = match op {
         BinaryOp::And => builder.and(left, right),
         BinaryOp::Less => builder.less(left, right),
         BinaryOp::LessEq => builder.lesseq(left, right),
@@ -57,32 +52,36 @@ fn joined(alloc: Global, op: BinaryOp) -> Result<Expr, AllocError> {
         BinaryOp::ContainsAny => builder.contains_any(left, right),
         BinaryOp::GetTag => builder.get_tag(left, right),
         BinaryOp::HasTag => builder.has_tag(left, right),
-    }
+    };
+    made(rt, node)
 }
 
 /// A first operand and two more.
-fn repeated(alloc: Global, op: NaryOp) -> Result<Expr, AllocError> {
-    let (first, rest) = both(long(alloc, 1), two(alloc))?;
-    match op {
-        NaryOp::Or => build(alloc).or_nary(first, rest),
-        NaryOp::And => build(alloc).and_naryl(first, rest),
-        NaryOp::Mul => build(alloc).mul_nary(first, rest),
-    }
+fn repeated(rt: &(impl Abort + AllocGlobal), op: NaryOp) -> Expr {
+    let (first, rest) = (long(rt, 1), two(rt));
+    let node = match op {
+        NaryOp::Or => build(rt).or_nary(first, rest),
+        NaryOp::And => build(rt).and_naryl(first, rest),
+        NaryOp::Mul => build(rt).mul_nary(first, rest),
+    };
+    made(rt, node)
 }
 
 /// `1 - n`.
-pub(super) fn difference(alloc: Global, number: i64) -> Result<Expr, AllocError> {
-    let mut terms = Vec::new(alloc);
-    terms.push((AddOp::Minus, long(alloc, number)?))?;
-    let (terms, first) = beside(terms, long(alloc, 1))?;
-    build(alloc).add_nary(first, terms)
+pub(super) fn difference(rt: &(impl Abort + AllocGlobal), number: i64) -> Expr {
+    let mut terms = Vec::new(rt.alloc());
+    made(rt, terms.push((AddOp::Minus, long(rt, number))));
+    made(rt, build(rt).add_nary(long(rt, 1), terms))
 }
 
 /// The builder's call made a node of this kind.
-fn makes(rt: &impl Abort, made: Result<Expr, AllocError>, wanted: Shape) -> Result<(), Fail> {
-    let made = made?;
-    assert!(rt; shape_of(&made) == wanted);
-    Ok(())
+fn makes(rt: &impl Abort, node: Result<Expr, AllocError>, wanted: Shape) {
+    assert!(rt; seen(made(rt, node), shape_of) == wanted);
+}
+
+/// The node is of this kind.
+fn is(rt: &impl Abort, node: Expr, wanted: Shape) {
+    assert!(rt; seen(node, shape_of) == wanted);
 }
 
 const OPERATORS: [BinaryOp; 13] = [
@@ -102,127 +101,109 @@ const OPERATORS: [BinaryOp; 13] = [
 ];
 
 #[test]
-fn calls_with_an_operator(rt: HostRuntime) -> Result<(), Fail> {
+fn calls_with_an_operator(rt: HostRuntime) {
     for op in OPERATORS {
-        makes(&rt, joined(rt.alloc(), op), Shape::Joined(op))?;
+        is(&rt, joined(&rt, op), Shape::Joined(op));
     }
     for op in [NaryOp::Or, NaryOp::And, NaryOp::Mul] {
-        makes(&rt, repeated(rt.alloc(), op), Shape::Repeated(op))?;
+        is(&rt, repeated(&rt, op), Shape::Repeated(op));
     }
     for op in [UnaryOp::Not, UnaryOp::Neg] {
-        makes(&rt, prefixed(rt.alloc(), op, 1), Shape::Prefixed(op))?;
+        is(&rt, prefixed(&rt, op, 1), Shape::Prefixed(op));
     }
-    makes(&rt, difference(rt.alloc(), 2), Shape::Sum)
+    is(&rt, difference(&rt, 2), Shape::Sum);
 }
 
 /// The pattern `*`.
-fn any_text(alloc: Global) -> Result<Vec<PatternElem>, AllocError> {
-    let mut pattern = Vec::new(alloc);
-    pattern.push(PatternElem::Wildcard)?;
-    Ok(pattern)
+fn any_text(rt: &(impl Abort + AllocGlobal)) -> Vec<PatternElem> {
+    let mut pattern = Vec::new(rt.alloc());
+    made(rt, pattern.push(PatternElem::Wildcard));
+    pattern
 }
 
 #[test]
-fn calls_of_at_most_one(rt: HostRuntime) -> Result<(), Fail> {
-    let alloc = rt.alloc();
-    makes(&rt, long(alloc, 1), Shape::Number(1))?;
-    makes(&rt, build(alloc).var(Var::Action), Shape::Var(Var::Action))?;
-    makes(
-        &rt,
-        build(alloc).slot(SlotId::Resource),
-        Shape::Slot(SlotId::Resource),
-    )?;
-    let one = long(alloc, 1)?;
-    makes(&rt, build(alloc).is_empty(one), Shape::IsEmpty)?;
-    let (one, pattern) = both(long(alloc, 1), any_text(alloc))?;
-    makes(&rt, build(alloc).like(one, pattern), Shape::Like)?;
-    let (one, attribute) = both(long(alloc, 1), text(alloc, "a"))?;
-    makes(&rt, build(alloc).get_attr(one, attribute), Shape::GetAttr)?;
-    let (one, attribute) = both(long(alloc, 1), text(alloc, "a"))?;
-    let no_more = Vec::new(alloc);
-    makes(
-        &rt,
-        build(alloc).extended_has_attr(one, attribute, no_more),
-        Shape::HasAttr,
-    )
+fn calls_of_at_most_one(rt: HostRuntime) {
+    is(&rt, long(&rt, 1), Shape::Number(1));
+    let var = Var::Action;
+    makes(&rt, build(&rt).var(var), Shape::Var(var));
+    let slot = SlotId::Resource;
+    makes(&rt, build(&rt).slot(slot), Shape::Slot(slot));
+    let one = long(&rt, 1);
+    makes(&rt, build(&rt).is_empty(one), Shape::IsEmpty);
+    let (one, pattern) = (long(&rt, 1), any_text(&rt));
+    makes(&rt, build(&rt).like(one, pattern), Shape::Like);
+    let (one, attribute) = (long(&rt, 1), text(&rt, "a"));
+    makes(&rt, build(&rt).get_attr(one, attribute), Shape::GetAttr);
 }
 
 #[test]
-fn calls_of_several(rt: HostRuntime) -> Result<(), Fail> {
-    let alloc = rt.alloc();
-    let ((guard, consequent), alternative) = both(operands(alloc), long(alloc, 3))?;
-    makes(
-        &rt,
-        build(alloc).ite(guard, consequent, alternative),
-        Shape::Conditional,
-    )?;
-    let items = two(alloc)?;
-    makes(&rt, build(alloc).set(items), Shape::Set)
+fn calls_of_several(rt: HostRuntime) {
+    let (one, attribute) = (long(&rt, 1), text(&rt, "a"));
+    let has = build(&rt).extended_has_attr(one, attribute, Vec::new(rt.alloc()));
+    makes(&rt, has, Shape::HasAttr);
+    let choice = build(&rt).ite(long(&rt, 1), long(&rt, 2), long(&rt, 3));
+    makes(&rt, choice, Shape::Conditional);
+    makes(&rt, build(&rt).set(two(&rt)), Shape::Set);
 }
 
 /// A call of an extension's function.
-fn extension_call(alloc: Global) -> Result<Expr, Fail> {
-    let (function, arguments) = beside(name(alloc, "A", "f")?, two(alloc))?;
-    Ok(build(alloc).call_extension_fn(function, arguments)?)
+fn extension_call(rt: &(impl Abort + AllocGlobal)) -> Expr {
+    let (function, arguments) = (name(rt, "A", "f"), two(rt));
+    made(rt, build(rt).call_extension_fn(function, arguments))
 }
 
 #[test]
-fn calls_with_a_name(rt: HostRuntime) -> Result<(), Fail> {
-    let alloc = rt.alloc();
-    let (entity_type, one) = beside(name(alloc, "A", "B")?, long(alloc, 1))?;
-    let entity_type = EntityType::from(entity_type);
-    makes(
-        &rt,
-        build(alloc).is_entity_type(one, entity_type),
-        Shape::Is,
-    )?;
-    let (entity_type, (one, two)) = beside(name(alloc, "A", "B")?, operands(alloc))?;
-    let entity_type = EntityType::from(entity_type);
-    makes(
-        &rt,
-        build(alloc).is_in_entity_type(one, entity_type, two),
-        Shape::IsIn,
-    )?;
-    makes(&rt, Ok(extension_call(alloc)?), Shape::Extension)
+fn calls_with_a_name(rt: HostRuntime) {
+    let (one, entity_type) = (long(&rt, 1), EntityType::from(name(&rt, "A", "B")));
+    makes(&rt, build(&rt).is_entity_type(one, entity_type), Shape::Is);
+    let (one, entity_type) = (long(&rt, 1), EntityType::from(name(&rt, "A", "B")));
+    let is_in = build(&rt).is_in_entity_type(one, entity_type, long(&rt, 2));
+    makes(&rt, is_in, Shape::IsIn);
+    is(&rt, extension_call(&rt), Shape::Extension);
 }
 
 /// A pair of a record.
-fn pair(alloc: Global, key: &str, number: i64) -> Result<(Text, Expr), AllocError> {
-    both(text(alloc, key), long(alloc, number))
+fn pair(rt: &(impl Abort + AllocGlobal), key: &str, number: i64) -> (Text, Expr) {
+    (text(rt, key), long(rt, number))
 }
 
 /// The record of two pairs.
-fn record(alloc: Global, first: &str, second: &str) -> Result<Expr, RecordError> {
-    let pairs = list_of_two(alloc, pair(alloc, first, 1), pair(alloc, second, 2))?;
-    build(alloc).record(pairs)
+fn record(rt: &(impl Abort + AllocGlobal), first: &str, second: &str) -> Result<Expr, RecordError> {
+    build(rt).record(list_of_two(rt, pair(rt, first, 1), pair(rt, second, 2)))
 }
 
-/// The first key of a record.
-fn first_key(expr: &Expr) -> Option<&str> {
+/// Whether it is a record that begins with the key `b`.
+fn begins_with_b(expr: &Expr) -> bool {
     match expr.kind() {
-        ExprKind::Record(pairs) => {
-            let (key, _) = pairs.as_slice().first()?;
-            Some(key.as_str())
-        }
-        _ => None,
+        ExprKind::Record(pairs) => match pairs.as_slice() {
+            [(key, _), ..] => key.as_str() == "b",
+            [] => false,
+        },
+        _ => false,
+    }
+}
+
+/// Whether the key `a` is what the record is refused for.
+fn is_for_a(refusal: &RecordError) -> bool {
+    match refusal {
+        RecordError::Construction(error) => error.key() == "a",
+        _ => false,
     }
 }
 
 #[test]
-fn a_record_keeps_its_order_and_refuses_a_repeated_key(rt: HostRuntime) -> Result<(), Fail> {
-    assert_eq!(rt; first_key(&record(rt.alloc(), "b", "a")?), Some("b"));
-    match record(rt.alloc(), "a", "a") {
-        Err(RecordError::Construction(error)) => assert_eq!(rt; error.key(), "a"),
-        _ => return Err(Fail::from("not refused")),
-    }
-    Ok(())
+fn a_record_keeps_its_order_and_refuses_a_repeated_key(rt: HostRuntime) {
+    let ordered = made(&rt, record(&rt, "b", "a"));
+    assert!(rt; seen(ordered, begins_with_b));
+    let repeated = refusal(&rt, record(&rt, "a", "a"));
+    assert!(rt; seen(repeated, is_for_a));
 }
 
 #[test]
-fn expressions_are_copied(rt: HostRuntime) -> Result<(), Fail> {
-    copies(&rt, difference(rt.alloc(), 2)?)?;
-    copies(&rt, extension_call(rt.alloc())?)?;
-    copies(&rt, record(rt.alloc(), "b", "a")?)
+fn expressions_are_copied(rt: HostRuntime) {
+    copies(&rt, difference(&rt, 2));
+    copies(&rt, extension_call(&rt));
+    copies(&rt, made(&rt, record(&rt, "b", "a")));
 }
 
 const PLACE: Place = Place {
@@ -230,44 +211,37 @@ const PLACE: Place = Place {
     length: 4,
 };
 
-/// A builder at a place.
-fn build_at(alloc: Global) -> ExprBuilder<()> {
-    build(alloc).with_maybe_source_loc(Some(PLACE))
+/// A builder at that place.
+fn build_at(rt: &impl AllocGlobal) -> ExprBuilder<()> {
+    build(rt).with_maybe_source_loc(Some(PLACE))
 }
 
-/// The place of an expression's copy.
-fn copied_place(expr: &Expr) -> Result<Option<Place>, AllocError> {
-    let copy = expr.try_clone()?;
-    Ok(copy.place())
-}
-
-#[test]
-fn a_node_keeps_its_place(rt: HostRuntime) -> Result<(), Fail> {
-    let placed = build_at(rt.alloc()).val(Literal::Long(1))?;
-    assert_eq!(rt; placed.place(), Some(PLACE));
-    assert_eq!(rt; copied_place(&placed)?, Some(PLACE));
-    Ok(())
+/// A node at that place.
+fn placed(rt: &(impl Abort + AllocGlobal)) -> Expr {
+    made(rt, build_at(rt).val(Literal::Long(1)))
 }
 
 #[test]
-fn equality_looks_at_no_place(rt: HostRuntime) -> Result<(), Fail> {
-    let alloc = rt.alloc();
-    assert!(rt; equal(build_at(alloc).val(Literal::Long(1)), long(alloc, 1))?);
-    assert!(rt; !equal(long(alloc, 1), long(alloc, 2))?);
-    assert!(rt; !equal(repeated(alloc, NaryOp::Mul), repeated(alloc, NaryOp::And))?);
-    Ok(())
+fn a_node_keeps_its_place(rt: HostRuntime) {
+    assert!(rt; seen(placed(&rt), Expr::place) == Some(PLACE));
+    let copy = copy_of(&rt, placed(&rt));
+    assert!(rt; seen(copy, Expr::place) == Some(PLACE));
+}
+
+#[test]
+fn equality_looks_at_no_place(rt: HostRuntime) {
+    assert!(rt; equal(placed(&rt), long(&rt, 1)));
+    assert!(rt; !equal(long(&rt, 1), long(&rt, 2)));
+    assert!(rt; !equal(repeated(&rt, NaryOp::Mul), repeated(&rt, NaryOp::And)));
 }
 
 /// A set of `?principal == ?resource`, of which the right one has a place, and `?principal`.
-fn set_of_slots(alloc: Global) -> Result<Expr, AllocError> {
-    let slot = build(alloc).slot(SlotId::Principal);
-    let (left, right) = both(slot, build_at(alloc).slot(SlotId::Resource))?;
-    let items = list_of_two(
-        alloc,
-        build(alloc).is_eq(left, right),
-        build(alloc).slot(SlotId::Principal),
-    )?;
-    build(alloc).set(items)
+fn set_of_slots(rt: &(impl Abort + AllocGlobal)) -> Expr {
+    let left = made(rt, build(rt).slot(SlotId::Principal));
+    let right = made(rt, build_at(rt).slot(SlotId::Resource));
+    let equal = made(rt, build(rt).is_eq(left, right));
+    let last = made(rt, build(rt).slot(SlotId::Principal));
+    made(rt, build(rt).set(list_of_two(rt, equal, last)))
 }
 
 /// The slots that stand in the set, from the left.
@@ -286,14 +260,8 @@ const SLOTS: [Slot; 3] = [
     },
 ];
 
-/// The slots of the set.
-fn slots_of_set(alloc: Global) -> Result<Vec<Slot>, AllocError> {
-    let set = set_of_slots(alloc)?;
-    set.slots(alloc)
-}
-
 #[test]
-fn slots_from_the_left(rt: HostRuntime) -> Result<(), Fail> {
-    assert!(rt; slots_of_set(rt.alloc())?.as_slice() == SLOTS.as_slice());
-    Ok(())
+fn slots_from_the_left(rt: HostRuntime) {
+    let slots = seen(set_of_slots(&rt), |set| set.slots(rt.alloc()));
+    assert!(rt; made(&rt, slots).as_slice() == SLOTS.as_slice());
 }

@@ -1,5 +1,5 @@
 //! A second builder, which counts the calls of another that make an expression.
-ghost use Rattle.std.specs.Prelude.{◌≡◌, IfOk, IfErr, map, false};
+ghost use Rattle.std.specs.Prelude.{◌≡◌, IfOk, IfErr, IsOkAnd, IsErrAnd, map, false};
 ghost use Rattle.cedar_expressions.specs.Value as v;
 ghost use Rattle.cedar_expressions.specs.Keys.{repeats_key, IsDue};
 
@@ -18,13 +18,17 @@ pub struct Counted<E> {
 }
 
 impl<E: Drop> Counted<E> {
-    /// An expression made by one call of parts that have so many nodes together.
-    fn over(parts: usize, expr: E) -> Counted<E>
-        ensures { result.expr ≡ expr }
+    /// What was made by one call of parts that have so many nodes together.
+    fn over<F>(parts: usize, made: Result<E, F>) -> Result<Counted<E>, F>
+        ensures ok { IfOk result (λ c. IsOkAnd made (λ e. c.expr ≡ e)) }
+        ensures err { IfErr result (λ f. IsErrAnd made (λ g. g ≡ f)) }
     {
-        Counted {
-            expr,
-            nodes: parts.saturating_add(1),
+        match made {
+            Ok(expr) => Ok(Counted {
+                expr,
+                nodes: parts.saturating_add(1),
+            }),
+            Err(error) => Err(error),
         }
     }
 
@@ -112,15 +116,15 @@ impl<B: ExprBuilderInfallibleBuild> ExprBuilderInfallibleBuild for CountingBuild
     }
 
     fn val(self, literal: Literal) -> Result<Counted<B::Expr>, AllocError> {
-        Ok(Counted::over(0, self.inner.val(literal)?))
+        Counted::over(0, self.inner.val(literal))
     }
 
     fn var(self, var: Var) -> Result<Counted<B::Expr>, AllocError> {
-        Ok(Counted::over(0, self.inner.var(var)?))
+        Counted::over(0, self.inner.var(var))
     }
 
     fn slot(self, slot: SlotId) -> Result<Counted<B::Expr>, AllocError> {
-        Ok(Counted::over(0, self.inner.slot(slot)?))
+        Counted::over(0, self.inner.slot(slot))
     }
 
     fn ite(
@@ -131,18 +135,18 @@ impl<B: ExprBuilderInfallibleBuild> ExprBuilderInfallibleBuild for CountingBuild
     ) -> Result<Counted<B::Expr>, AllocError> {
         let branches = consequent.nodes.saturating_add(alternative.nodes);
         let nodes = guard.nodes.saturating_add(branches);
-        let expr = self
+        let made = self
             .inner
-            .ite(guard.expr, consequent.expr, alternative.expr)?;
-        Ok(Counted::over(nodes, expr))
+            .ite(guard.expr, consequent.expr, alternative.expr);
+        Counted::over(nodes, made)
     }
 
     fn not(self, inner: Counted<B::Expr>) -> Result<Counted<B::Expr>, AllocError> {
-        Ok(Counted::over(inner.nodes, self.inner.not(inner.expr)?))
+        Counted::over(inner.nodes, self.inner.not(inner.expr))
     }
 
     fn neg(self, inner: Counted<B::Expr>) -> Result<Counted<B::Expr>, AllocError> {
-        Ok(Counted::over(inner.nodes, self.inner.neg(inner.expr)?))
+        Counted::over(inner.nodes, self.inner.neg(inner.expr))
     }
 
     fn and(
@@ -151,7 +155,7 @@ impl<B: ExprBuilderInfallibleBuild> ExprBuilderInfallibleBuild for CountingBuild
         right: Counted<B::Expr>,
     ) -> Result<Counted<B::Expr>, AllocError> {
         let nodes = left.nodes.saturating_add(right.nodes);
-        Ok(Counted::over(nodes, self.inner.and(left.expr, right.expr)?))
+        Counted::over(nodes, self.inner.and(left.expr, right.expr))
     }
 
     fn or_nary(
@@ -163,7 +167,7 @@ impl<B: ExprBuilderInfallibleBuild> ExprBuilderInfallibleBuild for CountingBuild
     {
         let (first, (rest, nodes)) = beside(first, split_items::<B>(self.alloc, rest))?;
         let nodes = nodes.saturating_add(first.nodes);
-        Ok(Counted::over(nodes, self.inner.or_nary(first.expr, rest)?))
+        Counted::over(nodes, self.inner.or_nary(first.expr, rest))
     }
 
     fn and_naryl(
@@ -175,7 +179,7 @@ impl<B: ExprBuilderInfallibleBuild> ExprBuilderInfallibleBuild for CountingBuild
     {
         let (first, (rest, nodes)) = beside(first, split_items::<B>(self.alloc, rest))?;
         let nodes = nodes.saturating_add(first.nodes);
-        Ok(Counted::over(nodes, self.inner.and_naryl(first.expr, rest)?))
+        Counted::over(nodes, self.inner.and_naryl(first.expr, rest))
     }
 
     fn add_nary(
@@ -187,7 +191,7 @@ impl<B: ExprBuilderInfallibleBuild> ExprBuilderInfallibleBuild for CountingBuild
     {
         let (first, (rest, nodes)) = beside(first, split_terms::<B>(self.alloc, rest))?;
         let nodes = nodes.saturating_add(first.nodes);
-        Ok(Counted::over(nodes, self.inner.add_nary(first.expr, rest)?))
+        Counted::over(nodes, self.inner.add_nary(first.expr, rest))
     }
 
     fn mul_nary(
@@ -199,7 +203,7 @@ impl<B: ExprBuilderInfallibleBuild> ExprBuilderInfallibleBuild for CountingBuild
     {
         let (first, (rest, nodes)) = beside(first, split_items::<B>(self.alloc, rest))?;
         let nodes = nodes.saturating_add(first.nodes);
-        Ok(Counted::over(nodes, self.inner.mul_nary(first.expr, rest)?))
+        Counted::over(nodes, self.inner.mul_nary(first.expr, rest))
     }
 
     fn less(
@@ -208,7 +212,7 @@ impl<B: ExprBuilderInfallibleBuild> ExprBuilderInfallibleBuild for CountingBuild
         right: Counted<B::Expr>,
     ) -> Result<Counted<B::Expr>, AllocError> {
         let nodes = left.nodes.saturating_add(right.nodes);
-        Ok(Counted::over(nodes, self.inner.less(left.expr, right.expr)?))
+        Counted::over(nodes, self.inner.less(left.expr, right.expr))
     }
 
     fn lesseq(
@@ -217,7 +221,7 @@ impl<B: ExprBuilderInfallibleBuild> ExprBuilderInfallibleBuild for CountingBuild
         right: Counted<B::Expr>,
     ) -> Result<Counted<B::Expr>, AllocError> {
         let nodes = left.nodes.saturating_add(right.nodes);
-        Ok(Counted::over(nodes, self.inner.lesseq(left.expr, right.expr)?))
+        Counted::over(nodes, self.inner.lesseq(left.expr, right.expr))
     }
 
     fn greater(
@@ -226,7 +230,7 @@ impl<B: ExprBuilderInfallibleBuild> ExprBuilderInfallibleBuild for CountingBuild
         right: Counted<B::Expr>,
     ) -> Result<Counted<B::Expr>, AllocError> {
         let nodes = left.nodes.saturating_add(right.nodes);
-        Ok(Counted::over(nodes, self.inner.greater(left.expr, right.expr)?))
+        Counted::over(nodes, self.inner.greater(left.expr, right.expr))
     }
 
     fn greatereq(
@@ -235,7 +239,7 @@ impl<B: ExprBuilderInfallibleBuild> ExprBuilderInfallibleBuild for CountingBuild
         right: Counted<B::Expr>,
     ) -> Result<Counted<B::Expr>, AllocError> {
         let nodes = left.nodes.saturating_add(right.nodes);
-        Ok(Counted::over(nodes, self.inner.greatereq(left.expr, right.expr)?))
+        Counted::over(nodes, self.inner.greatereq(left.expr, right.expr))
     }
 
     fn is_eq(
@@ -244,7 +248,7 @@ impl<B: ExprBuilderInfallibleBuild> ExprBuilderInfallibleBuild for CountingBuild
         right: Counted<B::Expr>,
     ) -> Result<Counted<B::Expr>, AllocError> {
         let nodes = left.nodes.saturating_add(right.nodes);
-        Ok(Counted::over(nodes, self.inner.is_eq(left.expr, right.expr)?))
+        Counted::over(nodes, self.inner.is_eq(left.expr, right.expr))
     }
 
     fn noteq(
@@ -253,7 +257,7 @@ impl<B: ExprBuilderInfallibleBuild> ExprBuilderInfallibleBuild for CountingBuild
         right: Counted<B::Expr>,
     ) -> Result<Counted<B::Expr>, AllocError> {
         let nodes = left.nodes.saturating_add(right.nodes);
-        Ok(Counted::over(nodes, self.inner.noteq(left.expr, right.expr)?))
+        Counted::over(nodes, self.inner.noteq(left.expr, right.expr))
     }
 
     fn is_in(
@@ -262,7 +266,7 @@ impl<B: ExprBuilderInfallibleBuild> ExprBuilderInfallibleBuild for CountingBuild
         right: Counted<B::Expr>,
     ) -> Result<Counted<B::Expr>, AllocError> {
         let nodes = left.nodes.saturating_add(right.nodes);
-        Ok(Counted::over(nodes, self.inner.is_in(left.expr, right.expr)?))
+        Counted::over(nodes, self.inner.is_in(left.expr, right.expr))
     }
 
     fn like(
@@ -270,7 +274,7 @@ impl<B: ExprBuilderInfallibleBuild> ExprBuilderInfallibleBuild for CountingBuild
         expr: Counted<B::Expr>,
         pattern: Vec<PatternElem>,
     ) -> Result<Counted<B::Expr>, AllocError> {
-        Ok(Counted::over(expr.nodes, self.inner.like(expr.expr, pattern)?))
+        Counted::over(expr.nodes, self.inner.like(expr.expr, pattern))
     }
 
     fn is_entity_type(
@@ -278,10 +282,10 @@ impl<B: ExprBuilderInfallibleBuild> ExprBuilderInfallibleBuild for CountingBuild
         expr: Counted<B::Expr>,
         entity_type: EntityType,
     ) -> Result<Counted<B::Expr>, AllocError> {
-        Ok(Counted::over(
+        Counted::over(
             expr.nodes,
-            self.inner.is_entity_type(expr.expr, entity_type)?,
-        ))
+            self.inner.is_entity_type(expr.expr, entity_type),
+        )
     }
 
     fn is_in_entity_type(
@@ -291,11 +295,11 @@ impl<B: ExprBuilderInfallibleBuild> ExprBuilderInfallibleBuild for CountingBuild
         entity: Counted<B::Expr>,
     ) -> Result<Counted<B::Expr>, AllocError> {
         let nodes = expr.nodes.saturating_add(entity.nodes);
-        Ok(Counted::over(
+        Counted::over(
             nodes,
             self.inner
-                .is_in_entity_type(expr.expr, entity_type, entity.expr)?,
-        ))
+                .is_in_entity_type(expr.expr, entity_type, entity.expr),
+        )
     }
 
     fn extended_has_attr(
@@ -304,14 +308,14 @@ impl<B: ExprBuilderInfallibleBuild> ExprBuilderInfallibleBuild for CountingBuild
         first: Text,
         rest: Vec<Text>,
     ) -> Result<Counted<B::Expr>, AllocError> {
-        Ok(Counted::over(
+        Counted::over(
             expr.nodes,
-            self.inner.extended_has_attr(expr.expr, first, rest)?,
-        ))
+            self.inner.extended_has_attr(expr.expr, first, rest),
+        )
     }
 
     fn get_attr(self, expr: Counted<B::Expr>, attr: Text) -> Result<Counted<B::Expr>, AllocError> {
-        Ok(Counted::over(expr.nodes, self.inner.get_attr(expr.expr, attr)?))
+        Counted::over(expr.nodes, self.inner.get_attr(expr.expr, attr))
     }
 
     fn contains(
@@ -320,7 +324,7 @@ impl<B: ExprBuilderInfallibleBuild> ExprBuilderInfallibleBuild for CountingBuild
         element: Counted<B::Expr>,
     ) -> Result<Counted<B::Expr>, AllocError> {
         let nodes = set.nodes.saturating_add(element.nodes);
-        Ok(Counted::over(nodes, self.inner.contains(set.expr, element.expr)?))
+        Counted::over(nodes, self.inner.contains(set.expr, element.expr))
     }
 
     fn contains_all(
@@ -329,7 +333,7 @@ impl<B: ExprBuilderInfallibleBuild> ExprBuilderInfallibleBuild for CountingBuild
         other: Counted<B::Expr>,
     ) -> Result<Counted<B::Expr>, AllocError> {
         let nodes = set.nodes.saturating_add(other.nodes);
-        Ok(Counted::over(nodes, self.inner.contains_all(set.expr, other.expr)?))
+        Counted::over(nodes, self.inner.contains_all(set.expr, other.expr))
     }
 
     fn contains_any(
@@ -338,11 +342,11 @@ impl<B: ExprBuilderInfallibleBuild> ExprBuilderInfallibleBuild for CountingBuild
         other: Counted<B::Expr>,
     ) -> Result<Counted<B::Expr>, AllocError> {
         let nodes = set.nodes.saturating_add(other.nodes);
-        Ok(Counted::over(nodes, self.inner.contains_any(set.expr, other.expr)?))
+        Counted::over(nodes, self.inner.contains_any(set.expr, other.expr))
     }
 
     fn is_empty(self, set: Counted<B::Expr>) -> Result<Counted<B::Expr>, AllocError> {
-        Ok(Counted::over(set.nodes, self.inner.is_empty(set.expr)?))
+        Counted::over(set.nodes, self.inner.is_empty(set.expr))
     }
 
     fn get_tag(
@@ -351,7 +355,7 @@ impl<B: ExprBuilderInfallibleBuild> ExprBuilderInfallibleBuild for CountingBuild
         tag: Counted<B::Expr>,
     ) -> Result<Counted<B::Expr>, AllocError> {
         let nodes = entity.nodes.saturating_add(tag.nodes);
-        Ok(Counted::over(nodes, self.inner.get_tag(entity.expr, tag.expr)?))
+        Counted::over(nodes, self.inner.get_tag(entity.expr, tag.expr))
     }
 
     fn has_tag(
@@ -360,7 +364,7 @@ impl<B: ExprBuilderInfallibleBuild> ExprBuilderInfallibleBuild for CountingBuild
         tag: Counted<B::Expr>,
     ) -> Result<Counted<B::Expr>, AllocError> {
         let nodes = entity.nodes.saturating_add(tag.nodes);
-        Ok(Counted::over(nodes, self.inner.has_tag(entity.expr, tag.expr)?))
+        Counted::over(nodes, self.inner.has_tag(entity.expr, tag.expr))
     }
 
     fn call_extension_fn(
@@ -371,14 +375,14 @@ impl<B: ExprBuilderInfallibleBuild> ExprBuilderInfallibleBuild for CountingBuild
         ensures { IfOk result (λ e. B.meaning e.expr ≡ v.call_extension_fn function (v.values (map (λ c. B.meaning c.expr) args.items))) }
     {
         let (args, nodes) = split_items::<B>(self.alloc, args)?;
-        Ok(Counted::over(nodes, self.inner.call_extension_fn(function, args)?))
+        Counted::over(nodes, self.inner.call_extension_fn(function, args))
     }
 
     fn set(self, elements: Vec<Counted<B::Expr>>) -> Result<Counted<B::Expr>, AllocError>
         ensures { IfOk result (λ e. B.meaning e.expr ≡ v.set (v.values (map (λ c. B.meaning c.expr) elements.items))) }
     {
         let (elements, nodes) = split_items::<B>(self.alloc, elements)?;
-        Ok(Counted::over(nodes, self.inner.set(elements)?))
+        Counted::over(nodes, self.inner.set(elements))
     }
 
     fn record(self, pairs: Vec<(Text, Counted<B::Expr>)>) -> Result<Counted<B::Expr>, RecordError>
@@ -386,6 +390,6 @@ impl<B: ExprBuilderInfallibleBuild> ExprBuilderInfallibleBuild for CountingBuild
         ensures err { IfErr result (λ error. IsDue error (map (λ p. p.0) pairs.items)) }
     {
         let (pairs, nodes) = split_pairs::<B>(self.alloc, pairs)?;
-        Ok(Counted::over(nodes, self.inner.record(pairs)?))
+        Counted::over(nodes, self.inner.record(pairs))
     }
 }

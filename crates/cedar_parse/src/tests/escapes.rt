@@ -1,11 +1,11 @@
 //! Rows for the calls of `unescape`: raw texts, and what they stand for. The values come from the table of escapes and from the
 //! original's tests.
+use super::held::{made, refusal, says, seen};
 use cedar_expressions::PatternElem;
 use cedar_text::unescape::{
     EscapeError, UnescapeError, UnescapeFailure, to_pattern, to_unescaped_string,
 };
 use std::process::Abort;
-use std::test::Fail;
 
 /// What is wrong, and at which bytes.
 type Told = (EscapeError, usize, usize);
@@ -13,28 +13,27 @@ type Told = (EscapeError, usize, usize);
 /// A raw text and its faults.
 type Refused = (&'static str, &'static [Told]);
 
-/// The fault is of this kind and at these bytes.
-fn is_told(rt: &impl Abort, raw: &str, fault: &UnescapeError, (kind, start, end): Told) {
-    assert!(rt; fault.kind() == kind, "{raw:?}");
-    assert!(rt; fault.range() == (start..end), "{raw:?}");
-    assert!(rt; fault.input() == raw, "{raw:?}");
+/// Whether the fault is of this kind, at these bytes, in this raw text.
+fn is_told(raw: &str, fault: &UnescapeError, (kind, start, end): Told) -> bool {
+    fault.kind() == kind && fault.range() == (start..end) && fault.input() == raw
 }
 
-/// The answer is these faults, in order: of what kind, and at which bytes.
-fn tells<T: Drop>(
-    rt: &impl Abort,
-    raw: &str,
-    answer: Result<T, UnescapeFailure>,
-    wanted: &[Told],
-) -> Result<(), Fail> {
-    let Err(UnescapeFailure::Errors(faults)) = answer else {
-        return Err(Fail::from("not refused"));
+/// Whether the failure is these faults, in order.
+fn are_told(raw: &str, failure: &UnescapeFailure, wanted: &[Told]) -> bool {
+    let UnescapeFailure::Errors(faults) = failure else {
+        return false;
     };
-    assert_eq!(rt; faults.len(), wanted.len(), "{raw:?}");
-    for (fault, told) in faults.iter().zip(wanted) {
-        is_told(rt, raw, fault, *told);
-    }
-    Ok(())
+    let mut told = faults.iter().zip(wanted);
+    faults.len() == wanted.len() && told.all(|(fault, told)| is_told(raw, fault, *told))
+}
+
+/// The answer is a failure that tells these faults.
+fn tells<T: Drop>(rt: &impl Abort, raw: &str, answer: Result<T, UnescapeFailure>, wanted: &[Told]) {
+    let failure = refusal(rt, answer);
+    assert!(rt;
+        seen(failure, |failure| are_told(raw, failure, wanted)),
+        "{raw:?}"
+    );
 }
 
 /// Raw texts and the texts that they stand for.
@@ -65,12 +64,10 @@ const STRINGS: [(&str, &str); 14] = [
 ];
 
 #[test]
-fn strings_are_unescaped(rt: HostRuntime) -> Result<(), Fail> {
+fn strings_are_unescaped(rt: HostRuntime) {
     for (raw, text) in STRINGS {
-        let unescaped = to_unescaped_string(rt.alloc(), raw)?;
-        assert_eq!(rt; unescaped.as_str(), text, "{raw:?}");
+        says(&rt, made(&rt, to_unescaped_string(rt.alloc(), raw)), text);
     }
-    Ok(())
 }
 
 const SHORT_FAULTS: [Refused; 12] = [
@@ -155,14 +152,17 @@ const UNICODE_FAULTS: [Refused; 15] = [
 ];
 
 #[test]
-fn faults_of_strings_are_told(rt: HostRuntime) -> Result<(), Fail> {
-    let tables: [&[Refused]; 2] = [&SHORT_FAULTS, &UNICODE_FAULTS];
-    for rows in tables {
-        for (raw, faults) in rows {
-            tells(&rt, raw, to_unescaped_string(rt.alloc(), raw), faults)?;
-        }
+fn faults_of_strings_are_told(rt: HostRuntime) {
+    for (raw, faults) in SHORT_FAULTS {
+        tells(&rt, raw, to_unescaped_string(rt.alloc(), raw), faults);
     }
-    Ok(())
+}
+
+#[test]
+fn faults_of_unicode_escapes_are_told(rt: HostRuntime) {
+    for (raw, faults) in UNICODE_FAULTS {
+        tells(&rt, raw, to_unescaped_string(rt.alloc(), raw), faults);
+    }
 }
 
 /// Raw texts and the patterns that they stand for.
@@ -204,12 +204,11 @@ const PATTERNS: [(&str, &[PatternElem]); 5] = [
 ];
 
 #[test]
-fn patterns_are_read(rt: HostRuntime) -> Result<(), Fail> {
+fn patterns_are_read(rt: HostRuntime) {
     for (raw, elems) in PATTERNS {
-        let pattern = to_pattern(rt.alloc(), raw)?;
-        assert_eq!(rt; pattern.as_slice(), elems, "{raw:?}");
+        let pattern = made(&rt, to_pattern(rt.alloc(), raw));
+        assert!(rt; pattern.as_slice() == elems, "{raw:?}");
     }
-    Ok(())
 }
 
 const PATTERN_FAULTS: [Refused; 4] = [
@@ -232,9 +231,8 @@ const PATTERN_FAULTS: [Refused; 4] = [
 ];
 
 #[test]
-fn faults_of_patterns_are_told(rt: HostRuntime) -> Result<(), Fail> {
+fn faults_of_patterns_are_told(rt: HostRuntime) {
     for (raw, faults) in PATTERN_FAULTS {
-        tells(&rt, raw, to_pattern(rt.alloc(), raw), faults)?;
+        tells(&rt, raw, to_pattern(rt.alloc(), raw), faults);
     }
-    Ok(())
 }

@@ -4,15 +4,21 @@ use cedar_syntax::err::{Failure, ParseErrors};
 use std::alloc::Global;
 use std::collections::BTreeSet;
 use std::fmt;
-use std::test::Fail;
 
 /// Writes the text's value, or each fault behind its place.
 fn show<W: fmt::Write>(alloc: Global, text: &str, out: &mut W) -> fmt::Result {
     let styles = ExtStyles::new(BTreeSet::new(alloc), BTreeSet::new(alloc));
     match parse_expression(alloc, text, &styles) {
         Ok(value) => write!(out, "{value}"),
-        Err(Failure::Memory(_)) => out.write_str("want of memory"),
-        Err(Failure::Errors(faults)) => show_faults(&faults, out),
+        Err(failure) => show_failure(&failure, out),
+    }
+}
+
+/// Writes why a text has no value.
+fn show_failure<W: fmt::Write>(failure: &Failure, out: &mut W) -> fmt::Result {
+    match failure {
+        Failure::Memory(_) => out.write_str("want of memory"),
+        Failure::Errors(faults) => show_faults(faults, out),
     }
 }
 
@@ -28,7 +34,7 @@ fn show_faults<W: fmt::Write>(faults: &ParseErrors, out: &mut W) -> fmt::Result 
 }
 
 #[test]
-fn shows_a_value_or_faults(rt: HostRuntime) -> Result<(), Fail> {
+fn shows_a_value_or_faults(rt: HostRuntime) {
     let rows = [
         ("principal", "principal"),
         ("1 +", "3..3: unexpected end of input"),
@@ -36,10 +42,7 @@ fn shows_a_value_or_faults(rt: HostRuntime) -> Result<(), Fail> {
     ];
     for (text, want) in rows {
         let mut out = String::new(rt.alloc());
-        if show(rt.alloc(), text, &mut out).is_err() {
-            return Err(Fail::from("nothing was written"));
-        }
-        assert_eq!(rt; out.as_str(), want);
+        assert!(rt; show(rt.alloc(), text, &mut out).is_ok());
+        assert!(rt; out.as_str() == want, "{text}");
     }
-    Ok(())
 }

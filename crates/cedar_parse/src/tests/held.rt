@@ -1,12 +1,10 @@
-//! Calls over values of any type. A value that is dropped on the way out of a `?` is dear to prove where it is a tree: here the proof doesn't
-//! see what it is.
+//! Calls over values of any type: in them the proof doesn't see what is dropped, which is dear where it is a tree. Each ends the test
+//! where something isn't as it has to be.
 ghost use Rattle.std.specs.Prelude.{◌≡◌, IfOk, IsOkAnd};
 
-use cedar_expressions::TryClone;
-use std::alloc::{AllocError, Global};
+use cedar_expressions::{Items, TryClone};
 use std::fmt;
 use std::process::Abort;
-use std::test::Fail;
 
 /// What is held, beside what was made.
 pub(super) fn beside<A: Drop, B, E>(held: A, made: Result<B, E>) -> Result<(A, B), E>
@@ -16,94 +14,92 @@ pub(super) fn beside<A: Drop, B, E>(held: A, made: Result<B, E>) -> Result<(A, B
     Ok((held, made))
 }
 
-/// Two values that were made, one beside the other.
-pub(super) fn both<A: Drop, B: Drop>(
-    first: Result<A, AllocError>,
-    second: Result<B, AllocError>,
-) -> Result<(A, B), AllocError> {
-    beside(first?, second)
+/// What was made.
+pub(super) fn made<T, E: Drop>(rt: &impl Abort, made: Result<T, E>) -> T {
+    made.ok().expect(rt, "not made")
 }
 
-/// A list of two values that were made.
-pub(super) fn list_of_two<T: Drop>(
-    alloc: Global,
-    first: Result<T, AllocError>,
-    second: Result<T, AllocError>,
-) -> Result<Vec<T>, AllocError> {
-    let (first, second) = both(first, second)?;
-    let mut list = Vec::new(alloc);
-    list.push(first)?;
-    list.push(second)?;
-    Ok(list)
+/// The refusal of what was not made.
+pub(super) fn refusal<T: Drop, E>(rt: &impl Abort, made: Result<T, E>) -> E {
+    made.err().expect(rt, "not refused")
 }
 
-/// Whether two values that were made are equal.
-pub(super) fn equal<T: PartialEq + Drop>(
-    left: Result<T, AllocError>,
-    right: Result<T, AllocError>,
-) -> Result<bool, AllocError> {
-    let (left, right) = both(left, right)?;
-    Ok(left == right)
+/// What is seen of a value that is at hand for this alone.
+pub(super) fn seen<T: Drop, R, F: FnOnce(&T) -> R>(value: T, look: F) -> R
+    requires { F.IsAlwaysCallable look }
+{
+    look(&value)
 }
 
-/// A value equals another that was made.
-pub(super) fn agrees<T: PartialEq + Drop>(
+/// The value after a change.
+pub(super) fn changed<T, E: Drop, F: FnOnce(&mut T) -> Result<(), E>>(
     rt: &impl Abort,
-    value: T,
-    wanted: Result<T, AllocError>,
-    told: &str,
-) -> Result<(), Fail> {
-    let wanted = wanted?;
+    mut value: T,
+    change: F,
+) -> T
+    requires { F.IsAlwaysCallable change }
+{
+    made(rt, change(&mut value));
+    value
+}
+
+/// A list of two values.
+pub(super) fn list_of_two<T: Drop>(rt: &(impl Abort + AllocGlobal), first: T, second: T) -> Vec<T> {
+    let mut list = Vec::new(rt.alloc());
+    made(rt, list.push(first));
+    made(rt, list.push(second));
+    list
+}
+
+/// A list without its last value, and that value.
+pub(super) fn taken<T>(rt: &impl Abort, mut list: Items<T>) -> (Items<T>, T) {
+    let last = list.pop().expect(rt, "an empty list");
+    (list, last)
+}
+
+/// Whether two values are equal.
+pub(super) fn equal<T: PartialEq + Drop>(left: T, right: T) -> bool {
+    left == right
+}
+
+/// The value is the one that is wanted.
+pub(super) fn agrees<T: PartialEq + Drop>(rt: &impl Abort, value: T, wanted: T, told: &str) {
     assert!(rt; value == wanted, "{told}");
-    Ok(())
+}
+
+/// A copy of a value.
+pub(super) fn copy_of<T: TryClone + Drop>(rt: &impl Abort, value: T) -> T {
+    made(rt, value.try_clone())
 }
 
 /// A copy of the value equals it.
-pub(super) fn is_copied<T: TryClone + PartialEq + Drop>(
-    rt: &impl Abort,
-    value: &T,
-) -> Result<(), Fail> {
-    let copy = value.try_clone()?;
-    assert!(rt; copy == *value);
-    Ok(())
+pub(super) fn is_copied<T: TryClone + PartialEq + Drop>(rt: &impl Abort, value: T) {
+    let copy = made(rt, value.try_clone());
+    assert!(rt; copy == value);
 }
 
 /// Both ways to copy a value give an equal one.
-pub(super) fn copies_of<T: TryClone + Clone + PartialEq + Drop>(
-    rt: &impl Abort,
-    value: &T,
-) -> Result<(), Fail> {
-    let clone = value.clone()?;
+pub(super) fn copies_of<T: TryClone + Clone + PartialEq + Drop>(rt: &impl Abort, value: &T) {
+    let clone = made(rt, value.clone());
     assert!(rt; clone == *value);
-    is_copied(rt, value)
+    let copy = made(rt, value.try_clone());
+    assert!(rt; copy == *value);
 }
 
 /// The same of a value that is at hand for this alone.
-pub(super) fn copies<T: TryClone + Clone + PartialEq + Drop>(
-    rt: &impl Abort,
-    value: T,
-) -> Result<(), Fail> {
-    copies_of(rt, &value)
+pub(super) fn copies<T: TryClone + Clone + PartialEq + Drop>(rt: &impl Abort, value: T) {
+    copies_of(rt, &value);
 }
 
 /// The value's own text is this one.
-pub(super) fn shows<T: fmt::Display>(
-    rt: &(impl Abort + AllocGlobal),
-    value: &T,
-    text: &str,
-) -> Result<(), Fail> {
-    let shown = format!(in rt.alloc(); "{value}")?;
-    assert_eq!(rt; shown.as_str(), text);
-    Ok(())
+pub(super) fn shows<T: fmt::Display>(rt: &(impl Abort + AllocGlobal), value: &T, text: &str) {
+    let shown = made(rt, format!(in rt.alloc(); "{value}"));
+    assert!(rt; shown.as_str() == text, "{value}");
 }
 
 /// The same of a value that is at hand for this alone.
-pub(super) fn says<T: fmt::Display + Drop>(
-    rt: &(impl Abort + AllocGlobal),
-    value: T,
-    text: &str,
-) -> Result<(), Fail> {
-    shows(rt, &value, text)
+pub(super) fn says<T: fmt::Display + Drop>(rt: &(impl Abort + AllocGlobal), value: T, text: &str) {
+    shows(rt, &value, text);
 }
 
 /// The value's own text is this one, and both ways to copy it give an equal one.
@@ -111,7 +107,7 @@ pub(super) fn says_and_copies<T: fmt::Display + TryClone + Clone + PartialEq + D
     rt: &(impl Abort + AllocGlobal),
     value: T,
     text: &str,
-) -> Result<(), Fail> {
-    shows(rt, &value, text)?;
-    copies_of(rt, &value)
+) {
+    shows(rt, &value, text);
+    copies_of(rt, &value);
 }

@@ -25,88 +25,49 @@ fn tokens_of(text: &str) -> (usize, Option<usize>) {
 const ALL: &str =
     "true false if permit forbid when unless in has like is then else principal action resource context ?principal ?resource ?other name 42 \"text\" @ . , ; : :: ( ) { } [ ] == != < <= >= > = || && + - * / % !";
 
-const NAMES: [&str; 50] = [
-    "TRUE",
-    "FALSE",
-    "IF",
-    "PERMIT",
-    "FORBID",
-    "WHEN",
-    "UNLESS",
-    "IN",
-    "HAS",
-    "LIKE",
-    "IS",
-    "THEN",
-    "ELSE",
-    "PRINCIPAL",
-    "ACTION",
-    "RESOURCE",
-    "CONTEXT",
-    "PRINCIPAL_SLOT",
-    "RESOURCE_SLOT",
-    "OTHER_SLOT",
-    "IDENTIFIER",
-    "NUMBER",
-    "STRINGLIT",
-    "\"@\"",
-    "\".\"",
-    "\",\"",
-    "\";\"",
-    "\":\"",
-    "\"::\"",
-    "\"(\"",
-    "\")\"",
-    "\"{\"",
-    "\"}\"",
-    "\"[\"",
-    "\"]\"",
-    "\"==\"",
-    "\"!=\"",
-    "\"<\"",
-    "\"<=\"",
-    "\">=\"",
-    "\">\"",
-    "\"=\"",
-    "\"||\"",
-    "\"&&\"",
-    "\"+\"",
-    "\"-\"",
-    "\"*\"",
-    "\"/\"",
-    "\"%\"",
-    "\"!\"",
-];
+/// The names of its tokens' kinds.
+const NAMES: &str =
+    "TRUE FALSE IF PERMIT FORBID WHEN UNLESS IN HAS LIKE IS THEN ELSE PRINCIPAL ACTION RESOURCE CONTEXT PRINCIPAL_SLOT RESOURCE_SLOT OTHER_SLOT IDENTIFIER NUMBER STRINGLIT \"@\" \".\" \",\" \";\" \":\" \"::\" \"(\" \")\" \"{\" \"}\" \"[\" \"]\" \"==\" \"!=\" \"<\" \"<=\" \">=\" \">\" \"=\" \"||\" \"&&\" \"+\" \"-\" \"*\" \"/\" \"%\" \"!\"";
+
+/// Whether a text's tokens are of kinds with these names, and no more stand there.
+fn has_kinds(text: &str, names: &str) -> bool {
+    let mut lexer = Lexer::new(text);
+    for name in names.split_whitespace() {
+        match next_kind(&mut lexer) {
+            Some(kind) if kind.name() == name => {}
+            _ => return false,
+        }
+    }
+    lexer.next().is_none()
+}
 
 #[test]
 fn each_kind_once_with_its_name(rt: HostRuntime) {
-    let mut lexer = Lexer::new(ALL);
-    for name in NAMES {
-        let kind = next_kind(&mut lexer).expect(&rt, "a token");
-        assert_eq!(rt; kind.name(), name);
+    assert!(rt; has_kinds(ALL, NAMES));
+    assert!(rt; NAMES.split_whitespace().count() == 50);
+}
+
+/// Whether the next token is of this kind, at these bytes, and its text this one.
+fn is_next(
+    lexer: &mut Lexer<'_>,
+    kind: TokenKind,
+    (start, end): (usize, usize),
+    text: &str,
+) -> bool {
+    match lexer.next() {
+        Some(Ok(token)) => {
+            token.kind == kind && token.start == start && token.end == end && token.text == text
+        }
+        _ => false,
     }
-    assert!(rt; lexer.next().is_none());
-    assert!(rt; lexer.next().is_none());
 }
 
 #[test]
 fn longest_spelling_wins(rt: HostRuntime) {
     let mut lexer = Lexer::new("a<=?principal1//x");
-    for (kind, start, end, text) in [
-        (TokenKind::Identifier, 0, 1, "a"),
-        (TokenKind::LessEq, 1, 3, "<="),
-        (TokenKind::OtherSlot, 3, 14, "?principal1"),
-    ] {
-        let token = lexer
-            .next()
-            .expect(&rt, "an answer")
-            .ok()
-            .expect(&rt, "a token");
-        assert_eq!(rt; token.kind, kind);
-        assert_eq!(rt; token.start, start);
-        assert_eq!(rt; token.end, end);
-        assert_eq!(rt; token.text, text);
-    }
+    assert!(rt; is_next(&mut lexer, TokenKind::Identifier, (0, 1), "a"));
+    assert!(rt; is_next(&mut lexer, TokenKind::LessEq, (1, 3), "<="));
+    assert!(rt; is_next(&mut lexer, TokenKind::OtherSlot, (3, 14), "?principal1"));
     assert!(rt; lexer.next().is_none());
 }
 
@@ -130,7 +91,7 @@ fn words_and_identifiers(rt: HostRuntime) {
     for (text, kinds) in KINDS {
         let mut lexer = Lexer::new(text);
         for kind in kinds {
-            assert_eq!(rt; next_kind(&mut lexer).expect(&rt, "a token"), *kind);
+            assert!(rt; next_kind(&mut lexer) == Some(*kind), "{text:?}");
         }
         assert!(rt; lexer.next().is_none());
     }
@@ -156,7 +117,7 @@ const CUTS: [(&str, usize, Option<usize>); 13] = [
 #[test]
 fn white_space_comments_and_bad_places(rt: HostRuntime) {
     for (text, count, bad) in CUTS {
-        assert_eq!(rt; tokens_of(text), (count, bad), "{text:?}");
+        assert!(rt; tokens_of(text) == (count, bad), "{text:?}");
     }
 }
 

@@ -1,35 +1,35 @@
 //! Names, entities, words and wrappers: what is refused, how they are written, and that a copy equals its source.
 use super::held::{
-    beside, copies, copies_of, is_copied, list_of_two, says, says_and_copies, shows,
+    agrees, copies, copies_of, is_copied, list_of_two, made, refusal, says, says_and_copies, seen,
+    shows, taken,
 };
 use cedar_expressions::{
     AddOp, AnyId, BinaryCall, Boxed, Eid, EntityType, EntityUID, ExpressionConstructionError, Id,
     InternalName, Items, ListCall, Literal, Name, PatternElem, Place, ReservedNameError, Slot,
     SlotId, Source, Text, UnaryCall, UnaryOp, UnreservedId, Var,
 };
-use std::alloc::{AllocError, Global};
-use std::test::Fail;
+use std::process::Abort;
 
 /// A text of its own.
-pub(super) fn text(alloc: Global, bytes: &str) -> Result<Text, AllocError> {
-    Text::from_str(alloc, bytes)
+pub(super) fn text(rt: &(impl Abort + AllocGlobal), bytes: &str) -> Text {
+    made(rt, Text::from_str(rt.alloc(), bytes))
 }
 
 /// The identifier that a word is.
-fn id(alloc: Global, word: &str) -> Result<Id, Fail> {
-    Ok(Id::new(text(alloc, word)?).ok_or("no identifier")?)
+fn id(rt: &(impl Abort + AllocGlobal), word: &str) -> Id {
+    Id::new(text(rt, word)).expect(rt, "no identifier")
 }
 
 /// A name of two parts, which may be reserved.
-fn internal_name(alloc: Global, first: &str, last: &str) -> Result<InternalName, Fail> {
-    let mut path = Vec::new(alloc);
-    path.push(id(alloc, first)?)?;
-    Ok(InternalName::new(id(alloc, last)?, path))
+fn internal_name(rt: &(impl Abort + AllocGlobal), first: &str, last: &str) -> InternalName {
+    let mut path = Vec::new(rt.alloc());
+    made(rt, path.push(id(rt, first)));
+    InternalName::new(id(rt, last), path)
 }
 
 /// A name of two parts.
-pub(super) fn name(alloc: Global, first: &str, last: &str) -> Result<Name, Fail> {
-    Ok(Name::try_from(internal_name(alloc, first, last)?)?)
+pub(super) fn name(rt: &(impl Abort + AllocGlobal), first: &str, last: &str) -> Name {
+    made(rt, Name::try_from(internal_name(rt, first, last)))
 }
 
 /// A text, whether it is an identifier of any kind, and whether it is one that isn't a reserved word.
@@ -59,35 +59,24 @@ const IDENTIFIERS: [(&str, bool, bool); 22] = [
 ];
 
 #[test]
-fn identifiers_by_their_spelling(rt: HostRuntime) -> Result<(), Fail> {
+fn identifiers_by_their_spelling(rt: HostRuntime) {
     for (word, any, free) in IDENTIFIERS {
-        assert!(rt;
-            AnyId::new(text(rt.alloc(), word)?).is_some() == any,
-            "{word}"
-        );
-        assert!(rt;
-            Id::new(text(rt.alloc(), word)?).is_some() == free,
-            "{word}"
-        );
+        assert!(rt; AnyId::new(text(&rt, word)).is_some() == any, "{word}");
+        assert!(rt; Id::new(text(&rt, word)).is_some() == free, "{word}");
     }
-    Ok(())
 }
 
 #[test]
-fn a_reserved_identifier_is_refused(rt: HostRuntime) -> Result<(), Fail> {
-    copies(&rt, UnreservedId::try_from(id(rt.alloc(), "cedar")?)?)?;
-    match UnreservedId::try_from(id(rt.alloc(), "__cedar")?) {
-        Err(refused) => shows(&rt, refused.name(), "__cedar"),
-        Ok(_) => Err(Fail::from("not refused")),
-    }
+fn a_reserved_identifier_is_refused(rt: HostRuntime) {
+    copies(&rt, made(&rt, UnreservedId::try_from(id(&rt, "cedar"))));
+    let refused = refusal(&rt, UnreservedId::try_from(id(&rt, "__cedar")));
+    seen(refused, |refused| shows(&rt, refused.name(), "__cedar"));
 }
 
-/// The refusal of a name that is reserved.
-fn refusal(name: InternalName) -> Result<ReservedNameError, Fail> {
-    match Name::try_from(name) {
-        Err(refused) => Ok(refused),
-        Ok(_) => Err(Fail::from("not refused")),
-    }
+/// The refusal names what is written so, and is copied.
+fn is_told(rt: &(impl Abort + AllocGlobal), refused: &ReservedNameError, written: &str) {
+    shows(rt, refused.name(), written);
+    copies_of(rt, refused);
 }
 
 const RESERVED_NAMES: [(&str, &str, &str); 2] = [
@@ -96,64 +85,67 @@ const RESERVED_NAMES: [(&str, &str, &str); 2] = [
 ];
 
 #[test]
-fn reserved_names_are_refused(rt: HostRuntime) -> Result<(), Fail> {
+fn reserved_names_are_refused(rt: HostRuntime) {
     for (first, last, written) in RESERVED_NAMES {
-        let refused = refusal(internal_name(rt.alloc(), first, last)?)?;
-        shows(&rt, refused.name(), written)?;
-        copies(&rt, refused)?;
+        let refused = refusal(&rt, Name::try_from(internal_name(&rt, first, last)));
+        seen(refused, |refused| is_told(&rt, refused, written));
     }
-    Ok(())
+}
+
+/// Whether the first name stands before the second, whose last part is `User`.
+fn are_ordered(names: &(Name, Name)) -> bool {
+    names.0 < names.1 && names.1.basename().as_str() == "User"
 }
 
 #[test]
-fn names_are_ordered(rt: HostRuntime) -> Result<(), Fail> {
-    let alloc = rt.alloc();
-    let (group, user) = beside(name(alloc, "App", "Group")?, name(alloc, "App", "User"))?;
-    assert!(rt; group < user);
-    assert_eq!(rt; user.basename().as_str(), "User");
-    Ok(())
+fn names_are_ordered(rt: HostRuntime) {
+    let names = (name(&rt, "App", "Group"), name(&rt, "App", "User"));
+    assert!(rt; seen(names, are_ordered));
 }
 
 #[test]
-fn names_are_written_and_copied(rt: HostRuntime) -> Result<(), Fail> {
-    let alloc = rt.alloc();
-    says_and_copies(&rt, name(alloc, "App", "User")?, "App::User")?;
-    let single = UnreservedId::try_from(id(alloc, "ip")?)?;
-    says(&rt, Name::from(single), "ip")?;
-    copies(&rt, internal_name(alloc, "__cedar", "A")?)
+fn names_are_written_and_copied(rt: HostRuntime) {
+    says_and_copies(&rt, name(&rt, "App", "User"), "App::User");
+    let single = made(&rt, UnreservedId::try_from(id(&rt, "ip")));
+    says(&rt, Name::from(single), "ip");
+    copies(&rt, internal_name(&rt, "__cedar", "A"));
 }
 
 /// An entity whose identifier has a quote.
-fn entity(alloc: Global) -> Result<EntityUID, Fail> {
-    let (user, quoted) = beside(name(alloc, "App", "User")?, text(alloc, "a\"b"))?;
-    Ok(EntityUID::from_components(EntityType::from(user), Eid::new(quoted)))
+fn entity(rt: &(impl Abort + AllocGlobal)) -> EntityUID {
+    let user = EntityType::from(name(rt, "App", "User"));
+    EntityUID::from_components(user, Eid::new(text(rt, "a\"b")))
+}
+
+/// Whether the entity's identifier is the one with the quote.
+fn has_a_quote(entity: &EntityUID) -> bool {
+    entity.eid().as_str() == "a\"b"
 }
 
 #[test]
-fn entities_are_written_and_copied(rt: HostRuntime) -> Result<(), Fail> {
-    let entity = entity(rt.alloc())?;
-    assert_eq!(rt; entity.eid().as_str(), "a\"b");
-    says_and_copies(&rt, entity, "App::User::\"a\"b\"")
+fn entities_are_written_and_copied(rt: HostRuntime) {
+    assert!(rt; seen(entity(&rt), has_a_quote));
+    says_and_copies(&rt, entity(&rt), "App::User::\"a\"b\"");
 }
 
 #[test]
-fn words_are_written(rt: HostRuntime) -> Result<(), Fail> {
-    shows(&rt, &AddOp::Plus, "+")?;
-    shows(&rt, &AddOp::Minus, "-")?;
-    shows(&rt, &UnaryOp::Not, "!")?;
-    shows(&rt, &UnaryOp::Neg, "-")?;
-    shows(&rt, &Literal::Bool(true), "true")?;
-    shows(&rt, &Literal::Long(-5), "-5")?;
-    shows(&rt, &Var::Principal, "principal")?;
-    shows(&rt, &Var::Action, "action")?;
-    shows(&rt, &Var::Resource, "resource")?;
-    shows(&rt, &Var::Context, "context")?;
-    shows(&rt, &SlotId::Principal, "?principal")?;
-    shows(&rt, &SlotId::Resource, "?resource")
+fn words_are_written(rt: HostRuntime) {
+    shows(&rt, &AddOp::Plus, "+");
+    shows(&rt, &AddOp::Minus, "-");
+    shows(&rt, &UnaryOp::Not, "!");
+    shows(&rt, &UnaryOp::Neg, "-");
+    shows(&rt, &Literal::Bool(true), "true");
+    shows(&rt, &Literal::Long(-5), "-5");
+    shows(&rt, &Var::Principal, "principal");
+    shows(&rt, &Var::Action, "action");
+    shows(&rt, &Var::Resource, "resource");
+    shows(&rt, &Var::Context, "context");
+    shows(&rt, &SlotId::Principal, "?principal");
+    shows(&rt, &SlotId::Resource, "?resource");
 }
 
 #[test]
-fn words_and_places_are_copied(rt: HostRuntime) -> Result<(), Fail> {
+fn words_and_places_are_copied(rt: HostRuntime) {
     let place = Place {
         offset: 3,
         length: 4,
@@ -162,59 +154,66 @@ fn words_and_places_are_copied(rt: HostRuntime) -> Result<(), Fail> {
         id: SlotId::Principal,
         place: Some(place),
     };
-    copies(&rt, place)?;
-    copies(&rt, slot)?;
-    copies(&rt, AddOp::Minus)?;
-    copies(&rt, UnaryOp::Neg)?;
-    copies(&rt, Var::Context)?;
-    copies(&rt, SlotId::Resource)?;
-    copies(&rt, PatternElem::Char('a'))
+    copies(&rt, place);
+    copies(&rt, slot);
+    copies(&rt, AddOp::Minus);
+    copies(&rt, UnaryOp::Neg);
+    copies(&rt, Var::Context);
+    copies(&rt, SlotId::Resource);
+    copies(&rt, PatternElem::Char('a'));
 }
 
 #[test]
-fn parts_of_names_are_copied(rt: HostRuntime) -> Result<(), Fail> {
-    let alloc = rt.alloc();
-    copies(&rt, text(alloc, "a b")?)?;
-    copies(&rt, AnyId::new(text(alloc, "if")?).ok_or("no identifier")?)?;
-    copies(&rt, id(alloc, "a")?)?;
-    copies(&rt, Eid::new(text(alloc, "a b")?))?;
-    copies(&rt, EntityType::from(name(alloc, "A", "B")?))?;
-    copies(&rt, Literal::EntityUID(entity(alloc)?))?;
+fn parts_of_names_are_copied(rt: HostRuntime) {
+    copies(&rt, text(&rt, "a b"));
     copies(
         &rt,
-        ExpressionConstructionError::duplicate_key(text(alloc, "a")?),
-    )
+        AnyId::new(text(&rt, "if")).expect(&rt, "no identifier"),
+    );
+    copies(&rt, id(&rt, "a"));
+    copies(&rt, Eid::new(text(&rt, "a b")));
+    copies(&rt, EntityType::from(name(&rt, "A", "B")));
+    copies(&rt, Literal::EntityUID(entity(&rt)));
+    let repeated = ExpressionConstructionError::duplicate_key(text(&rt, "a"));
+    copies(&rt, repeated);
 }
 
 #[test]
-fn calls_and_what_holds_parts_are_copied(rt: HostRuntime) -> Result<(), Fail> {
-    let alloc = rt.alloc();
-    is_copied(
-        &rt,
-        &BinaryCall::IsIn(EntityType::from(name(alloc, "A", "B")?)),
-    )?;
-    is_copied(&rt, &UnaryCall::GetAttr(text(alloc, "a")?))?;
-    is_copied(&rt, &ListCall::Extension(name(alloc, "A", "f")?))?;
-    is_copied(&rt, &Some(text(alloc, "a")?))?;
-    is_copied(&rt, &(text(alloc, "a")?, SlotId::Principal))?;
-    copies(&rt, Boxed::new(alloc, text(alloc, "a")?)?)
+fn calls_and_what_holds_parts_are_copied(rt: HostRuntime) {
+    let entity_type = EntityType::from(name(&rt, "A", "B"));
+    is_copied(&rt, BinaryCall::IsIn(entity_type));
+    is_copied(&rt, UnaryCall::GetAttr(text(&rt, "a")));
+    is_copied(&rt, ListCall::Extension(name(&rt, "A", "f")));
+    is_copied(&rt, Some(text(&rt, "a")));
+    is_copied(&rt, (text(&rt, "a"), SlotId::Principal));
+    copies(&rt, made(&rt, Boxed::new(rt.alloc(), text(&rt, "a"))));
+}
+
+/// A list of `b` and `a`.
+fn items(rt: &(impl Abort + AllocGlobal)) -> Items<Text> {
+    Items::from(list_of_two(rt, text(rt, "b"), text(rt, "a")))
+}
+
+/// Whether these are a list of `b`, and `a`.
+fn are_b_and_a(taken: &(Items<Text>, Text)) -> bool {
+    let (rest, last) = taken;
+    rest.len() == 1 && rest.iter().all(|item| item.as_str() == "b") && last.as_str() == "a"
 }
 
 #[test]
-fn items_are_copied_read_and_taken(rt: HostRuntime) -> Result<(), Fail> {
-    let alloc = rt.alloc();
-    let mut items = Items::from(list_of_two(alloc, text(alloc, "b"), text(alloc, "a"))?);
-    copies_of(&rt, &items)?;
-    assert_eq!(rt; items.len(), 2);
-    let last = items.pop().ok_or("empty")?;
-    assert_eq!(rt; last.as_str(), "a");
-    assert!(rt; items.iter().all(|item| item.as_str() == "b"));
-    Ok(())
+fn items_are_copied_read_and_taken(rt: HostRuntime) {
+    copies(&rt, items(&rt));
+    assert!(rt; seen(taken(&rt, items(&rt)), are_b_and_a));
+}
+
+/// A shared text.
+fn source(rt: &(impl Abort + AllocGlobal)) -> Source {
+    made(rt, Source::from_str(rt.alloc(), "abc"))
 }
 
 #[test]
-fn sources_are_shared(rt: HostRuntime) -> Result<(), Fail> {
-    let source = Source::from_str(rt.alloc(), "abc")?;
-    assert_eq!(rt; source.share()?, source);
-    says_and_copies(&rt, source, "abc")
+fn sources_are_shared(rt: HostRuntime) {
+    let shared = made(&rt, seen(source(&rt), Source::share));
+    agrees(&rt, shared, source(&rt), "a share");
+    says_and_copies(&rt, source(&rt), "abc");
 }

@@ -1,10 +1,9 @@
 //! Runs of the program over memory: its rows, and readers and writers that fail.
+use super::held::made;
 use crate::run::run;
-use std::alloc::{AllocError, Global};
 use std::io;
 use std::io::{ErrorKind, Read, Write};
 use std::process::Abort;
-use std::test::Fail;
 
 /// The words of a run, its input, its status, its output, and what it says on the stream of errors.
 type Row = (
@@ -208,40 +207,66 @@ const STRINGS: [Row; 4] = [
 ];
 
 /// The program's words.
-fn owned(alloc: Global, words: &[&str]) -> Result<Vec<String>, AllocError> {
-    let mut owned = Vec::new(alloc);
+fn owned(rt: &(impl Abort + AllocGlobal), words: &[&str]) -> Vec<String> {
+    let mut owned = Vec::new(rt.alloc());
     for word in words {
-        owned.push(String::from_str(alloc, word)?)?;
+        let word = made(rt, String::from_str(rt.alloc(), word));
+        made(rt, owned.push(word));
     }
-    Ok(owned)
+    owned
 }
 
 /// Runs over memory, with a writer of errors of its own: the status, and what was written there.
 fn run_on<R: Read + Drop, O: Write>(
-    alloc: Global,
+    rt: &(impl Abort + AllocGlobal),
     words: &[&str],
     reader: R,
     out: &mut O,
-) -> Result<(u8, Vec<u8>), AllocError> {
-    let words = owned(alloc, words)?;
-    let mut err = Vec::new(alloc);
-    let status = run(alloc, words.as_slice(), reader, out, &mut err);
-    Ok((status, err))
+) -> (u8, Vec<u8>) {
+    let words = owned(rt, words);
+    let mut err = Vec::new(rt.alloc());
+    let status = run(rt.alloc(), words.as_slice(), reader, out, &mut err);
+    (status, err)
+}
+
+/// The row's run ends as the row says.
+fn ends_so(rt: &(impl Abort + AllocGlobal), row: &Row) {
+    let (words, input, status, written, said) = row;
+    let mut out = Vec::new(rt.alloc());
+    let (got, err) = run_on(rt, words, *input, &mut out);
+    assert!(rt;
+        got == *status && out.as_slice() == written.as_bytes(),
+        "{written}"
+    );
+    assert!(rt; err.as_slice() == said.as_bytes());
 }
 
 #[test]
-fn each_row_ends_so(rt: HostRuntime) -> Result<(), Fail> {
-    let tables: [&[Row]; 4] = [&ENDED_EARLY, &ACCEPTED, &REFUSED, &STRINGS];
-    for rows in tables {
-        for (words, input, status, written, said) in rows {
-            let mut out = Vec::new(rt.alloc());
-            let (got, err) = run_on(rt.alloc(), words, *input, &mut out)?;
-            assert_eq!(rt; got, *status, "{written}");
-            assert_eq!(rt; out.as_slice(), written.as_bytes());
-            assert_eq!(rt; err.as_slice(), said.as_bytes());
-        }
+fn runs_that_ask_for_nothing_end_so(rt: HostRuntime) {
+    for row in &ENDED_EARLY {
+        ends_so(&rt, row);
     }
-    Ok(())
+}
+
+#[test]
+fn texts_that_mean_something_end_so(rt: HostRuntime) {
+    for row in &ACCEPTED {
+        ends_so(&rt, row);
+    }
+}
+
+#[test]
+fn texts_with_faults_end_so(rt: HostRuntime) {
+    for row in &REFUSED {
+        ends_so(&rt, row);
+    }
+}
+
+#[test]
+fn texts_with_strings_end_so(rt: HostRuntime) {
+    for row in &STRINGS {
+        ends_so(&rt, row);
+    }
 }
 
 /// Gives its bytes one at a time, and fails at the read with this number, counted from 0.
@@ -269,19 +294,18 @@ impl Read for FailingReader<'_> {
 }
 
 #[test]
-fn tells_of_a_read_that_fails(rt: HostRuntime) -> Result<(), Fail> {
+fn tells_of_a_read_that_fails(rt: HostRuntime) {
     for reads_left in 0..3 {
         let reader = FailingReader {
             rest: b"1+2",
             reads_left,
         };
         let mut out = Vec::new(rt.alloc());
-        let (status, err) = run_on(rt.alloc(), EXPR, reader, &mut out)?;
-        assert_eq!(rt; status, 4);
+        let (status, err) = run_on(&rt, EXPR, reader, &mut out);
+        assert!(rt; status == 4);
         assert!(rt; out.is_empty());
-        assert_eq!(rt; err.as_slice(), b"input or output failed\n".as_slice());
+        assert!(rt; err.as_slice() == b"input or output failed\n".as_slice());
     }
-    Ok(())
 }
 
 /// Takes so many writes, and then fails.
@@ -307,31 +331,25 @@ impl Write for FailingWriter {
 }
 
 /// Runs on a text with each number of writes that are taken, until the run ends as it does on a sound writer.
-fn fails_at_each_write(
-    rt: &(impl Abort + AllocGlobal),
-    text: &str,
-    want: &str,
-    status: u8,
-) -> Result<(), Fail> {
+fn fails_at_each_write(rt: &(impl Abort + AllocGlobal), text: &str, want: &str, status: u8) {
     for writes_left in 0..200 {
         let mut out = FailingWriter {
             writes_left,
             taken: Vec::new(rt.alloc()),
         };
-        let (got, _) = run_on(rt.alloc(), EXPR, text.as_bytes(), &mut out)?;
+        let (got, _) = run_on(rt, EXPR, text.as_bytes(), &mut out);
         if got == status {
-            assert_eq!(rt; out.taken.as_slice(), want.as_bytes());
+            assert!(rt; out.taken.as_slice() == want.as_bytes());
             assert!(rt; writes_left > 0, "no write was needed");
-            return Ok(());
+            return;
         }
-        assert_eq!(rt; got, 4, "with {writes_left} writes");
+        assert!(rt; got == 4, "with {writes_left} writes");
     }
     assert!(rt; false, "no number of writes was enough");
-    Ok(())
 }
 
 #[test]
-fn tells_of_a_write_that_fails(rt: HostRuntime) -> Result<(), Fail> {
-    fails_at_each_write(&rt, "1", "1\nok\n", 0)?;
-    fails_at_each_write(&rt, "", "0..0: unexpected end of input\n", 1)
+fn tells_of_a_write_that_fails(rt: HostRuntime) {
+    fails_at_each_write(&rt, "1", "1\nok\n", 0);
+    fails_at_each_write(&rt, "", "0..0: unexpected end of input\n", 1);
 }

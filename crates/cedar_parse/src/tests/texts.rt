@@ -1,7 +1,7 @@
 //! What texts become: `parse_expr` with its trees and faults, and `parse_expression` with its values.
 use super::builder::{build, difference, long, prefixed};
-use super::counting::CountingBuilder;
-use super::held::{agrees, shows};
+use super::counting::{Counted, CountingBuilder};
+use super::held::{agrees, made, refusal, seen, shows};
 use super::names::text;
 use cedar_expressions::{
     Expr as Value, ExprBuilder, ExprBuilderInfallibleBuild, Literal, UnaryOp, Var,
@@ -13,22 +13,13 @@ use cedar_syntax::err::{Failure, ParseError};
 use cedar_syntax::loc::SourceSpan;
 use cedar_syntax::node::Node;
 use cedar_text::text_to_cst::parse_expr;
-use std::alloc::{AllocError, Global};
+use std::alloc::Global;
 use std::collections::BTreeSet;
 use std::process::Abort;
-use std::test::Fail;
-
-/// A text's tree or its faults.
-pub(super) fn parsed(alloc: Global, text: &str) -> Result<Node<Option<Expr>>, Failure> {
-    parse_expr(alloc, text)
-}
 
 /// The tree of a text that is accepted.
-pub(super) fn tree(alloc: Global, text: &str) -> Result<Node<Option<Expr>>, Fail> {
-    match parsed(alloc, text) {
-        Ok(tree) => Ok(tree),
-        Err(_) => Err(Fail::from("the text is refused")),
-    }
+pub(super) fn tree(rt: &(impl Abort + AllocGlobal), text: &str) -> Node<Option<Expr>> {
+    made(rt, parse_expr(rt.alloc(), text))
 }
 
 /// What a builder makes of a tree.
@@ -73,21 +64,15 @@ const TREES: [(&str, &str); 13] = [
 ];
 
 #[test]
-fn trees_are_printed_token_by_token(rt: HostRuntime) -> Result<(), Fail> {
+fn trees_are_printed_token_by_token(rt: HostRuntime) {
     for (text, printed) in TREES {
-        is_printed(&rt, &tree(rt.alloc(), text)?, printed)?;
+        seen(tree(&rt, text), |tree| is_printed(&rt, tree, printed));
     }
-    Ok(())
 }
 
 /// The tree's text is this one.
-fn is_printed(
-    rt: &(impl Abort + AllocGlobal),
-    tree: &Node<Option<Expr>>,
-    printed: &str,
-) -> Result<(), Fail> {
-    let expr = tree.as_inner().ok_or("an empty node")?;
-    shows(rt, expr, printed)
+fn is_printed(rt: &(impl Abort + AllocGlobal), tree: &Node<Option<Expr>>, printed: &str) {
+    shows(rt, inside(rt, tree), printed);
 }
 
 /// A text, the place of its first fault, and the message.
@@ -132,158 +117,148 @@ const REFUSED: [Refused; 16] = [
     ),
 ];
 
-/// The fault is at this place, and says this.
-fn is_told(
-    rt: &(impl Abort + AllocGlobal),
-    fault: &ParseError,
-    span: SourceSpan,
-    message: &str,
-) -> Result<(), Fail> {
-    let ParseError::ToCST(fault) = fault else {
-        return Err(Fail::from("not a fault of the text"));
+/// The failure is one fault of the text, at this place, and says this.
+fn is_told(rt: &(impl Abort + AllocGlobal), failure: &Failure, span: SourceSpan, message: &str) {
+    let Failure::Errors(faults) = failure else {
+        return assert!(rt; false, "want of memory");
     };
+    let ParseError::ToCST(fault) = faults.first() else {
+        return assert!(rt; false, "not a fault of the text");
+    };
+    assert!(rt; faults.len() == 1, "{message}");
     assert!(rt; fault.primary_source_span() == Some(span), "{message}");
     assert!(rt; fault.expected_kinds().is_empty());
-    shows(rt, fault, message)
+    shows(rt, fault, message);
 }
 
 #[test]
-fn a_refusal_is_the_first_fault(rt: HostRuntime) -> Result<(), Fail> {
+fn a_refusal_is_the_first_fault(rt: HostRuntime) {
     for (text, start, end, message) in REFUSED {
-        let Err(Failure::Errors(faults)) = parsed(rt.alloc(), text) else {
-            return Err(Fail::from("the text is not refused"));
-        };
-        assert_eq!(rt; faults.len(), 1, "{text}");
-        is_told(
-            &rt,
-            faults.first(),
-            SourceSpan::between(start, end),
-            message,
-        )?;
+        let span = SourceSpan::between(start, end);
+        let failure = refusal(&rt, parse_expr(rt.alloc(), text));
+        seen(failure, |failure| is_told(&rt, failure, span, message));
     }
-    Ok(())
+}
+
+/// What a node holds.
+fn inside<'a, T>(rt: &impl Abort, node: &'a Node<Option<T>>) -> &'a T {
+    node.as_inner().expect(rt, "an empty node")
+}
+
+/// Where a node stands.
+fn place_of<T>(rt: &impl Abort, node: &Node<Option<T>>) -> SourceSpan {
+    SourceSpan::from(node.loc().expect(rt, "no place"))
 }
 
 /// The places of a sum, of its last operand, and of the expression that stands there in parentheses.
-fn places(tree: &Node<Option<Expr>>) -> Option<[SourceSpan; 3]> {
-    let Expr::Expr(whole) = tree.as_inner()?;
+fn places(rt: &impl Abort, tree: &Node<Option<Expr>>) -> Option<[SourceSpan; 3]> {
+    let Expr::Expr(whole) = inside(rt, tree);
     let ExprData::Or(or) = whole.expr.as_ref() else {
         return None;
     };
-    let Relation::Common { initial: sum, .. } = or
-        .as_inner()?
-        .initial
-        .as_inner()?
-        .initial
-        .as_inner()?
-    else {
+    let relation = &inside(rt, &inside(rt, or).initial).initial;
+    let Relation::Common { initial: sum, .. } = inside(rt, relation) else {
         return None;
     };
-    let (_, last) = sum.as_inner()?.extended.as_slice().last()?;
-    let operand = &last.as_inner()?.initial.as_inner()?.item.as_inner()?.item;
-    let Primary::Expr(inner) = operand.as_inner()? else {
+    let (_, last) = inside(rt, sum).extended.as_slice().last()?;
+    let member = &inside(rt, &inside(rt, last).initial).item;
+    let operand = &inside(rt, member).item;
+    let Primary::Expr(inner) = inside(rt, operand) else {
         return None;
     };
     Some([
-        SourceSpan::from(sum.loc()?),
-        SourceSpan::from(operand.loc()?),
-        SourceSpan::from(inner.loc()?),
+        place_of(rt, sum),
+        place_of(rt, operand),
+        place_of(rt, inner),
     ])
 }
 
 #[test]
-fn each_node_has_its_place(rt: HostRuntime) -> Result<(), Fail> {
-    let tree = tree(rt.alloc(), "1+(2)")?;
+fn each_node_has_its_place(rt: HostRuntime) {
     let wanted = [
         SourceSpan::between(0, 5),
         SourceSpan::between(2, 5),
         SourceSpan::between(3, 4),
     ];
-    assert!(rt; places(&tree) == Some(wanted));
-    Ok(())
+    let told = seen(tree(&rt, "1+(2)"), |tree| places(&rt, tree));
+    assert!(rt; told == Some(wanted));
 }
 
 /// The value of a text that has one.
-fn value(alloc: Global, text: &str) -> Result<Value, Fail> {
-    let styles = ExtStyles::new(BTreeSet::new(alloc), BTreeSet::new(alloc));
-    match parse_expression(alloc, text, &styles) {
-        Ok(value) => Ok(value),
-        Err(_) => Err(Fail::from("the text is refused")),
-    }
+fn value(rt: &(impl Abort + AllocGlobal), text: &str) -> Value {
+    let styles = ExtStyles::new(BTreeSet::new(rt.alloc()), BTreeSet::new(rt.alloc()));
+    made(rt, parse_expression(rt.alloc(), text, &styles))
 }
 
 /// The text has this value, places aside.
-fn means(
-    rt: &(impl Abort + AllocGlobal),
-    text: &str,
-    wanted: Result<Value, AllocError>,
-) -> Result<(), Fail> {
-    agrees(rt, value(rt.alloc(), text)?, wanted, text)
+fn means(rt: &(impl Abort + AllocGlobal), text: &str, wanted: Value) {
+    agrees(rt, value(rt, text), wanted, text);
 }
 
 /// `!!true`.
-fn negated_twice(alloc: Global) -> Result<Value, AllocError> {
-    let truth = build(alloc).val(Literal::Bool(true))?;
-    let once = build(alloc).not(truth)?;
-    build(alloc).not(once)
+fn negated_twice(rt: &(impl Abort + AllocGlobal)) -> Value {
+    let truth = made(rt, build(rt).val(Literal::Bool(true)));
+    let once = made(rt, build(rt).not(truth));
+    made(rt, build(rt).not(once))
 }
 
-/// The constant that a string is.
-fn string(alloc: Global, unescaped: &str) -> Result<Value, AllocError> {
-    let unescaped = text(alloc, unescaped)?;
-    build(alloc).val(Literal::String(unescaped))
+/// A constant.
+fn constant(rt: &(impl Abort + AllocGlobal), literal: Literal) -> Value {
+    made(rt, build(rt).val(literal))
 }
 
-#[test]
-fn numbers_and_their_signs_have_values(rt: HostRuntime) -> Result<(), Fail> {
-    let alloc = rt.alloc();
-    means(&rt, "-9223372036854775808", long(alloc, i64::MIN))?;
-    means(&rt, "9223372036854775807", long(alloc, i64::MAX))?;
-    means(&rt, "-0", long(alloc, 0))?;
-    means(&rt, "--5", prefixed(alloc, UnaryOp::Neg, -5))?;
-    means(&rt, "-(5)", prefixed(alloc, UnaryOp::Neg, 5))?;
-    means(&rt, "1 - -1", difference(alloc, -1))
+/// A variable.
+fn variable(rt: &(impl Abort + AllocGlobal), var: Var) -> Value {
+    made(rt, build(rt).var(var))
 }
 
 #[test]
-fn other_operands_have_values(rt: HostRuntime) -> Result<(), Fail> {
-    let alloc = rt.alloc();
-    means(&rt, "!!true", negated_twice(alloc))?;
-    means(&rt, "(false)", build(alloc).val(Literal::Bool(false)))?;
-    means(&rt, "principal", build(alloc).var(Var::Principal))?;
-    means(&rt, "context", build(alloc).var(Var::Context))?;
-    means(&rt, "\"a\\u{62}c\"", string(alloc, "abc"))?;
-    means(&rt, "(\"\\x42\\u{5_A}\")", string(alloc, "BZ"))
+fn numbers_and_their_signs_have_values(rt: HostRuntime) {
+    means(&rt, "-9223372036854775808", long(&rt, i64::MIN));
+    means(&rt, "9223372036854775807", long(&rt, i64::MAX));
+    means(&rt, "-0", long(&rt, 0));
+    means(&rt, "--5", prefixed(&rt, UnaryOp::Neg, -5));
+    means(&rt, "-(5)", prefixed(&rt, UnaryOp::Neg, 5));
+    means(&rt, "1 - -1", difference(&rt, -1));
+}
+
+#[test]
+fn other_operands_have_values(rt: HostRuntime) {
+    means(&rt, "!!true", negated_twice(&rt));
+    means(&rt, "(false)", constant(&rt, Literal::Bool(false)));
+    means(&rt, "principal", variable(&rt, Var::Principal));
+    means(&rt, "context", variable(&rt, Var::Context));
+    let letters = Literal::String(text(&rt, "abc"));
+    means(&rt, "\"a\\u{62}c\"", constant(&rt, letters));
+    let letters = Literal::String(text(&rt, "BZ"));
+    means(&rt, "(\"\\x42\\u{5_A}\")", constant(&rt, letters));
 }
 
 /// 1 in so many pairs of parentheses.
-fn nested(alloc: Global, depth: usize) -> Result<String, AllocError> {
-    let mut text = String::new(alloc);
+fn nested(rt: &(impl Abort + AllocGlobal), depth: usize) -> String {
+    let mut text = String::new(rt.alloc());
     for _ in 0..depth {
-        text.push('(')?;
+        made(rt, text.push('('));
     }
-    text.push('1')?;
+    made(rt, text.push('1'));
     for _ in 0..depth {
-        text.push(')')?;
+        made(rt, text.push(')'));
     }
-    Ok(text)
+    text
 }
 
 #[test]
-fn parentheses_nest(rt: HostRuntime) -> Result<(), Fail> {
-    let text = nested(rt.alloc(), 500)?;
-    means(&rt, text.as_str(), long(rt.alloc(), 1))
+fn parentheses_nest(rt: HostRuntime) {
+    let text = nested(&rt, 500);
+    means(&rt, text.as_str(), long(&rt, 1));
 }
 
 /// The number of calls of a builder that make a text's value, or `None` where the text has none.
 fn calls(alloc: Global, text: &str) -> Option<usize> {
-    let Ok(tree) = parsed(alloc, text) else {
-        return None;
-    };
-    match built::<CountingBuilder<ExprBuilder<()>>>(alloc, &tree) {
-        Ok(counted) => Some(counted.nodes()),
-        Err(_) => None,
-    }
+    let counted = seen(parse_expr(alloc, text).ok()?, |tree| {
+        built::<CountingBuilder<ExprBuilder<()>>>(alloc, tree)
+    });
+    Some(seen(counted.ok()?, Counted::nodes))
 }
 
 const CALLS: [(&str, Option<usize>); 8] = [
@@ -298,9 +273,8 @@ const CALLS: [(&str, Option<usize>); 8] = [
 ];
 
 #[test]
-fn each_builder_is_asked(rt: HostRuntime) -> Result<(), Fail> {
+fn each_builder_is_asked(rt: HostRuntime) {
     for (text, wanted) in CALLS {
-        assert_eq!(rt; calls(rt.alloc(), text), wanted, "{text}");
+        assert!(rt; calls(rt.alloc(), text) == wanted, "{text}");
     }
-    Ok(())
 }

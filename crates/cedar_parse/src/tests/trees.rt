@@ -1,5 +1,5 @@
 //! Trees: a copy of each type equals its source, and what hinders the conversion of trees that no text has.
-use super::held::{beside, both, copies, copies_of, shows};
+use super::held::{copies, copies_of, made, refusal, says, seen};
 use super::names::text;
 use super::texts::{built, tree};
 use cedar_expressions::{ExprBuilder, TryClone};
@@ -8,12 +8,9 @@ use cedar_syntax::cst::{
     MultOp, Name, NegOp, Or, Policies, Policy, PolicyImpl, Primary, RecInit, Ref, RefInit, RelOp,
     Relation, Slot, Str, Unary, VariableDef,
 };
-use cedar_syntax::err::Failure;
 use cedar_syntax::node::Node;
 use cedar_syntax::{Boxed, Items};
-use std::alloc::{AllocError, Global};
 use std::process::Abort;
-use std::test::Fail;
 
 /// A node without a place.
 fn node<T>(value: T) -> Node<Option<T>> {
@@ -21,142 +18,133 @@ fn node<T>(value: T) -> Node<Option<T>> {
 }
 
 /// A list of one.
-fn one<T: Drop>(alloc: Global, item: T) -> Result<Items<T>, AllocError> {
-    let mut items = Items::new(alloc);
-    items.push(item)?;
-    Ok(items)
+fn one<T: Drop>(rt: &(impl Abort + AllocGlobal), item: T) -> Items<T> {
+    let mut items = Items::new(rt.alloc());
+    made(rt, items.push(item));
+    items
 }
 
 /// What a node holds, which is copied.
 fn held<'a, T: TryClone + Clone + PartialEq + Drop>(
     rt: &impl Abort,
     node: &'a Node<Option<T>>,
-) -> Result<&'a T, Fail> {
-    let value = node.as_inner().ok_or("an empty node")?;
-    copies_of(rt, value)?;
-    Ok(value)
+) -> &'a T {
+    let value = node.as_inner().expect(rt, "an empty node");
+    copies_of(rt, value);
+    value
 }
 
 /// Each tree on the way to the leftmost operand is copied.
-fn copies_each_level(rt: &impl Abort, whole: &Node<Option<Expr>>) -> Result<(), Fail> {
-    let Expr::Expr(implementation) = held(rt, whole)?;
-    copies_of(rt, implementation)?;
+fn copies_each_level(rt: &impl Abort, whole: &Node<Option<Expr>>) {
+    let Expr::Expr(implementation) = held(rt, whole);
+    copies_of(rt, implementation);
     let data = implementation.expr.as_ref();
-    copies_of(rt, data)?;
+    copies_of(rt, data);
     let ExprData::Or(or) = data else {
-        return Err(Fail::from("not a chain"));
+        return assert!(rt; false, "not a chain");
     };
-    let and = &held(rt, or)?.initial;
-    let relation = &held(rt, and)?.initial;
-    let Relation::Common { initial: add, .. } = held(rt, relation)? else {
-        return Err(Fail::from("not a comparison"));
-    };
-    copies_each_operand(rt, add)
+    let and = &held(rt, or).initial;
+    let relation = &held(rt, and).initial;
+    match held(rt, relation) {
+        Relation::Common { initial, .. } => copies_each_operand(rt, initial),
+        _ => assert!(rt; false, "not a comparison"),
+    }
 }
 
 /// Each tree within a sum on the way to the leftmost operand is copied.
-fn copies_each_operand(rt: &impl Abort, add: &Node<Option<Add>>) -> Result<(), Fail> {
-    let mult = &held(rt, add)?.initial;
-    let unary = &held(rt, mult)?.initial;
-    let member = &held(rt, unary)?.item;
-    let primary = &held(rt, member)?.item;
-    held(rt, primary)?;
-    Ok(())
+fn copies_each_operand(rt: &impl Abort, add: &Node<Option<Add>>) {
+    let mult = &held(rt, add).initial;
+    let unary = &held(rt, mult).initial;
+    let member = &held(rt, unary).item;
+    held(rt, &held(rt, member).item);
 }
 
 #[test]
-fn the_trees_of_texts_are_copied(rt: HostRuntime) -> Result<(), Fail> {
-    let alloc = rt.alloc();
-    copies_each_level(&rt, &tree(alloc, "-1 * 2 - 3 <= 4 && 5 || 6")?)?;
-    copies_each_level(&rt, &tree(alloc, "(if true then \"a\" else principal)")?)
+fn the_trees_of_texts_are_copied(rt: HostRuntime) {
+    let chain = tree(&rt, "-1 * 2 - 3 <= 4 && 5 || 6");
+    seen(chain, |tree| copies_each_level(&rt, tree));
+    let choice = tree(&rt, "(if true then \"a\" else principal)");
+    seen(choice, |tree| copies_each_level(&rt, tree));
 }
 
 #[test]
-fn words_and_names_are_copied(rt: HostRuntime) -> Result<(), Fail> {
-    let alloc = rt.alloc();
-    copies(&rt, RelOp::Eq)?;
-    copies(&rt, MultOp::Mod)?;
-    copies(&rt, NegOp::OverBang)?;
-    copies(&rt, Ident::Ident(text(alloc, "a")?))?;
-    copies(&rt, Slot::Other(text(alloc, "?a")?))?;
-    copies(&rt, Str::Invalid(text(alloc, "a")?))?;
-    copies(&rt, literal(alloc)?)?;
-    copies(&rt, name(alloc)?)
+fn words_and_names_are_copied(rt: HostRuntime) {
+    copies(&rt, RelOp::Eq);
+    copies(&rt, MultOp::Mod);
+    copies(&rt, NegOp::OverBang);
+    copies(&rt, Ident::Ident(text(&rt, "a")));
+    copies(&rt, Slot::Other(text(&rt, "?a")));
+    copies(&rt, Str::Invalid(text(&rt, "a")));
+    copies(&rt, literal(&rt));
+    copies(&rt, name(&rt));
 }
 
 /// `"a"`.
-fn literal(alloc: Global) -> Result<Literal, AllocError> {
-    Ok(Literal::Str(node(Str::String(text(alloc, "a")?))))
+fn literal(rt: &(impl Abort + AllocGlobal)) -> Literal {
+    Literal::Str(node(Str::String(text(rt, "a"))))
 }
 
 /// `A::principal`.
-fn name(alloc: Global) -> Result<Name, AllocError> {
-    let path = one(alloc, node(Ident::Ident(text(alloc, "A")?)))?;
-    Ok(Name {
-        path,
+fn name(rt: &(impl Abort + AllocGlobal)) -> Name {
+    Name {
+        path: one(rt, node(Ident::Ident(text(rt, "A")))),
         name: node(Ident::Principal),
-    })
+    }
 }
 
 #[test]
-fn references_are_copied(rt: HostRuntime) -> Result<(), Fail> {
-    let alloc = rt.alloc();
+fn references_are_copied(rt: HostRuntime) {
     let uid = Ref::Uid {
-        path: node(name(alloc)?),
+        path: node(name(&rt)),
         eid: Node::new(None),
     };
-    copies(&rt, uid)?;
-    let field = RefInit(node(Ident::In), node(literal(alloc)?));
-    copies(&rt, field)?;
-    let field = RefInit(Node::new(None), node(literal(alloc)?));
+    copies(&rt, uid);
+    copies(&rt, RefInit(node(Ident::In), node(literal(&rt))));
+    let field = RefInit(Node::new(None), node(literal(&rt)));
     let reference = Ref::Ref {
         path: Node::new(None),
-        rinits: one(alloc, node(field))?,
+        rinits: one(&rt, node(field)),
     };
-    copies(&rt, reference)
+    copies(&rt, reference);
 }
 
 #[test]
-fn operands_are_copied(rt: HostRuntime) -> Result<(), Fail> {
-    let alloc = rt.alloc();
-    copies(&rt, Primary::Slot(node(Slot::Principal)))?;
-    copies(&rt, Primary::EList(one(alloc, tree(alloc, "1")?)?))?;
-    copies(&rt, MemAccess::Field(node(Ident::Has)))?;
-    copies(&rt, MemAccess::Index(tree(alloc, "1")?))?;
-    copies(&rt, MemAccess::Call(one(alloc, tree(alloc, "1")?)?))?;
-    copies(&rt, RecInit(Node::new(None), tree(alloc, "1")?))
+fn operands_are_copied(rt: HostRuntime) {
+    copies(&rt, Primary::Slot(node(Slot::Principal)));
+    copies(&rt, Primary::EList(one(&rt, tree(&rt, "1"))));
+    copies(&rt, MemAccess::Field(node(Ident::Has)));
+    copies(&rt, MemAccess::Index(tree(&rt, "1")));
+    copies(&rt, MemAccess::Call(one(&rt, tree(&rt, "1"))));
+    copies(&rt, RecInit(Node::new(None), tree(&rt, "1")));
 }
 
 /// A sum that holds nothing.
-fn boxed(alloc: Global) -> Result<Boxed<Node<Option<Add>>>, AllocError> {
+fn boxed(rt: &(impl Abort + AllocGlobal)) -> Boxed<Node<Option<Add>>> {
     let add = Add {
         initial: Node::new(None),
-        extended: Items::new(alloc),
+        extended: Items::new(rt.alloc()),
     };
-    Boxed::new(alloc, node(add))
+    made(rt, Boxed::new(rt.alloc(), node(add)))
 }
 
 #[test]
-fn relations_are_copied(rt: HostRuntime) -> Result<(), Fail> {
-    let field = boxed(rt.alloc())?;
+fn relations_are_copied(rt: HostRuntime) {
     let has = Relation::Has {
         target: Node::new(None),
-        field,
+        field: boxed(&rt),
     };
-    copies(&rt, has)?;
-    let pattern = boxed(rt.alloc())?;
+    copies(&rt, has);
     let like = Relation::Like {
         target: Node::new(None),
-        pattern,
+        pattern: boxed(&rt),
     };
-    copies(&rt, like)?;
-    let (entity_type, entity) = both(boxed(rt.alloc()), boxed(rt.alloc()))?;
+    copies(&rt, like);
     let is_in = Relation::IsIn {
         target: Node::new(None),
-        entity_type,
-        in_entity: Some(entity),
+        entity_type: boxed(&rt),
+        in_entity: Some(boxed(&rt)),
     };
-    copies(&rt, is_in)
+    copies(&rt, is_in);
 }
 
 /// An annotation without a value.
@@ -186,38 +174,31 @@ fn condition(expr: Node<Option<Expr>>) -> Cond {
 }
 
 /// A policy of one annotation, one variable and one condition.
-fn policy_impl(alloc: Global) -> Result<PolicyImpl, Fail> {
-    let (left, right) = beside(tree(alloc, "1")?, tree(alloc, "2"))?;
-    let conditions = both(
-        one(alloc, node(variable(left))),
-        one(alloc, node(condition(right))),
-    );
-    let ((variables, conds), annotations) = both(conditions, one(alloc, node(annotation())))?;
-    Ok(PolicyImpl {
-        annotations,
+fn policy_impl(rt: &(impl Abort + AllocGlobal)) -> PolicyImpl {
+    PolicyImpl {
+        annotations: one(rt, node(annotation())),
         effect: node(Ident::Permit),
-        variables,
-        conds,
-    })
+        variables: one(rt, node(variable(tree(rt, "1")))),
+        conds: one(rt, node(condition(tree(rt, "2")))),
+    }
 }
 
 #[test]
-fn policies_are_copied(rt: HostRuntime) -> Result<(), Fail> {
-    let alloc = rt.alloc();
-    copies(&rt, annotation())?;
-    copies(&rt, variable(tree(alloc, "1")?))?;
-    copies(&rt, condition(tree(alloc, "1")?))?;
-    copies(&rt, policy_impl(alloc)?)?;
-    copies(&rt, Policy::Policy(policy_impl(alloc)?))?;
-    let policy = node(Policy::Policy(policy_impl(alloc)?));
-    copies(&rt, Policies(one(alloc, policy)?))
+fn policies_are_copied(rt: HostRuntime) {
+    copies(&rt, annotation());
+    copies(&rt, variable(tree(&rt, "1")));
+    copies(&rt, condition(tree(&rt, "1")));
+    copies(&rt, policy_impl(&rt));
+    copies(&rt, Policy::Policy(policy_impl(&rt)));
+    let policy = node(Policy::Policy(policy_impl(&rt)));
+    copies(&rt, Policies(one(&rt, policy)));
 }
 
 /// The expression that is this primary alone.
-fn expr(alloc: Global, primary: Node<Option<Primary>>) -> Result<Node<Option<Expr>>, AllocError> {
+fn expr(rt: &(impl Abort + AllocGlobal), primary: Node<Option<Primary>>) -> Node<Option<Expr>> {
     let member = Member {
         item: primary,
-        access: Items::new(alloc),
+        access: Items::new(rt.alloc()),
     };
     let unary = Unary {
         op: None,
@@ -225,49 +206,44 @@ fn expr(alloc: Global, primary: Node<Option<Primary>>) -> Result<Node<Option<Exp
     };
     let mult = Mult {
         initial: node(unary),
-        extended: Items::new(alloc),
+        extended: Items::new(rt.alloc()),
     };
     let add = Add {
         initial: node(mult),
-        extended: Items::new(alloc),
+        extended: Items::new(rt.alloc()),
     };
     let relation = Relation::Common {
         initial: node(add),
-        extended: Items::new(alloc),
+        extended: Items::new(rt.alloc()),
     };
     let and = And {
         initial: node(relation),
-        extended: Items::new(alloc),
+        extended: Items::new(rt.alloc()),
     };
     let or = Or {
         initial: node(and),
-        extended: Items::new(alloc),
+        extended: Items::new(rt.alloc()),
     };
-    let expr = Boxed::new(alloc, ExprData::Or(node(or)))?;
-    Ok(node(Expr::Expr(ExprImpl { expr })))
+    let expr = made(rt, Boxed::new(rt.alloc(), ExprData::Or(node(or))));
+    node(Expr::Expr(ExprImpl { expr }))
 }
 
 /// The conversion of the expression that is this primary alone is refused, and says this.
-fn hinders(
-    rt: &(impl Abort + AllocGlobal),
-    primary: Node<Option<Primary>>,
-    message: &str,
-) -> Result<(), Fail> {
-    let expr = expr(rt.alloc(), primary)?;
-    match built::<ExprBuilder<()>>(rt.alloc(), &expr) {
-        Err(Failure::Errors(faults)) => shows(rt, &faults, message),
-        _ => Err(Fail::from("not refused")),
-    }
+fn hinders(rt: &(impl Abort + AllocGlobal), primary: Node<Option<Primary>>, message: &str) {
+    let answer = seen(expr(rt, primary), |expr| {
+        built::<ExprBuilder<()>>(rt.alloc(), expr)
+    });
+    says(rt, refusal(rt, answer), message);
 }
 
 #[test]
-fn what_no_text_has_is_told(rt: HostRuntime) -> Result<(), Fail> {
+fn what_no_text_has_is_told(rt: HostRuntime) {
     let empty = "internal invariant violated. Parsed data node should not be empty";
-    hinders(&rt, Node::new(None), empty)?;
-    hinders(&rt, node(Primary::Literal(Node::new(None))), empty)?;
+    hinders(&rt, Node::new(None), empty);
+    hinders(&rt, node(Primary::Literal(Node::new(None))), empty);
     // A form that the conversion doesn't reach yet.
-    hinders(&rt, node(Primary::Slot(node(Slot::Principal))), empty)?;
-    let string = Str::Invalid(text(rt.alloc(), "a\"b")?);
+    hinders(&rt, node(Primary::Slot(node(Slot::Principal))), empty);
+    let string = Str::Invalid(text(&rt, "a\"b"));
     let literal = Primary::Literal(node(Literal::Str(node(string))));
-    hinders(&rt, node(literal), "invalid string literal: a\"b")
+    hinders(&rt, node(literal), "invalid string literal: a\"b");
 }
