@@ -1,5 +1,5 @@
 //! The builder: each call is made, and the node that it makes compared.
-use super::held::{copies, copy_of, equal, list_of_two, made, refusal, seen};
+use super::held::{copies, copy_of, equal, list_of_two, made, refusal};
 use super::names::{name, text};
 use super::shapes::{Shape, shape_of};
 use cedar_expressions::{
@@ -76,12 +76,13 @@ pub(super) fn difference(rt: &(impl Abort + AllocGlobal), number: i64) -> Expr {
 
 /// The builder's call made a node of this kind.
 fn makes(rt: &impl Abort, node: Result<Expr, AllocError>, wanted: Shape) {
-    assert!(rt; seen(made(rt, node), shape_of) == wanted);
+    is(rt, made(rt, node), wanted);
 }
 
 /// The node is of this kind.
 fn is(rt: &impl Abort, node: Expr, wanted: Shape) {
-    assert!(rt; seen(node, shape_of) == wanted);
+    assert!(rt; shape_of(&node) == wanted);
+    drop(node);
 }
 
 const OPERATORS: [BinaryOp; 13] = [
@@ -102,14 +103,14 @@ const OPERATORS: [BinaryOp; 13] = [
 
 #[test]
 fn calls_with_an_operator(rt: HostRuntime) {
-    for op in OPERATORS {
-        is(&rt, joined(&rt, op), Shape::Joined(op));
+    for op in &OPERATORS {
+        is(&rt, joined(&rt, *op), Shape::Joined(*op));
     }
-    for op in [NaryOp::Or, NaryOp::And, NaryOp::Mul] {
-        is(&rt, repeated(&rt, op), Shape::Repeated(op));
+    for op in &[NaryOp::Or, NaryOp::And, NaryOp::Mul] {
+        is(&rt, repeated(&rt, *op), Shape::Repeated(*op));
     }
-    for op in [UnaryOp::Not, UnaryOp::Neg] {
-        is(&rt, prefixed(&rt, op, 1), Shape::Prefixed(op));
+    for op in &[UnaryOp::Not, UnaryOp::Neg] {
+        is(&rt, prefixed(&rt, *op, 1), Shape::Prefixed(*op));
     }
     is(&rt, difference(&rt, 2), Shape::Sum);
 }
@@ -194,9 +195,11 @@ fn is_for_a(refusal: &RecordError) -> bool {
 #[test]
 fn a_record_keeps_its_order_and_refuses_a_repeated_key(rt: HostRuntime) {
     let ordered = made(&rt, record(&rt, "b", "a"));
-    assert!(rt; seen(ordered, begins_with_b));
+    assert!(rt; begins_with_b(&ordered));
+    drop(ordered);
     let repeated = refusal(&rt, record(&rt, "a", "a"));
-    assert!(rt; seen(repeated, is_for_a));
+    assert!(rt; is_for_a(&repeated));
+    drop(repeated);
 }
 
 #[test]
@@ -223,9 +226,11 @@ fn placed(rt: &(impl Abort + AllocGlobal)) -> Expr {
 
 #[test]
 fn a_node_keeps_its_place(rt: HostRuntime) {
-    assert!(rt; seen(placed(&rt), Expr::place) == Some(PLACE));
-    let copy = copy_of(&rt, placed(&rt));
-    assert!(rt; seen(copy, Expr::place) == Some(PLACE));
+    let node = placed(&rt);
+    assert!(rt; node.place() == Some(PLACE));
+    let copy = copy_of(&rt, node);
+    assert!(rt; copy.place() == Some(PLACE));
+    drop(copy);
 }
 
 #[test]
@@ -262,6 +267,8 @@ const SLOTS: [Slot; 3] = [
 
 #[test]
 fn slots_from_the_left(rt: HostRuntime) {
-    let slots = seen(set_of_slots(&rt), |set| set.slots(rt.alloc()));
-    assert!(rt; made(&rt, slots).as_slice() == SLOTS.as_slice());
+    let set = set_of_slots(&rt);
+    let slots = made(&rt, set.slots(rt.alloc()));
+    assert!(rt; slots.as_slice() == SLOTS.as_slice());
+    drop((set, slots));
 }

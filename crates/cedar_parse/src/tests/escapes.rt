@@ -1,6 +1,6 @@
 //! Rows for the calls of `unescape`: raw texts, and what they stand for. The values come from the table of escapes and from the
 //! original's tests.
-use super::held::{made, refusal, says, seen};
+use super::held::{made, refusal, says};
 use cedar_expressions::PatternElem;
 use cedar_text::unescape::{
     EscapeError, UnescapeError, UnescapeFailure, to_pattern, to_unescaped_string,
@@ -23,17 +23,18 @@ fn are_told(raw: &str, failure: &UnescapeFailure, wanted: &[Told]) -> bool {
     let UnescapeFailure::Errors(faults) = failure else {
         return false;
     };
-    let mut told = faults.iter().zip(wanted);
-    faults.len() == wanted.len() && told.all(|(fault, told)| is_told(raw, fault, *told))
+    let mut all = faults.len() == wanted.len();
+    for (fault, told) in faults.iter().zip(wanted) {
+        all = all && is_told(raw, fault, *told);
+    }
+    all
 }
 
 /// The answer is a failure that tells these faults.
 fn tells<T: Drop>(rt: &impl Abort, raw: &str, answer: Result<T, UnescapeFailure>, wanted: &[Told]) {
     let failure = refusal(rt, answer);
-    assert!(rt;
-        seen(failure, |failure| are_told(raw, failure, wanted)),
-        "{raw:?}"
-    );
+    assert!(rt; are_told(raw, &failure, wanted), "{raw:?}");
+    drop(failure);
 }
 
 /// Raw texts and the texts that they stand for.
@@ -65,7 +66,7 @@ const STRINGS: [(&str, &str); 14] = [
 
 #[test]
 fn strings_are_unescaped(rt: HostRuntime) {
-    for (raw, text) in STRINGS {
+    for (raw, text) in &STRINGS {
         says(&rt, made(&rt, to_unescaped_string(rt.alloc(), raw)), text);
     }
 }
@@ -153,14 +154,14 @@ const UNICODE_FAULTS: [Refused; 15] = [
 
 #[test]
 fn faults_of_strings_are_told(rt: HostRuntime) {
-    for (raw, faults) in SHORT_FAULTS {
+    for (raw, faults) in &SHORT_FAULTS {
         tells(&rt, raw, to_unescaped_string(rt.alloc(), raw), faults);
     }
 }
 
 #[test]
 fn faults_of_unicode_escapes_are_told(rt: HostRuntime) {
-    for (raw, faults) in UNICODE_FAULTS {
+    for (raw, faults) in &UNICODE_FAULTS {
         tells(&rt, raw, to_unescaped_string(rt.alloc(), raw), faults);
     }
 }
@@ -205,9 +206,10 @@ const PATTERNS: [(&str, &[PatternElem]); 5] = [
 
 #[test]
 fn patterns_are_read(rt: HostRuntime) {
-    for (raw, elems) in PATTERNS {
+    for (raw, elems) in &PATTERNS {
         let pattern = made(&rt, to_pattern(rt.alloc(), raw));
-        assert!(rt; pattern.as_slice() == elems, "{raw:?}");
+        assert!(rt; pattern.as_slice() == *elems, "{raw:?}");
+        drop(pattern);
     }
 }
 
@@ -232,7 +234,7 @@ const PATTERN_FAULTS: [Refused; 4] = [
 
 #[test]
 fn faults_of_patterns_are_told(rt: HostRuntime) {
-    for (raw, faults) in PATTERN_FAULTS {
+    for (raw, faults) in &PATTERN_FAULTS {
         tells(&rt, raw, to_pattern(rt.alloc(), raw), faults);
     }
 }

@@ -1,24 +1,23 @@
 //! The README's example of library use.
+use cedar_expressions::Expr;
 use cedar_policy_parser::{ExtStyles, parse_expression};
 use cedar_syntax::err::{Failure, ParseErrors};
 use std::alloc::Global;
 use std::collections::BTreeSet;
 use std::fmt;
 
-/// Writes the text's value, or each fault behind its place.
-fn show<W: fmt::Write>(alloc: Global, text: &str, out: &mut W) -> fmt::Result {
+/// The value of a text, or its faults.
+fn read(alloc: Global, text: &str) -> Result<Expr, Failure> {
     let styles = ExtStyles::new(BTreeSet::new(alloc), BTreeSet::new(alloc));
-    match parse_expression(alloc, text, &styles) {
-        Ok(value) => write!(out, "{value}"),
-        Err(failure) => show_failure(&failure, out),
-    }
+    parse_expression(alloc, text, &styles)
 }
 
-/// Writes why a text has no value.
-fn show_failure<W: fmt::Write>(failure: &Failure, out: &mut W) -> fmt::Result {
-    match failure {
-        Failure::Memory(_) => out.write_str("want of memory"),
-        Failure::Errors(faults) => show_faults(faults, out),
+/// Writes the value, or each fault behind its place.
+fn show<W: fmt::Write>(answer: &Result<Expr, Failure>, out: &mut W) -> fmt::Result {
+    match answer {
+        Ok(value) => write!(out, "{value}"),
+        Err(Failure::Memory(_)) => out.write_str("want of memory"),
+        Err(Failure::Errors(faults)) => show_faults(faults, out),
     }
 }
 
@@ -40,9 +39,11 @@ fn shows_a_value_or_faults(rt: HostRuntime) {
         ("1 +", "3..3: unexpected end of input"),
         ("1 = 2", "0..5: '=' is not a valid operator in Cedar"),
     ];
-    for (text, want) in rows {
+    for (text, want) in &rows {
+        let answer = read(rt.alloc(), text);
         let mut out = String::new(rt.alloc());
-        assert!(rt; show(rt.alloc(), text, &mut out).is_ok());
-        assert!(rt; out.as_str() == want, "{text}");
+        assert!(rt; show(&answer, &mut out).is_ok());
+        assert!(rt; out.as_str() == *want, "{text}");
+        drop((answer, out));
     }
 }

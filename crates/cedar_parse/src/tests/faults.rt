@@ -1,7 +1,5 @@
 //! Faults of escapes, of texts and of trees, alone, in lists and joined.
-use super::held::{
-    agrees, changed, copies, equal, made, refusal, says, says_and_copies, seen, shows,
-};
+use super::held::{agrees, copies, equal, made, refusal, says, says_and_copies, shows};
 use super::names::text;
 use super::places::{POLICY, place};
 use cedar_expressions::{Items, Source, UnaryOp};
@@ -34,8 +32,9 @@ fn first_escape(rt: &(impl Abort + AllocGlobal)) -> UnescapeError {
 fn both_escapes(rt: &(impl Abort + AllocGlobal)) -> NonEmpty<UnescapeError> {
     let raw = made(rt, Source::from_str(rt.alloc(), RAW));
     let second = UnescapeError::in_source(EscapeError::InvalidEscape, raw, 5..7);
-    let first = NonEmpty::new(rt.alloc(), first_escape(rt));
-    changed(rt, first, |faults| faults.push(second))
+    let mut faults = NonEmpty::new(rt.alloc(), first_escape(rt));
+    made(rt, faults.push(second));
+    faults
 }
 
 /// Whether the fault is of that kind, in the raw text, and of two bytes from this one on.
@@ -47,15 +46,19 @@ fn is_in_raw(fault: &UnescapeError, start: usize) -> bool {
         && fault.input() == RAW
 }
 
-/// Whether both faults tell their piece.
-fn tell_their_piece(faults: &NonEmpty<UnescapeError>) -> bool {
-    let mut told = faults.iter().zip([3, 5]);
-    faults.len() == 2 && told.all(|(fault, start)| is_in_raw(fault, start))
+/// Both faults tell their piece.
+fn tell_their_piece(rt: &impl Abort, faults: &NonEmpty<UnescapeError>) {
+    assert!(rt; faults.len() == 2);
+    for (fault, start) in faults.iter().zip(&[3, 5]) {
+        assert!(rt; is_in_raw(fault, *start));
+    }
 }
 
 #[test]
 fn escape_faults_tell_their_piece(rt: HostRuntime) {
-    assert!(rt; seen(both_escapes(&rt), tell_their_piece));
+    let faults = both_escapes(&rt);
+    tell_their_piece(&rt, &faults);
+    drop(faults);
     let kind = ToASTErrorKind::from(first_escape(&rt));
     says(&rt, kind, FIRST_MESSAGE);
 }
@@ -108,34 +111,35 @@ fn too_large(rt: &(impl Abort + AllocGlobal), start: usize) -> RawFault {
     }
 }
 
-/// Whether the fault is at this place and expects these kinds.
-fn stands_at(fault: &ToCSTError, span: SourceSpan, expected: &[TokenKind]) -> bool {
-    fault.primary_source_span() == Some(span) && fault.expected_kinds() == expected
+/// The fault is at this place, expects these kinds and says this.
+fn is_told(
+    rt: &(impl Abort + AllocGlobal),
+    fault: ToCSTError,
+    (start, end): (usize, usize),
+    expected: &[TokenKind],
+    message: &str,
+) {
+    let span = SourceSpan::between(start, end);
+    assert!(rt; fault.primary_source_span() == Some(span));
+    assert!(rt; fault.expected_kinds() == expected);
+    says_and_copies(rt, fault, message);
 }
 
 #[test]
-fn faults_of_texts_have_their_place_and_kinds(rt: HostRuntime) {
-    let at_end = SourceSpan::between(4, 4);
+fn faults_of_texts_have_their_place_and_message(rt: HostRuntime) {
     let kinds = [TokenKind::Identifier];
-    assert!(rt; seen(early_end(&rt), |fault| stands_at(fault, at_end, &kinds)));
-    let first = SourceSpan::between(0, 1);
-    assert!(rt; seen(stray_token(&rt), |fault| stands_at(fault, first, &[])));
+    is_told(
+        &rt,
+        early_end(&rt),
+        (4, 4),
+        &kinds,
+        "unexpected end of input",
+    );
+    is_told(&rt, stray_token(&rt), (0, 1), &[], "unexpected token `)`");
     let invalid = in_text(&rt, RawFault::InvalidToken { location: 2 }, "1 ~");
-    let third = SourceSpan::between(2, 2);
-    assert!(rt; seen(invalid, |fault| stands_at(fault, third, &[])));
+    is_told(&rt, invalid, (2, 2), &[], "invalid token");
     let large = in_text(&rt, too_large(&rt, 1), POLICY);
-    let both = SourceSpan::between(1, 3);
-    assert!(rt; seen(large, |fault| stands_at(fault, both, &[])));
-}
-
-#[test]
-fn faults_of_texts_have_their_message(rt: HostRuntime) {
-    says_and_copies(&rt, early_end(&rt), "unexpected end of input");
-    says_and_copies(&rt, stray_token(&rt), "unexpected token `)`");
-    let invalid = in_text(&rt, RawFault::InvalidToken { location: 2 }, "1 ~");
-    says_and_copies(&rt, invalid, "invalid token");
-    let large = in_text(&rt, too_large(&rt, 1), POLICY);
-    says_and_copies(&rt, large, "too large");
+    is_told(&rt, large, (1, 3), &[], "too large");
 }
 
 #[test]
@@ -193,11 +197,12 @@ fn large_number(rt: &(impl Abort + AllocGlobal), start: usize) -> ToASTError {
 
 /// A number that is too large, the end of a text, and another such number, each made another way.
 fn three_faults(rt: &(impl Abort + AllocGlobal)) -> ParseErrors {
-    let first = ParseErrors::from_ast(rt.alloc(), large_number(rt, 3));
+    let mut faults = ParseErrors::from_ast(rt.alloc(), large_number(rt, 3));
     let second = ParseErrors::from_cst(rt.alloc(), early_end(rt));
-    let two = changed(rt, first, |faults| faults.extend(second));
+    made(rt, faults.extend(second));
     let last = ParseErrors::from_parse_error(rt.alloc(), ParseError::from(large_number(rt, 9)));
-    changed(rt, two, |faults| faults.extend(last))
+    made(rt, faults.extend(last));
+    faults
 }
 
 /// What a list of them says: what its first fault says.
@@ -211,29 +216,39 @@ fn starts_at(fault: &ParseError, start: usize) -> bool {
     }
 }
 
-/// Whether the three faults stand there, in this order.
-fn stand_in_order(faults: &ParseErrors) -> bool {
-    let mut placed = faults.iter().zip([3, 4, 9]);
-    faults.len() == 3 && placed.all(|(fault, start)| starts_at(fault, start))
+/// The three faults stand there, in this order.
+fn stand_in_order(rt: &impl Abort, faults: &ParseErrors) {
+    assert!(rt; faults.len() == 3);
+    for (fault, start) in faults.iter().zip(&[3, 4, 9]) {
+        assert!(rt; starts_at(fault, *start));
+    }
 }
 
-/// Whether there are three faults to iterate over, of which the first is the one that it is read as.
-fn have_a_first(faults: &ParseErrors) -> bool {
-    faults.iter().count() == 3 && faults.get(0) == Some(faults.first()) && faults.get(3).is_none()
+/// There are three faults to iterate over, of which the first is the one that it is read as.
+fn have_a_first(rt: &impl Abort, faults: &ParseErrors) {
+    assert!(rt; faults.iter().count() == 3);
+    assert!(rt; faults.get(0) == Some(faults.first()));
+    assert!(rt; faults.get(3).is_none());
 }
 
-/// Where the last of the faults stands, which are handed on one by one.
-fn last_place(faults: ParseErrors) -> Option<SourceSpan> {
-    seen(faults.into_iter().last()?, ParseError::primary_source_span)
+/// Whether the last of the faults, which are handed on one by one, begins at this byte.
+fn ends_at(faults: ParseErrors, start: usize) -> bool {
+    let last = faults.into_iter().last();
+    let ends = match &last {
+        Some(fault) => starts_at(fault, start),
+        None => false,
+    };
+    drop(last);
+    ends
 }
 
 #[test]
 fn a_list_of_faults_keeps_their_order(rt: HostRuntime) {
-    let last = last_place(three_faults(&rt));
-    assert!(rt; last == Some(SourceSpan::between(9, 10)));
-    assert!(rt; seen(three_faults(&rt), stand_in_order));
-    assert!(rt; seen(three_faults(&rt), have_a_first));
-    says(&rt, three_faults(&rt), LARGE);
+    assert!(rt; ends_at(three_faults(&rt), 9));
+    let faults = three_faults(&rt);
+    stand_in_order(&rt, &faults);
+    have_a_first(&rt, &faults);
+    says(&rt, faults, LARGE);
 }
 
 #[test]
@@ -253,25 +268,20 @@ fn is_of_that_node(told: &ToASTError) -> bool {
 #[test]
 fn a_node_tells_a_fault_at_its_place(rt: HostRuntime) {
     let node = Node::with_source_loc(7, place(&rt, 43, 49));
-    let told = seen(node, |node| {
-        node.to_ast_err(ToASTErrorKind::AmbiguousOperators)
-    });
-    assert!(rt; seen(made(&rt, told), is_of_that_node));
-}
-
-/// Whether these are the numbers from 1 on.
-fn are_one_to_four(numbers: &NonEmpty<i32>) -> bool {
-    numbers.iter().eq([1, 2, 3, 4].iter())
+    let told = made(&rt, node.to_ast_err(ToASTErrorKind::AmbiguousOperators));
+    assert!(rt; is_of_that_node(&told));
+    drop((node, told));
 }
 
 #[test]
 fn lists_are_put_one_after_another(rt: HostRuntime) {
-    let one = NonEmpty::new(rt.alloc(), 1);
-    let two = changed(&rt, one, |numbers| numbers.push(2));
-    let three = NonEmpty::new(rt.alloc(), 3);
-    let more = changed(&rt, three, |numbers| numbers.push(4));
-    let all = changed(&rt, two, |numbers| numbers.append(more));
-    assert!(rt; seen(all, are_one_to_four));
+    let mut numbers = NonEmpty::new(rt.alloc(), 1);
+    made(&rt, numbers.push(2));
+    let mut more = NonEmpty::new(rt.alloc(), 3);
+    made(&rt, more.push(4));
+    made(&rt, numbers.append(more));
+    assert!(rt; numbers.iter().eq([1, 2, 3, 4].iter()));
+    drop(numbers);
 }
 
 /// A part that fails with a fault for each number, or is the value 7 where there is none.
@@ -301,25 +311,25 @@ const JOINED: [(&[u64], &[u64], &[u64]); 4] = [
 
 #[test]
 fn failing_parts_tell_all_their_faults_in_order(rt: HostRuntime) {
-    for (first, second, both) in JOINED {
+    for (first, second, both) in &JOINED {
         let told = flatten_tuple_2(part(&rt, first), part(&rt, second)).err();
         agrees(&rt, told, part(&rt, both).err(), "parts joined");
     }
 }
 
-/// Whether the failure is want of memory.
-fn is_memory(failure: &Failure) -> bool {
-    matches!(failure, Failure::Memory(_))
+/// The answer is want of memory.
+fn wants(rt: &impl Abort, joined: Result<(u8, u8), Failure>) {
+    let failure = refusal(rt, joined);
+    assert!(rt; matches!(failure, Failure::Memory(_)));
+    drop(failure);
 }
 
 #[test]
 fn values_are_joined_and_want_of_memory_is_the_answer(rt: HostRuntime) {
     let joined = flatten_tuple_2(part(&rt, &[]), part(&rt, &[]));
     assert!(rt; made(&rt, joined) == (7, 7));
-    let joined = flatten_tuple_2(part(&rt, &[1]), wants_memory());
-    assert!(rt; seen(refusal(&rt, joined), is_memory));
-    let joined = flatten_tuple_2(wants_memory(), part(&rt, &[1]));
-    assert!(rt; seen(refusal(&rt, joined), is_memory));
+    wants(&rt, flatten_tuple_2(part(&rt, &[1]), wants_memory()));
+    wants(&rt, flatten_tuple_2(wants_memory(), part(&rt, &[1])));
 }
 
 /// A part that wants memory.

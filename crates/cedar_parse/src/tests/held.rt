@@ -1,8 +1,8 @@
 //! Calls over values of any type: in them the proof doesn't see what is dropped, which is dear where it is a tree. Each ends the test
-//! where something isn't as it has to be.
+//! where something isn't as it has to be. What a test holds to its end it gives to `drop` for the same reason.
 ghost use Rattle.std.specs.Prelude.{◌≡◌, IfOk, IsOkAnd};
 
-use cedar_expressions::{Items, TryClone};
+use cedar_expressions::TryClone;
 use std::fmt;
 use std::process::Abort;
 
@@ -19,28 +19,14 @@ pub(super) fn made<T, E: Drop>(rt: &impl Abort, made: Result<T, E>) -> T {
     made.ok().expect(rt, "not made")
 }
 
+/// Whether there is a value.
+pub(super) fn is_there<T: Drop>(value: Option<T>) -> bool {
+    value.is_some()
+}
+
 /// The refusal of what was not made.
 pub(super) fn refusal<T: Drop, E>(rt: &impl Abort, made: Result<T, E>) -> E {
     made.err().expect(rt, "not refused")
-}
-
-/// What is seen of a value that is at hand for this alone.
-pub(super) fn seen<T: Drop, R, F: FnOnce(&T) -> R>(value: T, look: F) -> R
-    requires { F.IsAlwaysCallable look }
-{
-    look(&value)
-}
-
-/// The value after a change.
-pub(super) fn changed<T, E: Drop, F: FnOnce(&mut T) -> Result<(), E>>(
-    rt: &impl Abort,
-    mut value: T,
-    change: F,
-) -> T
-    requires { F.IsAlwaysCallable change }
-{
-    made(rt, change(&mut value));
-    value
 }
 
 /// A list of two values.
@@ -49,12 +35,6 @@ pub(super) fn list_of_two<T: Drop>(rt: &(impl Abort + AllocGlobal), first: T, se
     made(rt, list.push(first));
     made(rt, list.push(second));
     list
-}
-
-/// A list without its last value, and that value.
-pub(super) fn taken<T>(rt: &impl Abort, mut list: Items<T>) -> (Items<T>, T) {
-    let last = list.pop().expect(rt, "an empty list");
-    (list, last)
 }
 
 /// Whether two values are equal.

@@ -88,9 +88,9 @@ const KINDS: [(&str, &[TokenKind]); 2] = [
 
 #[test]
 fn words_and_identifiers(rt: HostRuntime) {
-    for (text, kinds) in KINDS {
+    for (text, kinds) in &KINDS {
         let mut lexer = Lexer::new(text);
-        for kind in kinds {
+        for kind in *kinds {
             assert!(rt; next_kind(&mut lexer) == Some(*kind), "{text:?}");
         }
         assert!(rt; lexer.next().is_none());
@@ -116,8 +116,8 @@ const CUTS: [(&str, usize, Option<usize>); 13] = [
 
 #[test]
 fn white_space_comments_and_bad_places(rt: HostRuntime) {
-    for (text, count, bad) in CUTS {
-        assert!(rt; tokens_of(text) == (count, bad), "{text:?}");
+    for (text, count, bad) in &CUTS {
+        assert!(rt; tokens_of(text) == (*count, *bad), "{text:?}");
     }
 }
 

@@ -1,7 +1,7 @@
 //! Names, entities, words and wrappers: what is refused, how they are written, and that a copy equals its source.
 use super::held::{
-    agrees, copies, copies_of, is_copied, list_of_two, made, refusal, says, says_and_copies, seen,
-    shows, taken,
+    agrees, copies, copies_of, is_copied, is_there, list_of_two, made, refusal, says,
+    says_and_copies, shows,
 };
 use cedar_expressions::{
     AddOp, AnyId, BinaryCall, Boxed, Eid, EntityType, EntityUID, ExpressionConstructionError, Id,
@@ -60,9 +60,10 @@ const IDENTIFIERS: [(&str, bool, bool); 22] = [
 
 #[test]
 fn identifiers_by_their_spelling(rt: HostRuntime) {
-    for (word, any, free) in IDENTIFIERS {
-        assert!(rt; AnyId::new(text(&rt, word)).is_some() == any, "{word}");
-        assert!(rt; Id::new(text(&rt, word)).is_some() == free, "{word}");
+    for (word, any, free) in &IDENTIFIERS {
+        let is_any = is_there(AnyId::new(text(&rt, word)));
+        let is_free = is_there(Id::new(text(&rt, word)));
+        assert!(rt; (is_any, is_free) == (*any, *free), "{word}");
     }
 }
 
@@ -70,13 +71,8 @@ fn identifiers_by_their_spelling(rt: HostRuntime) {
 fn a_reserved_identifier_is_refused(rt: HostRuntime) {
     copies(&rt, made(&rt, UnreservedId::try_from(id(&rt, "cedar"))));
     let refused = refusal(&rt, UnreservedId::try_from(id(&rt, "__cedar")));
-    seen(refused, |refused| shows(&rt, refused.name(), "__cedar"));
-}
-
-/// The refusal names what is written so, and is copied.
-fn is_told(rt: &(impl Abort + AllocGlobal), refused: &ReservedNameError, written: &str) {
-    shows(rt, refused.name(), written);
-    copies_of(rt, refused);
+    shows(&rt, refused.name(), "__cedar");
+    drop(refused);
 }
 
 const RESERVED_NAMES: [(&str, &str, &str); 2] = [
@@ -86,21 +82,19 @@ const RESERVED_NAMES: [(&str, &str, &str); 2] = [
 
 #[test]
 fn reserved_names_are_refused(rt: HostRuntime) {
-    for (first, last, written) in RESERVED_NAMES {
+    for (first, last, written) in &RESERVED_NAMES {
         let refused = refusal(&rt, Name::try_from(internal_name(&rt, first, last)));
-        seen(refused, |refused| is_told(&rt, refused, written));
+        shows(&rt, refused.name(), written);
+        copies(&rt, refused);
     }
-}
-
-/// Whether the first name stands before the second, whose last part is `User`.
-fn are_ordered(names: &(Name, Name)) -> bool {
-    names.0 < names.1 && names.1.basename().as_str() == "User"
 }
 
 #[test]
 fn names_are_ordered(rt: HostRuntime) {
-    let names = (name(&rt, "App", "Group"), name(&rt, "App", "User"));
-    assert!(rt; seen(names, are_ordered));
+    let (group, user) = (name(&rt, "App", "Group"), name(&rt, "App", "User"));
+    assert!(rt; group < user);
+    assert!(rt; user.basename().as_str() == "User");
+    drop((group, user));
 }
 
 #[test]
@@ -117,15 +111,11 @@ fn entity(rt: &(impl Abort + AllocGlobal)) -> EntityUID {
     EntityUID::from_components(user, Eid::new(text(rt, "a\"b")))
 }
 
-/// Whether the entity's identifier is the one with the quote.
-fn has_a_quote(entity: &EntityUID) -> bool {
-    entity.eid().as_str() == "a\"b"
-}
-
 #[test]
 fn entities_are_written_and_copied(rt: HostRuntime) {
-    assert!(rt; seen(entity(&rt), has_a_quote));
-    says_and_copies(&rt, entity(&rt), "App::User::\"a\"b\"");
+    let entity = entity(&rt);
+    assert!(rt; entity.eid().as_str() == "a\"b");
+    says_and_copies(&rt, entity, "App::User::\"a\"b\"");
 }
 
 #[test]
@@ -189,31 +179,23 @@ fn calls_and_what_holds_parts_are_copied(rt: HostRuntime) {
     copies(&rt, made(&rt, Boxed::new(rt.alloc(), text(&rt, "a"))));
 }
 
-/// A list of `b` and `a`.
-fn items(rt: &(impl Abort + AllocGlobal)) -> Items<Text> {
-    Items::from(list_of_two(rt, text(rt, "b"), text(rt, "a")))
-}
-
-/// Whether these are a list of `b`, and `a`.
-fn are_b_and_a(taken: &(Items<Text>, Text)) -> bool {
-    let (rest, last) = taken;
-    rest.len() == 1 && rest.iter().all(|item| item.as_str() == "b") && last.as_str() == "a"
-}
-
 #[test]
 fn items_are_copied_read_and_taken(rt: HostRuntime) {
-    copies(&rt, items(&rt));
-    assert!(rt; seen(taken(&rt, items(&rt)), are_b_and_a));
-}
-
-/// A shared text.
-fn source(rt: &(impl Abort + AllocGlobal)) -> Source {
-    made(rt, Source::from_str(rt.alloc(), "abc"))
+    let mut items = Items::from(list_of_two(&rt, text(&rt, "b"), text(&rt, "a")));
+    copies_of(&rt, &items);
+    assert!(rt; items.len() == 2);
+    agrees(&rt, items.pop(), Some(text(&rt, "a")), "the last");
+    for item in items.iter() {
+        assert!(rt; item.as_str() == "b");
+    }
+    drop(items);
 }
 
 #[test]
 fn sources_are_shared(rt: HostRuntime) {
-    let shared = made(&rt, seen(source(&rt), Source::share));
-    agrees(&rt, shared, source(&rt), "a share");
-    says_and_copies(&rt, source(&rt), "abc");
+    let source = made(&rt, Source::from_str(rt.alloc(), "abc"));
+    let shared = made(&rt, source.share());
+    assert!(rt; shared == source);
+    drop(shared);
+    says_and_copies(&rt, source, "abc");
 }

@@ -1,8 +1,7 @@
 //! Places and nodes, as a caller meets them.
-use super::held::{copies, made, refusal, says, seen, shows};
+use super::held::{copies, made, refusal, says};
 use super::names::text;
-use cedar_expressions::Text;
-use cedar_syntax::err::{Failure, ToASTError};
+use cedar_syntax::err::Failure;
 use cedar_syntax::loc::{Loc, SourceSpan};
 use cedar_syntax::node::Node;
 use std::process::Abort;
@@ -33,35 +32,37 @@ fn a_range_ends_within_the_largest_number(rt: HostRuntime) {
     assert!(rt; SourceSpan::between(7, 3).is_empty());
 }
 
-/// Whether it is 43..49 of the policy.
-fn is_inside(place: &Loc) -> bool {
-    place.snippet() == Some("a == b")
-        && (place.start(), place.end()) == (43, 49)
-        && SourceSpan::from(place) == SourceSpan::between(43, 49)
+#[test]
+fn a_place_shows_its_snippet(rt: HostRuntime) {
+    let inside = place(&rt, 43, 49);
+    assert!(rt; inside.snippet() == Some("a == b"));
+    assert!(rt; (inside.start(), inside.end()) == (43, 49));
+    assert!(rt; SourceSpan::from(&inside) == SourceSpan::between(43, 49));
+    let shown = made(&rt, format!(in rt.alloc(); "{inside:?}"));
+    assert!(rt; shown.as_str() == "Loc(`a == b`)");
+    drop(shown);
+    copies(&rt, inside);
 }
 
 #[test]
-fn a_place_shows_its_snippet_and_moves(rt: HostRuntime) {
-    assert!(rt; seen(place(&rt, 43, 49), is_inside));
-    let shown = seen(
-        place(&rt, 43, 49),
-        |place| format!(in rt.alloc(); "{place:?}"),
-    );
-    assert!(rt; made(&rt, shown).as_str() == "Loc(`a == b`)");
+fn a_place_moves(rt: HostRuntime) {
+    let inside = place(&rt, 43, 49);
     let first = SourceSpan::between(0, 6);
-    let moved = made(&rt, seen(place(&rt, 43, 49), |place| place.span(first)));
+    let moved = made(&rt, inside.span(first));
     assert!(rt; moved.snippet() == Some("permit"));
     assert!(rt; SourceSpan::from(moved) == first);
-    copies(&rt, place(&rt, 43, 49));
+    drop(inside);
 }
 
 #[test]
 fn a_place_that_is_no_range_has_no_snippet(rt: HostRuntime) {
-    assert!(rt; place(&rt, 43, 103).snippet().is_none());
+    let long = place(&rt, 43, 103);
+    assert!(rt; long.snippet().is_none());
     let cut = place_in(&rt, "1 é", 2, 3);
     assert!(rt; cut.snippet().is_none());
     let whole = made(&rt, cut.span(SourceSpan::between(2, 4)));
     assert!(rt; whole.snippet() == Some("é"));
+    drop((long, cut, whole));
 }
 
 #[test]
@@ -71,20 +72,18 @@ fn nodes_compare_by_their_value(rt: HostRuntime) {
     assert!(rt; here == there);
     assert!(rt; here < Node::new(2u8));
     assert!(rt; here.loc() != there.loc());
-    shows(&rt, &here, "1");
-}
-
-/// Whether both are equal, at one place.
-fn are_one(nodes: &(Node<Text>, Node<Text>)) -> bool {
-    nodes.0 == nodes.1 && nodes.0.loc() == nodes.1.loc()
+    drop(there);
+    says(&rt, here, "1");
 }
 
 #[test]
 fn a_node_is_copied_with_its_place(rt: HostRuntime) {
     let node = Node::with_source_loc(text(&rt, "a"), place(&rt, 2, 3));
     let copy = made(&rt, node.try_clone());
-    assert!(rt; seen((node, copy), are_one));
-    copies(&rt, Node::with_source_loc(text(&rt, "a"), place(&rt, 2, 3)));
+    assert!(rt; copy.loc() == node.loc());
+    assert!(rt; copy == node);
+    drop(copy);
+    copies(&rt, node);
 }
 
 /// 3 at a place.
@@ -147,7 +146,8 @@ fn an_empty_node_is_refused_at_its_place(rt: HostRuntime) {
     assert!(rt; made(&rt, empty.collapse()).is_none());
     says(&rt, refusal(&rt, empty.try_as_inner(rt.alloc())), EMPTY);
     let refused = refusal(&rt, empty.try_as_inner(rt.alloc()));
-    assert!(rt; seen(refused, is_at_the_node));
+    assert!(rt; is_at_the_node(&refused));
     let fault = refusal(&rt, empty.try_into_inner());
-    assert!(rt; seen(fault, ToASTError::span) == Some(SourceSpan::between(7, 10)));
+    assert!(rt; fault.span() == Some(SourceSpan::between(7, 10)));
+    drop((refused, fault));
 }

@@ -1,7 +1,7 @@
 //! What texts become: `parse_expr` with its trees and faults, and `parse_expression` with its values.
 use super::builder::{build, difference, long, prefixed};
-use super::counting::{Counted, CountingBuilder};
-use super::held::{agrees, made, refusal, seen, shows};
+use super::counting::CountingBuilder;
+use super::held::{agrees, made, refusal, shows};
 use super::names::text;
 use cedar_expressions::{
     Expr as Value, ExprBuilder, ExprBuilderInfallibleBuild, Literal, UnaryOp, Var,
@@ -65,14 +65,11 @@ const TREES: [(&str, &str); 13] = [
 
 #[test]
 fn trees_are_printed_token_by_token(rt: HostRuntime) {
-    for (text, printed) in TREES {
-        seen(tree(&rt, text), |tree| is_printed(&rt, tree, printed));
+    for (text, printed) in &TREES {
+        let tree = tree(&rt, text);
+        shows(&rt, inside(&rt, &tree), printed);
+        drop(tree);
     }
-}
-
-/// The tree's text is this one.
-fn is_printed(rt: &(impl Abort + AllocGlobal), tree: &Node<Option<Expr>>, printed: &str) {
-    shows(rt, inside(rt, tree), printed);
 }
 
 /// A text, the place of its first fault, and the message.
@@ -125,18 +122,18 @@ fn is_told(rt: &(impl Abort + AllocGlobal), failure: &Failure, span: SourceSpan,
     let ParseError::ToCST(fault) = faults.first() else {
         return assert!(rt; false, "not a fault of the text");
     };
-    assert!(rt; faults.len() == 1, "{message}");
+    assert!(rt; faults.len() == 1 && fault.expected_kinds().is_empty());
     assert!(rt; fault.primary_source_span() == Some(span), "{message}");
-    assert!(rt; fault.expected_kinds().is_empty());
     shows(rt, fault, message);
 }
 
 #[test]
 fn a_refusal_is_the_first_fault(rt: HostRuntime) {
-    for (text, start, end, message) in REFUSED {
-        let span = SourceSpan::between(start, end);
+    for (text, start, end, message) in &REFUSED {
+        let span = SourceSpan::between(*start, *end);
         let failure = refusal(&rt, parse_expr(rt.alloc(), text));
-        seen(failure, |failure| is_told(&rt, failure, span, message));
+        is_told(&rt, &failure, span, message);
+        drop(failure);
     }
 }
 
@@ -180,8 +177,9 @@ fn each_node_has_its_place(rt: HostRuntime) {
         SourceSpan::between(2, 5),
         SourceSpan::between(3, 4),
     ];
-    let told = seen(tree(&rt, "1+(2)"), |tree| places(&rt, tree));
-    assert!(rt; told == Some(wanted));
+    let tree = tree(&rt, "1+(2)");
+    assert!(rt; places(&rt, &tree) == Some(wanted));
+    drop(tree);
 }
 
 /// The value of a text that has one.
@@ -255,10 +253,13 @@ fn parentheses_nest(rt: HostRuntime) {
 
 /// The number of calls of a builder that make a text's value, or `None` where the text has none.
 fn calls(alloc: Global, text: &str) -> Option<usize> {
-    let counted = seen(parse_expr(alloc, text).ok()?, |tree| {
-        built::<CountingBuilder<ExprBuilder<()>>>(alloc, tree)
-    });
-    Some(seen(counted.ok()?, Counted::nodes))
+    let tree = parse_expr(alloc, text).ok()?;
+    let counted = built::<CountingBuilder<ExprBuilder<()>>>(alloc, &tree).ok();
+    drop(tree);
+    let counted = counted?;
+    let nodes = counted.nodes();
+    drop(counted);
+    Some(nodes)
 }
 
 const CALLS: [(&str, Option<usize>); 8] = [
@@ -274,7 +275,7 @@ const CALLS: [(&str, Option<usize>); 8] = [
 
 #[test]
 fn each_builder_is_asked(rt: HostRuntime) {
-    for (text, wanted) in CALLS {
-        assert!(rt; calls(rt.alloc(), text) == wanted, "{text}");
+    for (text, wanted) in &CALLS {
+        assert!(rt; calls(rt.alloc(), text) == *wanted, "{text}");
     }
 }

@@ -1,5 +1,5 @@
 //! Trees: a copy of each type equals its source, and what hinders the conversion of trees that no text has.
-use super::held::{copies, copies_of, made, refusal, says, seen};
+use super::held::{copies, copies_of, made, refusal, says};
 use super::names::text;
 use super::texts::{built, tree};
 use cedar_expressions::{ExprBuilder, TryClone};
@@ -62,9 +62,10 @@ fn copies_each_operand(rt: &impl Abort, add: &Node<Option<Add>>) {
 #[test]
 fn the_trees_of_texts_are_copied(rt: HostRuntime) {
     let chain = tree(&rt, "-1 * 2 - 3 <= 4 && 5 || 6");
-    seen(chain, |tree| copies_each_level(&rt, tree));
+    copies_each_level(&rt, &chain);
     let choice = tree(&rt, "(if true then \"a\" else principal)");
-    seen(choice, |tree| copies_each_level(&rt, tree));
+    copies_each_level(&rt, &choice);
+    drop((chain, choice));
 }
 
 #[test]
@@ -230,9 +231,9 @@ fn expr(rt: &(impl Abort + AllocGlobal), primary: Node<Option<Primary>>) -> Node
 
 /// The conversion of the expression that is this primary alone is refused, and says this.
 fn hinders(rt: &(impl Abort + AllocGlobal), primary: Node<Option<Primary>>, message: &str) {
-    let answer = seen(expr(rt, primary), |expr| {
-        built::<ExprBuilder<()>>(rt.alloc(), expr)
-    });
+    let expr = expr(rt, primary);
+    let answer = built::<ExprBuilder<()>>(rt.alloc(), &expr);
+    drop(expr);
     says(rt, refusal(rt, answer), message);
 }
 
