@@ -29,7 +29,7 @@ const ALL: &str =
 const NAMES: &str =
     "TRUE FALSE IF PERMIT FORBID WHEN UNLESS IN HAS LIKE IS THEN ELSE PRINCIPAL ACTION RESOURCE CONTEXT PRINCIPAL_SLOT RESOURCE_SLOT OTHER_SLOT IDENTIFIER NUMBER STRINGLIT \"@\" \".\" \",\" \";\" \":\" \"::\" \"(\" \")\" \"{\" \"}\" \"[\" \"]\" \"==\" \"!=\" \"<\" \"<=\" \">=\" \">\" \"=\" \"||\" \"&&\" \"+\" \"-\" \"*\" \"/\" \"%\" \"!\"";
 
-/// Whether a text's tokens are of kinds with these names, and no more stand there.
+/// Whether a text's tokens are of kinds with these names, and no more stand there, however often it is asked.
 fn has_kinds(text: &str, names: &str) -> bool {
     let mut lexer = Lexer::new(text);
     for name in names.split_whitespace() {
@@ -38,7 +38,7 @@ fn has_kinds(text: &str, names: &str) -> bool {
             _ => return false,
         }
     }
-    lexer.next().is_none()
+    lexer.next().is_none() && lexer.next().is_none()
 }
 
 #[test]
