@@ -1,0 +1,86 @@
+-- How policies and their parts are written. All of it but an effect's word, an id's own text and
+-- what a refusal says is this repository's own (docs/DECISIONS.md).
+use Rattle.std.specs.Prelude.{ℕ, List, [], ◌++◌, codes, length, Option, None, Some}
+use Rattle.std.specs.Fmt.{decimal}
+use Rattle.std.specs.FinMap.{FinMap, len}
+use Rattle.cedar_expressions.specs.Path.{name_text}
+use Rattle.cedar_expressions.specs.Written.{entity_text, slot_text, expr_text}
+use Rattle.cedar_expressions.specs.declared.expr.Expr.{Expr}
+use Rattle.cedar_policy_store.specs.declared.annotation.Annotation.{Annotation}
+use Rattle.cedar_policy_store.specs.declared.effect.Effect.{Effect}
+use Rattle.cedar_policy_store.specs.declared.effect.Effect.TheVariants.{Permit, Forbid}
+use Rattle.cedar_policy_store.specs.declared.constraints.EntityReference.{EntityReference}
+use Rattle.cedar_policy_store.specs.declared.constraints.EntityReference.TheVariants.{EUID, Slot}
+use Rattle.cedar_policy_store.specs.declared.constraints.PrincipalOrResourceConstraint.{PrincipalOrResourceConstraint}
+use Rattle.cedar_policy_store.specs.declared.constraints.PrincipalOrResourceConstraint.TheVariants.{Any, Eq, In, Is, IsIn}
+use Rattle.cedar_policy_store.specs.declared.constraints.PrincipalConstraint.{PrincipalConstraint}
+use Rattle.cedar_policy_store.specs.declared.constraints.ResourceConstraint.{ResourceConstraint}
+use Rattle.cedar_policy_store.specs.declared.constraints.ActionConstraint.{ActionConstraint}
+use Rattle.cedar_policy_store.specs.declared.constraints.ActionConstraint.TheVariants as action
+use Rattle.cedar_policy_store.specs.declared.template.Template.{Template}
+use Rattle.cedar_policy_store.specs.declared.static_policy.UnexpectedSlotError.{UnexpectedSlotError}
+use Rattle.cedar_policy_store.specs.declared.static_policy.UnexpectedSlotError.TheVariants.{FoundSlot}
+use Rattle.cedar_policy_store.specs.declared.policy_set.PolicySetError.{PolicySetError}
+use Rattle.cedar_policy_store.specs.declared.policy_set.PolicySetError.TheVariants.{Memory, Occupied}
+use Rattle.cedar_policy_store.specs.PolicyMaps.{PolicyMaps}
+use Rattle.cedar_policy_store.specs.TextMap.{text_order}
+
+abbrev pub effect_text : Effect → List ℕ
+effect_text Permit = codes "permit"
+effect_text Forbid = codes "forbid"
+
+abbrev pub annotations_text : FinMap text_order Annotation → List ℕ
+annotations_text annotations = decimal (len annotations) ++ codes " annotations"
+
+-- a reference alone doesn't know whose slot it is
+abbrev pub reference_text : EntityReference → List ℕ
+reference_text (EUID entity) = entity_text entity
+reference_text (Slot mark) = codes "?"
+
+abbrev pub constraint_text : PrincipalOrResourceConstraint → List ℕ
+constraint_text Any = codes "any"
+constraint_text (Eq reference) = codes "== " ++ reference_text reference
+constraint_text (In reference) = codes "in " ++ reference_text reference
+constraint_text (Is entity_type) = codes "is " ++ name_text entity_type.name
+constraint_text (IsIn entity_type reference) =
+    codes "is " ++ (name_text entity_type.name ++ (codes " in " ++ reference_text reference))
+
+abbrev pub principal_text : PrincipalConstraint → List ℕ
+principal_text principal = codes "principal " ++ constraint_text principal.constraint
+
+abbrev pub resource_text : ResourceConstraint → List ℕ
+resource_text resource = codes "resource " ++ constraint_text resource.constraint
+
+abbrev pub action_text : ActionConstraint → List ℕ
+action_text action.Any = codes "action any"
+action_text (action.Eq entity) = codes "action == " ++ entity_text entity
+action_text (action.In entities) =
+    codes "action in " ++ (decimal (length entities) ++ codes " entities")
+
+-- the name and the effect, then what is asked
+abbrev pub scope_text : Template → List ℕ
+scope_text t =
+    principal_text t.principal
+    ++ (codes ", "
+    ++ (action_text t.action ++ (codes ", " ++ (resource_text t.resource ++ codes ")"))))
+
+abbrev pub asked_text : Template → Option Expr → List ℕ
+asked_text t None = scope_text t
+asked_text t (Some condition) = scope_text t ++ (codes " when " ++ expr_text condition)
+
+abbrev pub template_text : Template → List ℕ
+template_text t =
+    (t.id ++ (codes ": " ++ (effect_text t.effect ++ codes "("))) ++ asked_text t t.condition
+
+abbrev pub set_text : PolicyMaps → List ℕ
+set_text set =
+    decimal (len set.policies)
+    ++ (codes " static policies, " ++ (decimal (len set.templates) ++ codes " templates"))
+
+abbrev pub unexpected_slot_text : UnexpectedSlotError → List ℕ
+unexpected_slot_text (FoundSlot slot) =
+    codes "found slot `" ++ (slot_text slot.id ++ codes "` where slots are not allowed")
+
+abbrev pub set_error_text : PolicySetError → List ℕ
+set_error_text (Memory want) = codes "want of memory"
+set_error_text (Occupied id) = codes "duplicate template or policy id `" ++ (id ++ codes "`")

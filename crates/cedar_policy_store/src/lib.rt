@@ -1,0 +1,24 @@
+//! Policies as they are kept: templates, policies without slots, and sets of both.
+#![tactic(auto)]
+
+mod annotation;
+mod constraints;
+mod effect;
+mod first_slot;
+mod held;
+pub mod laws;
+mod policy_id;
+mod policy_set;
+mod static_policy;
+mod template;
+
+pub use annotation::{Annotation, Annotations};
+pub use constraints::{
+    ActionConstraint, EntityReference, PrincipalConstraint, PrincipalOrResourceConstraint,
+    ResourceConstraint,
+};
+pub use effect::Effect;
+pub use policy_id::PolicyID;
+pub use policy_set::{PolicySet, PolicySetError};
+pub use static_policy::{StaticPolicy, UnexpectedSlotError};
+pub use template::Template;
