@@ -1,3 +1,6 @@
 pub mod Levels
 pub mod Printing
 pub mod Texts
+mod ConjoinedLemmas
+mod KeptLemmas
+mod TableLemmas

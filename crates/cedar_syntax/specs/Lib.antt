@@ -1,3 +1,5 @@
+pub mod Conjoined
+pub mod Kept
 pub mod Lending
 pub mod Messages
 pub mod Node

@@ -1,5 +1,5 @@
 -- What the faults say of themselves.
-use Rattle.std.specs.Prelude.{ℕ, List, [], ◌++◌, codes, unwrap_or}
+use Rattle.std.specs.Prelude.{ℕ, List, [], ◌++◌, ◌==◌, codes, unwrap_or, slice_get, Option, Some, None, if◌then◌else◌}
 use Rattle.std.specs.Fmt.{decimal}
 use Rattle.cedar_expressions.specs.declared.operators.UnaryOp.{UnaryOp}
 use Rattle.cedar_expressions.specs.declared.operators.UnaryOp.TheVariants.{Not, Neg}
@@ -31,6 +31,20 @@ raw_message (UnrecognizedToken start end token expected) = codes "unexpected tok
 raw_message (UnrecognizedEof location expected) = codes "unexpected end of input"
 raw_message (User error) = error.node
 raw_message (ExtraToken start end token) = codes "extra token `" ++ (token ++ codes "`")
+
+-- of an invalid token the character that stands there, a quote, tells what may be wrong
+abbrev pub quote_help : Option ℕ → Option (List ℕ)
+quote_help None = None
+quote_help (Some character) =
+    if character == 34 then Some (codes "try checking that all strings are closed properly")
+    else (if character == 39 then Some (codes "strings must use double quotes, not single quotes") else None)
+
+abbrev pub raw_help : List ℕ → RawFault → Option (List ℕ)
+raw_help text (InvalidToken location) = quote_help (slice_get text location)
+raw_help text (UnrecognizedToken start end token expected) = None
+raw_help text (UnrecognizedEof location expected) = None
+raw_help text (User error) = None
+raw_help text (ExtraToken start end token) = None
 
 abbrev pub sign_of : UnaryOp → List ℕ
 sign_of Not = codes "!"

@@ -1,12 +1,15 @@
 //! The faults of texts and trees, and the lists in which they are told.
 
+mod conjunction;
 pub mod escape;
+pub mod expected;
 pub mod faults;
 pub mod non_empty;
 pub mod to_ast;
 pub mod to_cst;
 
 pub use escape::{EscapeError, UnescapeError, UnescapeFailure};
+pub use expected::{ExpectedTokenConfig, expected_to_string, policy_token_config};
 pub use faults::{Failure, ParseError, ParseErrors};
 pub use non_empty::NonEmpty;
 pub use to_ast::{ToASTError, ToASTErrorKind};

@@ -1,14 +1,16 @@
 //! Why a text has no tree.
-ghost use Rattle.std.specs.Prelude.{◌≡◌, IfOk};
-ghost use Rattle.std.specs.Option.{option_copied};
+ghost use Rattle.std.specs.Prelude.{◌≡◌, IfOk, map, string_bytes};
+ghost use Rattle.std.specs.Option.{option_copied, option_map};
 ghost use Rattle.std.specs.Rc.{rc_str_bytes};
 ghost use Rattle.std.proofs.Common.{Some};
+ghost use Rattle.cedar_lexer.specs.Names.{name_of};
 
+use crate::err::expected::{expected_to_string, policy_token_config};
 use crate::loc::{Loc, SourceSpan};
 use crate::node::Node;
 use cedar_expressions::{Items, Source, Text, TryClone};
 use cedar_lexer::token::TokenKind;
-use std::alloc::AllocError;
+use std::alloc::{AllocError, Global};
 use std::error::Error;
 use std::fmt;
 use std::rc::RcStr;
@@ -144,6 +146,17 @@ impl RawFault {
     }
 }
 
+// The names under which these kinds are recorded.
+fn names_of(alloc: Global, kinds: &[TokenKind]) -> Result<Vec<&'static str>, AllocError>
+    ensures { IfOk result (λ names. map (λ name. name.now) names.items ≡ map name_of kinds.now) }
+{
+    let mut names = Vec::with_capacity(alloc, kinds.len())?;
+    for kind in kinds {
+        names.push(kind.name())?;
+    }
+    Ok(names)
+}
+
 // The same kinds, in memory of their own.
 fn copied_kinds(kinds: &Items<TokenKind>) -> Result<Items<TokenKind>, AllocError>
     ensures { IfOk result (λ copy. copy ≡ kinds.now) }
@@ -225,6 +238,8 @@ pub struct ToCSTError {
 }
 
 impl ToCSTError {
+    ghost use Rattle.cedar_syntax.specs.Kept.{SaysExpected, policy_rules};
+    ghost use Rattle.cedar_syntax.specs.Messages.{raw_help};
     ghost use Rattle.cedar_syntax.specs.RawFault.{expected_of, span_of_raw};
 
     /// The fault `raw` of the text `src`.
@@ -266,6 +281,38 @@ impl ToCSTError {
         ensures { result.now ≡ expected_of self.now.raw }
     {
         self.raw.expected_kinds()
+    }
+
+    /// What could have stood where the parse stopped, in Cedar's own words for tokens, or `None` where that says nothing.
+    /// Only want of memory refuses it.
+    pub fn label(&self, alloc: Global) -> Result<Option<String>, AllocError>
+        ensures { IfOk result (λ label. SaysExpected policy_rules (map name_of (expected_of self.now.raw))
+            (option_map (λ text. string_bytes text) label)) }
+    {
+        let names = names_of(alloc, self.expected_kinds())?;
+        let config = policy_token_config(alloc)?;
+        expected_to_string(alloc, names.as_slice(), &config)
+    }
+
+    /// A hint at what to change: at an invalid token by the character that stands there, else `None`. Only want of memory refuses it.
+    pub fn help(&self, alloc: Global) -> Result<Option<String>, AllocError>
+        ensures { IfOk result (λ help.
+            option_map (λ text. string_bytes text) help ≡ raw_help self.now.src self.now.raw) }
+    {
+        let RawFault::InvalidToken { location } = &self.raw else {
+            return Ok(None);
+        };
+        match self.src.as_str().as_bytes().get(*location) {
+            Some(b'"') => Ok(Some(String::from_str(
+                alloc,
+                "try checking that all strings are closed properly",
+            )?)),
+            Some(b'\'') => Ok(Some(String::from_str(
+                alloc,
+                "strings must use double quotes, not single quotes",
+            )?)),
+            _ => Ok(None),
+        }
     }
 
     /// A copy that equals its source, over the same shared text.

@@ -1,0 +1,14 @@
+-- Texts joined with a word, as people write a list: `a`, `a or b`, `a, b, or c`.
+use Rattle.std.specs.Prelude.{ℕ, List, [], ◌∷◌, ◌++◌, codes}
+
+-- each text behind a comma, and the word before the last: `, b, or c`
+abbrev pub behind_commas : List ℕ → List (List ℕ) → List ℕ
+behind_commas word [] = []
+behind_commas word (last ∷ []) = codes ", " ++ (word ++ (codes " " ++ last))
+behind_commas word (text ∷ next ∷ more) = codes ", " ++ (text ++ behind_commas word (next ∷ more))
+
+-- one text and those after it; a comma stands only where they are three or more
+abbrev pub conjoined : List ℕ → List ℕ → List (List ℕ) → List ℕ
+conjoined word first [] = first
+conjoined word first (last ∷ []) = first ++ (codes " " ++ (word ++ (codes " " ++ last)))
+conjoined word first (second ∷ third ∷ more) = first ++ behind_commas word (second ∷ third ∷ more)
