@@ -17,10 +17,10 @@ use Rattle.cedar_expressions.specs.declared.expr.ExprKind.{ExprKind}
 use Rattle.cedar_expressions.specs.declared.expr.ExprKind.TheOpen.{ExprKind-F}
 use Rattle.cedar_expressions.specs.declared.expr.ExprKind.TheFolds.{fold_out-Expr, fold-roll-ExprKind}
 use Rattle.cedar_expressions.specs.declared.expr.ExprKind.TheVariants as kind
-use Rattle.cedar_expressions.specs.Slots.{Slots, slots_in, slots_of_kind, in_row, term_slots, pair_slots, as_they_are, behind_operator, behind_key, kind_slots, expr_slots}
+use Rattle.cedar_expressions.specs.Slots.{Slots, slots_in, slots_of_kind, slots_in_row, term_slots, pair_slots, as_they_are, behind_operator, behind_key, kind_slots, expr_slots}
 
 -- a row of what a list was made into
-fused : {T U : Type 0} (g : U → Slots) (f : T → U) (xs : List T) → in_row g (map f xs) ≡ in_row (λ x. g (f x)) xs
+fused : {T U : Type 0} (g : U → Slots) (f : T → U) (xs : List T) → slots_in_row g (map f xs) ≡ slots_in_row (λ x. g (f x)) xs
 fused g f [] = refl
 fused g f (x ∷ xs) = ap (λ z. g (f x) ++ z) (fused g f xs)
 
@@ -61,22 +61,22 @@ module _ (place : Option Place) where
   unfolding slots_in slots_of_kind
   at_binary call parts = here (ap slots_of_kind (sym (kind.rolls-Binary call parts)) ∙ fold-roll-ExprKind (Option Place → Slots) Slots kind_slots expr_slots (ExprKind-F.Binary call parts))
 
-  pub at_nary : (op : NaryOp) (a : Expr) (rest : List Expr) → slots_of_kind (kind.Nary op a rest) place ≡ slots_in a ++ in_row slots_in rest
+  pub at_nary : (op : NaryOp) (a : Expr) (rest : List Expr) → slots_of_kind (kind.Nary op a rest) place ≡ slots_in a ++ slots_in_row slots_in rest
   unfolding slots_in slots_of_kind
   at_nary op a rest = here (ap slots_of_kind (sym (kind.rolls-Nary op a rest)) ∙ fold-roll-ExprKind (Option Place → Slots) Slots kind_slots expr_slots (ExprKind-F.Nary op a rest))
       ∙ ap (λ z. slots_in a ++ z) (fused as_they_are slots_in rest)
 
-  pub at_sum : (a : Expr) (rest : List (AddOp × Expr)) → slots_of_kind (kind.Sum a rest) place ≡ slots_in a ++ in_row term_slots rest
+  pub at_sum : (a : Expr) (rest : List (AddOp × Expr)) → slots_of_kind (kind.Sum a rest) place ≡ slots_in a ++ slots_in_row term_slots rest
   unfolding slots_in slots_of_kind
   at_sum a rest = here (ap slots_of_kind (sym (kind.rolls-Sum a rest)) ∙ fold-roll-ExprKind (Option Place → Slots) Slots kind_slots expr_slots (ExprKind-F.Sum a rest))
       ∙ ap (λ z. slots_in a ++ z) (fused behind_operator _ rest)
 
-  pub at_list : (call : ListCall) (items : List Expr) → slots_of_kind (kind.List call items) place ≡ in_row slots_in items
+  pub at_list : (call : ListCall) (items : List Expr) → slots_of_kind (kind.List call items) place ≡ slots_in_row slots_in items
   unfolding slots_in slots_of_kind
   at_list call items = here (ap slots_of_kind (sym (kind.rolls-List call items)) ∙ fold-roll-ExprKind (Option Place → Slots) Slots kind_slots expr_slots (ExprKind-F.List call items))
       ∙ fused as_they_are slots_in items
 
-  pub at_record : (pairs : List (Text × Expr)) → slots_of_kind (kind.Record pairs) place ≡ in_row pair_slots pairs
+  pub at_record : (pairs : List (Text × Expr)) → slots_of_kind (kind.Record pairs) place ≡ slots_in_row pair_slots pairs
   unfolding slots_in slots_of_kind
   at_record pairs = here (ap slots_of_kind (sym (kind.rolls-Record pairs)) ∙ fold-roll-ExprKind (Option Place → Slots) Slots kind_slots expr_slots (ExprKind-F.Record pairs))
       ∙ fused behind_key _ pairs
@@ -94,7 +94,7 @@ pub three : (x y z w a b c all : Slots) → y ≡ x ++ a → z ≡ y ++ b → w 
 three x y z w a b c all e f g whole = two x z w (a ++ b) c all (two x y z a b (a ++ b) e f refl) g whole
 
 -- one item more
-pub in_row-more : {T : Type 0} (f : T → Slots) (xs : List T) (i : ℕ) (x : T) → i < length xs → x ≡ get_or xs i x → in_row f (take (i + 1) xs) ≡ in_row f (take i xs) ++ f x
-in_row-more f xs i x h e =
-    ap (in_row f) (take_more xs i x h ∙ ap (λ y. take i xs ++ y ∷ []) (sym e))
-    ∙ (flat_map-append f (take i xs) (x ∷ []) ∙ ap (λ z. in_row f (take i xs) ++ z) (append-nil (f x)))
+pub slots_in_row-more : {T : Type 0} (f : T → Slots) (xs : List T) (i : ℕ) (x : T) → i < length xs → x ≡ get_or xs i x → slots_in_row f (take (i + 1) xs) ≡ slots_in_row f (take i xs) ++ f x
+slots_in_row-more f xs i x h e =
+    ap (slots_in_row f) (take_more xs i x h ∙ ap (λ y. take i xs ++ y ∷ []) (sym e))
+    ∙ (flat_map-append f (take i xs) (x ∷ []) ∙ ap (λ z. slots_in_row f (take i xs) ++ z) (append-nil (f x)))

@@ -14,8 +14,8 @@ abbrev pub Slots : Type 0
 Slots = List Slot
 
 -- the slots of each item, one behind another
-abbrev pub in_row : {T : Type 0} → (T → Slots) → List T → Slots
-in_row = flat_map
+abbrev pub slots_in_row : {T : Type 0} → (T → Slots) → List T → Slots
+slots_in_row = flat_map
 
 abbrev pub behind_operator : AddOp × Slots → Slots
 behind_operator term = term.1
@@ -34,10 +34,10 @@ kind_slots (ExprKind-F.Slot slot) place = record { id = slot; place = place } �
 kind_slots (ExprKind-F.Ite parts) place = (parts.0 ++ parts.1) ++ parts.2
 kind_slots (ExprKind-F.Unary _ operand) place = operand
 kind_slots (ExprKind-F.Binary _ parts) place = parts.0 ++ parts.1
-kind_slots (ExprKind-F.Nary _ first rest) place = first ++ in_row as_they_are rest
-kind_slots (ExprKind-F.Sum first rest) place = first ++ in_row behind_operator rest
-kind_slots (ExprKind-F.List _ items) place = in_row as_they_are items
-kind_slots (ExprKind-F.Record pairs) place = in_row behind_key pairs
+kind_slots (ExprKind-F.Nary _ first rest) place = first ++ slots_in_row as_they_are rest
+kind_slots (ExprKind-F.Sum first rest) place = first ++ slots_in_row behind_operator rest
+kind_slots (ExprKind-F.List _ items) place = slots_in_row as_they_are items
+kind_slots (ExprKind-F.Record pairs) place = slots_in_row behind_key pairs
 
 abbrev pub expr_slots : Expr-F (Option Place → Slots) Slots → Slots
 expr_slots expr = expr.kind expr.place.place

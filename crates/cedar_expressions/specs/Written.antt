@@ -50,17 +50,17 @@ slot_text slot.Principal = codes "?principal"
 slot_text slot.Resource = codes "?resource"
 
 -- a text between double quotes, as it is
-abbrev pub quoted : List ℕ → List ℕ
-quoted text = codes "\"" ++ (text ++ codes "\"")
+abbrev pub text_in_quotes : List ℕ → List ℕ
+text_in_quotes text = codes "\"" ++ (text ++ codes "\"")
 
 -- an entity: its type, `::` and the identifier in double quotes
 abbrev pub entity_text : EntityUID → List ℕ
-entity_text entity = name_text entity.entity_type.name ++ (codes "::" ++ quoted entity.eid.text)
+entity_text entity = name_text entity.entity_type.name ++ (codes "::" ++ text_in_quotes entity.eid.text)
 
 abbrev pub literal_text : Literal → List ℕ
 literal_text (literal.Bool b) = if b then codes "true" else codes "false"
 literal_text (literal.Long number) = signed_decimal number
-literal_text (literal.String text) = quoted text
+literal_text (literal.String text) = text_in_quotes text
 literal_text (literal.EntityUID entity) = entity_text entity
 
 -- an element of a pattern: its character, or a star

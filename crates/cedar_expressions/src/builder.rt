@@ -1,4 +1,4 @@
-ghost use Rattle.std.specs.Prelude.{◌≡◌, IfOk, IfErr, map, false};
+ghost use Rattle.std.specs.Prelude.{◌≡◌, None, Option, IfOk, IfErr, map, false};
 ghost use Rattle.cedar_expressions.specs.Value as v;
 ghost use Rattle.cedar_expressions.specs.Keys.{repeats_key, IsDue};
 
@@ -10,15 +10,21 @@ pub trait ExprBuilderInfallibleBuild: Drop {
     type Expr: Drop;
 
     ghost use Rattle.cedar_expressions.specs.Value.{Value};
+    ghost use Rattle.cedar_expressions.specs.declared.place.Place.{Place as NodesPlace};
 
     /// The calls that made an expression, places aside.
     ghost meaning: { Self.Expr → Value };
 
+    /// Where the node will stand that the builder makes.
+    ghost node_place: { Self → Option NodesPlace };
+
     /// A builder without a place. It keeps the allocator.
-    fn new(alloc: Global) -> Self;
+    fn new(alloc: Global) -> Self
+        ensures { node_place result ≡ None };
 
     /// The builder with a place for the node that it makes.
-    fn with_maybe_source_loc(self, place: Option<Place>) -> Self;
+    fn with_maybe_source_loc(self, place: Option<Place>) -> Self
+        ensures { node_place result ≡ place };
 
     /// A constant.
     fn val(self, literal: Literal) -> Result<Self::Expr, AllocError>

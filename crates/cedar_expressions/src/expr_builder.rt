@@ -84,9 +84,9 @@ impl ExprBuilderInfallibleBuild for ExprBuilder<()> {
 
     ghost meaning = { unplaced };
 
-    fn new(alloc: Global) -> ExprBuilder<()>
-        ensures { builders_place result ≡ None }
-    {
+    ghost node_place = { builders_place };
+
+    fn new(alloc: Global) -> ExprBuilder<()> {
         ExprBuilder {
             alloc,
             place: None,
@@ -94,9 +94,7 @@ impl ExprBuilderInfallibleBuild for ExprBuilder<()> {
         }
     }
 
-    fn with_maybe_source_loc(self, place: Option<Place>) -> ExprBuilder<()>
-        ensures { builders_place result ≡ place }
-    {
+    fn with_maybe_source_loc(self, place: Option<Place>) -> ExprBuilder<()> {
         ExprBuilder {
             alloc: self.alloc,
             place,

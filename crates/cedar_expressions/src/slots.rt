@@ -1,5 +1,5 @@
 ghost use Rattle.std.specs.Prelude.{◌≡◌, ◌++◌, IfOk, OnOk, map};
-ghost use Rattle.cedar_expressions.specs.Slots.{slots_in, slots_of_kind, in_row, term_slots, pair_slots};
+ghost use Rattle.cedar_expressions.specs.Slots.{slots_in, slots_of_kind, slots_in_row, term_slots, pair_slots};
 
 use crate::{AddOp, Expr, ExprKind, Items, Place, Slot, Text};
 use std::alloc::{AllocError, Global};
@@ -63,7 +63,7 @@ fn collect_kind(
 
 #[cycle(collect)]
 fn collect_items(items: &Items<Expr>, found: &mut Vec<Slot>) -> Result<(), AllocError>
-    ensures { OnOk result (found.new.items ≡ found.old.items ++ in_row slots_in items.now) }
+    ensures { OnOk result (found.new.items ≡ found.old.items ++ slots_in_row slots_in items.now) }
 {
     for item in items.as_slice() {
         collect(item, found)?;
@@ -73,7 +73,7 @@ fn collect_items(items: &Items<Expr>, found: &mut Vec<Slot>) -> Result<(), Alloc
 
 #[cycle(collect)]
 fn collect_terms(terms: &Items<(AddOp, Expr)>, found: &mut Vec<Slot>) -> Result<(), AllocError>
-    ensures { OnOk result (found.new.items ≡ found.old.items ++ in_row term_slots terms.now) }
+    ensures { OnOk result (found.new.items ≡ found.old.items ++ slots_in_row term_slots terms.now) }
 {
     for (_, item) in terms.as_slice() {
         collect(item, found)?;
@@ -83,7 +83,7 @@ fn collect_terms(terms: &Items<(AddOp, Expr)>, found: &mut Vec<Slot>) -> Result<
 
 #[cycle(collect)]
 fn collect_pairs(pairs: &Items<(Text, Expr)>, found: &mut Vec<Slot>) -> Result<(), AllocError>
-    ensures { OnOk result (found.new.items ≡ found.old.items ++ in_row pair_slots pairs.now) }
+    ensures { OnOk result (found.new.items ≡ found.old.items ++ slots_in_row pair_slots pairs.now) }
 {
     for (_, item) in pairs.as_slice() {
         collect(item, found)?;

@@ -7,7 +7,7 @@ use Rattle.std.proofs.lemmas.Str.{IsUtf8-past_char}
 use Rattle.cedar_lexer.specs.declared.token.TokenKind.{TokenKind}
 use Rattle.cedar_lexer.specs.Token.{Lexeme}
 use Rattle.cedar_lexer.specs.Spelling.{Spells}
-use Rattle.cedar_lexer.specs.Cut.{IsSpelled, NothingStarts, IsSkipAt, IsTokenAt, Laid, nothing, skip, token}
+use Rattle.cedar_lexer.specs.Cut.{IsSpelled, NothingStarts, IsSkipAt, IsTokenAt, Layout, nothing, skip, token}
 use Rattle.cedar_lexer.specs.Scan.{spelling, Found}
 use Rattle.cedar_lexer.proofs.Bytes.{same_front}
 use Rattle.cedar_lexer.proofs.Marks.{found_same}
@@ -58,34 +58,34 @@ not_both source i j t p q = skip_or_spelling t.kind t.text q.after p.skips q.spe
 pub record Onward (source : List ℕ) (ts us : List Lexeme) (m q : ℕ) : Type 0 where
   pub rest : List Lexeme
   pub is : us ≡ ts ++ rest
-  pub laid : Laid source m rest q
+  pub laid : Layout source m rest q
 
-pub onward : {source : List ℕ} {ts us : List Lexeme} {i m q : ℕ} → Laid source i ts m → Laid source i us q → NothingStarts (drop q source) → Onward source ts us m q
+pub onward : {source : List ℕ} {ts us : List Lexeme} {i m q : ℕ} → Layout source i ts m → Layout source i us q → NothingStarts (drop q source) → Onward source ts us m q
 onward nothing l n = record { rest = _; is = refl; laid = l }
 onward (skip s more) nothing n = absurd (n.no_skip s.text s.after s.stands s.skips)
 onward {source = source} {us = us} {q = q} (skip {i = i} {j = j} s more) (skip {j = k} s' more') n =
-    onward more (subst (λ x. Laid source x us q) (sym (one_skip source i j k s s')) more') n
+    onward more (subst (λ x. Layout source x us q) (sym (one_skip source i j k s s')) more') n
 onward {source = source} (skip {i = i} {j = j} s more) (token {t = t} s' more') n = absurd (not_both source i j t s s')
 onward (token {t = t} s more) nothing n = absurd (n.no_spelling t.kind t.text s.after s.stands s.spelled)
 onward {source = source} (token {i = i} {t = t} s more) (skip {j = j} s' more') n = absurd (not_both source i j t s' s)
 onward {source = source} {q = q} (token {i = i} {t = t} s more) (token {t = u} {ts = us} s' more') n =
     let same = one_token source i t u s s' in
-    let h = onward more (subst (λ x. Laid source x us q) (sym (ap (λ (x : Lexeme). x.end) same)) more') n in
+    let h = onward more (subst (λ x. Layout source x us q) (sym (ap (λ (x : Lexeme). x.end) same)) more') n in
     record { rest = h.rest; is = ap (λ x. x ∷ us) (sym same) ∙ ap (λ xs. t ∷ xs) h.is; laid = h.laid }
 
 -- two beginnings one after the other
-pub laid_on : {source : List ℕ} {ts us : List Lexeme} {i j k : ℕ} → Laid source i ts j → Laid source j us k → Laid source i (ts ++ us) k
+pub laid_on : {source : List ℕ} {ts us : List Lexeme} {i j k : ℕ} → Layout source i ts j → Layout source j us k → Layout source i (ts ++ us) k
 laid_on nothing l = l
 laid_on (skip s more) l = skip s (laid_on more l)
 laid_on (token s more) l = token s (laid_on more l)
 
 -- where nothing starts, nothing more is laid out
-stopped : {source : List ℕ} {ts : List Lexeme} {i j : ℕ} → Laid source i ts j → NothingStarts (drop i source) → (ts ≡ []) × (i ≡ j)
+stopped : {source : List ℕ} {ts : List Lexeme} {i j : ℕ} → Layout source i ts j → NothingStarts (drop i source) → (ts ≡ []) × (i ≡ j)
 stopped nothing n = (refl, refl)
 stopped (skip s more) n = absurd (n.no_skip s.text s.after s.stands s.skips)
 stopped (token {t = t} s more) n = absurd (n.no_spelling t.kind t.text s.after s.stands s.spelled)
 
-pub one_end : {source : List ℕ} {ts us : List Lexeme} {i m q : ℕ} → Laid source i ts m → NothingStarts (drop m source) → Laid source i us q → NothingStarts (drop q source) → (ts ≡ us) × (m ≡ q)
+pub one_end : {source : List ℕ} {ts us : List Lexeme} {i m q : ℕ} → Layout source i ts m → NothingStarts (drop m source) → Layout source i us q → NothingStarts (drop q source) → (ts ≡ us) × (m ≡ q)
 one_end {ts = ts} l n k p =
     let h = onward l k p in
     let s = stopped h.laid n in
@@ -171,7 +171,7 @@ token_found source i kind n u e =
 pub record Stopped (source : List ℕ) (i : ℕ) : Type 0 where
   pub tokens : List Lexeme
   pub place : ℕ
-  pub laid : Laid source i tokens place
+  pub laid : Layout source i tokens place
   pub within : place ≤ length source
   pub stops : NothingStarts (drop place source)
 
@@ -206,7 +206,7 @@ stops (suc fuel) source i enough l u =
 -- ---- places
 
 -- along a beginning, texts begin where it does and stop where it does
-pub laid_utf8 : {source : List ℕ} {ts : List Lexeme} {i j : ℕ} → Laid source i ts j → i ≤ length source → IsUtf8 (drop i source) → IsUtf8 (drop j source) × (i ≤ j) × (j ≤ length source)
+pub laid_utf8 : {source : List ℕ} {ts : List Lexeme} {i j : ℕ} → Layout source i ts j → i ≤ length source → IsUtf8 (drop i source) → IsUtf8 (drop j source) × (i ≤ j) × (j ≤ length source)
 laid_utf8 nothing l u = (u, omega arith, l)
 laid_utf8 {source = source} (skip {i = i} {j = j} s more) l u =
     let h = behind_skip source i j u s in

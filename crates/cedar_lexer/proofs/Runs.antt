@@ -9,8 +9,8 @@ use Rattle.std.proofs.lemmas.Str.{IsUtf8-drop}
 use Rattle.cedar_lexer.specs.declared.token.Token.{Token}
 use Rattle.cedar_lexer.specs.declared.token.InvalidToken.{InvalidToken}
 use Rattle.cedar_lexer.specs.Token.{Lexeme, lexeme_of}
-use Rattle.cedar_lexer.specs.Cut.{Laid, nothing, skip, token, IsTokenAt, Cuts, CutsFrom, StopsFrom, StopsAt, IsRangeOf, StandInOrder}
-use Rattle.cedar_lexer.specs.Reading.{Reading, moved_to, beginning, IsNextToken, Answers, IsCutOrStop, AnswersAre}
+use Rattle.cedar_lexer.specs.Cut.{Layout, nothing, skip, token, IsTokenAt, Cuts, CutsFrom, StopsFrom, StopsAt, IsTokenRange, StandInOrder}
+use Rattle.cedar_lexer.specs.LexerState.{LexerState, moved_to, beginning, IsNextToken, Answers, IsCutOrStop, AnswersAre}
 use Rattle.cedar_lexer.proofs.Cuts.{onward, laid_on, one_end, nothing_at_end, behind_skip, behind_token, Stopped, stops}
 use Rattle.cedar_lexer.proofs.Steps.{boundary}
 
@@ -19,7 +19,7 @@ use Rattle.cedar_lexer.proofs.Steps.{boundary}
 ends : (source : List ℕ) (h : Stopped source 0) → (h.place < length source) ⊎ (length source ≤ h.place) →
     ((ts : List Lexeme) × Cuts source ts) ⊎ ((ts : List Lexeme) × (place : ℕ) × StopsAt source ts place)
 ends source h (inl more) = inr (h.tokens, h.place, (h.laid, more, h.stops))
-ends source h (inr all) = let end : h.place ≡ length source = omega (arith, h.within) in inl (h.tokens, subst (Laid source 0 h.tokens) end h.laid)
+ends source h (inr all) = let end : h.place ≡ length source = omega (arith, h.within) in inl (h.tokens, subst (Layout source 0 h.tokens) end h.laid)
 
 pub cuts_or_stops : (source : List ℕ) → IsUtf8 source → ((ts : List Lexeme) × Cuts source ts) ⊎ ((ts : List Lexeme) × (place : ℕ) × StopsAt source ts place)
 cuts_or_stops source u = let h = stops (length source) source 0 (omega arith) (omega arith) u in ends source h (cases_lt h.place (length source))
@@ -45,7 +45,7 @@ next_stops source i t us place n = (
 
 -- ---- places
 
-range_of : (source : List ℕ) (i : ℕ) (t : Lexeme) → i ≤ length source → IsUtf8 (drop i source) → IsTokenAt source i t → IsRangeOf source t
+range_of : (source : List ℕ) (i : ℕ) (t : Lexeme) → i ≤ length source → IsUtf8 (drop i source) → IsTokenAt source i t → IsTokenRange source t
 range_of source i t l u s =
     let h = behind_token source i t u s in
     let size : t.end - t.start ≡ length t.text = omega (arith, s.starts, s.ends) in
@@ -60,7 +60,7 @@ range_of source i t l u s =
       text = sym text;
     }
 
-in_order : {source : List ℕ} {ts : List Lexeme} {i j from : ℕ} → Laid source i ts j → from ≤ i → i ≤ length source → IsUtf8 (drop i source) → StandInOrder source from ts × IsCharBoundary source j
+in_order : {source : List ℕ} {ts : List Lexeme} {i j from : ℕ} → Layout source i ts j → from ≤ i → i ≤ length source → IsUtf8 (drop i source) → StandInOrder source from ts × IsCharBoundary source j
 in_order {source = source} {i = i} nothing after l u = (tt, boundary source i l u)
 in_order {source = source} (skip {i = i} {j = j} s more) after l u =
     let h = behind_skip source i j u s in
@@ -70,10 +70,10 @@ in_order {source = source} (token {i = i} {t = t} s more) after l u =
     let g = in_order more (omega arith) h.2 h.0 in
     ((omega (arith, s.starts), range_of source i t l u s, g.0), g.1)
 
-pub stand_in_order : (source : List ℕ) (ts : List Lexeme) (place : ℕ) → IsUtf8 source → Laid source 0 ts place → StandInOrder source 0 ts × IsCharBoundary source place
+pub stand_in_order : (source : List ℕ) (ts : List Lexeme) (place : ℕ) → IsUtf8 source → Layout source 0 ts place → StandInOrder source 0 ts × IsCharBoundary source place
 stand_in_order source ts place u l = in_order l (omega arith) (omega arith) u
 
-pub next_range : (source : List ℕ) (i : ℕ) (t : Lexeme) → IsUtf8 source → IsCharBoundary source i → IsNextToken source i t → (i ≤ t.start) × IsRangeOf source t
+pub next_range : (source : List ℕ) (i : ℕ) (t : Lexeme) → IsUtf8 source → IsCharBoundary source i → IsNextToken source i t → (i ≤ t.start) × IsTokenRange source t
 next_range source i t u b n = let h = in_order n (omega arith) b.0 (IsUtf8-drop source i u b) in (h.0.0, h.0.1)
 
 -- ---- a whole run
@@ -82,26 +82,26 @@ on : (source : List ℕ) (i : ℕ) (t : Lexeme) (ts : List Lexeme) (bad : Option
 on source i t ts None n c = laid_on n c
 on source i t ts (Some place) n c = (laid_on n c.0, c.1, c.2)
 
-going : (s u : Reading) (x : Result Token InvalidToken) → Answers s (Some x) u → s.ended ≡ false
+going : (s u : LexerState) (x : Result Token InvalidToken) → Answers s (Some x) u → s.ended ≡ false
 going s u (Ok t) a = a.0
 going s u (Err e) a = a.0
 
 -- what a run from here has answered when it answers nothing
-pub record Ran (s : Reading) (answers : List (Result Token InvalidToken)) : Type 0 where
+pub record Ran (s : LexerState) (answers : List (Result Token InvalidToken)) : Type 0 where
   pub tokens : List Lexeme
   pub bad : Option ℕ
   pub outcome : IsCutOrStop s.source s.offset tokens bad
   pub answered : AnswersAre answers tokens bad
 
-ran : (answers : List (Result Token InvalidToken)) (s t u : Reading) → s.ended ≡ false → Yields Answers s answers t → Answers t None u → Ran s answers
+ran : (answers : List (Result Token InvalidToken)) (s t u : LexerState) → s.ended ≡ false → Yields Answers s answers t → Answers t None u → Ran s answers
 ran [] s t u goes same last = elim last.0 [
-  | inl ended ↦ absurd (both_ways t.ended (sym (ap (λ (r : Reading). r.ended) same) ∙ goes) ended)
-  | inr cut ↦ record { tokens = []; bad = None; outcome = subst (λ (r : Reading). CutsFrom r.source r.offset []) (sym same) cut; answered = (refl, refl) }
+  | inl ended ↦ absurd (both_ways t.ended (sym (ap (λ (r : LexerState). r.ended) same) ∙ goes) ended)
+  | inr cut ↦ record { tokens = []; bad = None; outcome = subst (λ (r : LexerState). CutsFrom r.source r.offset []) (sym same) cut; answered = (refl, refl) }
 ]
 ran (Ok k ∷ answers) s t u goes (j, step, more) last =
     let moved : j ≡ moved_to s k.end = step.2 in
-    let h = ran answers j t u (ap (λ (r : Reading). r.ended) moved) more last in
-    let outcome : IsCutOrStop s.source k.end h.tokens h.bad = subst (λ (r : Reading). IsCutOrStop r.source r.offset h.tokens h.bad) moved h.outcome in
+    let h = ran answers j t u (ap (λ (r : LexerState). r.ended) moved) more last in
+    let outcome : IsCutOrStop s.source k.end h.tokens h.bad = subst (λ (r : LexerState). IsCutOrStop r.source r.offset h.tokens h.bad) moved h.outcome in
     record {
       tokens = lexeme_of k ∷ h.tokens;
       bad = h.bad;
@@ -111,7 +111,7 @@ ran (Ok k ∷ answers) s t u goes (j, step, more) last =
 ran (Err e ∷ []) s t u goes (j, step, more) last =
     record { tokens = []; bad = Some e.location; outcome = step.1; answered = (refl, refl, refl) }
 ran (Err e ∷ (x ∷ answers)) s t u goes (j, step, (k, next, more)) last =
-    absurd (both_ways j.ended (going j k x next) (ap (λ (r : Reading). r.ended) step.2))
+    absurd (both_ways j.ended (going j k x next) (ap (λ (r : LexerState). r.ended) step.2))
 
 pub whole_run : (source : List ℕ) (answers : List (Result Token InvalidToken)) → Drains Answers (beginning source) answers →
     (ts : List Lexeme) × (bad : Option ℕ) × IsCutOrStop source 0 ts bad × AnswersAre answers ts bad

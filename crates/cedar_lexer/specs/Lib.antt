@@ -1,6 +1,6 @@
 pub mod Cut
+pub mod LexerState
 pub mod Names
-pub mod Reading
 pub mod Scan
 pub mod Spelling
 pub mod Token

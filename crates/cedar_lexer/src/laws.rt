@@ -5,8 +5,8 @@ ghost use Rattle.std.specs.Str.{IsUtf8, IsCharBoundary};
 ghost use Rattle.cedar_lexer.specs.declared.token.Token.{Token};
 ghost use Rattle.cedar_lexer.specs.declared.token.InvalidToken.{InvalidToken};
 ghost use Rattle.cedar_lexer.specs.Token.{Lexeme};
-ghost use Rattle.cedar_lexer.specs.Cut.{Laid, Cuts, CutsFrom, StopsAt, StopsFrom, IsRangeOf, StandInOrder};
-ghost use Rattle.cedar_lexer.specs.Reading.{IsNextToken, Answers, beginning, IsCutOrStop, AnswersAre};
+ghost use Rattle.cedar_lexer.specs.Cut.{Layout, Cuts, CutsFrom, StopsAt, StopsFrom, IsTokenRange, StandInOrder};
+ghost use Rattle.cedar_lexer.specs.LexerState.{IsNextToken, Answers, beginning, IsCutOrStop, AnswersAre};
 
 /// A text has at most one cut.
 pub fn at_most_one_cut()
@@ -28,13 +28,13 @@ pub fn next_token_of_each_cut()
 
 /// What is laid out from one place to the next, and from there on, is laid out one after the other.
 pub fn beginnings_join()
-    ensures { (source : List ℕ) (ts us : List Lexeme) (i j k : ℕ) → Laid source i ts j → Laid source j us k → Laid source i (ts ++ us) k }
+    ensures { (source : List ℕ) (ts us : List Lexeme) (i j k : ℕ) → Layout source i ts j → Layout source j us k → Layout source i (ts ++ us) k }
 {}
 
 /// The tokens of a text are nonempty ranges of it between characters, one behind the other, and their texts are these ranges.
 pub fn tokens_stand_in_order()
-    ensures whole { (source : List ℕ) (ts : List Lexeme) (place : ℕ) → IsUtf8 source → Laid source 0 ts place → StandInOrder source 0 ts × IsCharBoundary source place }
-    ensures next { (source : List ℕ) (i : ℕ) (t : Lexeme) → IsUtf8 source → IsCharBoundary source i → IsNextToken source i t → (i ≤ t.start) × IsRangeOf source t }
+    ensures whole { (source : List ℕ) (ts : List Lexeme) (place : ℕ) → IsUtf8 source → Layout source 0 ts place → StandInOrder source 0 ts × IsCharBoundary source place }
+    ensures next { (source : List ℕ) (i : ℕ) (t : Lexeme) → IsUtf8 source → IsCharBoundary source i → IsNextToken source i t → (i ≤ t.start) × IsTokenRange source t }
 {}
 
 /// All answers of a new lexer, one after the other until it answers nothing: the tokens of the text's cut, or those

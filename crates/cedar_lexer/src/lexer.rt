@@ -2,7 +2,7 @@
 ghost use Rattle.std.specs.Prelude.{◌≡◌, ℕ, ◌≤◌, ◌<◌, List, [], length, slice_index, drop, IfSome, OnSome, IfNone};
 ghost use Rattle.std.specs.List.{prefix_len};
 ghost use Rattle.std.specs.Str.{IsCharBoundary};
-ghost use Rattle.cedar_lexer.specs.Cut.{is_in_line, IsTokenAt, Laid};
+ghost use Rattle.cedar_lexer.specs.Cut.{is_in_line, IsTokenAt, Layout};
 ghost use Rattle.cedar_lexer.specs.Token.{lexeme_of};
 ghost use Rattle.cedar_lexer.specs.Scan.{IsSkipLen, NoSkip, NoSpelling};
 
@@ -50,7 +50,7 @@ fn skip_len(text: &str) -> usize
 /// The first place from `from` on at which no skip starts.
 fn skips_end(text: &str, from: usize) -> usize
     requires { IsCharBoundary text.now from }
-    ensures laid { Laid text.now from [] result }
+    ensures laid { Layout text.now from [] result }
     ensures onward { from ≤ result }
     ensures stops { NoSkip (drop result text.now) }
     ensures boundary { IsCharBoundary text.now result }
@@ -97,9 +97,9 @@ pub struct Lexer<'a> {
 
 impl<'a> Model for Lexer<'a> {
     ghost use Rattle.std.specs.Str.{IsCharBoundary};
-    ghost use Rattle.cedar_lexer.specs.Reading.{Reading};
+    ghost use Rattle.cedar_lexer.specs.LexerState.{LexerState};
 
-    ghost Value = { Reading };
+    ghost Value = { LexerState };
 
     ghost view = { λ l. record { source = l.text.now; offset = l.offset; ended = l.ended } };
 
@@ -107,7 +107,7 @@ impl<'a> Model for Lexer<'a> {
 }
 
 impl<'a> Lexer<'a> {
-    ghost use Rattle.cedar_lexer.specs.Reading.{beginning};
+    ghost use Rattle.cedar_lexer.specs.LexerState.{beginning};
 
     /// A lexer at the start of the text.
     pub fn new(text: &'a str) -> Self
@@ -122,7 +122,7 @@ impl<'a> Lexer<'a> {
 }
 
 impl<'a> Iterator for Lexer<'a> {
-    ghost use Rattle.cedar_lexer.specs.Reading.{Answers, answers_left};
+    ghost use Rattle.cedar_lexer.specs.LexerState.{Answers, answers_left};
 
     type Item = Result<Token<'a>, InvalidToken>;
 

@@ -8,8 +8,8 @@ use Rattle.cedar_syntax.specs.declared.err.escape.UnescapeFailure.{UnescapeFailu
 use Rattle.cedar_syntax.specs.declared.err.escape.UnescapeFailure.TheVariants.{Memory, Errors}
 use Rattle.cedar_syntax.specs.declared.err.non_empty.NonEmpty.{NonEmpty}
 use Rattle.cedar_syntax.specs.NonEmpty.{list_of}
-use Rattle.cedar_text.specs.Answer.{Tells, WantsMemory}
-use Rattle.cedar_text.specs.Faults.{faults_in}
+use Rattle.cedar_text.specs.UnescapeFailure.{Tells, LacksMemory}
+use Rattle.cedar_text.specs.EscapeFaults.{found_list}
 use Rattle.cedar_text.specs.Pattern.{IsPattern, HasPatternFaults, elem_of, pattern_fault_of}
 use Rattle.cedar_text.specs.Piece.{Placed, IsUnescaped, HasEscapeFaults, unescaped_piece, fault_of}
 use Rattle.cedar_text.proofs.Layouts.{Whole, laid_once}
@@ -27,10 +27,10 @@ module _ {T A : Type 0} (items : T → List A) (gives : Placed → List A) (tell
   pub record Answered (r : Result T UnescapeFailure) : Type 0 where
     pub ok : IfOk r (λ t. Whole gives tells raw (items t) [])
     pub err : IfErr r (λ failure. Tells failure (λ found. (got : List A) × Whole gives tells raw got found))
-    pub succeeds : (got : List A) → Whole gives tells raw got [] → MatchResult r (λ t. items t ≡ got) WantsMemory
+    pub succeeds : (got : List A) → Whole gives tells raw got [] → MatchResult r (λ t. items t ≡ got) LacksMemory
     pub fails : (got : List A) (found : List UnescapeError) → Whole gives tells raw got found → found ≢ [] → MatchResult r (λ t. ⊥) (λ failure. Tells failure (λ all. all ≡ found))
 
-  pub answered : (t : T) (found : Option (NonEmpty UnescapeError)) (r : Result T UnescapeFailure) → MatchOption found (r ≡ Ok t) (λ f. r ≡ Err (Errors f)) → Whole gives tells raw (items t) (faults_in found) → Answered r
+  pub answered : (t : T) (found : Option (NonEmpty UnescapeError)) (r : Result T UnescapeFailure) → MatchOption found (r ≡ Ok t) (λ f. r ≡ Err (Errors f)) → Whole gives tells raw (items t) (found_list found) → Answered r
   answered t None r e w = subst Answered (sym e) (record {
     ok = w;
     err = tt;
@@ -67,7 +67,7 @@ text_ok items raw r a = ok_then (λ t. Whole text_gives (text_tells raw) raw (it
 pub text_err : {T : Type 0} (items : T → List ℕ) (raw : List ℕ) (r : Result T UnescapeFailure) → Answered items text_gives (text_tells raw) raw r → IfErr r (λ failure. Tells failure (HasEscapeFaults raw))
 text_err items raw r a = err_then (λ found. (got : List ℕ) × Whole text_gives (text_tells raw) raw got found) (HasEscapeFaults raw) r (λ found w. record { pieces = w.1.pieces; laid_out = w.1.laid; told = w.1.told }) a.err
 
-pub text_succeeds : {T : Type 0} (items : T → List ℕ) (raw : List ℕ) (r : Result T UnescapeFailure) → Answered items text_gives (text_tells raw) raw r → (text : List ℕ) → IsUnescaped raw text → MatchResult r (λ t. items t ≡ text) WantsMemory
+pub text_succeeds : {T : Type 0} (items : T → List ℕ) (raw : List ℕ) (r : Result T UnescapeFailure) → Answered items text_gives (text_tells raw) raw r → (text : List ℕ) → IsUnescaped raw text → MatchResult r (λ t. items t ≡ text) LacksMemory
 text_succeeds items raw r a text u = a.succeeds text (record { pieces = u.pieces; laid = u.laid_out; given = u.unescaped; told = u.faultless })
 
 pub text_fails : {T : Type 0} (items : T → List ℕ) (raw : List ℕ) (r : Result T UnescapeFailure) → Answered items text_gives (text_tells raw) raw r → (found : List UnescapeError) → HasEscapeFaults raw found → found ≢ [] → MatchResult r (λ t. ⊥) (λ failure. Tells failure (λ all. all ≡ found))
@@ -87,7 +87,7 @@ pattern_ok items raw r a = ok_then (λ t. Whole pattern_gives (pattern_tells raw
 pub pattern_err : {T : Type 0} (items : T → List PatternElem) (raw : List ℕ) (r : Result T UnescapeFailure) → Answered items pattern_gives (pattern_tells raw) raw r → IfErr r (λ failure. Tells failure (HasPatternFaults raw))
 pattern_err items raw r a = err_then (λ found. (got : List PatternElem) × Whole pattern_gives (pattern_tells raw) raw got found) (HasPatternFaults raw) r (λ found w. record { pieces = w.1.pieces; laid_out = w.1.laid; told = w.1.told }) a.err
 
-pub pattern_succeeds : {T : Type 0} (items : T → List PatternElem) (raw : List ℕ) (r : Result T UnescapeFailure) → Answered items pattern_gives (pattern_tells raw) raw r → (elems : List PatternElem) → IsPattern raw elems → MatchResult r (λ t. items t ≡ elems) WantsMemory
+pub pattern_succeeds : {T : Type 0} (items : T → List PatternElem) (raw : List ℕ) (r : Result T UnescapeFailure) → Answered items pattern_gives (pattern_tells raw) raw r → (elems : List PatternElem) → IsPattern raw elems → MatchResult r (λ t. items t ≡ elems) LacksMemory
 pattern_succeeds items raw r a elems u = a.succeeds elems (record { pieces = u.pieces; laid = u.laid_out; given = u.parts; told = u.faultless })
 
 pub pattern_fails : {T : Type 0} (items : T → List PatternElem) (raw : List ℕ) (r : Result T UnescapeFailure) → Answered items pattern_gives (pattern_tells raw) raw r → (found : List UnescapeError) → HasPatternFaults raw found → found ≢ [] → MatchResult r (λ t. ⊥) (λ failure. Tells failure (λ all. all ≡ found))

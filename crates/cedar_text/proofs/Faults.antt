@@ -3,8 +3,8 @@ use Rattle.std.proofs.Common.{◌≡◌, ℕ, ◌+◌, ◌-◌, ◌<◌, ◌≤�
 use Rattle.std.specs.Prelude.{◌⊎◌, MatchResult, IsErrAnd}
 use Rattle.std.proofs.lemmas.List.{append-nil}
 use Rattle.cedar_lexer.specs.Token.{Lexeme, lexeme_of}
-use Rattle.cedar_lexer.specs.Cut.{Laid, Cuts, StopsAt, CutsFrom, StopsFrom}
-use Rattle.cedar_lexer.specs.Reading.{Reading, Answers, beginning, moved_to, ended_at}
+use Rattle.cedar_lexer.specs.Cut.{Layout, Cuts, StopsAt, CutsFrom, StopsFrom}
+use Rattle.cedar_lexer.specs.LexerState.{LexerState, Answers, beginning, moved_to, ended_at}
 use Rattle.cedar_lexer.specs.declared.token.Token.{Token}
 use Rattle.cedar_lexer.specs.declared.token.InvalidToken.{InvalidToken}
 use Rattle.cedar_lexer.specs.declared.token.TokenKind.{TokenKind}
@@ -55,7 +55,7 @@ token_fits src s t r h k =
     number_taken src s.stack s.levels s.mode (extent_of t) t.text r
     (subst (λ w. stepped src s.stack s.levels s.mode record { kind = w; start = t.start; end = t.end; text = t.text } ≡ outcome.Next r) k h)
 
-fit_snoc : (ts : List Lexeme) (t : Lexeme) → NumbersFit ts → ((t.kind ≡ kind.Number) → fits t.text ≡ true) → NumbersFit (ts ++ t ∷ [])
+pub fit_snoc : (ts : List Lexeme) (t : Lexeme) → NumbersFit ts → ((t.kind ≡ kind.Number) → fits t.text ≡ true) → NumbersFit (ts ++ t ∷ [])
 fit_snoc [] t h g = (g, tt)
 fit_snoc (u ∷ ts) t h g = (h.0, fit_snoc ts t h.1 g)
 
@@ -68,42 +68,42 @@ end_snoc ts t = ap (λ o. end_at o) (extent-append ts (t ∷ [])) ∙ end_joined
 
 -- the lexer's next answer, behind tokens that are laid out
 
-abbrev Behind : List ℕ → List Lexeme → Reading → Type 0
-Behind text before l = Laid text 0 before l.offset × (l.source ≡ text) × (l.ended ≡ false)
+abbrev Behind : List ℕ → List Lexeme → LexerState → Type 0
+Behind text before l = Layout text 0 before l.offset × (l.source ≡ text) × (l.ended ≡ false)
 
-token_ahead : (text : List ℕ) (before : List Lexeme) (l u : Reading) (t : Token) → Behind text before l → Answers l (Some (Ok t)) u → Ahead text before (Some t) u
+token_ahead : (text : List ℕ) (before : List Lexeme) (l u : LexerState) (t : Token) → Behind text before l → Answers l (Some (Ok t)) u → Ahead text before (Some t) u
 token_ahead text before l u t b a =
-    let next : Laid text l.offset (lexeme_of t ∷ []) t.end = subst (λ w. Laid w l.offset (lexeme_of t ∷ []) t.end) b.1 a.1 in
+    let next : Layout text l.offset (lexeme_of t ∷ []) t.end = subst (λ w. Layout w l.offset (lexeme_of t ∷ []) t.end) b.1 a.1 in
     (laid_on b.0 next, ap (λ r. r.source) a.2 ∙ b.1, ap (λ r. r.offset) a.2, ap (λ r. r.ended) a.2)
 
 not_ended : {b : Bool} → b ≡ false → b ≡ true → ⊥
 not_ended e f = cc
 
-end_ahead : (text : List ℕ) (before : List Lexeme) (l u : Reading) → Behind text before l → Answers l None u → Cuts text before
+end_ahead : (text : List ℕ) (before : List Lexeme) (l u : LexerState) → Behind text before l → Answers l None u → Cuts text before
 end_ahead text before l u b a = go a.0
   where
     go : ((l.ended ≡ true) ⊎ CutsFrom l.source l.offset []) → Cuts text before
     go (inl e) = absurd (not_ended b.2 e)
-    go (inr c) = subst (λ w. Laid text 0 w (length text)) (append-nil before) (laid_on b.0 (subst (λ w. Laid w l.offset [] (length w)) b.1 c))
+    go (inr c) = subst (λ w. Layout text 0 w (length text)) (append-nil before) (laid_on b.0 (subst (λ w. Layout w l.offset [] (length w)) b.1 c))
 
-pub ahead_of : (text : List ℕ) (before : List Lexeme) (l u : Reading) (o : Option Token) → Behind text before l → GivesToken l o u → Ahead text before o u
+pub ahead_of : (text : List ℕ) (before : List Lexeme) (l u : LexerState) (o : Option Token) → Behind text before l → GivesToken l o u → Ahead text before o u
 ahead_of text before l u (Some t) b a = token_ahead text before l u t b a
 ahead_of text before l u None b a = end_ahead text before l u b a
 
-stops_behind : (text : List ℕ) (before : List Lexeme) (l : Reading) (place : ℕ) → Behind text before l → StopsFrom l.source l.offset [] place → StopsAt text before place
+stops_behind : (text : List ℕ) (before : List Lexeme) (l : LexerState) (place : ℕ) → Behind text before l → StopsFrom l.source l.offset [] place → StopsAt text before place
 stops_behind text before l place b s =
     let r : StopsFrom text l.offset [] place = subst (λ w. StopsFrom w l.offset [] place) b.1 s in
-    (subst (λ w. Laid text 0 w place) (append-nil before) (laid_on b.0 r.0), r.1, r.2)
+    (subst (λ w. Layout text 0 w place) (append-nil before) (laid_on b.0 r.0), r.1, r.2)
 
-behind_of : (text : List ℕ) (before : List Lexeme) (t : Token) (l : Reading) → Ahead text before (Some t) l → Behind text (before ++ lexeme_of t ∷ []) l
-behind_of text before t l a = (subst (λ n. Laid text 0 (before ++ lexeme_of t ∷ []) n) (sym a.2) a.0, a.1, a.3)
+behind_of : (text : List ℕ) (before : List Lexeme) (t : Token) (l : LexerState) → Ahead text before (Some t) l → Behind text (before ++ lexeme_of t ∷ []) l
+behind_of text before t l a = (subst (λ n. Layout text 0 (before ++ lexeme_of t ∷ []) n) (sym a.2) a.0, a.1, a.3)
 
 -- ---- the parser's beginning
 
 begun : (text : List ℕ) → Behind text [] (beginning text)
 begun text = (Rattle.cedar_lexer.specs.Cut.nothing, refl, refl)
 
-pub at_start : (text : List ℕ) (e : Entry) (s : State) (l u : Reading) (o : Option Token) → IsUtf8 text → s ≡ start_state e → l ≡ beginning text → GivesToken l o u → Progress text e s 0 o u
+pub at_start : (text : List ℕ) (e : Entry) (s : State) (l u : LexerState) (o : Option Token) → IsUtf8 text → s ≡ start_state e → l ≡ beginning text → GivesToken l o u → Progress text e s 0 o u
 at_start text e s l u o w f g a = record {
   utf8 = w;
   before = [];
@@ -113,12 +113,12 @@ at_start text e s l u o w f g a = record {
   goes = ahead_of text [] (beginning text) u o (begun text) (subst (λ w. GivesToken w o u) g a);
 }
 
-bad_beginning : (text : List ℕ) (e : Entry) (l : Reading) (f : Failure) → l ≡ beginning text → StopsBadly text l f → IsRefusal e text f
+bad_beginning : (text : List ℕ) (e : Entry) (l : LexerState) (f : Failure) → l ≡ beginning text → StopsBadly text l f → IsRefusal e text f
 bad_beginning text e l (Memory m) g s = tt
 bad_beginning text e l (Errors errors) g s =
     (_, bad_place [] s.0 tt (stops_behind text [] (beginning text) s.0 (begun text) (subst (λ w. StopsFrom w.source w.offset [] s.0) g s.1)) (begins text e [] (start_state e) refl), s.2)
 
-pub bad_start : (text : List ℕ) (e : Entry) (src : List ℕ) (l : Reading) (f : Failure) → src ≡ text → l ≡ beginning text → StopsBadly src l f → IsRefusal e text f
+pub bad_start : (text : List ℕ) (e : Entry) (src : List ℕ) (l : LexerState) (f : Failure) → src ≡ text → l ≡ beginning text → StopsBadly src l f → IsRefusal e text f
 bad_start text e src l f h g s = bad_beginning text e l f g (subst (λ w. StopsBadly w l f) h s)
 
 -- an error that `?` passes on
@@ -128,11 +128,11 @@ passed_on (Err y) f P Q is q = subst Q (sym is) q
 
 -- ---- one token more
 
-comes_on : (text : List ℕ) (e : Entry) (before : List Lexeme) (s r : State) (t : Lexeme) → Comes text e before s → step_of text s t ≡ outcome.Next r → Comes text e (before ++ t ∷ []) r
+pub comes_on : (text : List ℕ) (e : Entry) (before : List Lexeme) (s r : State) (t : Lexeme) → Comes text e before s → step_of text s t ≡ outcome.Next r → Comes text e (before ++ t ∷ []) r
 comes_on text e before s r t c h =
     steps-append text (Some (start_state e)) before (t ∷ []) ∙ ap (λ o. steps text o (t ∷ [])) c ∙ ap (λ o. next_of o) h
 
-pub one_more : (text : List ℕ) (e : Entry) (s r : State) (end : ℕ) (t : Token) (l u : Reading) (o : Option Token) → Progress text e s end (Some t) l →
+pub one_more : (text : List ℕ) (e : Entry) (s r : State) (end : ℕ) (t : Token) (l u : LexerState) (o : Option Token) → Progress text e s end (Some t) l →
     step_of text s (lexeme_of t) ≡ outcome.Next r → GivesToken l o u → Progress text e r t.end o u
 one_more text e s r end t l u o p h a = record {
   utf8 = p.utf8;
@@ -145,7 +145,7 @@ one_more text e s r end t l u o p h a = record {
 
 -- ---- where it stops
 
-pub stops_at_token : (text : List ℕ) (e : Entry) (s : State) (end : ℕ) (t : Token) (l : Reading) (f : Failure) → Progress text e s end (Some t) l → StopsAtToken text s (lexeme_of t) f → IsRefusal e text f
+pub stops_at_token : (text : List ℕ) (e : Entry) (s : State) (end : ℕ) (t : Token) (l : LexerState) (f : Failure) → Progress text e s end (Some t) l → StopsAtToken text s (lexeme_of t) f → IsRefusal e text f
 stops_at_token text e s end t l (Memory m) p h = tt
 stops_at_token text e s end t l (Errors errors) p (inl h) =
     (_, unexpected p.before (lexeme_of t) p.fit p.goes.0 record { begins = begins text e p.before s p.comes; refuses = refused_token text e p.before s (lexeme_of t) p.comes h.0 }, h.1)
@@ -153,7 +153,7 @@ stops_at_token text e s end t l (Errors errors) p (inr h) =
     let k = too_large text s (lexeme_of t) h.0 in
     (_, large_number p.before (lexeme_of t) p.fit p.goes.0 k.0 k.1 (number_allowed text e p.before s (lexeme_of t) p.comes h.0), h.1)
 
-pub stops_badly : (text : List ℕ) (e : Entry) (s r : State) (end : ℕ) (t : Token) (l : Reading) (f : Failure) → Progress text e s end (Some t) l →
+pub stops_badly : (text : List ℕ) (e : Entry) (s r : State) (end : ℕ) (t : Token) (l : LexerState) (f : Failure) → Progress text e s end (Some t) l →
     step_of text s (lexeme_of t) ≡ outcome.Next r → StopsBadly text l f → IsRefusal e text f
 stops_badly text e s r end t l (Memory m) p h q = tt
 stops_badly text e s r end t l (Errors errors) p h q = (
@@ -164,7 +164,7 @@ stops_badly text e s r end t l (Errors errors) p h q = (
   q.2,
 )
 
-pub stops_at_end : (text : List ℕ) (e : Entry) (s : State) (end : ℕ) (l : Reading) (f : Failure) → Progress text e s end None l → StopsAtEnd text s end f → IsRefusal e text f
+pub stops_at_end : (text : List ℕ) (e : Entry) (s : State) (end : ℕ) (l : LexerState) (f : Failure) → Progress text e s end None l → StopsAtEnd text s end f → IsRefusal e text f
 stops_at_end text e s end l (Memory m) p h = tt
 stops_at_end text e s end l (Errors errors) p h = (
   _,
@@ -172,35 +172,35 @@ stops_at_end text e s end l (Errors errors) p h = (
   subst (λ n. IsFault text errors (fault.UnrecognizedEof n [])) p.ends h.1,
 )
 
-pub reads_whole : (text : List ℕ) (e : Entry) (s : State) (end : ℕ) (l : Reading) (x : Parsed) → Progress text e s end None l → finish_of text s ≡ Some x → IsRead text e x
+pub reads_whole : (text : List ℕ) (e : Entry) (s : State) (end : ℕ) (l : LexerState) (x : Parsed) → Progress text e s end None l → finish_of text s ≡ Some x → IsRead text e x
 reads_whole text e s end l x p h = record { tokens = p.before; cut = p.goes; runs = record { last = s; goes = p.comes; ends = h } }
 
 -- ---- the text, and how much of it is left
 
 -- what the token ahead is written as
-pub ahead_written : (text : List ℕ) (e : Entry) (s : State) (end : ℕ) (t : Token) (l : Reading) → Progress text e s end (Some t) l → IsWritten (lexeme_of t)
+pub ahead_written : (text : List ℕ) (e : Entry) (s : State) (end : ℕ) (t : Token) (l : LexerState) → Progress text e s end (Some t) l → IsWritten (lexeme_of t)
 ahead_written text e s end t l p = last_written p.before (lexeme_of t) (all_written p.goes.0)
   where
     last_written : (ts : List Lexeme) (t : Lexeme) → AllWritten (ts ++ t ∷ []) → IsWritten t
     last_written [] t h = h.0
     last_written (u ∷ ts) t h = last_written ts t h.1
 
-next_bounds : (text : List ℕ) (i : ℕ) (t : Lexeme) → Laid text i (t ∷ []) t.end → i ≤ length text → IsUtf8 (drop i text) → (i < t.end) × (t.end ≤ length text)
+next_bounds : (text : List ℕ) (i : ℕ) (t : Lexeme) → Layout text i (t ∷ []) t.end → i ≤ length text → IsUtf8 (drop i text) → (i < t.end) × (t.end ≤ length text)
 next_bounds text i t h b u = one_bounds h b u
 
 less_left : (n a b : ℕ) → a < b → b ≤ n → 1 + (n - b) < 1 + (n - a)
 less_left n a b h g = omega arith
 
-fewer : (text : List ℕ) (l u : Reading) (t : Token) → (l.source ≡ text) → l.offset ≤ length text → IsUtf8 (drop l.offset text) → Answers l (Some (Ok t)) u → 1 + (length u.source - u.offset) < 1 + (length l.source - l.offset)
+fewer : (text : List ℕ) (l u : LexerState) (t : Token) → (l.source ≡ text) → l.offset ≤ length text → IsUtf8 (drop l.offset text) → Answers l (Some (Ok t)) u → 1 + (length u.source - u.offset) < 1 + (length l.source - l.offset)
 fewer text l u t e b w a =
-    let next : Laid text l.offset (lexeme_of t ∷ []) t.end = subst (λ w. Laid w l.offset (lexeme_of t ∷ []) t.end) e a.1 in
+    let next : Layout text l.offset (lexeme_of t ∷ []) t.end = subst (λ w. Layout w l.offset (lexeme_of t ∷ []) t.end) e a.1 in
     let c = next_bounds text l.offset (lexeme_of t) next b w in
     let f : length u.source ≡ length text = ap (λ r. length r.source) a.2 ∙ ap (λ x. length x) e in
     let g : u.offset ≡ t.end = ap (λ r. r.offset) a.2 in
     let h : length l.source ≡ length text = ap (λ x. length x) e in
     rw (f, g, h) (less_left (length text) l.offset t.end c.0 c.1)
 
-pub fewer_left : (text : List ℕ) (e : Entry) (s : State) (end : ℕ) (t : Token) (l u : Reading) (o : Option Token) → Progress text e s end (Some t) l → GivesToken l o u → tokens_left o u < tokens_left (Some t) l
+pub fewer_left : (text : List ℕ) (e : Entry) (s : State) (end : ℕ) (t : Token) (l u : LexerState) (o : Option Token) → Progress text e s end (Some t) l → GivesToken l o u → tokens_left o u < tokens_left (Some t) l
 fewer_left text e s end t l u None p a = omega arith
 fewer_left text e s end t l u (Some w) p a =
     let b = behind_of text p.before t l p.goes in
@@ -209,14 +209,14 @@ fewer_left text e s end t l u (Some w) p a =
 
 -- ---- the loop's steps, at what the option ahead is
 
-pub ahead_is : {text : List ℕ} {e : Entry} {s : State} {end : ℕ} {a : Option Token} {l : Reading} {b : Option Token} → Progress text e s end a l → a ≡ b → Progress text e s end b l
+pub ahead_is : {text : List ℕ} {e : Entry} {s : State} {end : ℕ} {a : Option Token} {l : LexerState} {b : Option Token} → Progress text e s end a l → a ≡ b → Progress text e s end b l
 ahead_is {text = text} {e = e} {s = s} {end = end} {l = l} p h = subst (λ w. Progress text e s end w l) h p
 
-pub fewer_at : (text : List ℕ) (e : Entry) (s : State) (end : ℕ) (a : Option Token) (t : Token) (l u : Reading) (o : Option Token) → Progress text e s end a l → a ≡ Some t → GivesToken l o u →
+pub fewer_at : (text : List ℕ) (e : Entry) (s : State) (end : ℕ) (a : Option Token) (t : Token) (l u : LexerState) (o : Option Token) → Progress text e s end a l → a ≡ Some t → GivesToken l o u →
     tokens_left o u < tokens_left a l
 fewer_at text e s end a t l u o p h g = subst (λ w. tokens_left o u < tokens_left w l) (sym h) (fewer_left text e s end t l u o (ahead_is p h) g)
 
-pub concluded : (text : List ℕ) (e : Entry) (s : State) (end : ℕ) (a : Option Token) (l : Reading) (r : Result Parsed Failure) → Progress text e s end a l → a ≡ None →
+pub concluded : (text : List ℕ) (e : Entry) (s : State) (end : ℕ) (a : Option Token) (l : LexerState) (r : Result Parsed Failure) → Progress text e s end a l → a ≡ None →
     MatchResult r (λ x. finish_of text s ≡ Some x) (λ f. StopsAtEnd text s end f) → MatchResult r (λ x. IsRead text e x) (λ f. IsRefusal e text f)
 concluded text e s end a l (Ok x) p h g = reads_whole text e s end l x (ahead_is p h) g
 concluded text e s end a l (Err f) p h g = stops_at_end text e s end l f (ahead_is p h) g

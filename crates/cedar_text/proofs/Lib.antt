@@ -6,9 +6,11 @@ pub mod Clauses
 pub mod Complete
 pub mod Faults
 pub mod FirstPiece
+pub mod Joining
 pub mod Layouts
 pub mod OneFault
 pub mod Places
 pub mod Quotes
 pub mod Sound
 pub mod Tokens
+pub mod Total

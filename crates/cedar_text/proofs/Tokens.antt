@@ -11,7 +11,7 @@ use Rattle.cedar_lexer.specs.Token.{Lexeme}
 use Rattle.cedar_lexer.specs.declared.token.TokenKind.{TokenKind}
 use Rattle.cedar_lexer.specs.declared.token.TokenKind.TheVariants as kind
 use Rattle.cedar_lexer.specs.Spelling.{Spells, IsNumber, IsString, IsStringTail, closing, plain, escaped}
-use Rattle.cedar_lexer.specs.Cut.{Laid, nothing, skip, token}
+use Rattle.cedar_lexer.specs.Cut.{Layout, nothing, skip, token}
 use Rattle.cedar_lexer.proofs.Cuts.{behind_skip, behind_token}
 use Rattle.cedar_text.specs.Written.{Written, IsWritten}
 use Rattle.cedar_text.proofs.Places.{Lies}
@@ -52,7 +52,7 @@ abbrev pub AllWritten : List Lexeme → Type 0
 AllWritten [] = Unit {0}
 AllWritten (t ∷ ts) = IsWritten t × AllWritten ts
 
-pub all_written : {src : List ℕ} {i k : ℕ} {ts : List Lexeme} → Laid src i ts k → AllWritten ts
+pub all_written : {src : List ℕ} {i k : ℕ} {ts : List Lexeme} → Layout src i ts k → AllWritten ts
 all_written nothing = tt
 all_written (skip s more) = all_written more
 all_written (token {t = t} s more) = (spelled_written t.kind t.text s.spelled.spells, all_written more)
@@ -61,7 +61,7 @@ lies_earlier : (src : List ℕ) (i j : ℕ) (ts : List Lexeme) (k : ℕ) → i �
 lies_earlier src i j [] k h r = omega arith
 lies_earlier src i j (t ∷ ts) k h r = let a = r.0 in (omega arith, r.1, r.2, r.3, r.4)
 
-pub laid_lies : {src : List ℕ} {i k : ℕ} {ts : List Lexeme} → Laid src i ts k → i ≤ length src → IsUtf8 (drop i src) → Lies src i ts k
+pub laid_lies : {src : List ℕ} {i k : ℕ} {ts : List Lexeme} → Layout src i ts k → i ≤ length src → IsUtf8 (drop i src) → Lies src i ts k
 laid_lies nothing h u = omega arith
 laid_lies {src = src} {k = k} {ts = ts} (skip {i = i} {j = j} s more) h u =
     let b = behind_skip src i j u s in
@@ -74,7 +74,7 @@ laid_lies {src = src} (token {i = i} {t = t} s more) h u =
     (omega arith, omega arith, subst (λ n. IsCharBoundary src n) (sym s.starts) (IsCharBoundary-from_drop src i h u), IsCharBoundary-from_drop src t.end b.2 b.0, laid_lies more b.2 b.0)
 
 -- one token alone
-pub one_bounds : {src : List ℕ} {i k : ℕ} {t : Lexeme} → Laid src i (t ∷ []) k → i ≤ length src → IsUtf8 (drop i src) → (i < t.end) × (t.end ≤ length src)
+pub one_bounds : {src : List ℕ} {i k : ℕ} {t : Lexeme} → Layout src i (t ∷ []) k → i ≤ length src → IsUtf8 (drop i src) → (i < t.end) × (t.end ≤ length src)
 one_bounds {src = src} (skip {i = i} {j = j} s more) h u =
     let b = behind_skip src i j u s in
     let c = one_bounds more b.2 b.0 in

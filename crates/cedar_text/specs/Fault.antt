@@ -1,7 +1,7 @@
 -- The one fault of a text that has no tree.
 use Rattle.std.specs.Prelude.{◌≡◌, ℕ, Bool, true, false, List, [], ◌∷◌, ◌++◌, Option, Some, None, codes}
 use Rattle.cedar_lexer.specs.Token.{Lexeme}
-use Rattle.cedar_lexer.specs.Cut.{Laid, Cuts, StopsAt}
+use Rattle.cedar_lexer.specs.Cut.{Layout, Cuts, StopsAt}
 use Rattle.cedar_lexer.specs.declared.token.TokenKind.{TokenKind}
 use Rattle.cedar_lexer.specs.declared.token.TokenKind.TheVariants as kind
 use Rattle.cedar_syntax.specs.ParseErrors.{faults_of}
@@ -36,7 +36,7 @@ too_large = codes "integer parse error: number too large to fit in target type"
 
 -- the text's tokens begin with these and then this one
 abbrev pub StandsBehind : List ℕ → List Lexeme → Lexeme → Type 0
-StandsBehind text before t = Laid text 0 (before ++ t ∷ []) t.end
+StandsBehind text before t = Layout text 0 (before ++ t ∷ []) t.end
 
 -- the first fault of a text by this rule: the tokens before it begin a sentence and their numbers fit
 pub data FirstFault (e : Entry) (text : List ℕ) : RawFault → Type 0 where

@@ -5,8 +5,8 @@ use Rattle.std.specs.Str.{byte}
 use Rattle.cedar_expressions.specs.declared.literal.PatternElem.{PatternElem}
 use Rattle.cedar_expressions.specs.declared.literal.PatternElem.TheVariants.{Char, Wildcard}
 use Rattle.cedar_syntax.specs.declared.err.escape.UnescapeError.{UnescapeError}
-use Rattle.cedar_text.specs.declared.unescape.piece.Outcome.{Outcome}
-use Rattle.cedar_text.specs.declared.unescape.piece.Outcome.TheVariants.{Nothing, Character, Fault}
+use Rattle.cedar_text.specs.declared.unescape.piece.PieceValue.{PieceValue}
+use Rattle.cedar_text.specs.declared.unescape.piece.PieceValue.TheVariants.{Nothing, Character, Fault}
 use Rattle.cedar_text.specs.Piece.{Placed, IsLaidOut, fault_at}
 
 -- the piece `\*`, a star that is no wildcard
@@ -21,13 +21,13 @@ abbrev pub character_elem : ℕ → PatternElem
 character_elem c = if c == byte "*" then Wildcard else Char c
 
 -- the part of the pattern that a piece stands for
-abbrev pub elem_of : Placed → Outcome → List PatternElem
+abbrev pub elem_of : Placed → PieceValue → List PatternElem
 elem_of p Nothing = []
 elem_of p (Character c) = character_elem c ∷ []
 elem_of p (Fault kind) = if is_escaped_star p.text then Char (byte "*") ∷ [] else []
 
 -- the fault that a piece is in a pattern
-abbrev pub pattern_fault_of : List ℕ → Placed → Outcome → List UnescapeError
+abbrev pub pattern_fault_of : List ℕ → Placed → PieceValue → List UnescapeError
 pattern_fault_of raw p Nothing = []
 pattern_fault_of raw p (Character c) = []
 pattern_fault_of raw p (Fault kind) = if is_escaped_star p.text then [] else fault_at raw p kind ∷ []

@@ -3,7 +3,7 @@ use Rattle.std.specs.Prelude.{◌≡◌, ℕ, ◌+◌, ◌-◌, Bool, true, fals
 use Rattle.std.specs.Str.{IsUtf8}
 use Rattle.cedar_lexer.specs.Token.{Lexeme, lexeme_of}
 use Rattle.cedar_lexer.specs.Cut.{Cuts, StopsFrom}
-use Rattle.cedar_lexer.specs.Reading.{Reading, Answers}
+use Rattle.cedar_lexer.specs.LexerState.{LexerState, Answers}
 use Rattle.cedar_lexer.specs.declared.token.Token.{Token}
 use Rattle.cedar_syntax.specs.declared.err.faults.Failure.{Failure}
 use Rattle.cedar_syntax.specs.declared.err.faults.Failure.TheVariants.{Memory, Errors}
@@ -22,12 +22,12 @@ use Rattle.cedar_text.specs.Fault.{NumbersFit, end_of, StandsBehind, too_large}
 use Rattle.cedar_text.specs.Runs.{Comes, RunsTo}
 
 -- the lexer stands behind this token, or the text ends
-abbrev pub Ahead : List ℕ → List Lexeme → Option Token → Reading → Type 0
+abbrev pub Ahead : List ℕ → List Lexeme → Option Token → LexerState → Type 0
 Ahead text before (Some t) l = StandsBehind text before (lexeme_of t) × (l.source ≡ text) × (l.offset ≡ t.end) × (l.ended ≡ false)
 Ahead text before None l = Cuts text before
 
 -- some tokens of the text are read, and the next is ahead
-pub record Progress (text : List ℕ) (e : Entry) (s : State) (end : ℕ) (ahead : Option Token) (l : Reading) : Type 0 where
+pub record Progress (text : List ℕ) (e : Entry) (s : State) (end : ℕ) (ahead : Option Token) (l : LexerState) : Type 0 where
   pub utf8 : IsUtf8 text
   pub before : List Lexeme
   pub comes : Comes text e before s
@@ -36,7 +36,7 @@ pub record Progress (text : List ℕ) (e : Entry) (s : State) (end : ℕ) (ahead
   pub goes : Ahead text before ahead l
 
 -- the bytes that are left, and the token ahead
-abbrev pub tokens_left : Option Token → Reading → ℕ
+abbrev pub tokens_left : Option Token → LexerState → ℕ
 tokens_left None l = 0
 tokens_left (Some t) l = 1 + (length l.source - l.offset)
 
@@ -57,12 +57,12 @@ FailsWith src raw (Memory m) = Unit {0}
 FailsWith src raw (Errors errors) = IsFault src errors raw
 
 -- the lexer's next token, if there is one
-abbrev pub GivesToken : Reading → Option Token → Reading → Type 0
+abbrev pub GivesToken : LexerState → Option Token → LexerState → Type 0
 GivesToken l (Some t) u = Answers l (Some (Ok t)) u
 GivesToken l None u = Answers l None u
 
 -- its bad place
-abbrev pub StopsBadly : List ℕ → Reading → Failure → Type 0
+abbrev pub StopsBadly : List ℕ → LexerState → Failure → Type 0
 StopsBadly src l (Memory m) = Unit {0}
 StopsBadly src l (Errors errors) = (place : ℕ) × StopsFrom l.source l.offset [] place × IsFault src errors (fault.InvalidToken place)
 

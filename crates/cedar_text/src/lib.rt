@@ -19,4 +19,4 @@ pub mod unescape;
 pub mod util;
 
 pub use entry::{Entry, Parsed};
-pub use laws::{one_first_fault, one_tree};
+pub use laws::{a_tree_or_a_first_fault, one_first_fault, one_tree};

@@ -2,17 +2,17 @@
 ghost use Rattle.std.specs.Prelude.{◌≡◌, ◌≢◌, [], ℕ, List, MatchResult, IfOk, IfErr, string_bytes};
 ghost use Rattle.cedar_expressions.specs.declared.literal.PatternElem.{PatternElem};
 ghost use Rattle.cedar_syntax.specs.declared.err.escape.UnescapeError.{UnescapeError};
-ghost use Rattle.cedar_text.specs.Answer.{Tells, WantsMemory};
+ghost use Rattle.cedar_text.specs.UnescapeFailure.{Tells, LacksMemory};
 ghost use Rattle.cedar_text.specs.Pattern.{IsPattern, HasPatternFaults, character_elem};
 ghost use Rattle.cedar_text.specs.Piece.{IsUnescaped, HasEscapeFaults};
 
-pub mod digits;
-pub mod faults;
+mod digits;
+mod faults;
 pub mod laws;
-pub mod piece;
+mod piece;
 
 use crate::unescape::faults::Faults;
-use crate::unescape::piece::{Outcome, begins_escaped_star, first_char, first_piece};
+use crate::unescape::piece::{PieceValue, begins_escaped_star, first_char, first_piece};
 use cedar_expressions::PatternElem;
 pub use cedar_syntax::err::{EscapeError, UnescapeError, UnescapeFailure};
 use std::alloc::Global;
@@ -26,7 +26,8 @@ pub fn to_unescaped_string(alloc: Global, raw: &str) -> Result<String, UnescapeF
     ensures told { IfErr result (λ failure. Tells failure (HasEscapeFaults raw.now)) }
 
     // Where there is an unescaped text, it is the answer, and where there are faults, they are, want of memory aside.
-    ensures succeeds { (text : List ℕ) → IsUnescaped raw.now text → MatchResult result (λ given. string_bytes given ≡ text) WantsMemory }
+    ensures succeeds { (text : List ℕ) → IsUnescaped raw.now text
+        → MatchResult result (λ given. string_bytes given ≡ text) LacksMemory }
     ensures fails { (faults : List UnescapeError) → HasEscapeFaults raw.now faults → faults ≢ []
         → MatchResult result (λ given. ⊥) (λ failure. Tells failure (λ all. all ≡ faults)) }
 {
@@ -36,9 +37,9 @@ pub fn to_unescaped_string(alloc: Global, raw: &str) -> Result<String, UnescapeF
     while let Some((first, after)) = first_char(rest) {
         let step = first_piece(first, after);
         match step.outcome {
-            Outcome::Nothing => {}
-            Outcome::Character(c) => text.push(c)?,
-            Outcome::Fault(kind) => {
+            PieceValue::Nothing => {}
+            PieceValue::Character(c) => text.push(c)?,
+            PieceValue::Fault(kind) => {
                 faults.add(kind, raw.len() - rest.len(), raw.len() - step.rest.len())?;
             }
         }
@@ -66,7 +67,8 @@ pub fn to_pattern(alloc: Global, raw: &str) -> Result<Vec<PatternElem>, Unescape
     ensures told { IfErr result (λ failure. Tells failure (HasPatternFaults raw.now)) }
 
     // Where there is a pattern, it is the answer, and where there are faults, they are, want of memory aside.
-    ensures succeeds { (elems : List PatternElem) → IsPattern raw.now elems → MatchResult result (λ given. given.items ≡ elems) WantsMemory }
+    ensures succeeds { (elems : List PatternElem) → IsPattern raw.now elems
+        → MatchResult result (λ given. given.items ≡ elems) LacksMemory }
     ensures fails { (faults : List UnescapeError) → HasPatternFaults raw.now faults → faults ≢ []
         → MatchResult result (λ given. ⊥) (λ failure. Tells failure (λ all. all ≡ faults)) }
 {
@@ -76,12 +78,12 @@ pub fn to_pattern(alloc: Global, raw: &str) -> Result<Vec<PatternElem>, Unescape
     while let Some((first, after)) = first_char(rest) {
         let step = first_piece(first, after);
         match step.outcome {
-            Outcome::Nothing => {}
-            Outcome::Character(c) => pattern.push(character_elem(c))?,
-            Outcome::Fault(_) if begins_escaped_star(first, after) => {
+            PieceValue::Nothing => {}
+            PieceValue::Character(c) => pattern.push(character_elem(c))?,
+            PieceValue::Fault(_) if begins_escaped_star(first, after) => {
                 pattern.push(PatternElem::Char('*'))?;
             }
-            Outcome::Fault(kind) => {
+            PieceValue::Fault(kind) => {
                 faults.add(kind, raw.len() - rest.len(), raw.len() - step.rest.len())?;
             }
         }

@@ -1,7 +1,7 @@
 //! The digits of `\u{..}`.
 ghost use Rattle.std.specs.Prelude.{◌≡◌, ◌<◌, ◌≤◌};
 
-use crate::unescape::piece::Outcome;
+use crate::unescape::piece::PieceValue;
 use cedar_syntax::err::EscapeError;
 
 /// The digits between braces so far: how many, seven standing for more, and their number, 110000 standing for more.
@@ -14,7 +14,7 @@ pub struct Digits {
 }
 
 impl Digits {
-    ghost use Rattle.cedar_text.specs.Reading.{tally_of, tally, with_digit, closed};
+    ghost use Rattle.cedar_text.specs.PieceAhead.{tally_of, tally, with_digit, closed};
 
     /// The first digit.
     pub fn new(digit: u32) -> Digits
@@ -39,16 +39,18 @@ impl Digits {
     }
 
     /// What the digits stand for, once the brace is closed.
-    pub fn closed(self) -> Outcome
+    pub fn closed(self) -> PieceValue
         ensures { result ≡ closed (tally_of self) }
     {
         if self.count > 6 {
-            return Outcome::Fault(EscapeError::OverlongUnicodeEscape);
+            return PieceValue::Fault(EscapeError::OverlongUnicodeEscape);
         }
         match char::from_u32(self.number) {
-            Some(c) => Outcome::Character(c),
-            None if self.number > 0x10_FFFF => Outcome::Fault(EscapeError::OutOfRangeUnicodeEscape),
-            None => Outcome::Fault(EscapeError::LoneSurrogateUnicodeEscape),
+            Some(c) => PieceValue::Character(c),
+            None if self.number > 0x10_FFFF => PieceValue::Fault(
+                EscapeError::OutOfRangeUnicodeEscape,
+            ),
+            None => PieceValue::Fault(EscapeError::LoneSurrogateUnicodeEscape),
         }
     }
 }

@@ -16,7 +16,7 @@ pub struct Faults<'a> {
 }
 
 impl<'a> Faults<'a> {
-    ghost use Rattle.cedar_text.specs.Faults.{found_faults, fault_between};
+    ghost use Rattle.cedar_text.specs.EscapeFaults.{found_faults, fault_between};
 
     /// No fault yet; it takes no memory.
     pub fn new(alloc: Global, raw: &'a str) -> Faults<'a>
@@ -33,7 +33,8 @@ impl<'a> Faults<'a> {
     /// Adds a fault at the bytes from `start` to `end`.
     pub fn add(&mut self, kind: EscapeError, start: usize, end: usize) -> Result<(), AllocError>
         ensures raw { self.new.raw.now ≡ self.old.raw.now }
-        ensures ok { OnOk result (found_faults self.new ≡ found_faults self.old ++ fault_between self.old.raw.now kind start end ∷ []) }
+        ensures ok { OnOk result (found_faults self.new
+            ≡ found_faults self.old ++ fault_between self.old.raw.now kind start end ∷ []) }
     {
         match &mut self.found {
             None => {
@@ -51,7 +52,8 @@ impl<'a> Faults<'a> {
 
     /// What was read, if there is no fault, and else the faults.
     pub fn or<T: Drop>(self, read: T) -> Result<T, UnescapeFailure>
-        ensures { MatchOption self.entry.found (result ≡ Ok read) (λ found. result ≡ Err (UnescapeFailure.Errors found)) }
+        ensures { MatchOption self.entry.found (result ≡ Ok read)
+            (λ found. result ≡ Err (UnescapeFailure.Errors found)) }
     {
         let Faults {
             alloc: _,

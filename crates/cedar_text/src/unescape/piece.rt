@@ -2,14 +2,14 @@
 ghost use Rattle.std.specs.Prelude.{◌≡◌, ◌<◌, ◌≤◌, Some, None, MatchOption, [], length};
 ghost use Rattle.std.specs.Str.{chars};
 ghost use Rattle.cedar_text.specs.Piece.{short_escape};
-ghost use Rattle.cedar_text.specs.Reading.{reading_of, first_of, hex_digit, hex_escape, unicode_escape, behind_brace, inside_braces, tally_of, unskipped, escape, first_piece, begins_escaped_star};
+ghost use Rattle.cedar_text.specs.PieceAhead.{piece_ahead_of, first_of, hex_digit, hex_escape, unicode_escape, behind_brace, inside_braces, tally_of, unskipped, escape, first_piece, begins_escaped_star};
 
 use crate::unescape::digits::Digits;
 use cedar_syntax::err::EscapeError;
 
 /// What a piece of a raw text stands for.
 #[derive(Debug, Clone, Copy, PartialEq, Eq)]
-pub enum Outcome {
+pub enum PieceValue {
     Nothing,
     Character(char),
     Fault(EscapeError),
@@ -18,16 +18,16 @@ pub enum Outcome {
 /// A piece that was read: what it stands for, and what stands behind it.
 #[derive(Clone, Copy)]
 pub struct Step<'a> {
-    pub outcome: Outcome,
+    pub outcome: PieceValue,
     pub rest: &'a str,
 }
 
 fn fault(kind: EscapeError, rest: &str) -> Step<'_>
-    ensures outcome { result.outcome ≡ Outcome.Fault kind }
+    ensures outcome { result.outcome ≡ PieceValue.Fault kind }
     ensures rest { result.rest.now ≡ rest.now }
 {
     Step {
-        outcome: Outcome::Fault(kind),
+        outcome: PieceValue::Fault(kind),
         rest,
     }
 }
@@ -51,7 +51,7 @@ fn hex_digit(c: char) -> Option<u32>
 
 // Behind `\x`: two hex digits that write a value of ASCII.
 fn hex_escape(text: &str) -> Step<'_>
-    ensures { reading_of result ≡ hex_escape (first_of (chars text.now)) }
+    ensures { piece_ahead_of result ≡ hex_escape (first_of (chars text.now)) }
 {
     let Some((first, rest)) = first_char(text) else {
         return fault(EscapeError::TooShortHexEscape, text);
@@ -70,14 +70,14 @@ fn hex_escape(text: &str) -> Step<'_>
         return fault(EscapeError::OutOfRangeHexEscape, after);
     }
     Step {
-        outcome: Outcome::Character(code as u8 as char),
+        outcome: PieceValue::Character(code as u8 as char),
         rest: after,
     }
 }
 
 // Behind the first digit between braces: digits and underscores up to the closing brace.
 fn inside_braces(mut digits: Digits, text: &str) -> Step<'_>
-    ensures { reading_of result ≡ inside_braces (tally_of digits) (chars text.now) }
+    ensures { piece_ahead_of result ≡ inside_braces (tally_of digits) (chars text.now) }
 {
     let mut rest = text;
     while let Some((c, after)) = first_char(rest) {
@@ -101,7 +101,7 @@ fn inside_braces(mut digits: Digits, text: &str) -> Step<'_>
 
 // Behind `\u{`: a digit must come first.
 fn behind_brace(text: &str) -> Step<'_>
-    ensures { reading_of result ≡ behind_brace (first_of (chars text.now)) }
+    ensures { piece_ahead_of result ≡ behind_brace (first_of (chars text.now)) }
 {
     let Some((first, rest)) = first_char(text) else {
         return fault(EscapeError::UnclosedUnicodeEscape, text);
@@ -118,7 +118,7 @@ fn behind_brace(text: &str) -> Step<'_>
 
 // Behind `\u`: an opening brace.
 fn unicode_escape(text: &str) -> Step<'_>
-    ensures { reading_of result ≡ unicode_escape (first_of (chars text.now)) }
+    ensures { piece_ahead_of result ≡ unicode_escape (first_of (chars text.now)) }
 {
     match first_char(text) {
         Some(('{', rest)) => behind_brace(rest),
@@ -154,7 +154,7 @@ fn short_escape(c: char) -> Option<char>
 
 // Behind a backslash.
 fn escape(text: &str) -> Step<'_>
-    ensures { reading_of result ≡ escape (first_of (chars text.now)) }
+    ensures { piece_ahead_of result ≡ escape (first_of (chars text.now)) }
 {
     let Some((first, rest)) = first_char(text) else {
         return fault(EscapeError::LoneSlash, text);
@@ -163,12 +163,12 @@ fn escape(text: &str) -> Step<'_>
         'x' => hex_escape(rest),
         'u' => unicode_escape(rest),
         '\n' => Step {
-            outcome: Outcome::Nothing,
+            outcome: PieceValue::Nothing,
             rest: behind_blanks(rest),
         },
         _ => match short_escape(first) {
             Some(c) => Step {
-                outcome: Outcome::Character(c),
+                outcome: PieceValue::Character(c),
                 rest,
             },
             None => fault(EscapeError::InvalidEscape, rest),
@@ -178,14 +178,14 @@ fn escape(text: &str) -> Step<'_>
 
 /// Reads the piece that begins with `first` and goes on in `text`.
 pub fn first_piece(first: char, text: &str) -> Step<'_>
-    ensures { reading_of result ≡ first_piece first (chars text.now) }
+    ensures { piece_ahead_of result ≡ first_piece first (chars text.now) }
 {
     match first {
         '\\' => escape(text),
         '"' => fault(EscapeError::EscapeOnlyChar, text),
         '\r' => fault(EscapeError::BareCarriageReturn, text),
         _ => Step {
-            outcome: Outcome::Character(first),
+            outcome: PieceValue::Character(first),
             rest: text,
         },
     }

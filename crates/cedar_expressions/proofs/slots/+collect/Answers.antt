@@ -1,6 +1,6 @@
 use Rattle.std.proofs.Common.{sym, ap, ◌∙◌, ◌++◌}
 use Rattle.std.proofs.lemmas.List.{append-nil}
-use Rattle.cedar_expressions.specs.Slots.{Slots, slots_in, slots_of_kind, in_row, term_slots}
+use Rattle.cedar_expressions.specs.Slots.{Slots, slots_in, slots_of_kind, slots_in_row, term_slots}
 use Rattle.cedar_expressions.proofs.SlotsAt.{at_expr, at_leaf, at_slot, at_ite, at_unary, at_binary, at_nary, at_sum, at_list, at_record, on_ok, two, three}
 use Rattle.cedar_expressions.proofs.slots.+collect.Goals as goal
 
@@ -35,14 +35,14 @@ collect_kind-returns-in_ok-collect-in-Binary t c =
 pub collect_kind-returns-in_ok-collect-in-Nary : goal.collect_kind-returns-in_ok-collect-in-Nary
 collect_kind-returns-in_ok-collect-in-Nary t c =
     on_ok c.collect_items.result
-    (λ last. two _ _ _ (slots_in c.as_ref-in-Nary.result.now) (in_row slots_in c.in-Nary.rest) (slots_of_kind c.args.kind.now c.args.place) c.in_ok-collect-in-Nary.ensures last
+    (λ last. two _ _ _ (slots_in c.as_ref-in-Nary.result.now) (slots_in_row slots_in c.in-Nary.rest) (slots_of_kind c.args.kind.now c.args.place) c.in_ok-collect-in-Nary.ensures last
     (rw (c.in-Nary.is, c.as_ref-in-Nary.ensures) (at_nary c.args.place c.in-Nary.field-0 c.in-Nary.first c.in-Nary.rest)))
     c.collect_items.ensures
 
 pub collect_kind-returns-in_ok-collect-in-Sum : goal.collect_kind-returns-in_ok-collect-in-Sum
 collect_kind-returns-in_ok-collect-in-Sum t c =
     on_ok c.collect_terms.result
-    (λ last. two _ _ _ (slots_in c.as_ref-in-Sum.result.now) (in_row term_slots c.in-Sum.rest) (slots_of_kind c.args.kind.now c.args.place) c.in_ok-collect-in-Sum.ensures last
+    (λ last. two _ _ _ (slots_in c.as_ref-in-Sum.result.now) (slots_in_row term_slots c.in-Sum.rest) (slots_of_kind c.args.kind.now c.args.place) c.in_ok-collect-in-Sum.ensures last
     (rw (c.in-Sum.is, c.as_ref-in-Sum.ensures) (at_sum c.args.place c.in-Sum.first c.in-Sum.rest)))
     c.collect_terms.ensures
 

@@ -6,48 +6,48 @@ use Rattle.cedar_expressions.specs.declared.literal.PatternElem.{PatternElem}
 use Rattle.cedar_expressions.specs.declared.literal.PatternElem.TheVariants.{Char}
 use Rattle.cedar_syntax.specs.declared.err.escape.EscapeError.{EscapeError}
 use Rattle.cedar_syntax.specs.declared.err.escape.UnescapeError.{UnescapeError}
-use Rattle.cedar_text.specs.declared.unescape.piece.Outcome.{Outcome}
-use Rattle.cedar_text.specs.declared.unescape.piece.Outcome.TheVariants.{Nothing, Character, Fault}
-use Rattle.cedar_text.specs.Faults.{found_faults, fault_between}
+use Rattle.cedar_text.specs.declared.unescape.piece.PieceValue.{PieceValue}
+use Rattle.cedar_text.specs.declared.unescape.piece.PieceValue.TheVariants.{Nothing, Character, Fault}
+use Rattle.cedar_text.specs.EscapeFaults.{found_faults, fault_between}
 use Rattle.cedar_text.specs.Pattern.{character_elem, elem_of, is_escaped_star, pattern_fault_of}
 use Rattle.cedar_text.specs.Piece.{Placed}
-use Rattle.cedar_text.specs.Reading.{reading, first_of, first_piece, begins_escaped_star}
+use Rattle.cedar_text.specs.PieceAhead.{piece_ahead, first_of, first_piece, begins_escaped_star}
 use Rattle.cedar_text.proofs.Answering.{answered, pattern_gives, pattern_tells, pattern_ok, pattern_err, pattern_succeeds, pattern_fails}
 use Rattle.cedar_text.proofs.Layouts.{step, goes_on_as, placed_between, finish, first_of-some, escaped_star}
 use Rattle.cedar_text.proofs.unescape.to_pattern.Goals as goal
 use Rattle.cedar_text.proofs.unescape.to_pattern.Goals.{in-Nothing, in-Character+in_ok-push-in-Character, in-Fault+in_ok-push-in-Fault, in-Fault-2+in_ok-add-in-Fault-2}
 
-gives_nothing : (p : Placed) (o : Outcome) (t : List PatternElem) → o ≡ Nothing → t ++ elem_of p o ≡ t
-gives_nothing p o t e = ap (λ (x : Outcome). t ++ elem_of p x) e ∙ append-nil t
+gives_nothing : (p : Placed) (o : PieceValue) (t : List PatternElem) → o ≡ Nothing → t ++ elem_of p o ≡ t
+gives_nothing p o t e = ap (λ (x : PieceValue). t ++ elem_of p x) e ∙ append-nil t
 
-gives_character : (p : Placed) (o : Outcome) (t : List PatternElem) (c : ℕ) → o ≡ Character c → t ++ elem_of p o ≡ t ++ character_elem c ∷ []
-gives_character p o t c e = ap (λ (x : Outcome). t ++ elem_of p x) e
+gives_character : (p : Placed) (o : PieceValue) (t : List PatternElem) (c : ℕ) → o ≡ Character c → t ++ elem_of p o ≡ t ++ character_elem c ∷ []
+gives_character p o t c e = ap (λ (x : PieceValue). t ++ elem_of p x) e
 
-gives_star : (p : Placed) (o : Outcome) (t : List PatternElem) {k : EscapeError} → o ≡ Fault k → is_escaped_star p.text ≡ true → t ++ elem_of p o ≡ t ++ Char 42 ∷ []
-gives_star p o t e h = ap (λ (x : Outcome). t ++ elem_of p x) e ∙ ap (λ (b : Bool). t ++ (if b then Char 42 ∷ [] else [])) h
+gives_star : (p : Placed) (o : PieceValue) (t : List PatternElem) {k : EscapeError} → o ≡ Fault k → is_escaped_star p.text ≡ true → t ++ elem_of p o ≡ t ++ Char 42 ∷ []
+gives_star p o t e h = ap (λ (x : PieceValue). t ++ elem_of p x) e ∙ ap (λ (b : Bool). t ++ (if b then Char 42 ∷ [] else [])) h
 
-gives_fault : (p : Placed) (o : Outcome) (t : List PatternElem) (k : EscapeError) → o ≡ Fault k → is_escaped_star p.text ≡ false → t ++ elem_of p o ≡ t
-gives_fault p o t k e h = ap (λ (x : Outcome). t ++ elem_of p x) e ∙ ap (λ (b : Bool). t ++ (if b then Char 42 ∷ [] else [])) h ∙ append-nil t
+gives_fault : (p : Placed) (o : PieceValue) (t : List PatternElem) (k : EscapeError) → o ≡ Fault k → is_escaped_star p.text ≡ false → t ++ elem_of p o ≡ t
+gives_fault p o t k e h = ap (λ (x : PieceValue). t ++ elem_of p x) e ∙ ap (λ (b : Bool). t ++ (if b then Char 42 ∷ [] else [])) h ∙ append-nil t
 
-tells_nothing : (raw : List ℕ) (p : Placed) (o : Outcome) (found : List UnescapeError) → o ≡ Nothing → found ++ pattern_fault_of raw p o ≡ found
-tells_nothing raw p o found e = ap (λ (x : Outcome). found ++ pattern_fault_of raw p x) e ∙ append-nil found
+tells_nothing : (raw : List ℕ) (p : Placed) (o : PieceValue) (found : List UnescapeError) → o ≡ Nothing → found ++ pattern_fault_of raw p o ≡ found
+tells_nothing raw p o found e = ap (λ (x : PieceValue). found ++ pattern_fault_of raw p x) e ∙ append-nil found
 
-tells_character : (raw : List ℕ) (p : Placed) (o : Outcome) (found : List UnescapeError) (c : ℕ) → o ≡ Character c → found ++ pattern_fault_of raw p o ≡ found
-tells_character raw p o found c e = ap (λ (x : Outcome). found ++ pattern_fault_of raw p x) e ∙ append-nil found
+tells_character : (raw : List ℕ) (p : Placed) (o : PieceValue) (found : List UnescapeError) (c : ℕ) → o ≡ Character c → found ++ pattern_fault_of raw p o ≡ found
+tells_character raw p o found c e = ap (λ (x : PieceValue). found ++ pattern_fault_of raw p x) e ∙ append-nil found
 
-tells_star : (raw : List ℕ) (p : Placed) (o : Outcome) (found : List UnescapeError) {k : EscapeError} → o ≡ Fault k → is_escaped_star p.text ≡ true → found ++ pattern_fault_of raw p o ≡ found
+tells_star : (raw : List ℕ) (p : Placed) (o : PieceValue) (found : List UnescapeError) {k : EscapeError} → o ≡ Fault k → is_escaped_star p.text ≡ true → found ++ pattern_fault_of raw p o ≡ found
 tells_star raw p o found {k} e h =
-    ap (λ (x : Outcome). found ++ pattern_fault_of raw p x) e ∙ ap (λ (b : Bool). found ++ (if b then [] else fault_between raw k p.start p.end ∷ [])) h ∙ append-nil found
+    ap (λ (x : PieceValue). found ++ pattern_fault_of raw p x) e ∙ ap (λ (b : Bool). found ++ (if b then [] else fault_between raw k p.start p.end ∷ [])) h ∙ append-nil found
 
-tells_fault : (raw : List ℕ) (p : Placed) (o : Outcome) (found : List UnescapeError) (k : EscapeError) → o ≡ Fault k → is_escaped_star p.text ≡ false → found ++ pattern_fault_of raw p o ≡ found ++ fault_between raw k p.start p.end ∷ []
+tells_fault : (raw : List ℕ) (p : Placed) (o : PieceValue) (found : List UnescapeError) (k : EscapeError) → o ≡ Fault k → is_escaped_star p.text ≡ false → found ++ pattern_fault_of raw p o ≡ found ++ fault_between raw k p.start p.end ∷ []
 tells_fault raw p o found k e h =
-    ap (λ (x : Outcome). found ++ pattern_fault_of raw p x) e ∙ ap (λ (b : Bool). found ++ (if b then [] else fault_between raw k p.start p.end ∷ [])) h
+    ap (λ (x : PieceValue). found ++ pattern_fault_of raw p x) e ∙ ap (λ (b : Bool). found ++ (if b then [] else fault_between raw k p.start p.end ∷ [])) h
 
 -- the piece read is `\*` just if the test says so
-star_test : (text rest rest' : List ℕ) (first : ℕ) (after : List ℕ) (o : Outcome) (t b : Bool) {k : EscapeError} → o ≡ Fault k → first_of (chars rest) ≡ Some (first, after) → chars rest ≡ text ++ chars rest' → reading o (chars rest') ≡ first_piece first after
+star_test : (text rest rest' : List ℕ) (first : ℕ) (after : List ℕ) (o : PieceValue) (t b : Bool) {k : EscapeError} → o ≡ Fault k → first_of (chars rest) ≡ Some (first, after) → chars rest ≡ text ++ chars rest' → piece_ahead o (chars rest') ≡ first_piece first after
     → t ≡ begins_escaped_star first (first_of after) → t ≡ b → is_escaped_star text ≡ b
 star_test text rest rest' first after o t b {k} e f s r g h =
-    escaped_star text (chars rest') first after k (sym (first_of-some (chars rest) first after f) ∙ s) (ap (λ (x : Outcome). reading x (chars rest')) (sym e) ∙ r) ∙ sym g ∙ h
+    escaped_star text (chars rest') first after k (sym (first_of-some (chars rest) first after f) ∙ s) (ap (λ (x : PieceValue). piece_ahead x (chars rest')) (sym e) ∙ r) ∙ sym g ∙ h
 
 abbrev items_of : Vec PatternElem Global → List PatternElem
 items_of pattern = pattern.items

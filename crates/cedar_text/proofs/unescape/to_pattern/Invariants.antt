@@ -1,7 +1,7 @@
 use Rattle.std.proofs.Common.{◌≡◌, ◌≤◌, length}
 use denote.Text.{Utf8}
 use denote.Shadow.{shadow}
-use Rattle.cedar_text.specs.Faults.{found_faults}
+use Rattle.cedar_text.specs.EscapeFaults.{found_faults}
 use Rattle.cedar_text.proofs.Answering.{pattern_gives, pattern_tells}
 use Rattle.cedar_text.proofs.Layouts.{Continues}
 use Rattle.cedar_text.proofs.unescape.to_pattern.Given as goal

@@ -3,32 +3,32 @@ use Rattle.std.specs.Char.{encode_utf8}
 use Rattle.std.specs.Str.{IsUtf8, chars}
 use Rattle.cedar_syntax.specs.declared.err.escape.EscapeError.{EscapeError}
 use Rattle.cedar_syntax.specs.declared.err.escape.UnescapeError.{UnescapeError}
-use Rattle.cedar_text.specs.declared.unescape.piece.Outcome.{Outcome}
-use Rattle.cedar_text.specs.declared.unescape.piece.Outcome.TheVariants.{Nothing, Character, Fault}
-use Rattle.cedar_text.specs.Faults.{found_faults, fault_between}
+use Rattle.cedar_text.specs.declared.unescape.piece.PieceValue.{PieceValue}
+use Rattle.cedar_text.specs.declared.unescape.piece.PieceValue.TheVariants.{Nothing, Character, Fault}
+use Rattle.cedar_text.specs.EscapeFaults.{found_faults, fault_between}
 use Rattle.cedar_text.specs.Piece.{Placed, unescaped_piece, fault_of}
 use Rattle.cedar_text.proofs.Layouts.{step, goes_on_as, placed_between, finish}
 use Rattle.cedar_text.proofs.Answering.{answered, text_gives, text_tells, text_ok, text_err, text_succeeds, text_fails}
 use Rattle.cedar_text.proofs.unescape.to_unescaped_string.Goals as goal
 use Rattle.cedar_text.proofs.unescape.to_unescaped_string.Goals.{in-Nothing, in-Character+in_ok-push-in-Character, in-Fault+in_ok-add-in-Fault}
 
-gives_nothing : (o : Outcome) (t : List ℕ) → o ≡ Nothing → t ++ unescaped_piece o ≡ t
-gives_nothing o t e = ap (λ (x : Outcome). t ++ unescaped_piece x) e ∙ append-nil t
+gives_nothing : (o : PieceValue) (t : List ℕ) → o ≡ Nothing → t ++ unescaped_piece o ≡ t
+gives_nothing o t e = ap (λ (x : PieceValue). t ++ unescaped_piece x) e ∙ append-nil t
 
-gives_character : (o : Outcome) (t : List ℕ) (c : ℕ) → o ≡ Character c → t ++ unescaped_piece o ≡ t ++ encode_utf8 c
-gives_character o t c e = ap (λ (x : Outcome). t ++ unescaped_piece x) e
+gives_character : (o : PieceValue) (t : List ℕ) (c : ℕ) → o ≡ Character c → t ++ unescaped_piece o ≡ t ++ encode_utf8 c
+gives_character o t c e = ap (λ (x : PieceValue). t ++ unescaped_piece x) e
 
-gives_fault : (o : Outcome) (t : List ℕ) (k : EscapeError) → o ≡ Fault k → t ++ unescaped_piece o ≡ t
-gives_fault o t k e = ap (λ (x : Outcome). t ++ unescaped_piece x) e ∙ append-nil t
+gives_fault : (o : PieceValue) (t : List ℕ) (k : EscapeError) → o ≡ Fault k → t ++ unescaped_piece o ≡ t
+gives_fault o t k e = ap (λ (x : PieceValue). t ++ unescaped_piece x) e ∙ append-nil t
 
-tells_nothing : (raw : List ℕ) (p : Placed) (o : Outcome) (found : List UnescapeError) → o ≡ Nothing → found ++ fault_of raw p o ≡ found
-tells_nothing raw p o found e = ap (λ (x : Outcome). found ++ fault_of raw p x) e ∙ append-nil found
+tells_nothing : (raw : List ℕ) (p : Placed) (o : PieceValue) (found : List UnescapeError) → o ≡ Nothing → found ++ fault_of raw p o ≡ found
+tells_nothing raw p o found e = ap (λ (x : PieceValue). found ++ fault_of raw p x) e ∙ append-nil found
 
-tells_character : (raw : List ℕ) (p : Placed) (o : Outcome) (found : List UnescapeError) (c : ℕ) → o ≡ Character c → found ++ fault_of raw p o ≡ found
-tells_character raw p o found c e = ap (λ (x : Outcome). found ++ fault_of raw p x) e ∙ append-nil found
+tells_character : (raw : List ℕ) (p : Placed) (o : PieceValue) (found : List UnescapeError) (c : ℕ) → o ≡ Character c → found ++ fault_of raw p o ≡ found
+tells_character raw p o found c e = ap (λ (x : PieceValue). found ++ fault_of raw p x) e ∙ append-nil found
 
-tells_fault : (raw : List ℕ) (p : Placed) (o : Outcome) (found : List UnescapeError) (k : EscapeError) → o ≡ Fault k → found ++ fault_of raw p o ≡ found ++ fault_between raw k p.start p.end ∷ []
-tells_fault raw p o found k e = ap (λ (x : Outcome). found ++ fault_of raw p x) e
+tells_fault : (raw : List ℕ) (p : Placed) (o : PieceValue) (found : List UnescapeError) (k : EscapeError) → o ≡ Fault k → found ++ fault_of raw p o ≡ found ++ fault_between raw k p.start p.end ∷ []
+tells_fault raw p o found k e = ap (λ (x : PieceValue). found ++ fault_of raw p x) e
 
 pub overflow_sub-raw-in-Fault : goal.overflow_sub-raw-in-Fault
 overflow_sub-raw-in-Fault c =

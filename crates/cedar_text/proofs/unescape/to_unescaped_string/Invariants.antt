@@ -1,7 +1,7 @@
 use Rattle.std.proofs.Common.{◌≡◌, ◌≤◌, length, string_bytes}
 use denote.Text.{Utf8}
 use denote.Shadow.{shadow}
-use Rattle.cedar_text.specs.Faults.{found_faults}
+use Rattle.cedar_text.specs.EscapeFaults.{found_faults}
 use Rattle.cedar_text.proofs.Answering.{text_gives, text_tells}
 use Rattle.cedar_text.proofs.Layouts.{Continues}
 use Rattle.cedar_text.proofs.unescape.to_unescaped_string.Given as goal

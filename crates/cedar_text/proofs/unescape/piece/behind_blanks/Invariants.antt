@@ -2,7 +2,7 @@ use Rattle.std.proofs.Common.{◌≡◌, length}
 use denote.Text.{Utf8}
 use denote.Shadow.{shadow}
 use Rattle.std.specs.Str.{chars}
-use Rattle.cedar_text.specs.Reading.{unskipped}
+use Rattle.cedar_text.specs.PieceAhead.{unskipped}
 use Rattle.cedar_text.proofs.unescape.piece.behind_blanks.Given as goal
 
 -- what is left of the text has the same characters behind its blanks

@@ -4,38 +4,41 @@ use Rattle.std.specs.Iterator.{Count, at_most}
 use Rattle.cedar_lexer.specs.declared.token.Token.{Token}
 use Rattle.cedar_lexer.specs.declared.token.InvalidToken.{InvalidToken}
 use Rattle.cedar_lexer.specs.Token.{Lexeme, lexeme_of}
-use Rattle.cedar_lexer.specs.Cut.{Laid, CutsFrom, StopsFrom}
+use Rattle.cedar_lexer.specs.Cut.{Layout, CutsFrom, StopsFrom}
 
 -- a lexer, as contracts see it: its source, how far it has come, and whether it has ended
-pub record Reading : Type 0 where
+pub record LexerState : Type 0 where
   pub source : List ℕ
   pub offset : ℕ
   pub ended : Bool
 
 -- a lexer that has not begun
-abbrev pub beginning : List ℕ → Reading
+abbrev pub beginning : List ℕ → LexerState
 beginning source = record { source = source; offset = 0; ended = false }
 
 -- the lexer behind the token that ends at this place, and the lexer that has ended
-abbrev pub moved_to : Reading → ℕ → Reading
+abbrev pub moved_to : LexerState → ℕ → LexerState
 moved_to s place = record { source = s.source; offset = place; ended = false }
 
-abbrev pub ended_at : Reading → Reading
+abbrev pub ended_at : LexerState → LexerState
 ended_at s = record { source = s.source; offset = s.offset; ended = true }
 
 -- from this place, skips and then this token
 abbrev pub IsNextToken : List ℕ → ℕ → Lexeme → Type 0
-IsNextToken source offset t = Laid source offset (t ∷ []) t.end
+IsNextToken source offset t = Layout source offset (t ∷ []) t.end
 
--- one call: the next token, and the lexer stands behind it; or the invalid token at the bad place, or nothing where
--- only skips are left, and then the lexer has ended; a lexer that has ended answers nothing
-abbrev pub Answers : Reading → Option (Result Token InvalidToken) → Reading → Type 0
-Answers s (Some (Ok t)) u = (s.ended ≡ false) × IsNextToken s.source s.offset (lexeme_of t) × (u ≡ moved_to s t.end)
-Answers s (Some (Err e)) u = (s.ended ≡ false) × StopsFrom s.source s.offset [] e.location × (u ≡ ended_at s)
+-- one call: the next token, and the lexer stands behind it; or the invalid token at the bad place,
+-- or nothing where only skips are left, and then the lexer has ended; a lexer that has ended answers
+-- nothing
+abbrev pub Answers : LexerState → Option (Result Token InvalidToken) → LexerState → Type 0
+Answers s (Some (Ok t)) u =
+    (s.ended ≡ false) × IsNextToken s.source s.offset (lexeme_of t) × (u ≡ moved_to s t.end)
+Answers s (Some (Err e)) u =
+    (s.ended ≡ false) × StopsFrom s.source s.offset [] e.location × (u ≡ ended_at s)
 Answers s None u = ((s.ended ≡ true) ⊎ CutsFrom s.source s.offset []) × (u ≡ ended_at s)
 
 -- no more answers are left than bytes
-abbrev pub answers_left : Reading → Count
+abbrev pub answers_left : LexerState → Count
 answers_left s = at_most (cond s.ended 0 (length s.source - s.offset))
 
 -- the source cuts into these tokens from `offset` on; or it stops behind them, where there is a bad place

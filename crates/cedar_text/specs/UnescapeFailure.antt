@@ -1,4 +1,4 @@
--- Answer: how the failures of `unescape` are told.
+-- How the failures of `unescape` are told.
 use Rattle.std.specs.Prelude.{List}
 use Rattle.cedar_syntax.specs.declared.err.escape.UnescapeError.{UnescapeError}
 use Rattle.cedar_syntax.specs.declared.err.escape.UnescapeFailure.{UnescapeFailure}
@@ -11,6 +11,6 @@ Tells (Memory e) P = Unit {0}
 Tells (Errors faults) P = P (list_of faults)
 
 -- memory was wanting
-abbrev pub WantsMemory : UnescapeFailure → Type 0
-WantsMemory (Memory e) = Unit {0}
-WantsMemory (Errors faults) = ⊥
+abbrev pub LacksMemory : UnescapeFailure → Type 0
+LacksMemory (Memory e) = Unit {0}
+LacksMemory (Errors faults) = ⊥
