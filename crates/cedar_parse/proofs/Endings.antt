@@ -1,26 +1,58 @@
 -- Each way to end a run, with what its end says.
-use Rattle.std.proofs.Common.{◌≡◌, ◌⊎◌, ℕ, List, Option, IfSome, IsTrue, false, true≢false, inl, inr, sym}
+use Rattle.std.proofs.Common.{◌≡◌, ◌⊎◌, ℕ, List, Option, Some, None, Result, Ok, Err, IfSome, IfErr, IsTrue, false, true≢false, inl, inr, sym}
 use Rattle.std.specs.Prelude.{String}
+use Rattle.std.specs.Str.{IsUtf8}
 use Rattle.cedar_parse.specs.declared.run.Ending.{Ending}
-use Rattle.cedar_parse.specs.declared.run.Ending.TheVariants.{Answered, Usage, Stopped}
-use Rattle.cedar_parse.specs.declared.run.Stop.{Stop}
-use Rattle.cedar_parse.specs.declared.run.Stop.TheVariants.{Memory, InputOutput}
-use Rattle.cedar_parse.specs.declared.run.Verdict.{Verdict}
-use Rattle.cedar_parse.specs.Ends.{AsksForExpression, IsVerdict, Ends, status_of}
+use Rattle.cedar_parse.specs.declared.run.Ending.TheVariants.{Usage, Stopped}
+use Rattle.cedar_parse.specs.declared.streams.Stop.{Stop}
+use Rattle.cedar_parse.specs.declared.streams.Stop.TheVariants.{InputOutput}
+use Rattle.cedar_parse.specs.declared.streams.WriterState.{WriterState}
+use Rattle.cedar_parse.specs.declared.streams.WriterState.TheVariants.{Written, Failed}
+use Rattle.cedar_parse.specs.Ends.{AsksForExpression, Streams, Stops, StopsWriting, Ends, TellsEnd, status_of}
+use Rattle.cedar_parse.specs.Streams.{IsNoText}
 
--- a status is that of an end which says this of the words and the text
-abbrev pub EndsAt : {A : Type 0} → List (String A) → Option (List ℕ) → ℕ → Type 0
-EndsAt words text status = (end : Ending) × Ends words text end × (status ≡ status_of end)
+-- the text wasn't had
+pub unread : (known : Option (List ℕ)) (read : Option Stop) (out : WriterState) (stop : Stop) →
+    (read ≡ Some stop) ⊎ ((stop ≡ InputOutput) × IsNoText known) → Stops known read out stop
+unread known read out stop (inl failed) = Stops.unread stop failed
+unread known read out stop (inr none) = rw none.0 (Stops.no_text none.1)
 
-pub unasked : {A : Type 0} (words : List (String A)) (text : Option (List ℕ)) (status : ℕ) → (AsksForExpression words → IsTrue false) → (status ≡ 2) ⊎ (status ≡ 4) → EndsAt words text status
-unasked words text status h (inl e) = (Usage, λ asks. true≢false (sym (h asks)), e)
-unasked words text status h (inr e) = (Stopped InputOutput, tt, e)
+-- what a reader is known to give is UTF-8 where the text that it gave is
+pub known_utf8 : (known : Option (List ℕ)) (given text : List ℕ) →
+    IfSome known (λ k. given ≡ k) → text ≡ given → IsUtf8 text → IfSome known IsUtf8
+known_utf8 None given text is same utf8 = tt
+known_utf8 (Some k) given text is same utf8 = rw (← is, ← same) utf8
 
-pub answered : {A : Type 0} (words : List (String A)) (text : Option (List ℕ)) (status : ℕ) (v : Verdict) → AsksForExpression words → IfSome text (λ t. IsVerdict t v) → status ≡ status_of (Answered v)
-    → EndsAt words text status
-answered words text status v asks h e = (Answered v, (asks, h), e)
+-- it was had, and not answered
+unanswered : (known : Option (List ℕ)) (read : Option Stop) (out : WriterState) (stop : Stop) →
+    read ≡ None → IfSome known IsUtf8 → StopsWriting out stop → Stops known read out stop
+unanswered known read out stop had utf8 (inl memory) = rw memory (Stops.wanting had utf8)
+unanswered known read out stop had utf8 (inr failed) = Stops.unwritten stop failed
 
-pub stopped : {A : Type 0} (words : List (String A)) (text : Option (List ℕ)) (status : ℕ) (s : Stop) → AsksForExpression words → (status ≡ status_of (Stopped s)) ⊎ (status ≡ 4) → EndsAt words text status
-stopped words text status Memory asks (inl e) = (Stopped Memory, asks, e)
-stopped words text status InputOutput asks (inl e) = (Stopped InputOutput, tt, e)
-stopped words text status s asks (inr e) = (Stopped InputOutput, tt, e)
+pub not_answered : {V : Type 0} (answer : Result V Stop) (known : Option (List ℕ))
+    (read : Option Stop) (out : WriterState) → read ≡ None → IfSome known IsUtf8 → IfErr answer (λ stop. StopsWriting out stop) →
+    IfErr answer (λ stop. Stops known read out stop)
+not_answered (Ok v) known read out had utf8 stops = tt
+not_answered (Err stop) known read out had utf8 stops =
+    unanswered known read out stop had utf8 stops
+
+-- a status is that of an end which says this of the words and the streams
+abbrev pub EndsAt : {A : Type 0} → List (String A) → Streams → ℕ → Type 0
+EndsAt words s status = (end : Ending) × (status ≡ status_of end) × Ends words s end
+
+-- the end is told, or can't be
+pub told : {A : Type 0} (words : List (String A)) (s : Streams) (end : Ending) (status : ℕ) →
+    (s.err ≡ Written → Ends words s end) → TellsEnd end s.err status → EndsAt words s status
+told words s end status ends (inl written) = (end, written.0, ends written.1)
+told words s end status ends (inr untold) =
+    (Stopped InputOutput, untold.1, Ends.untold untold.0 untold.2)
+
+pub unasked : {A : Type 0} (words : List (String A)) (s : Streams) (status : ℕ) →
+    (AsksForExpression words → IsTrue false) → TellsEnd Usage s.err status → EndsAt words s status
+unasked words s status h =
+    told words s Usage status (λ w. Ends.usage (λ asks. true≢false (sym (h asks))) w)
+
+pub stopped : {A : Type 0} (words : List (String A)) (s : Streams) (status : ℕ) (stop : Stop) →
+    AsksForExpression words → Stops s.known s.read s.out stop → TellsEnd (Stopped stop) s.err status → EndsAt words s status
+stopped words s status stop asks stops =
+    told words s (Stopped stop) status (λ w. Ends.stopped stop asks stops w)

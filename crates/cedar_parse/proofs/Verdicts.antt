@@ -34,6 +34,6 @@ pub refused_for_memory : (f : Failure) (n o : Cell Expr) (w : Value) → n ≡ o
 refused_for_memory (Memory e) n o w same r k = tt
 refused_for_memory (Errors es) n o w same r k = let none : None ≡ Some w = sym r ∙ ap (λ t. value_of (convert (tree_at expr_tree t))) same ∙ k in cc
 
-pub err_on : {E : Type 0} (r : Result E Failure) (f : Failure) (Q : Failure → Type 0) → IsErrAnd r (λ e. e ≡ f) → Q f → IfErr r Q
+pub err_on : {E F : Type 0} (r : Result E F) (f : F) (Q : F → Type 0) → IsErrAnd r (λ e. e ≡ f) → Q f → IfErr r Q
 err_on (Ok e) f Q is q = tt
 err_on (Err e) f Q is q = rw is q

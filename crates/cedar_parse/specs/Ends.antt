@@ -1,14 +1,21 @@
 -- What each end of a run says of the words and of the text.
-use Rattle.std.specs.Prelude.{◌≡◌, ℕ, List, [], ◌∷◌, Option, IfSome, String, string_bytes, codes}
+use Rattle.std.specs.Prelude.{◌≡◌, ◌⊎◌, ℕ, List, [], ◌∷◌, Option, Some, None, IfSome, String, string_bytes, codes}
+use Rattle.std.specs.Str.{IsUtf8}
 use Rattle.cedar_lexer.specs.Token.{Lexeme}
 use Rattle.cedar_lexer.specs.Cut.{Cuts}
 use Rattle.cedar_expressions.specs.Value.{Value}
 use Rattle.cedar_policy_parser.specs.Strict.{Means, expression}
 use Rattle.cedar_parse.specs.declared.run.Ending.{Ending}
 use Rattle.cedar_parse.specs.declared.run.Ending.TheVariants.{Answered, Usage, Stopped}
-use Rattle.cedar_parse.specs.declared.run.Stop.TheVariants.{Memory, InputOutput}
 use Rattle.cedar_parse.specs.declared.run.Verdict.{Verdict}
 use Rattle.cedar_parse.specs.declared.run.Verdict.TheVariants.{Accepted, Refused}
+use Rattle.cedar_parse.specs.declared.streams.Stop.{Stop}
+use Rattle.cedar_parse.specs.declared.streams.Stop.TheVariants.{Memory, InputOutput}
+use Rattle.cedar_parse.specs.declared.streams.Input.{Input}
+use Rattle.cedar_parse.specs.declared.streams.Output.{Output}
+use Rattle.cedar_parse.specs.declared.streams.WriterState.{WriterState}
+use Rattle.cedar_parse.specs.declared.streams.WriterState.TheVariants.{Flushed, Written, Failed}
+use Rattle.cedar_parse.specs.Streams.{read_failure, writer_state, IsNoText}
 
 -- The commands: so far there is one, the one word `expr`.
 abbrev pub AsksForExpression : {A : Type 0} → List (String A) → Type 0
@@ -24,12 +31,50 @@ abbrev pub IsVerdict : List ℕ → Verdict → Type 0
 IsVerdict text Accepted = IsMeant text
 IsVerdict text Refused = ¬ IsMeant text
 
--- What is known of the reader's text is `None` where the reader can't tell it before it is read.
-abbrev pub Ends : {A : Type 0} → List (String A) → Option (List ℕ) → Ending → Type 0
-Ends words text (Answered verdict) = AsksForExpression words × IfSome text (λ text. IsVerdict text verdict)
-Ends words text Usage = ¬ AsksForExpression words
-Ends words text (Stopped Memory) = AsksForExpression words
-Ends words text (Stopped InputOutput) = Unit {0}
+-- A run's streams at its end: what is known of the reader's text, `None` where the reader can't
+-- tell it before it is read; why reading failed, if it did; how the calls of both writers went.
+pub record Streams : Type 0 where
+  pub known : Option (List ℕ)
+  pub read : Option Stop
+  pub out : WriterState
+  pub err : WriterState
+
+abbrev pub streams_at : {R O E : Type 0} → Option (List ℕ) → Input R → Output O → Output E → Streams
+streams_at known input out err =
+    record {
+      known = known;
+      read = read_failure input;
+      out = writer_state out;
+      err = writer_state err;
+    }
+
+-- Why a text gets no verdict: what is known of it, why reading it failed, how writing went.
+pub data Stops (known : Option (List ℕ)) (read : Option Stop) (out : WriterState) :
+    Stop → Type 0 where
+  -- a read failed
+  unread : (stop : Stop) → read ≡ Some stop → Stops known read out stop
+  -- what was read isn't UTF-8
+  no_text : IsNoText known → Stops known read out InputOutput
+  -- a write or the flush failed
+  unwritten : (stop : Stop) → out ≡ Failed stop → Stops known read out stop
+  -- memory was refused to what is made of a text that was read
+  wanting : read ≡ None → IfSome known IsUtf8 → Stops known read out Memory
+
+-- why a text that was read gets no verdict: memory was refused, or a write failed
+abbrev pub StopsWriting : WriterState → Stop → Type 0
+StopsWriting out stop = (stop ≡ Memory) ⊎ (out ≡ Failed stop)
+
+-- what each end says of the words and of the streams
+pub data Ends {A : Type 0} (words : List (String A)) (s : Streams) : Ending → Type 0 where
+  -- the text was read, and all that was written was passed on
+  answered : (verdict : Verdict) → AsksForExpression words →
+      IfSome s.known (λ text. IsVerdict text verdict) → s.read ≡ None → s.out ≡ Flushed →
+      Ends words s (Answered verdict)
+  usage : ¬ AsksForExpression words → s.err ≡ Written → Ends words s Usage
+  stopped : (stop : Stop) → AsksForExpression words → Stops s.known s.read s.out stop →
+      s.err ≡ Written → Ends words s (Stopped stop)
+  -- why the run ends could not be told
+  untold : (stop : Stop) → s.err ≡ Failed stop → Ends words s (Stopped InputOutput)
 
 abbrev pub status_of : Ending → ℕ
 status_of (Answered Accepted) = 0
@@ -37,3 +82,9 @@ status_of (Answered Refused) = 1
 status_of Usage = 2
 status_of (Stopped Memory) = 3
 status_of (Stopped InputOutput) = 4
+
+-- a run that ends so has this status, or that of a failed write where this could not be told
+abbrev pub TellsEnd : Ending → WriterState → ℕ → Type 0
+TellsEnd end err status =
+    ((status ≡ status_of end) × (err ≡ Written))
+    ⊎ ((stop : Stop) × (status ≡ 4) × (err ≡ Failed stop))

@@ -2,13 +2,14 @@
 #![tactic(auto)]
 
 mod run;
+mod streams;
 #[cfg(test)]
 mod tests;
 
-pub use run::run;
-use std::env;
+pub use run::{run, run_on};
 use std::io::BufWriter;
 use std::process::ExitCode;
+use streams::Output;
 
 fn main(rt: HostRuntime) -> ExitCode {
     ExitCode::from(on_streams(&rt))
@@ -18,17 +19,12 @@ fn main(rt: HostRuntime) -> ExitCode {
 fn on_streams(rt: &HostRuntime) -> u8 {
     let alloc = rt.alloc();
     let mut err = rt.stderr();
-    let Ok(args) = env::args(rt) else {
-        return run::refuse(&mut err);
+    let words = match run::arguments(rt) {
+        Ok(words) => words,
+        Err(error) => return run::refuse_arguments(error, &mut Output::new(&mut err)),
     };
-    let mut words = Vec::new(alloc);
-    for word in args.skip(1) {
-        if words.push(word).is_err() {
-            return run::refuse(&mut err);
-        }
-    }
     match BufWriter::new(alloc, rt.stdout()) {
         Ok(mut out) => run(alloc, words.as_slice(), rt.stdin(), &mut out, &mut err),
-        Err(_) => run::refuse(&mut err),
+        Err(_) => run::refuse(&mut Output::new(&mut err)),
     }
 }

@@ -1,16 +1,18 @@
 //! A run of the program: its words, its text, what it writes and its status.
-ghost use Rattle.std.specs.Prelude.{◌≡◌, ◌⊎◌, ◌↔◌, IsTrue, IfOk, IfErr, IfSome};
+ghost use Rattle.std.specs.Prelude.{◌≡◌, ◌≢◌, ◌↔◌, None, IsTrue, OnOk, IfOk, IfErr, IfSome};
+ghost use Rattle.std.specs.IoError.{error_kind};
 ghost use Rattle.cedar_expressions.specs.Value.{Value};
 ghost use Rattle.cedar_syntax.specs.Unplaced.{tree_at, expr_tree};
 ghost use Rattle.cedar_policy_parser.specs.Converted.{Converts};
 ghost use Rattle.cedar_policy_parser.specs.Refused.{RefusesTree};
-ghost use Rattle.cedar_parse.specs.Ends.{AsksForExpression, IsMeant, IsVerdict, Ends, status_of};
+ghost use Rattle.cedar_parse.specs.Ends.{AsksForExpression, IsMeant, IsVerdict, Streams, streams_at, Ends, Stops, StopsWriting, TellsEnd, status_of};
+ghost use Rattle.cedar_parse.specs.Streams.{reader_of, read_failure, writer_state};
 ghost use Rattle.cedar_parse.specs.declared.run.Ending.{Ending as How};
-ghost use Rattle.cedar_parse.specs.declared.run.Ending.TheVariants.{Stopped};
-ghost use Rattle.cedar_parse.specs.declared.run.Stop.TheVariants as stop;
+ghost use Rattle.cedar_parse.specs.declared.run.Ending.TheVariants.{Stopped, Usage};
 ghost use Rattle.cedar_parse.specs.declared.run.Verdict.TheVariants as verdict;
 ghost use Rattle.cedar_text.specs.Fault.{IsMemory};
 
+use crate::streams::{Input, Output, Stop, WriterState};
 use cedar_expressions::ExprBuilder;
 use cedar_policy_parser::cst_to_ast::{ExprAst, ExtStyles};
 use cedar_policy_parser::laws::{converted_is_meant, meant_is_converted};
@@ -20,8 +22,9 @@ use cedar_syntax::node::Node;
 use cedar_text::text_to_cst::parse_expr;
 use std::alloc::Global;
 use std::collections::BTreeSet;
-use std::io;
+use std::env::Env;
 use std::io::{ErrorKind, Read, Write};
+use std::{env, io};
 
 const USAGE: &str = "usage: cedar-parse expr|policies|format [fn:NAME | method:NAME]*";
 
@@ -30,13 +33,6 @@ const USAGE: &str = "usage: cedar-parse expr|policies|format [fn:NAME | method:N
 enum Verdict {
     Accepted,
     Refused,
-}
-
-/// Why a run ends with no answer about the text.
-#[derive(Clone, Copy)]
-enum Stop {
-    Memory,
-    InputOutput,
 }
 
 /// How a run ends.
@@ -61,28 +57,22 @@ impl Ending {
     }
 }
 
-impl Stop {
-    fn message(&self) -> &'static str {
-        match self {
-            Stop::Memory => "want of memory",
-            Stop::InputOutput => "input or output failed",
-        }
+/// The arguments without the program's name.
+pub fn arguments<R: Env + AllocGlobal>(rt: &R) -> io::Result<Vec<String>> {
+    let mut words = Vec::new(rt.alloc());
+    for word in env::args(rt)?.skip(1) {
+        words.push(word)?;
     }
-}
-
-impl From<io::Error> for Stop {
-    fn from(error: io::Error) -> Stop {
-        match error.kind() {
-            ErrorKind::OutOfMemory => Stop::Memory,
-            _ => Stop::InputOutput,
-        }
-    }
+    Ok(words)
 }
 
 /// Does what `words` (the arguments without the program's name) ask of the text that `reader` gives, and answers the
 /// status: 0 where the text is accepted, 1 where it has faults, 2 for a usage fault, 3 for want of memory, 4 where
 /// reading or writing failed, also for input that isn't UTF-8. The answer, or the faults, go to `out`; what ended a run
 /// goes to `err`.
+///
+/// Of a reader and of writers of any kind no clause can say which of their calls fail: `run_on`,
+/// which this is, says it of streams that keep it.
 pub fn run<R: Read + Drop, O: Write, E: Write>(
     alloc: Global,
     words: &[String],
@@ -90,27 +80,61 @@ pub fn run<R: Read + Drop, O: Write, E: Write>(
     out: &mut O,
     err: &mut E,
 ) -> u8
-    ensures { (end : How) × Ends words.now (R.remaining reader) end × (result ≡ status_of end) }
+    ensures { (streams : Streams) × (end : How) × (streams.known ≡ R.remaining reader)
+        × Ends words.now streams end × (result ≡ status_of end) }
+{
+    let mut input = Input::new(reader);
+    let mut out = Output::new(out);
+    let mut err = Output::new(err);
+    run_on(alloc, words, &mut input, &mut out, &mut err)
+}
+
+/// The same of streams that keep how their calls went.
+pub fn run_on<R: Read + Drop, O: Write, E: Write>(
+    alloc: Global,
+    words: &[String],
+    input: &mut Input<R>,
+    out: &mut Output<O>,
+    err: &mut Output<E>,
+) -> u8
+    ensures ends { (end : How) × (result ≡ status_of end)
+        × Ends words.now
+        (streams_at (R.remaining (reader_of input.old)) input.new out.new err.new) end }
+    ensures unread { ¬ AsksForExpression words.now → input.new ≡ input.old }
 {
     if !asks_for_an_expression(words) {
         return tell(Ending::Usage, USAGE, err);
     }
-    match answer(alloc, reader, out) {
+    match answer(alloc, input, out) {
         Ok(verdict) => Ending::Answered(verdict).status(),
         Err(stop) => tell(Ending::Stopped(stop), stop.message(), err),
     }
 }
 
 /// Ends a run for which no memory was left before it began.
-pub fn refuse<E: Write>(err: &mut E) -> u8
-    ensures { (result ≡ status_of (Stopped stop.Memory)) ⊎ (result ≡ status_of (Stopped stop.InputOutput)) }
+pub fn refuse<E: Write>(err: &mut Output<E>) -> u8
+    ensures { TellsEnd (Stopped Stop.Memory) (writer_state err.new) result }
 {
     tell(Ending::Stopped(Stop::Memory), Stop::Memory.message(), err)
 }
 
+/// Ends a run whose arguments can't be had: a usage fault where one isn't UTF-8, else want of
+/// memory.
+pub fn refuse_arguments<E: Write>(error: io::Error, err: &mut Output<E>) -> u8
+    ensures usage { error_kind error ≡ ErrorKind.InvalidData
+        → TellsEnd Usage (writer_state err.new) result }
+    ensures memory { error_kind error ≢ ErrorKind.InvalidData
+        → TellsEnd (Stopped Stop.Memory) (writer_state err.new) result }
+{
+    match error.kind() {
+        ErrorKind::InvalidData => tell(Ending::Usage, USAGE, err),
+        _ => refuse(err),
+    }
+}
+
 /// Says on `err` why the run ended, and answers its status, or that of a write that failed.
-fn tell<E: Write>(ending: Ending, message: &str, err: &mut E) -> u8
-    ensures { (result ≡ status_of ending) ⊎ (result ≡ status_of (Stopped stop.InputOutput)) }
+fn tell<E: Write>(ending: Ending, message: &str, err: &mut Output<E>) -> u8
+    ensures { TellsEnd ending (writer_state err.new) result }
 {
     match writeln!(err, "{message}") {
         Ok(()) => ending.status(),
@@ -128,18 +152,39 @@ fn asks_for_an_expression(words: &[String]) -> bool
     }
 }
 
-fn answer<R: Read + Drop, O: Write>(alloc: Global, reader: R, out: &mut O) -> Result<Verdict, Stop>
-    ensures { IfOk result (λ v. IfSome (R.remaining reader) (λ text. IsVerdict text v)) }
+/// Reads the text and answers it.
+fn answer<R: Read + Drop, O: Write>(
+    alloc: Global,
+    input: &mut Input<R>,
+    out: &mut Output<O>,
+) -> Result<Verdict, Stop>
+    ensures verdict { IfOk result (λ v.
+        IfSome (R.remaining (reader_of input.old)) (λ text. IsVerdict text v)) }
+    ensures read { OnOk result (read_failure input.new ≡ None) }
+    ensures flushed { OnOk result (writer_state out.new ≡ WriterState.Flushed) }
+    ensures stops { IfErr result (λ stop.
+        Stops (R.remaining (reader_of input.old)) (read_failure input.new)
+        (writer_state out.new) stop) }
 {
-    let text = io::read_to_string(alloc, reader)?;
-    let verdict = expression(alloc, text.as_str(), out)?;
+    let text = input.text(alloc)?;
+    passed_on(alloc, text.as_str(), out)
+}
+
+/// Prints the answer and passes on what the writer holds back.
+fn passed_on<O: Write>(alloc: Global, text: &str, out: &mut Output<O>) -> Result<Verdict, Stop>
+    ensures verdict { IfOk result (λ v. IsVerdict text.now v) }
+    ensures flushed { OnOk result (writer_state out.new ≡ WriterState.Flushed) }
+    ensures stops { IfErr result (λ stop. StopsWriting (writer_state out.new) stop) }
+{
+    let verdict = expression(alloc, text, out)?;
     out.flush()?;
     Ok(verdict)
 }
 
 /// Prints the text's tree and `ok`, or its faults.
-fn expression<O: Write>(alloc: Global, text: &str, out: &mut O) -> Result<Verdict, Stop>
-    ensures { IfOk result (λ v. IsVerdict text.now v) }
+fn expression<O: Write>(alloc: Global, text: &str, out: &mut Output<O>) -> Result<Verdict, Stop>
+    ensures verdict { IfOk result (λ v. IsVerdict text.now v) }
+    ensures stops { IfErr result (λ stop. StopsWriting (writer_state out.new) stop) }
 {
     match meant(alloc, text) {
         Ok(tree) => print_tree(&tree, out),
@@ -168,8 +213,9 @@ fn convert(alloc: Global, tree: &Node<Option<Expr>>) -> Result<(), Failure>
     tree.to_expr::<ExprBuilder<()>>(alloc, &styles).and(Ok(()))
 }
 
-fn print_tree<O: Write>(tree: &Node<Option<Expr>>, out: &mut O) -> Result<Verdict, Stop>
-    ensures { IfOk result (λ v. v ≡ verdict.Accepted) }
+fn print_tree<O: Write>(tree: &Node<Option<Expr>>, out: &mut Output<O>) -> Result<Verdict, Stop>
+    ensures verdict { IfOk result (λ v. v ≡ verdict.Accepted) }
+    ensures failed { IfErr result (λ stop. writer_state out.new ≡ WriterState.Failed stop) }
 {
     if let Some(expr) = tree.as_inner() {
         writeln!(out, "{expr}")?;
@@ -178,8 +224,9 @@ fn print_tree<O: Write>(tree: &Node<Option<Expr>>, out: &mut O) -> Result<Verdic
     Ok(Verdict::Accepted)
 }
 
-fn refused<O: Write>(failure: &Failure, out: &mut O) -> Result<Verdict, Stop>
-    ensures { IfOk result (λ v. (v ≡ verdict.Refused) × ¬ (IsMemory failure.now)) }
+fn refused<O: Write>(failure: &Failure, out: &mut Output<O>) -> Result<Verdict, Stop>
+    ensures verdict { IfOk result (λ v. (v ≡ verdict.Refused) × ¬ (IsMemory failure.now)) }
+    ensures stops { IfErr result (λ stop. StopsWriting (writer_state out.new) stop) }
 {
     match failure {
         Failure::Memory(_) => Err(Stop::Memory),
@@ -191,14 +238,18 @@ fn refused<O: Write>(failure: &Failure, out: &mut O) -> Result<Verdict, Stop>
 }
 
 /// One line a fault.
-fn print_faults<O: Write>(faults: &ParseErrors, out: &mut O) -> Result<(), Stop> {
+fn print_faults<O: Write>(faults: &ParseErrors, out: &mut Output<O>) -> Result<(), Stop>
+    ensures { IfErr result (λ stop. writer_state out.new ≡ WriterState.Failed stop) }
+{
     for fault in faults.iter() {
         print_fault(fault, out)?;
     }
     Ok(())
 }
 
-fn print_fault<O: Write>(fault: &ParseError, out: &mut O) -> Result<(), Stop> {
+fn print_fault<O: Write>(fault: &ParseError, out: &mut Output<O>) -> Result<(), Stop>
+    ensures { IfErr result (λ stop. writer_state out.new ≡ WriterState.Failed stop) }
+{
     match fault.primary_source_span() {
         Some(span) => writeln!(out, "{}..{}: {fault}", span.offset(), span.end())?,
         None => writeln!(out, "-: {fault}")?,

@@ -1,5 +1,6 @@
 //! Expressions, and what is one but may be something else where it stands bare; refusals at a place.
 ghost use Rattle.std.specs.Prelude.{◌≡◌};
+ghost use Rattle.std.specs.Option.{option_map};
 ghost use Rattle.cedar_policy_parser.specs.Outcome.{Gives, TellsAlone};
 ghost use Rattle.cedar_policy_parser.specs.Seen.{plain};
 ghost use Rattle.cedar_policy_parser.specs.Levels.{as_expression};
@@ -20,7 +21,9 @@ pub(crate) enum ExprOrSpecial<E> {
 }
 
 /// A place as the builder takes it.
-pub(crate) fn place_of(loc: &Option<Loc>) -> Option<Place> {
+pub(crate) fn place_of(loc: &Option<Loc>) -> Option<Place>
+    ensures { result ≡ option_map (λ l. record { offset = l.span.offset; length = l.span.len }) loc.now }
+{
     match loc {
         Some(loc) => Some(Place {
             offset: loc.span.offset(),
@@ -31,7 +34,9 @@ pub(crate) fn place_of(loc: &Option<Loc>) -> Option<Place> {
 }
 
 /// A builder for a node at a place.
-pub(crate) fn builder_at<B: ExprBuilderInfallibleBuild>(alloc: Global, place: Option<Place>) -> B {
+pub(crate) fn builder_at<B: ExprBuilderInfallibleBuild>(alloc: Global, place: Option<Place>) -> B
+    ensures { B.node_place result ≡ place }
+{
     B::new(alloc).with_maybe_source_loc(place)
 }
 

@@ -101,6 +101,8 @@ impl<B: ExprBuilderInfallibleBuild> ExprBuilderInfallibleBuild for CountingBuild
 
     ghost meaning = { λ counted. B.meaning counted.expr };
 
+    ghost node_place = { λ builder. B.node_place builder.inner };
+
     fn new(alloc: Global) -> CountingBuilder<B> {
         CountingBuilder {
             alloc,

@@ -10,7 +10,7 @@ use cedar_syntax::err::{
 };
 use cedar_syntax::loc::SourceSpan;
 use cedar_syntax::node::Node;
-use cedar_text::util::flatten_tuple_2;
+use cedar_text::util::{flatten_tuple_2, flatten_tuple_3, flatten_tuple_4};
 use std::alloc::AllocError;
 use std::process::Abort;
 use std::rc::RcStr;
@@ -78,7 +78,7 @@ fn want_of_memory_is_told(rt: HostRuntime) {
 }
 
 /// What is wrong with a text, as its fault.
-fn in_text(rt: &(impl Abort + AllocGlobal), raw: RawFault, text: &str) -> ToCSTError {
+pub(super) fn in_text(rt: &(impl Abort + AllocGlobal), raw: RawFault, text: &str) -> ToCSTError {
     ToCSTError::new(raw, made(rt, RcStr::from_str(rt.alloc(), text)))
 }
 
@@ -318,7 +318,7 @@ fn failing_parts_tell_all_their_faults_in_order(rt: HostRuntime) {
 }
 
 /// The answer is want of memory.
-fn wants(rt: &impl Abort, joined: Result<(u8, u8), Failure>) {
+fn wants<T: Drop>(rt: &impl Abort, joined: Result<T, Failure>) {
     let failure = refusal(rt, joined);
     assert!(rt; matches!(failure, Failure::Memory(_)));
     drop(failure);
@@ -330,6 +330,30 @@ fn values_are_joined_and_want_of_memory_is_the_answer(rt: HostRuntime) {
     assert!(rt; made(&rt, joined) == (7, 7));
     wants(&rt, flatten_tuple_2(part(&rt, &[1]), wants_memory()));
     wants(&rt, flatten_tuple_2(wants_memory(), part(&rt, &[1])));
+}
+
+#[test]
+fn three_and_four_parts_are_joined(rt: HostRuntime) {
+    let told = flatten_tuple_3(part(&rt, &[1]), part(&rt, &[]), part(&rt, &[2, 3])).err();
+    agrees(&rt, told, part(&rt, &[1, 2, 3]).err(), "three parts");
+    let last = part(&rt, &[3]);
+    let told = flatten_tuple_4(part(&rt, &[1]), part(&rt, &[]), part(&rt, &[2]), last).err();
+    agrees(&rt, told, part(&rt, &[1, 2, 3]).err(), "four parts");
+    let (one, another) = (part(&rt, &[]), part(&rt, &[]));
+    wants(&rt, flatten_tuple_3(part(&rt, &[1]), wants_memory(), one));
+    wants(
+        &rt,
+        flatten_tuple_4(another, part(&rt, &[1]), part(&rt, &[2]), wants_memory()),
+    );
+}
+
+#[test]
+fn three_and_four_values_are_joined(rt: HostRuntime) {
+    let three = flatten_tuple_3(part(&rt, &[]), part(&rt, &[]), part(&rt, &[]));
+    assert!(rt; made(&rt, three) == (7, 7, 7));
+    let last = part(&rt, &[]);
+    let four = flatten_tuple_4(part(&rt, &[]), part(&rt, &[]), part(&rt, &[]), last);
+    assert!(rt; made(&rt, four) == (7, 7, 7, 7));
 }
 
 /// A part that wants memory.

@@ -91,3 +91,19 @@ pub(super) fn says_and_copies<T: fmt::Display + TryClone + Clone + PartialEq + D
     shows(rt, &value, text);
     copies_of(rt, &value);
 }
+
+/// The value's text under `{:#}` is that under `{}`.
+pub(super) fn shows_alike<T: fmt::Display>(rt: &(impl Abort + AllocGlobal), value: &T) {
+    let plain = made(rt, format!(in rt.alloc(); "{value}"));
+    let alternate = made(rt, format!(in rt.alloc(); "{value:#}"));
+    assert!(rt; plain.as_str() == alternate.as_str(), "{value}");
+}
+
+/// The same, and both ways to copy it give an equal one.
+pub(super) fn shows_alike_and_copies<T: fmt::Display + TryClone + Clone + PartialEq + Drop>(
+    rt: &(impl Abort + AllocGlobal),
+    value: &T,
+) {
+    shows_alike(rt, value);
+    copies_of(rt, value);
+}

@@ -1,6 +1,8 @@
 //! Runs of the program over memory: its rows, and readers and writers that fail.
-use super::held::made;
-use crate::run::run;
+use super::held::{made, refusal};
+use crate::run::{arguments, refuse_arguments, run};
+use crate::streams::Output;
+use std::env::{Env, FillError};
 use std::io;
 use std::io::{ErrorKind, Read, Write};
 use std::process::Abort;
@@ -352,4 +354,79 @@ fn fails_at_each_write(rt: &(impl Abort + AllocGlobal), text: &str, want: &str, 
 fn tells_of_a_write_that_fails(rt: HostRuntime) {
     fails_at_each_write(&rt, "1", "1\nok\n", 0);
     fails_at_each_write(&rt, "", "0..0: unexpected end of input\n", 1);
+}
+
+/// Takes all that is written, and fails at the flush.
+#[derive(Drop)]
+struct UnflushedWriter;
+
+impl Write for UnflushedWriter {
+    fn write(&mut self, buf: &[u8]) -> io::Result<usize> {
+        Ok(buf.len())
+    }
+
+    fn flush(&mut self) -> io::Result<()> {
+        Err(io::Error::from(ErrorKind::BrokenPipe))
+    }
+}
+
+#[test]
+fn tells_of_a_flush_that_fails(rt: HostRuntime) {
+    for text in &["1", "1 +"] {
+        let (status, err) = run_on(&rt, EXPR, text.as_bytes(), &mut UnflushedWriter);
+        assert!(rt; status == 4 && err.as_slice() == b"input or output failed\n".as_slice());
+    }
+}
+
+#[test]
+fn a_long_text_is_answered(rt: HostRuntime) {
+    let mut text = made(&rt, String::from_str(rt.alloc(), "1 //"));
+    for _ in 0..9_996 {
+        made(&rt, text.push('a'));
+    }
+    let mut out = Vec::new(rt.alloc());
+    let (status, err) = run_on(&rt, EXPR, text.as_bytes(), &mut out);
+    assert!(rt; status == 0 && out.as_slice() == b"1\nok\n".as_slice());
+    assert!(rt; err.is_empty());
+}
+
+/// Arguments that the process might be given, the program's name first.
+#[derive(Drop)]
+struct Given(&'static [&'static [u8]]);
+
+impl Env for Given {
+    fn arg(&self, i: usize, buf: &mut [u8]) -> Result<usize, FillError> {
+        let Some(word) = self.0.get(i) else {
+            return Err(FillError::NotPresent);
+        };
+        if word.len() > buf.len() {
+            return Err(FillError::TooLong);
+        }
+        buf[..word.len()].copy_from_slice(word);
+        Ok(word.len())
+    }
+
+    fn var(&self, _name: &str, _buf: &mut [u8]) -> Result<usize, FillError> {
+        Err(FillError::NotPresent)
+    }
+
+    fn var_at(&self, _i: usize, _buf: &mut [u8]) -> Result<usize, FillError> {
+        Err(FillError::NotPresent)
+    }
+}
+
+#[test]
+fn an_argument_that_is_no_text_is_a_usage_fault(rt: HostRuntime) {
+    let given = (Given(&[b"cedar-parse", b"expr", b"\xff"]), rt.alloc());
+    let error = refusal(&rt, arguments(&given));
+    let mut err = Vec::new(rt.alloc());
+    let status = refuse_arguments(error, &mut Output::new(&mut err));
+    assert!(rt; status == 2 && err.as_slice() == USAGE_LINE.as_bytes());
+}
+
+#[test]
+fn arguments_come_without_the_programs_name(rt: HostRuntime) {
+    let given = (Given(&[b"cedar-parse", b"expr", b"fn:f"]), rt.alloc());
+    let words = made(&rt, arguments(&given));
+    assert!(rt; words.len() == 2 && words[0].as_str() == "expr" && words[1].as_str() == "fn:f");
 }

@@ -4,7 +4,7 @@ use super::counting::CountingBuilder;
 use super::held::{agrees, made, refusal, shows};
 use super::names::text;
 use cedar_expressions::{
-    Expr as Value, ExprBuilder, ExprBuilderInfallibleBuild, Literal, UnaryOp, Var,
+    Expr as Value, ExprBuilder, ExprBuilderInfallibleBuild, ExprKind, Literal, Place, UnaryOp, Var,
 };
 use cedar_policy_parser::cst_to_ast::{ExprAst, ExtStyles};
 use cedar_policy_parser::parse_expression;
@@ -32,7 +32,10 @@ pub(super) fn built<B: ExprBuilderInfallibleBuild>(
 }
 
 /// Texts and their trees' texts.
-const TREES: [(&str, &str); 13] = [
+const TREES: [(&str, &str); 16] = [
+    ("9223372036854775808", "9223372036854775808"),
+    ("18446744073709551615", "18446744073709551615"),
+    ("1+9223372036854775808", "1 + 9223372036854775808"),
     ("1 + 2 == 3 && !true", "1 + 2 == 3 && ! true"),
     (
         "!!!!true && 9223372036854775807 > 0",
@@ -180,6 +183,38 @@ fn each_node_has_its_place(rt: HostRuntime) {
     let tree = tree(&rt, "1+(2)");
     assert!(rt; places(&rt, &tree) == Some(wanted));
     drop(tree);
+}
+
+/// Where the nodes of `.. + .. == ..` stand: the whole, the sum, its two operands, the right side.
+fn places_of_nodes(whole: &Value) -> Option<[Option<Place>; 5]> {
+    let ExprKind::Binary(_, sides) = whole.kind() else {
+        return None;
+    };
+    let (sum, right) = sides.as_ref();
+    let ExprKind::Sum(first, others) = sum.kind() else {
+        return None;
+    };
+    let (_, last) = others.as_slice().last()?;
+    Some([
+        whole.place(),
+        sum.place(),
+        first.as_ref().place(),
+        last.place(),
+        right.place(),
+    ])
+}
+
+/// A place as a value has it.
+fn at(offset: usize, length: usize) -> Option<Place> {
+    Some(Place { offset, length })
+}
+
+#[test]
+fn each_node_of_a_value_has_its_place(rt: HostRuntime) {
+    let whole = value(&rt, "1 + principal == (2)");
+    let wanted = [at(0, 20), at(0, 13), at(0, 1), at(4, 9), at(18, 1)];
+    assert!(rt; places_of_nodes(&whole) == Some(wanted));
+    drop(whole);
 }
 
 /// The value of a text that has one.

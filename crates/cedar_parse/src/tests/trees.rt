@@ -1,5 +1,6 @@
-//! Trees: a copy of each type equals its source, and what hinders the conversion of trees that no text has.
-use super::held::{copies, copies_of, made, refusal, says};
+//! Trees: a copy of each type equals its source, its text under `{:#}` is that under `{}`; and what hinders the conversion of
+//! trees that no text has.
+use super::held::{made, refusal, says, shows_alike_and_copies};
 use super::names::text;
 use super::texts::{built, tree};
 use cedar_expressions::{ExprBuilder, TryClone};
@@ -10,6 +11,7 @@ use cedar_syntax::cst::{
 };
 use cedar_syntax::node::Node;
 use cedar_syntax::{Boxed, Items};
+use std::fmt::Display;
 use std::process::Abort;
 
 /// A node without a place.
@@ -24,22 +26,30 @@ fn one<T: Drop>(rt: &(impl Abort + AllocGlobal), item: T) -> Items<T> {
     items
 }
 
-/// What a node holds, which is copied.
-fn held<'a, T: TryClone + Clone + PartialEq + Drop>(
-    rt: &impl Abort,
+/// The value is copied, and shown under `{:#}` as under `{}`.
+fn copies<T: Display + TryClone + Clone + PartialEq + Drop>(
+    rt: &(impl Abort + AllocGlobal),
+    value: T,
+) {
+    shows_alike_and_copies(rt, &value);
+}
+
+/// What a node holds, which is copied and shown.
+fn held<'a, T: Display + TryClone + Clone + PartialEq + Drop>(
+    rt: &(impl Abort + AllocGlobal),
     node: &'a Node<Option<T>>,
 ) -> &'a T {
     let value = node.as_inner().expect(rt, "an empty node");
-    copies_of(rt, value);
+    shows_alike_and_copies(rt, value);
     value
 }
 
 /// Each tree on the way to the leftmost operand is copied.
-fn copies_each_level(rt: &impl Abort, whole: &Node<Option<Expr>>) {
+fn copies_each_level(rt: &(impl Abort + AllocGlobal), whole: &Node<Option<Expr>>) {
     let Expr::Expr(implementation) = held(rt, whole);
-    copies_of(rt, implementation);
+    shows_alike_and_copies(rt, implementation);
     let data = implementation.expr.as_ref();
-    copies_of(rt, data);
+    shows_alike_and_copies(rt, data);
     let ExprData::Or(or) = data else {
         return assert!(rt; false, "not a chain");
     };
@@ -52,7 +62,7 @@ fn copies_each_level(rt: &impl Abort, whole: &Node<Option<Expr>>) {
 }
 
 /// Each tree within a sum on the way to the leftmost operand is copied.
-fn copies_each_operand(rt: &impl Abort, add: &Node<Option<Add>>) {
+fn copies_each_operand(rt: &(impl Abort + AllocGlobal), add: &Node<Option<Add>>) {
     let mult = &held(rt, add).initial;
     let unary = &held(rt, mult).initial;
     let member = &held(rt, unary).item;
