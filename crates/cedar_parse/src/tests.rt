@@ -14,3 +14,4 @@ mod shapes;
 mod store;
 mod texts;
 mod trees;
+mod words;

@@ -402,9 +402,9 @@ variable_word m.context = record { word = ident.Context; reads = l.context; give
 
 variable_read : {src : List ℕ} {k : TokenKind} {x : Var} (p : Spot) → VariableRead k x → PrimaryRead src (one k p) (v.var x)
 variable_read {src = src} {k = k} p h = record {
-  tree = primary.Name (placed src (one k p) (name_of (placed src (one k p) h.word)));
+  tree = primary.Name (placed src (one k p) (name_of [] (placed src (one k p) h.word)));
   reads = l.variable p h.reads;
-  gives = ap value_of (convert_variable (placed src (one k p) (name_of (placed src (one k p) h.word))) (placed src (one k p) h.word) refl) ∙ rw h.gives refl;
+  gives = ap value_of (convert_variable (placed src (one k p) (name_of [] (placed src (one k p) h.word))) (placed src (one k p) h.word) refl) ∙ rw h.gives refl;
 }
 
 paren_read : {src : List ℕ} {ts : List Lexeme} {a : Value} (i o : Spot) → ExprRead src ts a → PrimaryRead src (one kind.OpenParen i ++ ts ++ one kind.CloseParen o) a

@@ -68,11 +68,11 @@ convert_literally x = ap convert (primary_literal x)
 pub bare_literally : (x : Cell Literal) → number_in (primary_tree (P.Literal x)) ≡ number_in (literal_in x.node)
 bare_literally x = ap number_in (primary_literal x)
 
-pub convert_variable : (x : Cell Name) (i : Cell Ident) → x.node ≡ Some (name_of i) → convert (primary_tree (P.Name x)) ≡ named [] i.node
+pub convert_variable : (x : Cell Name) (i : Cell Ident) → x.node ≡ Some (name_of [] i) → convert (primary_tree (P.Name x)) ≡ named [] i.node
 unfolding convert
 convert_variable x i e = ap convert (primary_name x) ∙ rw e refl
 
-pub bare_variable : (x : Cell Name) (i : Cell Ident) → x.node ≡ Some (name_of i) → number_in (primary_tree (P.Name x)) ≡ None
+pub bare_variable : (x : Cell Name) (i : Cell Ident) → x.node ≡ Some (name_of [] i) → number_in (primary_tree (P.Name x)) ≡ None
 bare_variable x i e = ap number_in (primary_name x) ∙ rw e refl
 
 pub convert_paren : (x : Cell Expr) → convert (primary_tree (P.Expr x)) ≡ option_map expression (value_of (convert (tree_at expr_tree x)))

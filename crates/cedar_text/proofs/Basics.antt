@@ -11,20 +11,8 @@ use Rattle.cedar_text.specs.declared.state.State.{State}
 use Rattle.cedar_text.specs.Place.{join, extent_of, extent}
 use Rattle.cedar_text.specs.Trees.{bangs_of, dashes_of}
 use Rattle.cedar_text.specs.Loose.{Spot, one}
+pub use Rattle.cedar_text.proofs.machines.Extents.{join-assoc, extent-append, at}
 use Rattle.cedar_text.specs.Machine.{steps, step_from, signed}
-
-pub join-assoc : (a b c : Option Extent) → join (join a b) c ≡ join a (join b c)
-join-assoc None b c = refl
-join-assoc (Some a) None c = refl
-join-assoc (Some a) (Some b) None = refl
-join-assoc (Some a) (Some b) (Some c) = refl
-
-pub extent-append : (a b : List Lexeme) → extent (a ++ b) ≡ join (extent a) (extent b)
-extent-append [] b = refl
-extent-append (t ∷ a) b = ap (λ p. join (Some (extent_of t)) p) (extent-append a b) ∙ sym (join-assoc (Some (extent_of t)) (extent a) (extent b))
-
-abbrev pub at : Spot → Extent
-at p = record { start = p.start; end = p.end }
 
 pub chain_extent : (ts us : List Lexeme) (k : TokenKind) (p : Spot) → join (join (extent ts) (Some (at p))) (extent us) ≡ extent (ts ++ one k p ++ us)
 chain_extent ts us k p = rw (extent-append (ts ++ one k p) us, extent-append ts (one k p))

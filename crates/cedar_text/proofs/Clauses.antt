@@ -28,8 +28,9 @@ use Rattle.cedar_text.specs.Progress.{IsRead}
 use Rattle.cedar_text.specs.Places.{PlacesExpr}
 use Rattle.cedar_text.proofs.Agreement.{some_is, not_some, steps-none, sound, complete, alone, kinds-append}
 use Rattle.cedar_text.proofs.Faults.{token_fits}
-use Rattle.cedar_text.proofs.Places.{Lies, expr_places}
-use Rattle.cedar_text.proofs.Tokens.{laid_lies}
+use Rattle.cedar_text.proofs.Lying.{Lies}
+use Rattle.cedar_text.proofs.Places.{expr_places}
+use Rattle.cedar_text.proofs.Lying.{laid_lies}
 
 pub one_cut : (text : List ℕ) (ts us : List Lexeme) → Cuts text ts → Cuts text us → ts ≡ us
 one_cut text ts us c d = (one_end c (nothing_at_end text) d (nothing_at_end text)).0

@@ -358,7 +358,7 @@ literal_runs {src = src} (number p h) st lv f sg = number_runs src st lv f sg p 
 literal_runs (string p) st lv f sg = refl
 
 variable_runs : {k : TokenKind} {i : Ident} → ReadsVariable k i → (src : List ℕ) (st : List Frame) (lv : Levels) (f : Bool) (sg : Signs) (p : Spot) →
-    PrimaryRuns src st lv f sg (one k p) (primary.Name (placed src (one k p) (name_of (placed src (one k p) i))))
+    PrimaryRuns src st lv f sg (one k p) (primary.Name (placed src (one k p) (name_of [] (placed src (one k p) i))))
 variable_runs principal src st lv f sg p = refl
 variable_runs action src st lv f sg p = refl
 variable_runs resource src st lv f sg p = refl

@@ -34,7 +34,7 @@ use Rattle.cedar_text.specs.Runs.{Comes, RunsTo}
 use Rattle.cedar_text.specs.Fault.{NumbersFit, end_at, end_of, StandsBehind, FirstFault, unexpected, early_end, large_number, bad_place, IsRefusal, IsMemory}
 use Rattle.cedar_text.specs.Progress.{Ahead, Progress, tokens_left, IsRead, IsFault, GivesToken, StopsBadly, StopsAtToken, StopsAtEnd, unexpected_at, large_at}
 use Rattle.cedar_text.specs.Written.{IsWritten}
-use Rattle.cedar_text.proofs.Tokens.{AllWritten, all_written, one_bounds}
+use Rattle.cedar_text.proofs.Written.{AllWritten, all_written, one_bounds}
 use Rattle.cedar_text.proofs.Basics.{extent-append, steps-append}
 use Rattle.cedar_text.proofs.Agreement.{some_is, sound, complete, alone, begins}
 use Rattle.cedar_text.proofs.Allowed.{refused_token, refused_end, number_allowed, too_large}

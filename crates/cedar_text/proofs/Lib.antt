@@ -8,9 +8,12 @@ pub mod Faults
 pub mod FirstPiece
 pub mod Joining
 pub mod Layouts
+pub mod Lying
 pub mod OneFault
 pub mod Places
 pub mod Quotes
 pub mod Sound
-pub mod Tokens
 pub mod Total
+pub mod WordPlaces
+pub mod Written
+pub mod machines

@@ -22,63 +22,8 @@ use Rattle.cedar_text.specs.Place.{join, extent_of, extent, loc_at, placed}
 use Rattle.cedar_text.specs.Trees.{Cell, bangs_of, dashes_of}
 use Rattle.cedar_text.specs.Loose.{Spot, one, ReadsSigns, one_sign, more_signs, ReadsLiteral, truth, falsity, number, string, ReadsExpr, or_expr, if_expr, ReadsOr, or, ReadsAnds, one_and, more_and, ReadsAnd, and, ReadsRelations, one_relation, more_relation, ReadsRelation, common, ReadsAdds, one_add, more_add, ReadsAdd, add, ReadsMults, one_mult, more_mult, ReadsMult, mult, ReadsUnaries, one_unary, more_unary, ReadsUnary, plain, banged, dashed, ReadsMember, member, ReadsPrimary, literally, variable, paren}
 use Rattle.cedar_text.specs.Places as places
+use Rattle.cedar_text.proofs.Lying.{Lies, Some_of, some_append, split, stands}
 use Rattle.cedar_text.specs.Places.{IsPlace, PlacesLiteral, PlacesExpr, PlacesOr, PlacesAnds, PlacesAnd, PlacesRelations, PlacesRelation, PlacesAdds, PlacesAdd, PlacesMults, PlacesMult, PlacesUnaries, PlacesUnary, PlacesMember, PlacesPrimary}
-
--- from i to k tokens stand one behind the other, on boundaries of characters
-abbrev pub Lies : List ℕ → ℕ → List Lexeme → ℕ → Type 0
-Lies src i [] k = i ≤ k
-Lies src i (t ∷ ts) k = (i ≤ t.start) × (t.start ≤ t.end) × IsCharBoundary src t.start × IsCharBoundary src t.end × Lies src t.end ts k
-
--- there are tokens
-abbrev Some_of : List Lexeme → Type 0
-Some_of [] = ⊥
-Some_of (t ∷ ts) = Unit {0}
-
-some_append : (ts us : List Lexeme) → Some_of ts → Some_of (ts ++ us)
-some_append [] us h = absurd h
-some_append (t ∷ ts) us h = tt
-
-split : (src : List ℕ) (i : ℕ) (ts us : List Lexeme) (k : ℕ) → Lies src i (ts ++ us) k → (j : ℕ) × Lies src i ts j × Lies src j us k
-split src i [] us k h = (i, omega arith, h)
-split src i (t ∷ ts) us k h = let r = split src t.end ts us k h.4 in (r.0, (h.0, h.1, h.2, h.3, r.1), r.2)
-
-record Spans (src : List ℕ) (i : ℕ) (o : Option Extent) (k : ℕ) : Type 0 where
-  bytes : Extent
-  is : o ≡ Some bytes
-  from : i ≤ bytes.start
-  goes : bytes.start ≤ bytes.end
-  to : bytes.end ≤ k
-  begins : IsCharBoundary src bytes.start
-  ends : IsCharBoundary src bytes.end
-
-lies_on : (src : List ℕ) (i : ℕ) (ts : List Lexeme) (k : ℕ) → Lies src i ts k → i ≤ k
-lies_on src i [] k h = h
-lies_on src i (t ∷ ts) k h = let e = lies_on src t.end ts k h.4 in let a = h.0 in let b = h.1 in omega arith
-
-spans : (src : List ℕ) (i : ℕ) (ts : List Lexeme) (k : ℕ) → Lies src i ts k → Some_of ts → Spans src i (extent ts) k
-spans src i [] k h s = absurd s
-spans src i (t ∷ []) k h s = record { bytes = extent_of t; is = refl; from = h.0; goes = h.1; to = h.4; begins = h.2; ends = h.3 }
-spans src i (t ∷ u ∷ ts) k h s =
-    let r = spans src t.end (u ∷ ts) k h.4 tt in
-    let a = h.1 in let b = r.from in let c = r.goes in
-    record {
-      bytes = record { start = t.start; end = r.bytes.end };
-      is = ap (λ q. join (Some (extent_of t)) q) r.is;
-      from = h.0;
-      goes = omega arith;
-      to = r.to;
-      begins = h.2;
-      ends = r.ends;
-    }
-
-place_of : (src : List ℕ) (i : ℕ) (o : Option Extent) (k : ℕ) → Spans src i o k → IsPlace src (loc_at src o)
-place_of src i o k s = subst (λ q. IsPlace src (loc_at src q)) (sym s.is) (refl, s.begins, subst (λ n. IsCharBoundary src n) (there s.bytes.start s.bytes.end s.goes) s.ends)
-  where
-    there : (a b : ℕ) → a ≤ b → b ≡ a + (b - a)
-    there a b h = omega arith
-
-stands : (src : List ℕ) (i : ℕ) (ts : List Lexeme) (k : ℕ) → Lies src i ts k → Some_of ts → IsPlace src (loc_at src (extent ts))
-stands src i ts k h s = place_of src i (extent ts) k (spans src i ts k h s)
 
 -- each rule takes a token
 

@@ -15,28 +15,14 @@ use Rattle.cedar_text.specs.declared.entry.Entry.{Entry}
 use Rattle.cedar_text.specs.declared.extent.Extent.{Extent}
 use Rattle.cedar_text.specs.Place.{extent_of, extent, loc_at}
 use Rattle.cedar_text.specs.Loose.{fits}
+pub use Rattle.cedar_text.specs.FirstFault.{end_at, end_of, too_large, IsMemory}
+pub use Rattle.cedar_text.specs.machines.Judged.{StandsBehind}
 use Rattle.cedar_text.specs.Sentence.{kinds, Begins, Allowed, IsFirstRefused}
 
 -- each number among these tokens has a tree
 abbrev pub NumbersFit : List Lexeme → Type 0
 NumbersFit [] = Unit {0}
 NumbersFit (t ∷ ts) = ((t.kind ≡ kind.Number) → fits t.text ≡ true) × NumbersFit ts
-
--- the end of the last token, or 0
-abbrev pub end_at : Option Extent → ℕ
-end_at None = 0
-end_at (Some e) = e.end
-
-abbrev pub end_of : List Lexeme → ℕ
-end_of ts = end_at (extent ts)
-
--- the recorded words for a number that 64 bits don't hold
-abbrev pub too_large : List ℕ
-too_large = codes "integer parse error: number too large to fit in target type"
-
--- the text's tokens begin with these and then this one
-abbrev pub StandsBehind : List ℕ → List Lexeme → Lexeme → Type 0
-StandsBehind text before t = Layout text 0 (before ++ t ∷ []) t.end
 
 -- the first fault of a text by this rule: the tokens before it begin a sentence and their numbers fit
 pub data FirstFault (e : Entry) (text : List ℕ) : RawFault → Type 0 where
@@ -57,7 +43,3 @@ pub data FirstFault (e : Entry) (text : List ℕ) : RawFault → Type 0 where
 abbrev pub IsRefusal : Entry → List ℕ → Failure → Type 0
 IsRefusal e text (Memory m) = Unit {0}
 IsRefusal e text (Errors errors) = (raw : RawFault) × FirstFault e text raw × (faults_of errors ≡ ToCST record { raw = raw; src = text } ∷ [])
-
-abbrev pub IsMemory : Failure → Type 0
-IsMemory (Memory m) = Unit {0}
-IsMemory (Errors errors) = ⊥

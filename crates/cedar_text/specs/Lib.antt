@@ -1,8 +1,12 @@
 pub mod Begins
 pub mod EscapeFaults
+pub mod Expected
 pub mod Fault
+pub mod FirstFault
+pub mod Grammar
 pub mod Joined
 pub mod Loose
+pub mod LooseWords
 pub mod Machine
 pub mod Pattern
 pub mod Piece
@@ -12,7 +16,11 @@ pub mod Places
 pub mod Progress
 pub mod Runs
 pub mod Sentence
+pub mod Sentences
 pub mod Shape
+pub mod Tokens
+pub mod TreePlaces
 pub mod Trees
 pub mod UnescapeFailure
 pub mod Written
+pub mod machines

@@ -31,28 +31,9 @@ use Rattle.cedar_text.specs.declared.entry.Entry.TheVariants as entry
 use Rattle.cedar_text.specs.declared.entry.Parsed.{Parsed}
 use Rattle.cedar_text.specs.declared.entry.Parsed.TheVariants as parsed
 use Rattle.cedar_text.specs.Place.{placed}
+pub use Rattle.cedar_text.specs.Tokens.{Spot, one, number_of, fits, between_quotes}
+pub use Rattle.cedar_text.specs.LooseWords.{ReadsLiteral, truth, falsity, number, string}
 use Rattle.cedar_text.specs.Trees.{Cell, expr_of, if_of, or_of, and_of, common_of, add_of, mult_of, unary_of, member_of, name_of, bangs_of, dashes_of}
-
--- where a token stands, and how it is written
-pub record Spot : Type 0 where
-  pub start : ℕ
-  pub end : ℕ
-  pub text : List ℕ
-
--- one token, as a list
-abbrev pub one : TokenKind → Spot → List Lexeme
-one k p = record { kind = k; start = p.start; end = p.end; text = p.text } ∷ []
-
--- the number that these digits write, and whether 64 bits hold it
-abbrev pub number_of : List ℕ → ℕ
-number_of text = digits_value 10 text
-
-abbrev pub fits : List ℕ → Bool
-fits text = nat_lt (number_of text) (2 ^ 64)
-
--- the raw text of a string: what stands between its two quotes
-abbrev pub between_quotes : List ℕ → List ℕ
-between_quotes text = drop 1 (take (length text - 1) text)
 
 -- RelOp = "<" | "<=" | ">=" | ">" | "!=" | "==" | IN | "="
 pub data ReadsRelOp : TokenKind → RelOp → Type 0 where
@@ -87,14 +68,6 @@ pub data ReadsVariable : TokenKind → Ident → Type 0 where
 pub data ReadsSigns (k : TokenKind) : List Lexeme → ℕ → Type 0 where
   one_sign : (p : Spot) → ReadsSigns k (one k p) 1
   more_signs : {ts : List Lexeme} {n : ℕ} (p : Spot) → ReadsSigns k ts n → ReadsSigns k (ts ++ one k p) (n + 1)
-
--- Literal = TRUE | FALSE | NUMBER | STRINGLIT
-pub data ReadsLiteral (src : List ℕ) : List Lexeme → Literal → Type 0 where
-  truth : (p : Spot) → ReadsLiteral src (one kind.True p) literal.True
-  falsity : (p : Spot) → ReadsLiteral src (one kind.False p) literal.False
-  -- a number has a tree only if 64 bits hold it
-  number : (p : Spot) → IsTrue (fits p.text) → ReadsLiteral src (one kind.Number p) (literal.Num (number_of p.text))
-  string : (p : Spot) → ReadsLiteral src (one kind.StringLit p) (literal.Str (placed src (one kind.StringLit p) (str.String (between_quotes p.text))))
 
 mutual
   -- Expr = Or | IF Expr THEN Expr ELSE Expr
@@ -165,7 +138,7 @@ mutual
     literally : {ts : List Lexeme} {x : Literal} → ReadsLiteral src ts x → ReadsPrimary src ts (primary.Literal (placed src ts x))
     -- a name of one identifier
     variable : {k : TokenKind} {i : Ident} (p : Spot) → ReadsVariable k i →
-        ReadsPrimary src (one k p) (primary.Name (placed src (one k p) (name_of (placed src (one k p) i))))
+        ReadsPrimary src (one k p) (primary.Name (placed src (one k p) (name_of [] (placed src (one k p) i))))
     paren : {ts : List Lexeme} {x : Expr} (l m : Spot) → ReadsExpr src ts x →
         ReadsPrimary src (one kind.OpenParen l ++ ts ++ one kind.CloseParen m) (primary.Expr (placed src ts x))
 

@@ -281,7 +281,7 @@ abbrev pub string_at : List ℕ → Extent → List ℕ → Ranged Primary
 string_at src e text = literal_at src e (literal.Str (node_at src (Some e) (str.String (between_quotes text))))
 
 abbrev pub variable_at : List ℕ → Extent → Variable → Ranged Primary
-variable_at src e v = ranged (Some e) (primary.Name (node_at src (Some e) (name_of (node_at src (Some e) (ident_of v)))))
+variable_at src e v = ranged (Some e) (primary.Name (node_at src (Some e) (name_of [] (node_at src (Some e) (ident_of v)))))
 
 -- one sign more: both kinds of sign never stand together
 abbrev pub signed : Option NegOp → Sign → Option NegOp

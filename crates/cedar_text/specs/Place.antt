@@ -31,3 +31,8 @@ node_at src e x = record { node = Some x; loc = loc_at src e }
 -- a tree as a node, at the place of its tokens
 abbrev pub placed : {T : Type 0} → List ℕ → List Lexeme → T → Node (Option T)
 placed src ts x = node_at src (extent ts) x
+
+-- and at 0..0 where there are none
+abbrev pub placed_or_start : {T : Type 0} → List ℕ → List Lexeme → T → Node (Option T)
+placed_or_start src [] x = node_at src (Some record { start = 0; end = 0 }) x
+placed_or_start src (t ∷ ts) x = placed src (t ∷ ts) x

@@ -23,12 +23,8 @@ use Rattle.cedar_syntax.specs.declared.cst.Ident.{Ident}
 use Rattle.cedar_syntax.specs.declared.cst.Name.{Name}
 use Rattle.cedar_text.specs.declared.entry.Parsed.{Parsed}
 use Rattle.cedar_text.specs.declared.entry.Parsed.TheVariants as parsed
+pub use Rattle.cedar_text.specs.TreePlaces.{IsPlace}
 use Rattle.cedar_text.specs.Trees.{Cell, expr_of, if_of, or_of, and_of, common_of, add_of, mult_of, unary_of, member_of, name_of}
-
--- a range of the text whose ends are boundaries of characters, with the whole text as its source
-abbrev pub IsPlace : List ℕ → Option Loc → Type 0
-IsPlace src None = ⊥
-IsPlace src (Some l) = (l.src ≡ src) × IsCharBoundary src l.span.offset × IsCharBoundary src (l.span.offset + l.span.len)
 
 -- a node that isn't empty
 abbrev pub cell : {T : Type 0} → Option Loc → T → Cell T
@@ -40,7 +36,7 @@ pub data PlacesIdent (src : List ℕ) : Cell Ident → Type 0 where
   ident : {l : Option Loc} {x : Ident} → IsPlace src l → PlacesIdent src (cell l x)
 
 pub data PlacesName (src : List ℕ) : Cell Name → Type 0 where
-  name : {l : Option Loc} {x : Cell Ident} → IsPlace src l → PlacesIdent src x → PlacesName src (cell l (name_of x))
+  name : {l : Option Loc} {x : Cell Ident} → IsPlace src l → PlacesIdent src x → PlacesName src (cell l (name_of [] x))
 
 pub data PlacesStr (src : List ℕ) : Cell Str → Type 0 where
   str : {l : Option Loc} {x : Str} → IsPlace src l → PlacesStr src (cell l x)

@@ -18,13 +18,10 @@ use Rattle.cedar_text.specs.declared.state.State.{State}
 use Rattle.cedar_text.specs.declared.state.Outcome.TheVariants as outcome
 use Rattle.cedar_text.specs.Place.{extent_of, loc_at}
 use Rattle.cedar_text.specs.Machine.{step_of, finish_of}
-use Rattle.cedar_text.specs.Fault.{NumbersFit, end_of, StandsBehind, too_large}
+use Rattle.cedar_text.specs.Fault.{NumbersFit, end_of}
+pub use Rattle.cedar_text.specs.FirstFault.{large_at}
 use Rattle.cedar_text.specs.Runs.{Comes, RunsTo}
-
--- the lexer stands behind this token, or the text ends
-abbrev pub Ahead : List ℕ → List Lexeme → Option Token → LexerState → Type 0
-Ahead text before (Some t) l = StandsBehind text before (lexeme_of t) × (l.source ≡ text) × (l.offset ≡ t.end) × (l.ended ≡ false)
-Ahead text before None l = Cuts text before
+pub use Rattle.cedar_text.specs.machines.Judged.{Ahead, tokens_left, IsFault, FailsWith, GivesToken, StopsBadly}
 
 -- some tokens of the text are read, and the next is ahead
 pub record Progress (text : List ℕ) (e : Entry) (s : State) (end : ℕ) (ahead : Option Token) (l : LexerState) : Type 0 where
@@ -35,11 +32,6 @@ pub record Progress (text : List ℕ) (e : Entry) (s : State) (end : ℕ) (ahead
   pub ends : end ≡ end_of before
   pub goes : Ahead text before ahead l
 
--- the bytes that are left, and the token ahead
-abbrev pub tokens_left : Option Token → LexerState → ℕ
-tokens_left None l = 0
-tokens_left (Some t) l = 1 + (length l.source - l.offset)
-
 -- a tree that the tokens of the text run to
 pub record IsRead (text : List ℕ) (e : Entry) (x : Parsed) : Type 0 where
   pub tokens : List Lexeme
@@ -48,29 +40,8 @@ pub record IsRead (text : List ℕ) (e : Entry) (x : Parsed) : Type 0 where
 
 -- ---- what the parts of the parser answer
 
--- the one fault of this text
-abbrev pub IsFault : List ℕ → ParseErrors → RawFault → Type 0
-IsFault src errors raw = faults_of errors ≡ ToCST record { raw = raw; src = src } ∷ []
-
-abbrev pub FailsWith : List ℕ → RawFault → Failure → Type 0
-FailsWith src raw (Memory m) = Unit {0}
-FailsWith src raw (Errors errors) = IsFault src errors raw
-
--- the lexer's next token, if there is one
-abbrev pub GivesToken : LexerState → Option Token → LexerState → Type 0
-GivesToken l (Some t) u = Answers l (Some (Ok t)) u
-GivesToken l None u = Answers l None u
-
--- its bad place
-abbrev pub StopsBadly : List ℕ → LexerState → Failure → Type 0
-StopsBadly src l (Memory m) = Unit {0}
-StopsBadly src l (Errors errors) = (place : ℕ) × StopsFrom l.source l.offset [] place × IsFault src errors (fault.InvalidToken place)
-
 abbrev pub unexpected_at : Lexeme → RawFault
 unexpected_at t = fault.UnrecognizedToken t.start t.end t.text []
-
-abbrev pub large_at : List ℕ → Lexeme → RawFault
-large_at src t = fault.User record { node = too_large; loc = loc_at src (Some (extent_of t)) }
 
 -- no step by this token
 abbrev pub StopsAtToken : List ℕ → State → Lexeme → Failure → Type 0

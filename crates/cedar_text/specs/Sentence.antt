@@ -5,10 +5,7 @@ use Rattle.cedar_lexer.specs.declared.token.TokenKind.{TokenKind}
 use Rattle.cedar_text.specs.declared.entry.Entry.{Entry}
 use Rattle.cedar_text.specs.declared.entry.Parsed.{Parsed}
 use Rattle.cedar_text.specs.Loose.{Reads}
-
-abbrev pub kinds : List Lexeme → List TokenKind
-kinds [] = []
-kinds (t ∷ ts) = t.kind ∷ kinds ts
+pub use Rattle.cedar_text.specs.Sentences.{kinds}
 
 -- some tokens of these kinds have a tree by this rule, so that the numbers among them fit
 pub record Sentence (e : Entry) (ks : List TokenKind) : Type 0 where

@@ -1,5 +1,5 @@
 //! A token where an operand is wanted: it is one, or begins one.
-ghost use Rattle.std.specs.Prelude.{◌≡◌, ◌∷◌, [], ◌++◌, ℕ, List, codes, IfOk};
+ghost use Rattle.std.specs.Prelude.{◌≡◌, ◌∷◌, [], IfOk};
 ghost use Rattle.cedar_lexer.specs.declared.token.TokenKind.TheVariants as kind;
 ghost use Rattle.cedar_text.specs.Loose.{between_quotes};
 ghost use Rattle.cedar_text.specs.Machine.{fresh, beginning_in, operand, literal_at, string_at, variable_at, signed, after_signs, after_open, after_if};
@@ -11,6 +11,7 @@ use crate::operators::want_operand;
 use crate::place::{node_at, node_of};
 use crate::stack::Stack;
 use crate::state::{Branch, Frame, Levels, Mode, Operand, Outcome, Ranged, Signs, State};
+use crate::text_to_cst::literal::between_quotes;
 use cedar_expressions::{Items, Source, Text};
 use cedar_syntax::cst::{Literal, Name, NegOp, Primary, Str};
 use std::alloc::{AllocError, Global};
@@ -87,36 +88,6 @@ fn literal_at(
         tree: Primary::Literal(literal),
         extent: Some(extent),
     })
-}
-
-/// The text of a string behind its first quote.
-fn behind_quote(text: &str) -> &str
-    requires { Written kind.StringLit text.now }
-    ensures { text.now ≡ codes "\"" ++ result.now }
-{
-    let Some(rest) = text.strip_prefix('"') else {
-        unreachable!()
-    };
-    rest
-}
-
-/// The text before the quote that it ends with.
-fn before_quote(text: &str) -> &str
-    requires { (front : List ℕ) × (text.now ≡ front ++ codes "\"") }
-    ensures { text.now ≡ result.now ++ codes "\"" }
-{
-    let Some(front) = text.strip_suffix('"') else {
-        unreachable!()
-    };
-    front
-}
-
-/// The raw text of a string: what stands between its quotes.
-fn between_quotes(text: &str) -> &str
-    requires { Written kind.StringLit text.now }
-    ensures { result.now ≡ between_quotes text.now }
-{
-    before_quote(behind_quote(text))
 }
 
 /// A copy of the raw text of a string.

@@ -5,21 +5,17 @@ ghost use Rattle.cedar_text.specs.declared.state.Outcome.TheVariants as outcome;
 ghost use Rattle.cedar_text.specs.Written.{IsWritten};
 ghost use Rattle.cedar_text.specs.Machine.{step_of, finish_of};
 ghost use Rattle.cedar_text.specs.Fault.{IsRefusal};
-ghost use Rattle.cedar_text.specs.Progress.{Progress, IsRead, FailsWith, GivesToken, StopsBadly, StopsAtToken, StopsAtEnd, unexpected_at, large_at};
+ghost use Rattle.cedar_text.specs.Progress.{Progress, IsRead, StopsAtToken, StopsAtEnd, unexpected_at};
 
 use crate::entry::{Entry, Parsed};
-use crate::place::{loc_at, token_extent};
 use crate::state::{Outcome, State};
 use crate::step::{finish, start, step};
+use crate::text_to_cst::driver::{failure, large_number, next_token};
 use cedar_expressions::{Items, Source, Text};
 use cedar_lexer::lexer::Lexer;
-use cedar_lexer::token::{InvalidToken, Token};
-use cedar_syntax::err::{Failure, ParseErrors, RawFault, ToCSTError};
-use cedar_syntax::node::Node;
+use cedar_lexer::token::Token;
+use cedar_syntax::err::{Failure, RawFault};
 use std::alloc::{AllocError, Global};
-
-/// The recorded words for a number that 64 bits don't hold.
-const TOO_LARGE: &str = "integer parse error: number too large to fit in target type";
 
 /// A text that is being read: the token ahead, and what is begun before it.
 #[derive(Drop)]
@@ -34,16 +30,6 @@ struct Parser<'a> {
     state: State,
 }
 
-/// The refusal of a text for one fault.
-fn failure(alloc: Global, source: &Source, raw: RawFault) -> Failure
-    ensures { FailsWith source.now raw result }
-{
-    match source.share() {
-        Ok(src) => Failure::Errors(ParseErrors::from_cst(alloc, ToCSTError { raw, src })),
-        Err(error) => Failure::Memory(error),
-    }
-}
-
 /// No sentence goes on with this token.
 fn unexpected(alloc: Global, token: Token<'_>) -> Result<RawFault, AllocError>
     ensures { IfOk result (λ raw. raw ≡ unexpected_at (lexeme_of token.entry)) }
@@ -54,34 +40,6 @@ fn unexpected(alloc: Global, token: Token<'_>) -> Result<RawFault, AllocError>
         token: Text::from_str(alloc, token.text)?,
         expected: Items::new(alloc),
     })
-}
-
-/// This token is a number past 64 bits.
-fn large_number(alloc: Global, source: &Source, token: Token<'_>) -> Result<RawFault, AllocError>
-    ensures { IfOk result (λ raw. raw ≡ large_at source.now (lexeme_of token.entry)) }
-{
-    let text = Text::from_str(alloc, TOO_LARGE)?;
-    let loc = loc_at(source, Some(token_extent(token)))?;
-    Ok(RawFault::User {
-        error: Node { node: text, loc },
-    })
-}
-
-/// The next token of the text, or none at its end.
-fn next_token<'a>(
-    alloc: Global,
-    source: &Source,
-    lexer: &mut Lexer<'a>,
-) -> Result<Option<Token<'a>>, Failure>
-    ensures { MatchResult result (λ ahead. GivesToken lexer.old ahead lexer.new) (λ f. StopsBadly source.now lexer.old f) }
-{
-    match lexer.next() {
-        Some(Ok(token)) => Ok(Some(token)),
-        Some(Err(InvalidToken { location })) => {
-            Err(failure(alloc, source, RawFault::InvalidToken { location }))
-        }
-        None => Ok(None),
-    }
 }
 
 /// The state behind this token.

@@ -8,11 +8,32 @@ ghost use Rattle.cedar_text.specs.declared.entry.Parsed.TheVariants as parsed;
 ghost use Rattle.cedar_text.specs.Trees.{Cell};
 ghost use Rattle.cedar_text.specs.Loose.{Reads};
 ghost use Rattle.cedar_text.specs.Places.{PlacesExpr};
-ghost use Rattle.cedar_text.specs.Fault.{IsRefusal, IsMemory};
+ghost use Rattle.std.specs.List.{All};
+ghost use Rattle.cedar_syntax.specs.declared.cst.Ident.{Ident};
+ghost use Rattle.cedar_syntax.specs.declared.cst.Name.{Name};
+ghost use Rattle.cedar_syntax.specs.declared.cst.Ref.{Ref};
+ghost use Rattle.cedar_text.specs.Fault.{IsMemory};
+ghost use Rattle.cedar_text.specs.Fault as old_fault;
+ghost use Rattle.cedar_text.specs.FirstFault.{IsRefusal};
+ghost use Rattle.cedar_text.specs.Grammar.{IsTreeOf};
+ghost use Rattle.cedar_text.specs.LooseWords.{ReadsIdent, ReadsName, ReadsRef};
+ghost use Rattle.cedar_text.specs.TreePlaces.{IsPlace, node_places, ident_places, name_places, ref_places};
+
+pub(crate) mod driver;
+mod entity;
+mod expected;
+mod ident;
+pub mod laws;
+pub(crate) mod literal;
+mod path;
+mod state;
+mod words;
 
 use crate::entry::Entry;
 use crate::parser::parse;
-use cedar_syntax::cst::Expr;
+use crate::text_to_cst::expected::Narrowing;
+use crate::text_to_cst::state::{IdentState, PathState, WordsState};
+use cedar_syntax::cst::{Expr, Ident, Name, Ref};
 use cedar_syntax::err::Failure;
 use cedar_syntax::node::Node;
 use std::alloc::Global;
@@ -30,8 +51,53 @@ pub fn parse_expr(alloc: Global, text: &str) -> Result<Node<Option<Expr>>, Failu
     ensures found { IfOk result (λ x. (ts : List Lexeme) × Cuts text.now ts × Reads text.now entry.Expr ts (parsed.Expr x)) }
     ensures places { IfOk result (λ x. PlacesExpr text.now x) }
     ensures only { (ts : List Lexeme) (y : Cell Expr) → Cuts text.now ts → Reads text.now entry.Expr ts (parsed.Expr y) → MatchResult result (λ x. x ≡ y) IsMemory }
-    ensures refused { IfErr result (λ f. IsRefusal entry.Expr text.now f) }
+    ensures refused { IfErr result (λ f. old_fault.IsRefusal entry.Expr text.now f) }
 {
     let parsed = parse(alloc, Entry::Expr, text)?;
     Ok(parsed.into_expr())
+}
+
+/// The tree of an entity literal.
+///
+/// It answers a tree exactly if the text cuts into tokens that are an entity literal by the loose grammar, and then that
+/// tree, the only one. Every place in it is a range of bytes of the text, on boundaries of characters.
+///
+/// A refusal is one fault, the first of these: `UnrecognizedToken`, a token with which no entity literal goes on, at its
+/// bytes; `UnrecognizedEof`, where none ends at the end of the text, at the end of the last token or 0, each with the
+/// kinds of token that could have stood there; `User`, a number past `u64` where a number may stand, at its digits;
+/// `InvalidToken`, where no token starts. Or it is `Failure::Memory`.
+pub fn parse_ref(alloc: Global, text: &str) -> Result<Node<Option<Ref>>, Failure>
+    ensures found { IfOk result (λ x. IsTreeOf ReadsRef text.now x) }
+    ensures places { IfOk result (λ x. All (IsPlace text.now) (node_places ref_places x)) }
+    ensures only { (y : Cell Ref) → IsTreeOf ReadsRef text.now y
+        → MatchResult result (λ x. x ≡ y) IsMemory }
+    ensures refused { IfErr result (λ f. IsRefusal ReadsRef Narrowing.Never text.now f) }
+{
+    driver::parse::<WordsState>(alloc, text, Narrowing::Never)
+}
+
+/// The tree of a name: an identifier other than `true`, `false` and `if`, or several joined by `::`.
+///
+/// It answers and refuses as `parse_ref` does, of names.
+pub fn parse_name(alloc: Global, text: &str) -> Result<Node<Option<Name>>, Failure>
+    ensures found { IfOk result (λ x. IsTreeOf ReadsName text.now x) }
+    ensures places { IfOk result (λ x. All (IsPlace text.now) (node_places name_places x)) }
+    ensures only { (y : Cell Name) → IsTreeOf ReadsName text.now y
+        → MatchResult result (λ x. x ≡ y) IsMemory }
+    ensures refused { IfErr result (λ f. IsRefusal ReadsName Narrowing.Never text.now f) }
+{
+    driver::parse::<PathState>(alloc, text, Narrowing::Never)
+}
+
+/// The tree of one identifier, which may be any word.
+///
+/// It answers and refuses as `parse_ref` does, of single identifiers.
+pub fn parse_ident(alloc: Global, text: &str) -> Result<Node<Option<Ident>>, Failure>
+    ensures found { IfOk result (λ x. IsTreeOf ReadsIdent text.now x) }
+    ensures places { IfOk result (λ x. All (IsPlace text.now) (node_places ident_places x)) }
+    ensures only { (y : Cell Ident) → IsTreeOf ReadsIdent text.now y
+        → MatchResult result (λ x. x ≡ y) IsMemory }
+    ensures refused { IfErr result (λ f. IsRefusal ReadsIdent Narrowing.Never text.now f) }
+{
+    driver::parse::<IdentState>(alloc, text, Narrowing::Never)
 }

@@ -1,12 +1,12 @@
--- What the lexer's tokens are: written as their kind asks, and one behind the other on boundaries of characters.
-use Rattle.std.proofs.Common.{◌≡◌, ℕ, suc, ◌+◌, ◌<◌, ◌≤◌, Bool, true, List, [], ◌∷◌, ◌++◌, length, drop, codes, refl, sym, ap, ◌∙◌, subst, append_assoc, arith}
+-- How the lexer's tokens are written: as their kind asks.
+use Rattle.std.proofs.Common.{◌≡◌, ℕ, suc, ◌+◌, ◌<◌, ◌≤◌, true, List, [], ◌∷◌, ◌++◌, length, drop, codes, refl, sym, ap, ◌∙◌, append_assoc, arith}
 use Rattle.std.specs.Char.{encode_utf8, digit_value, is_ascii_digit}
 use Rattle.std.specs.List.{AllPass}
-use Rattle.std.specs.Str.{IsUtf8, IsCharBoundary, byte}
+use Rattle.std.specs.Str.{IsUtf8}
 use Rattle.std.specs.Str.Parse.{AllDigits, IsNumeral}
 use Rattle.std.specs.Prelude.{nat_le}
 use Rattle.std.proofs.lemmas.Bool.{and_parts, leb-true}
-use Rattle.std.proofs.lemmas.Str.{IsCharBoundary-from_drop, digit_value_digit}
+use Rattle.std.proofs.lemmas.Str.{digit_value_digit}
 use Rattle.cedar_lexer.specs.Token.{Lexeme}
 use Rattle.cedar_lexer.specs.declared.token.TokenKind.{TokenKind}
 use Rattle.cedar_lexer.specs.declared.token.TokenKind.TheVariants as kind
@@ -14,7 +14,6 @@ use Rattle.cedar_lexer.specs.Spelling.{Spells, IsNumber, IsString, IsStringTail,
 use Rattle.cedar_lexer.specs.Cut.{Layout, nothing, skip, token}
 use Rattle.cedar_lexer.proofs.Cuts.{behind_skip, behind_token}
 use Rattle.cedar_text.specs.Written.{Written, IsWritten}
-use Rattle.cedar_text.proofs.Places.{Lies}
 
 below : (d b : ℕ) → d + 48 ≡ b → b ≤ 57 → d < 10
 below d b e h = omega arith
@@ -56,22 +55,6 @@ pub all_written : {src : List ℕ} {i k : ℕ} {ts : List Lexeme} → Layout src
 all_written nothing = tt
 all_written (skip s more) = all_written more
 all_written (token {t = t} s more) = (spelled_written t.kind t.text s.spelled.spells, all_written more)
-
-lies_earlier : (src : List ℕ) (i j : ℕ) (ts : List Lexeme) (k : ℕ) → i ≤ j → Lies src j ts k → Lies src i ts k
-lies_earlier src i j [] k h r = omega arith
-lies_earlier src i j (t ∷ ts) k h r = let a = r.0 in (omega arith, r.1, r.2, r.3, r.4)
-
-pub laid_lies : {src : List ℕ} {i k : ℕ} {ts : List Lexeme} → Layout src i ts k → i ≤ length src → IsUtf8 (drop i src) → Lies src i ts k
-laid_lies nothing h u = omega arith
-laid_lies {src = src} {k = k} {ts = ts} (skip {i = i} {j = j} s more) h u =
-    let b = behind_skip src i j u s in
-    let a = b.1 in
-    lies_earlier src i j ts k (omega arith) (laid_lies more b.2 b.0)
-laid_lies {src = src} (token {i = i} {t = t} s more) h u =
-    let b = behind_token src i t u s in
-    let a = b.1 in
-    let c = s.starts in
-    (omega arith, omega arith, subst (λ n. IsCharBoundary src n) (sym s.starts) (IsCharBoundary-from_drop src i h u), IsCharBoundary-from_drop src t.end b.2 b.0, laid_lies more b.2 b.0)
 
 -- one token alone
 pub one_bounds : {src : List ℕ} {i k : ℕ} {t : Lexeme} → Layout src i (t ∷ []) k → i ≤ length src → IsUtf8 (drop i src) → (i < t.end) × (t.end ≤ length src)

@@ -1,0 +1,12 @@
+pub mod Driving
+pub mod Entries
+pub mod Expected
+pub mod Extents
+pub mod Keeping
+pub mod Laws
+pub mod Names
+pub mod Told
+pub mod WordShapes
+pub mod Words
+pub mod WordsDoor
+pub mod WordsSound

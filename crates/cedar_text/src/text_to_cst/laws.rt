@@ -1,0 +1,58 @@
+//! Laws of the rules by which a whole text is read. Each is a function that does nothing: its
+//! contract is the law.
+ghost use Rattle.std.specs.Prelude.{◌≡◌, ◌≢◌, ℕ, List, None, IsTrue};
+ghost use Rattle.cedar_lexer.specs.declared.token.TokenKind.{TokenKind};
+ghost use Rattle.cedar_lexer.specs.declared.token.TokenKind.TheVariants as kind;
+ghost use Rattle.cedar_text.specs.Expected.{by_name, IsIn, stand_by_name};
+ghost use Rattle.cedar_text.specs.FirstFault.{HasOneTree, HasTreeOrFault, HasOneFault, HasNotBoth};
+ghost use Rattle.cedar_text.specs.LooseWords.{ReadsIdent, ReadsName, ReadsRef};
+ghost use Rattle.cedar_text.specs.Tokens.{any_of};
+ghost use Rattle.cedar_text.specs.machines.Door.{Door, IsOutside, Shapes};
+ghost use Rattle.cedar_text.specs.machines.Words.{paths, words_machine};
+ghost use Rattle.cedar_text.specs.machines.WordsRead.{ReadsWholePath, ReadsWords};
+ghost use Rattle.cedar_text.specs.machines.WordShapes.{path_shapes, path_shape, path_kind, words_shapes, words_shape, words_kind};
+
+use crate::text_to_cst::expected::Narrowing;
+
+/// Tokens have at most one entity literal. They have one, or a first fault and then just one,
+/// never both.
+pub fn entity_literals()
+    ensures one_tree { HasOneTree ReadsRef }
+    ensures tree_or_fault { HasTreeOrFault ReadsRef Narrowing.Never }
+    ensures one_fault { HasOneFault ReadsRef Narrowing.Never }
+    ensures not_both { HasNotBoth ReadsRef Narrowing.Never }
+{}
+
+/// The same of names.
+pub fn names()
+    ensures one_tree { HasOneTree ReadsName }
+    ensures tree_or_fault { HasTreeOrFault ReadsName Narrowing.Never }
+    ensures one_fault { HasOneFault ReadsName Narrowing.Never }
+    ensures not_both { HasNotBoth ReadsName Narrowing.Never }
+{}
+
+/// The same of single identifiers.
+pub fn identifiers()
+    ensures one_tree { HasOneTree ReadsIdent }
+    ensures tree_or_fault { HasTreeOrFault ReadsIdent Narrowing.Never }
+    ensures one_fault { HasOneFault ReadsIdent Narrowing.Never }
+    ensures not_both { HasNotBoth ReadsIdent Narrowing.Never }
+{}
+
+/// The table of kinds stands in byte order of their names, and each kind is in it.
+pub fn kinds_by_name()
+    ensures sorted { IsTrue (stand_by_name by_name) }
+    ensures each { (k : TokenKind) → IsIn k by_name }
+{}
+
+/// What the machines of paths and of entity literals show of themselves to one that holds them.
+pub(crate) fn words_have_doors()
+    ensures paths { (src : List ℕ) → Door (paths src) (ReadsWholePath src) }
+    ensures shapes_of_paths { (src : List ℕ) → Shapes
+        (paths src) path_shapes path_shape path_kind }
+    ensures words { (src : List ℕ) → Door (words_machine src) (ReadsWords src) }
+    ensures shapes_of_words { (src : List ℕ) → Shapes
+        (words_machine src) words_shapes words_shape words_kind }
+    ensures outside { (src : List ℕ) (k : TokenKind) → ((text : List ℕ) → any_of k text ≡ None)
+        → k ≢ kind.ColonColon → IsOutside (words_machine src) k }
+{}
