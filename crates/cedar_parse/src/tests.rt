@@ -6,6 +6,7 @@ mod example;
 mod expected;
 mod faults;
 mod held;
+mod kinds;
 mod lexer;
 mod names;
 mod places;

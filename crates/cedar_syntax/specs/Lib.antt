@@ -1,4 +1,6 @@
 pub mod Conjoined
+pub mod Faults
+pub mod Help
 pub mod Kept
 pub mod Lending
 pub mod Messages

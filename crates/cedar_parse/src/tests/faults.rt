@@ -1,8 +1,8 @@
 //! Faults of escapes, of texts and of trees, alone, in lists and joined.
-use super::held::{agrees, copies, equal, made, refusal, says, says_and_copies, shows};
+use super::held::{agrees, copies, equal, made, refusal, says, says_and_copies};
 use super::names::text;
 use super::places::{POLICY, place};
-use cedar_expressions::{Items, Source, UnaryOp};
+use cedar_expressions::{Items, Source};
 use cedar_lexer::token::TokenKind;
 use cedar_syntax::err::{
     EscapeError, Failure, NonEmpty, ParseError, ParseErrors, RawFault, ToASTError, ToASTErrorKind,
@@ -148,47 +148,6 @@ fn raw_faults_are_equal_at_one_place_alone(rt: HostRuntime) {
     assert!(rt; !equal(too_large(&rt, 0), too_large(&rt, 1)));
 }
 
-/// The kinds that hold no text of their own, and what they say.
-const KINDS: [(ToASTErrorKind, &str); 7] = [
-    (
-        ToASTErrorKind::AmbiguousOperators,
-        "multiple relational operators (>, ==, in, etc.) must be used with parentheses to make ordering explicit",
-    ),
-    (
-        ToASTErrorKind::InvalidSingleEq,
-        "'=' is not a valid operator in Cedar",
-    ),
-    (
-        ToASTErrorKind::UnsupportedDivision,
-        "division is not supported",
-    ),
-    (
-        ToASTErrorKind::UnsupportedModulo,
-        "remainder/modulo is not supported",
-    ),
-    (
-        ToASTErrorKind::UnaryOpLimit(UnaryOp::Not),
-        "too many occurrences of `!`",
-    ),
-    (
-        ToASTErrorKind::UnaryOpLimit(UnaryOp::Neg),
-        "too many occurrences of `-`",
-    ),
-    (
-        ToASTErrorKind::IntegerLiteralTooLarge(9223372036854775808),
-        "integer literal `9223372036854775808` is too large",
-    ),
-];
-
-#[test]
-fn kinds_say_what_is_wrong(rt: HostRuntime) {
-    for (kind, message) in &KINDS {
-        shows(&rt, kind, message);
-    }
-    let variable = ToASTErrorKind::ArbitraryVariable(text(&rt, "a::b"));
-    says_and_copies(&rt, variable, "invalid variable: a::b");
-}
-
 /// The fault of a number that is too large, from this byte to the tenth.
 fn large_number(rt: &(impl Abort + AllocGlobal), start: usize) -> ToASTError {
     let kind = ToASTErrorKind::IntegerLiteralTooLarge(18446744073709551615);
@@ -196,7 +155,7 @@ fn large_number(rt: &(impl Abort + AllocGlobal), start: usize) -> ToASTError {
 }
 
 /// A number that is too large, the end of a text, and another such number, each made another way.
-fn three_faults(rt: &(impl Abort + AllocGlobal)) -> ParseErrors {
+pub(super) fn three_faults(rt: &(impl Abort + AllocGlobal)) -> ParseErrors {
     let mut faults = ParseErrors::from_ast(rt.alloc(), large_number(rt, 3));
     let second = ParseErrors::from_cst(rt.alloc(), early_end(rt));
     made(rt, faults.extend(second));

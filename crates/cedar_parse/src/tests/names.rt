@@ -16,12 +16,16 @@ pub(super) fn text(rt: &(impl Abort + AllocGlobal), bytes: &str) -> Text {
 }
 
 /// The identifier that a word is.
-fn id(rt: &(impl Abort + AllocGlobal), word: &str) -> Id {
+pub(super) fn id(rt: &(impl Abort + AllocGlobal), word: &str) -> Id {
     Id::new(text(rt, word)).expect(rt, "no identifier")
 }
 
 /// A name of two parts, which may be reserved.
-fn internal_name(rt: &(impl Abort + AllocGlobal), first: &str, last: &str) -> InternalName {
+pub(super) fn internal_name(
+    rt: &(impl Abort + AllocGlobal),
+    first: &str,
+    last: &str,
+) -> InternalName {
     let mut path = Vec::new(rt.alloc());
     made(rt, path.push(id(rt, first)));
     InternalName::new(id(rt, last), path)
@@ -106,7 +110,7 @@ fn names_are_written_and_copied(rt: HostRuntime) {
 }
 
 /// An entity whose identifier has a quote.
-fn entity(rt: &(impl Abort + AllocGlobal)) -> EntityUID {
+pub(super) fn entity(rt: &(impl Abort + AllocGlobal)) -> EntityUID {
     let user = EntityType::from(name(rt, "App", "User"));
     EntityUID::from_components(user, Eid::new(text(rt, "a\"b")))
 }

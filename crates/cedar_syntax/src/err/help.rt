@@ -1,0 +1,72 @@
+//! Hints at what to change where a tree has no value.
+ghost use Rattle.std.specs.Prelude.{◌≡◌, IfOk, string_bytes};
+ghost use Rattle.std.specs.Option.{option_map};
+ghost use Rattle.cedar_syntax.specs.Help.{kind_help, plain_help};
+
+use crate::cst::SIGN_LIMIT;
+use crate::err::ToASTErrorKind;
+use cedar_expressions::Text;
+use std::alloc::{AllocError, Global};
+
+impl ToASTErrorKind {
+    /// A hint at what to change, or `None`. Only want of memory refuses it.
+    pub fn help(&self, alloc: Global) -> Result<Option<String>, AllocError>
+        ensures { IfOk result (λ help.
+            option_map (λ text. string_bytes text) help ≡ kind_help self.now) }
+    {
+        if let ToASTErrorKind::UnaryOpLimit(_) = self {
+            let hint = format!(in alloc;
+                "cannot chain more than {SIGN_LIMIT} applications of a unary operator"
+            )?;
+            return Ok(Some(hint));
+        }
+        match self.hint() {
+            Some(hint) => Ok(Some(String::from_str(alloc, hint)?)),
+            None => Ok(None),
+        }
+    }
+
+    // The hints that are there as texts.
+    fn hint(&self) -> Option<&str>
+        ensures { option_map (λ text. text.now) result ≡ plain_help self.now }
+    {
+        match self {
+            Self::InvalidSingleEq => Some("use `==` to compare two values"),
+            Self::InvalidEffect(_) => Some("a policy begins with `permit` or `forbid`"),
+            Self::InvalidCondition(_) => Some("a condition begins with `when` or `unless`"),
+            Self::MissingScopeVariable(_)
+            | Self::ExtraScopeElement(_)
+            | Self::InvalidScopeVariable(_)
+            | Self::IncorrectVariable { .. } => {
+                Some("the scope has `principal`, `action` and `resource`, in this order")
+            }
+            Self::InvalidScopeOperator(_) => Some("the scope takes `==`, `in` and `is`"),
+            Self::InvalidActionScopeOperator(_) => Some(
+                "for the action the scope takes `==` and `in`",
+            ),
+            Self::IsInActionScope => Some("put the `is` into a `when` condition"),
+            Self::IsWithEq => Some("use `is` with `in`, or `==` alone"),
+            Self::InvertedIsIn => Some("write `is`, then `in`"),
+            Self::TypeConstraints => Some("use `is` in place of `:`"),
+            Self::ArbitraryVariable(_) => Some(
+                "the variables are `principal`, `action`, `resource` and `context`",
+            ),
+            Self::InvalidSlot(_) => Some("the slots are `?principal` and `?resource`"),
+            Self::IntegerLiteralTooLarge(_) => Some("the largest number is 9223372036854775807"),
+            Self::WrongNode { suggestion, .. } => lent(suggestion),
+            Self::UnknownMethod { hint, .. } => lent(hint),
+            Self::UnknownFunction { hint, .. } => lent(hint),
+            _ => None,
+        }
+    }
+}
+
+// A text, where one is there.
+fn lent(text: &Option<Text>) -> Option<&str>
+    ensures { option_map (λ text. text.now) result ≡ text.now }
+{
+    match text {
+        Some(text) => Some(text.as_str()),
+        None => None,
+    }
+}
