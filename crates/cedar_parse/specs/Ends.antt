@@ -4,6 +4,8 @@ use Rattle.std.specs.Str.{IsUtf8}
 use Rattle.cedar_lexer.specs.Token.{Lexeme}
 use Rattle.cedar_lexer.specs.Cut.{Cuts}
 use Rattle.cedar_expressions.specs.Value.{Value}
+use Rattle.cedar_syntax.specs.declared.cst.TheConstants.{SIGN_LIMIT}
+use Rattle.cedar_policy_parser.specs.Extensions.{no_extensions}
 use Rattle.cedar_policy_parser.specs.Strict.{Means, expression}
 use Rattle.cedar_parse.specs.declared.run.Ending.{Ending}
 use Rattle.cedar_parse.specs.declared.run.Ending.TheVariants.{Answered, Usage, Stopped}
@@ -23,9 +25,10 @@ AsksForExpression [] = ⊥
 AsksForExpression (word ∷ []) = string_bytes word ≡ codes "expr"
 AsksForExpression (word ∷ next ∷ words) = ⊥
 
--- the text's tokens mean an expression
+-- the text's tokens mean an expression that calls no extension
 abbrev pub IsMeant : List ℕ → Type 0
-IsMeant text = (ts : List Lexeme) × (value : Value) × Cuts text ts × Means expression ts value
+IsMeant text = (ts : List Lexeme) × (value : Value) × Cuts text ts
+    × Means no_extensions SIGN_LIMIT expression ts value
 
 abbrev pub IsVerdict : List ℕ → Verdict → Type 0
 IsVerdict text Accepted = IsMeant text

@@ -2,9 +2,10 @@
 ghost use Rattle.std.specs.Prelude.{◌≡◌, ◌≢◌, ◌↔◌, None, IsTrue, OnOk, IfOk, IfErr, IfSome};
 ghost use Rattle.std.specs.IoError.{error_kind};
 ghost use Rattle.cedar_expressions.specs.Value.{Value};
-ghost use Rattle.cedar_syntax.specs.Unplaced.{tree_at, expr_tree};
-ghost use Rattle.cedar_policy_parser.specs.Converted.{Converts};
-ghost use Rattle.cedar_policy_parser.specs.Refused.{RefusesTree};
+ghost use Rattle.cedar_syntax.specs.Forms.{located, expr_form};
+ghost use Rattle.cedar_policy_parser.specs.Conversion.{Converts};
+ghost use Rattle.cedar_policy_parser.specs.Extensions.{no_extensions};
+ghost use Rattle.cedar_policy_parser.specs.Refused.{TellsTree};
 ghost use Rattle.cedar_parse.specs.Ends.{AsksForExpression, IsMeant, IsVerdict, Streams, streams_at, Ends, Stops, StopsWriting, TellsEnd, status_of};
 ghost use Rattle.cedar_parse.specs.Streams.{reader_of, read_failure, writer_state};
 ghost use Rattle.cedar_parse.specs.declared.run.Ending.{Ending as How};
@@ -206,8 +207,9 @@ fn meant(alloc: Global, text: &str) -> Result<Node<Option<Expr>>, Failure>
 
 /// Refuses a tree that stands for no expression.
 fn convert(alloc: Global, tree: &Node<Option<Expr>>) -> Result<(), Failure>
-    ensures value { IfOk result (λ done. (w : Value) × Converts (tree_at expr_tree tree.now) w) }
-    ensures refused { IfErr result (λ failure. RefusesTree failure (tree_at expr_tree tree.now)) }
+    ensures value { IfOk result (λ done.
+        (w : Value) × Converts no_extensions (located expr_form tree.now) w) }
+    ensures refused { IfErr result (λ failure. TellsTree no_extensions failure tree.now) }
 {
     let styles = ExtStyles::new(BTreeSet::new(alloc), BTreeSet::new(alloc));
     tree.to_expr::<ExprBuilder<()>>(alloc, &styles).and(Ok(()))

@@ -1,62 +1,29 @@
--- Which nodes are a number and no more.
-use Rattle.std.proofs.Common.{◌≡◌, refl, ap, ◌∙◌, map, List, [], ◌∷◌, Option, Some, None}
+-- Which nodes are a literal and no more.
+use Rattle.std.proofs.Common.{◌≡◌, refl, sym, ap, ◌∙◌, map, List, [], ◌∷◌, Option, Some, None}
 use Rattle.cedar_syntax.specs.declared.node.Node.{Node}
-use Rattle.cedar_syntax.specs.declared.cst.Expr.{Expr}
 use Rattle.cedar_syntax.specs.declared.cst.Literal.{Literal}
-use Rattle.cedar_syntax.specs.declared.cst.Name.{Name}
-use Rattle.cedar_syntax.specs.declared.cst.Slot.{Slot}
-use Rattle.cedar_syntax.specs.declared.cst.Ref.{Ref}
-use Rattle.cedar_syntax.specs.declared.cst.Ref.TheVariants as refs
-use Rattle.cedar_syntax.specs.declared.cst.RecInit.{RecInit}
 use Rattle.cedar_syntax.specs.declared.cst.Member.{Member}
 use Rattle.cedar_syntax.specs.declared.cst.MemAccess.{MemAccess}
 use Rattle.cedar_syntax.specs.declared.cst.Primary.{Primary}
-use Rattle.cedar_syntax.specs.declared.cst.Primary as P
-use Rattle.cedar_syntax.specs.Tree.{Tree, member, beside}
-use Rattle.cedar_syntax.specs.Unplaced.{primary_tree, member_tree, literal_in, name_in, ref_in, slot_in, tree_at, behind}
-use Rattle.cedar_syntax.proofs.Levels.{at_some, member_out, primary_literal, primary_ref, primary_name, primary_slot, primary_expr, primary_list, primary_inits}
-use Rattle.cedar_policy_parser.specs.Converted.{number_in, bare_number}
+use Rattle.cedar_syntax.specs.Forms.{located, parts_of, primary_form, member_form, listed_access}
+use Rattle.cedar_syntax.specs.Located as f
+use Rattle.cedar_syntax.specs.Located.{Form}
+use Rattle.cedar_syntax.proofs.FormLevels.{member_out}
+use Rattle.cedar_policy_parser.specs.Conversion.{literal_alone, lone_literal}
 
-pub literal_bare : (n : Node (Option Primary)) (p : Primary) (a : Node (Option Literal)) → n.node ≡ Some p → p ≡ P.Literal a → number_in (tree_at primary_tree n) ≡ number_in (literal_in a.node)
-literal_bare n p a e h = ap number_in (at_some primary_tree n p e ∙ ap primary_tree h ∙ primary_literal a)
+-- a primary of this form
+pub alone_at : (n : Node (Option Primary)) (d : Primary) (t : Form) → n.node ≡ Some d → primary_form d ≡ t → literal_alone (located primary_form n) ≡ literal_alone (f.at n.loc t)
+alone_at n d t h k = rw h (ap (λ u. literal_alone (f.at n.loc u)) k)
 
-no_ref : (o : Option Ref) → number_in (ref_in o) ≡ None
-no_ref None = refl
-no_ref (Some (refs.Uid path id)) = refl
-no_ref (Some (refs.Ref path fields)) = refl
+lone_at : (n : Node (Option Member)) (d : Member) → n.node ≡ Some d → lone_literal (located member_form n) ≡ lone_literal (f.at n.loc (f.member (located primary_form d.item) (parts_of (map listed_access d.access))))
+lone_at n d h = rw h (ap (λ u. lone_literal (f.at n.loc u)) (member_out d))
 
-no_name : (o : Option Name) → number_in (name_in o) ≡ None
-no_name None = refl
-no_name (Some n) = refl
+pub lone : (n : Node (Option Member)) (d : Member) → n.node ≡ Some d → d.access ≡ [] → lone_literal (located member_form n) ≡ literal_alone (located primary_form d.item)
+lone n d h none = lone_at n d h ∙ ap (λ xs. lone_literal (f.at n.loc (f.member (located primary_form d.item) (parts_of (map listed_access xs))))) none
 
-no_slot : (o : Option Slot) → number_in (slot_in o) ≡ None
-no_slot None = refl
-no_slot (Some s) = refl
-
-pub ref_bare : (n : Node (Option Primary)) (p : Primary) (a : Node (Option Ref)) → n.node ≡ Some p → p ≡ P.Ref a → number_in (tree_at primary_tree n) ≡ None
-ref_bare n p a e h = ap number_in (at_some primary_tree n p e ∙ ap primary_tree h ∙ primary_ref a) ∙ no_ref a.node
-
-pub name_bare : (n : Node (Option Primary)) (p : Primary) (a : Node (Option Name)) → n.node ≡ Some p → p ≡ P.Name a → number_in (tree_at primary_tree n) ≡ None
-name_bare n p a e h = ap number_in (at_some primary_tree n p e ∙ ap primary_tree h ∙ primary_name a) ∙ no_name a.node
-
-pub slot_bare : (n : Node (Option Primary)) (p : Primary) (a : Node (Option Slot)) → n.node ≡ Some p → p ≡ P.Slot a → number_in (tree_at primary_tree n) ≡ None
-slot_bare n p a e h = ap number_in (at_some primary_tree n p e ∙ ap primary_tree h ∙ primary_slot a) ∙ no_slot a.node
-
-pub parens_bare : (n : Node (Option Primary)) (p : Primary) (a : Node (Option Expr)) → n.node ≡ Some p → p ≡ P.Expr a → number_in (tree_at primary_tree n) ≡ None
-parens_bare n p a e h = ap number_in (at_some primary_tree n p e ∙ ap primary_tree h ∙ primary_expr a)
-
-pub list_bare : (n : Node (Option Primary)) (p : Primary) (a : List (Node (Option Expr))) → n.node ≡ Some p → p ≡ P.EList a → number_in (tree_at primary_tree n) ≡ None
-list_bare n p a e h = ap number_in (at_some primary_tree n p e ∙ ap primary_tree h ∙ primary_list a)
-
-pub inits_bare : (n : Node (Option Primary)) (p : Primary) (a : List (Node (Option RecInit))) → n.node ≡ Some p → p ≡ P.RInits a → number_in (tree_at primary_tree n) ≡ None
-inits_bare n p a e h = ap number_in (at_some primary_tree n p e ∙ ap primary_tree h ∙ primary_inits a)
-
-pub member_bare : (n : Node (Option Member)) (d : Member) → n.node ≡ Some d → d.access ≡ [] → bare_number (tree_at member_tree n) ≡ number_in (tree_at primary_tree d.item)
-member_bare n d e h = ap bare_number (at_some member_tree n d e ∙ member_out d) ∙ rw h refl
-
-some_bare : (xs : List (Node (Option MemAccess))) (r : Tree) (f : Node (Option MemAccess) → Node (Option Tree)) → (xs ≡ [] → ⊥) → bare_number (member r (behind beside (map f xs))) ≡ None
-some_bare [] r f h = absurd (h refl)
-some_bare (x ∷ xs) r f h = refl
-
-pub accessed_bare : (n : Node (Option Member)) (d : Member) → n.node ≡ Some d → (d.access ≡ [] → ⊥) → bare_number (tree_at member_tree n) ≡ None
-accessed_bare n d e h = ap bare_number (at_some member_tree n d e ∙ member_out d) ∙ some_bare d.access _ _ h
+pub accessed_none : (n : Node (Option Member)) (d : Member) → n.node ≡ Some d → (d.access ≡ [] → ⊥) → lone_literal (located member_form n) ≡ None
+accessed_none n d h some = lone_at n d h ∙ go d.access some
+  where
+    go : (xs : List (Node (Option MemAccess))) → (xs ≡ [] → ⊥) → lone_literal (f.at n.loc (f.member (located primary_form d.item) (parts_of (map listed_access xs)))) ≡ None
+    go [] h = absurd (h refl)
+    go (x ∷ xs) h = refl

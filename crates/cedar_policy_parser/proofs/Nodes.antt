@@ -1,24 +1,200 @@
--- Nodes whose one part stands alone.
-use Rattle.std.proofs.Common.{◌≡◌, List, [], Some, None, Ok}
-use Rattle.cedar_syntax.specs.declared.cst.Add.{Add}
+-- What each node gives, of what its parts give.
+use Rattle.std.proofs.Common.{◌≡◌, ℕ, List, [], ◌∷◌, map, Option, Some, None, refl, sym, ap, ◌∙◌, Ok}
+use Rattle.cedar_expressions.specs.declared.operators.AddOp.{AddOp}
+use Rattle.cedar_syntax.specs.declared.loc.Loc.{Loc}
+use Rattle.cedar_syntax.specs.declared.node.Node.{Node}
 use Rattle.cedar_syntax.specs.declared.cst.RelOp.{RelOp}
+use Rattle.cedar_syntax.specs.declared.cst.Expr.{Expr}
+use Rattle.cedar_syntax.specs.declared.cst.Expr.TheVariants as exprs
+use Rattle.cedar_syntax.specs.declared.cst.ExprImpl.{ExprImpl}
+use Rattle.cedar_syntax.specs.declared.cst.ExprData.TheVariants as datas
+use Rattle.cedar_syntax.specs.declared.cst.Or.{Or, out-Or}
+use Rattle.cedar_syntax.specs.declared.cst.And.{And}
 use Rattle.cedar_syntax.specs.declared.cst.Relation.{Relation}
 use Rattle.cedar_syntax.specs.declared.cst.Relation.TheVariants as relations
+use Rattle.cedar_syntax.specs.declared.cst.Add.{Add, out-Add}
+use Rattle.cedar_syntax.specs.declared.cst.Mult.{Mult, out-Mult}
 use Rattle.cedar_syntax.specs.declared.cst.Unary.{Unary, out-Unary}
-use Rattle.cedar_syntax.specs.Unplaced.{member_tree, tree_at}
-use Rattle.cedar_text.specs.Trees.{Cell}
-use Rattle.cedar_policy_parser.specs.Answers as a
-use Rattle.cedar_policy_parser.specs.Answers.{RelationAnswers, AddAnswers, UnaryAnswers, MemberAnswers}
-use Rattle.cedar_policy_parser.specs.Converted.{bare_number}
-use Rattle.cedar_policy_parser.specs.Held.{Held}
-use Rattle.cedar_policy_parser.specs.Levels.{relation_outcome, signed_outcome}
-use Rattle.cedar_policy_parser.specs.Outcome.{Outcome}
+use Rattle.cedar_syntax.specs.declared.cst.Member.{Member}
+use Rattle.cedar_syntax.specs.declared.cst.MemAccess.{MemAccess}
+use Rattle.cedar_syntax.specs.declared.cst.Primary.{Primary}
+use Rattle.cedar_syntax.specs.declared.cst.Primary.TheVariants as primaries
+use Rattle.cedar_syntax.specs.declared.cst.Literal.{Literal}
+use Rattle.cedar_syntax.specs.declared.cst.Name.{Name}
+use Rattle.cedar_syntax.specs.declared.cst.Slot.{Slot}
+use Rattle.cedar_syntax.specs.declared.cst.Ref.{Ref}
+use Rattle.cedar_syntax.specs.declared.cst.RecInit.{RecInit}
+use Rattle.cedar_syntax.specs.Forms.{located, parts_of, expr_form, data_form, or_form, and_form, relation_form, add_form, mult_form, unary_form, member_form, primary_form, or_operand, and_operand, relation_operand, add_operand, mult_operand, listed_access, listed_expr, listed_init, typed_form}
+use Rattle.cedar_syntax.specs.Located as f
+use Rattle.cedar_syntax.specs.Located.{Form}
+use Rattle.cedar_syntax.specs.Tree.{disjunction, conjunction, relation, sum, product}
+use Rattle.cedar_syntax.proofs.FormLevels.{expr_out, impl_out, data_or, data_if, or_out, and_out, relation_common, relation_has, relation_like, relation_typed, add_out, mult_out, unary_out, member_out, primary_literal, primary_ref, primary_name, primary_slot, primary_expr, primary_list, primary_inits}
+use Rattle.cedar_policy_parser.specs.Conversion.{outcome, formed, operands, chained, chosen, signed, number_in, lone_literal, accessed, literal_outcome, name_outcome, made, place_of}
+use Rattle.cedar_policy_parser.specs.Extensions.{Extensions}
+use Rattle.cedar_policy_parser.specs.Held.{as_expression}
+use Rattle.cedar_policy_parser.specs.Outcome.{refused, both, next, empty_node}
+use Rattle.cedar_policy_parser.proofs.Parts.{alone}
 
-pub alone_relation : (n : Cell Relation) (x : Relation) (m : Cell Add) (xs : List (RelOp × Cell Add)) (o : Outcome Held) → xs ≡ [] → n.node ≡ Some x → x ≡ relations.Common m xs → AddAnswers m o
-    → RelationAnswers n (relation_outcome n.loc 0 o (Ok []))
-alone_relation n x m xs o none e f r = a.common e (rw none at f) r a.no_adds
+pub empty : {X : Type 0} (e : Extensions) (g : X → Form) (n : Node (Option X)) → n.node ≡ None → outcome e (located g n) ≡ refused empty_node n.loc
+unfolding outcome
+empty e g n h = rw h refl
 
-pub unsigned : (n : Cell Unary) (x : Unary) (o : Outcome Held) → n.node ≡ Some x → (out-Unary x).op ≡ None → MemberAnswers (out-Unary x).item o → UnaryAnswers n o
-unsigned n x o e none r =
-    let whole : UnaryAnswers n (signed_outcome n.loc (out-Unary x).op (bare_number (tree_at member_tree (out-Unary x).item)) o) = a.unary o e (λ h. r) in
-    rw none at whole
+filled_with : {X : Type 0} (e : Extensions) (g : X → Form) (n : Node (Option X)) (x : X) (t : Form) → n.node ≡ Some x → g x ≡ t → outcome e (located g n) ≡ formed e n.loc t
+unfolding outcome
+filled_with e g n x t h k = rw h (ap (λ u. formed e n.loc u) k)
+
+-- ---- expressions
+
+expr_is : (d : Expr) (i : ExprImpl) → d ≡ exprs.Expr i → expr_form d ≡ data_form i.expr
+expr_is d i h = ap expr_form h ∙ expr_out i ∙ impl_out i
+
+pub or_expr_node : (e : Extensions) (n : Node (Option Expr)) (d : Expr) (i : ExprImpl) (a : Node (Option Or)) → n.node ≡ Some d → d ≡ exprs.Expr i → i.expr ≡ datas.Or a
+    → outcome e (located expr_form n) ≡ outcome e (located or_form a)
+unfolding formed
+or_expr_node e n d i a h k l = filled_with e expr_form n d _ h (expr_is d i k ∙ ap data_form l ∙ data_or a)
+
+pub if_node : (e : Extensions) (n : Node (Option Expr)) (d : Expr) (i : ExprImpl) (a b c : Node (Option Expr)) → n.node ≡ Some d → d ≡ exprs.Expr i → i.expr ≡ datas.If a b c
+    → outcome e (located expr_form n) ≡ next (both (both (next (outcome e (located expr_form a)) as_expression) (next (outcome e (located expr_form b)) as_expression)) (next (outcome e (located expr_form c)) as_expression)) (chosen n.loc)
+unfolding formed
+if_node e n d i a b c h k l = filled_with e expr_form n d _ h (expr_is d i k ∙ ap data_form l ∙ data_if a b c)
+
+-- ---- levels
+
+pub or_node : (e : Extensions) (n : Node (Option Or)) (d : Or) → n.node ≡ Some d
+    → outcome e (located or_form n) ≡ chained disjunction n.loc (parts_of (map or_operand (out-Or d).extended)) (outcome e (located and_form (out-Or d).initial)) (operands e n.loc (parts_of (map or_operand (out-Or d).extended)))
+unfolding formed
+or_node e n d h = filled_with e or_form n d _ h (or_out d)
+
+pub and_node : (e : Extensions) (n : Node (Option And)) (d : And) → n.node ≡ Some d
+    → outcome e (located and_form n) ≡ chained conjunction n.loc (parts_of (map and_operand d.extended)) (outcome e (located relation_form d.initial)) (operands e n.loc (parts_of (map and_operand d.extended)))
+unfolding formed
+and_node e n d h = filled_with e and_form n d _ h (and_out d)
+
+pub common_node : (e : Extensions) (n : Node (Option Relation)) (d : Relation) (a : Node (Option Add)) (xs : List (RelOp × Node (Option Add))) → n.node ≡ Some d → d ≡ relations.Common a xs
+    → outcome e (located relation_form n) ≡ chained relation n.loc (parts_of (map relation_operand xs)) (outcome e (located add_form a)) (operands e n.loc (parts_of (map relation_operand xs)))
+unfolding formed
+common_node e n d a xs h k = filled_with e relation_form n d _ h (ap relation_form k ∙ relation_common a xs)
+
+pub has_node : (e : Extensions) (n : Node (Option Relation)) (d : Relation) (a b : Node (Option Add)) → n.node ≡ Some d → d ≡ relations.Has a b
+    → outcome e (located relation_form n) ≡ refused empty_node n.loc
+unfolding formed
+has_node e n d a b h k = filled_with e relation_form n d _ h (ap relation_form k ∙ relation_has a b)
+
+pub like_node : (e : Extensions) (n : Node (Option Relation)) (d : Relation) (a b : Node (Option Add)) → n.node ≡ Some d → d ≡ relations.Like a b
+    → outcome e (located relation_form n) ≡ refused empty_node n.loc
+unfolding formed
+like_node e n d a b h k = filled_with e relation_form n d _ h (ap relation_form k ∙ relation_like a b)
+
+pub is_node : (e : Extensions) (n : Node (Option Relation)) (d : Relation) (a b : Node (Option Add)) (c : Option (Node (Option Add))) → n.node ≡ Some d → d ≡ relations.IsIn a b c
+    → outcome e (located relation_form n) ≡ refused empty_node n.loc
+unfolding formed
+is_node e n d a b c h k = filled_with e relation_form n d _ h (ap relation_form k ∙ relation_typed a b c) ∙ go c
+  where
+    go : (c : Option (Node (Option Add))) → formed e n.loc (typed_form (located add_form a) (located add_form b) c) ≡ refused empty_node n.loc
+    go None = refl
+    go (Some x) = refl
+
+pub add_node : (e : Extensions) (n : Node (Option Add)) (d : Add) → n.node ≡ Some d
+    → outcome e (located add_form n) ≡ chained sum n.loc (parts_of (map add_operand (out-Add d).extended)) (outcome e (located mult_form (out-Add d).initial)) (operands e n.loc (parts_of (map add_operand (out-Add d).extended)))
+unfolding formed
+add_node e n d h = filled_with e add_form n d _ h (add_out d)
+
+pub mult_node : (e : Extensions) (n : Node (Option Mult)) (d : Mult) → n.node ≡ Some d
+    → outcome e (located mult_form n) ≡ chained product n.loc (parts_of (map mult_operand (out-Mult d).extended)) (outcome e (located unary_form (out-Mult d).initial)) (operands e n.loc (parts_of (map mult_operand (out-Mult d).extended)))
+unfolding formed
+mult_node e n d h = filled_with e mult_form n d _ h (mult_out d)
+
+pub unary_node : (e : Extensions) (n : Node (Option Unary)) (d : Unary) → n.node ≡ Some d
+    → outcome e (located unary_form n) ≡ signed n.loc (out-Unary d).op (number_in (lone_literal (located member_form (out-Unary d).item))) (outcome e (located member_form (out-Unary d).item))
+unfolding formed
+unary_node e n d h = filled_with e unary_form n d _ h (unary_out d)
+
+pub member_node : (e : Extensions) (n : Node (Option Member)) (d : Member) → n.node ≡ Some d
+    → outcome e (located member_form n) ≡ formed e n.loc (f.member (located primary_form d.item) (parts_of (map listed_access d.access)))
+member_node e n d h = filled_with e member_form n d _ h (member_out d)
+
+-- ---- primaries
+
+pub literal_node : (e : Extensions) (n : Node (Option Primary)) (d : Primary) (a : Node (Option Literal)) → n.node ≡ Some d → d ≡ primaries.Literal a
+    → outcome e (located primary_form n) ≡ literal_outcome a.loc a.node
+unfolding formed
+literal_node e n d a h k = filled_with e primary_form n d _ h (ap primary_form k ∙ primary_literal a)
+
+pub name_node : (e : Extensions) (n : Node (Option Primary)) (d : Primary) (a : Node (Option Name)) → n.node ≡ Some d → d ≡ primaries.Name a
+    → outcome e (located primary_form n) ≡ name_outcome a.loc a.node
+unfolding formed
+name_node e n d a h k = filled_with e primary_form n d _ h (ap primary_form k ∙ primary_name a)
+
+pub ref_node : (e : Extensions) (n : Node (Option Primary)) (d : Primary) (a : Node (Option Ref)) → n.node ≡ Some d → d ≡ primaries.Ref a
+    → outcome e (located primary_form n) ≡ refused empty_node n.loc
+unfolding formed
+ref_node e n d a h k = filled_with e primary_form n d _ h (ap primary_form k ∙ primary_ref a)
+
+pub slot_node : (e : Extensions) (n : Node (Option Primary)) (d : Primary) (a : Node (Option Slot)) → n.node ≡ Some d → d ≡ primaries.Slot a
+    → outcome e (located primary_form n) ≡ refused empty_node n.loc
+unfolding formed
+slot_node e n d a h k = filled_with e primary_form n d _ h (ap primary_form k ∙ primary_slot a)
+
+placed_in : {X : Type 0} (g : X → Form) (place : Option Loc) (o : Option X) → place_of (located g record { node = o; loc = place }) ≡ place
+placed_in g place None = refl
+placed_in g place (Some x) = refl
+
+pub parens_node : (e : Extensions) (n : Node (Option Primary)) (d : Primary) (a : Node (Option Expr)) → n.node ≡ Some d → d ≡ primaries.Expr a
+    → outcome e (located primary_form n) ≡ next (next (outcome e (located expr_form a)) as_expression) (made a.loc)
+unfolding formed
+parens_node e n d a h k =
+    filled_with e primary_form n d _ h (ap primary_form k ∙ primary_expr a)
+    ∙ ap (λ p. next (next (outcome e (located expr_form a)) as_expression) (made p)) (placed_in expr_form a.loc a.node)
+
+pub list_node : (e : Extensions) (n : Node (Option Primary)) (d : Primary) (a : List (Node (Option Expr))) → n.node ≡ Some d → d ≡ primaries.EList a
+    → outcome e (located primary_form n) ≡ refused empty_node n.loc
+unfolding formed
+list_node e n d a h k = filled_with e primary_form n d _ h (ap primary_form k ∙ primary_list a)
+
+pub inits_node : (e : Extensions) (n : Node (Option Primary)) (d : Primary) (a : List (Node (Option RecInit))) → n.node ≡ Some d → d ≡ primaries.RInits a
+    → outcome e (located primary_form n) ≡ refused empty_node n.loc
+unfolding formed
+inits_node e n d a h k = filled_with e primary_form n d _ h (ap primary_form k ∙ primary_inits a)
+
+-- ---- one part alone
+
+pub or_alone : (e : Extensions) (n : Node (Option Or)) (d : Or) → n.node ≡ Some d → (out-Or d).extended ≡ [] → outcome e (located or_form n) ≡ outcome e (located and_form (out-Or d).initial)
+unfolding operands
+or_alone e n d h none = or_node e n d h ∙ ap (λ xs. chained disjunction n.loc (parts_of (map or_operand xs)) (outcome e (located and_form (out-Or d).initial)) (operands e n.loc (parts_of (map or_operand xs)))) none
+    ∙ alone disjunction n.loc (outcome e (located and_form (out-Or d).initial))
+
+pub and_alone : (e : Extensions) (n : Node (Option And)) (d : And) → n.node ≡ Some d → d.extended ≡ [] → outcome e (located and_form n) ≡ outcome e (located relation_form d.initial)
+unfolding operands
+and_alone e n d h none = and_node e n d h ∙ ap (λ xs. chained conjunction n.loc (parts_of (map and_operand xs)) (outcome e (located relation_form d.initial)) (operands e n.loc (parts_of (map and_operand xs)))) none
+    ∙ alone conjunction n.loc (outcome e (located relation_form d.initial))
+
+pub add_alone : (e : Extensions) (n : Node (Option Add)) (d : Add) → n.node ≡ Some d → (out-Add d).extended ≡ [] → outcome e (located add_form n) ≡ outcome e (located mult_form (out-Add d).initial)
+unfolding operands
+add_alone e n d h none = add_node e n d h ∙ ap (λ xs. chained sum n.loc (parts_of (map add_operand xs)) (outcome e (located mult_form (out-Add d).initial)) (operands e n.loc (parts_of (map add_operand xs)))) none
+    ∙ alone sum n.loc (outcome e (located mult_form (out-Add d).initial))
+
+pub mult_alone : (e : Extensions) (n : Node (Option Mult)) (d : Mult) → n.node ≡ Some d → (out-Mult d).extended ≡ [] → outcome e (located mult_form n) ≡ outcome e (located unary_form (out-Mult d).initial)
+unfolding operands
+mult_alone e n d h none = mult_node e n d h ∙ ap (λ xs. chained product n.loc (parts_of (map mult_operand xs)) (outcome e (located unary_form (out-Mult d).initial)) (operands e n.loc (parts_of (map mult_operand xs)))) none
+    ∙ alone product n.loc (outcome e (located unary_form (out-Mult d).initial))
+
+pub common_alone : (e : Extensions) (n : Node (Option Relation)) (d : Relation) (a : Node (Option Add)) (xs : List (RelOp × Node (Option Add))) → n.node ≡ Some d → d ≡ relations.Common a xs → xs ≡ []
+    → outcome e (located relation_form n) ≡ outcome e (located add_form a)
+unfolding operands
+common_alone e n d a xs h k none = common_node e n d a xs h k ∙ ap (λ ys. chained relation n.loc (parts_of (map relation_operand ys)) (outcome e (located add_form a)) (operands e n.loc (parts_of (map relation_operand ys)))) none
+    ∙ alone relation n.loc (outcome e (located add_form a))
+
+pub unsigned : (e : Extensions) (n : Node (Option Unary)) (d : Unary) → n.node ≡ Some d → (out-Unary d).op ≡ None → outcome e (located unary_form n) ≡ outcome e (located member_form (out-Unary d).item)
+unsigned e n d h none = unary_node e n d h ∙ ap (λ op. signed n.loc op (number_in (lone_literal (located member_form (out-Unary d).item))) (outcome e (located member_form (out-Unary d).item))) none
+
+pub bare_member : (e : Extensions) (n : Node (Option Member)) (d : Member) → n.node ≡ Some d → d.access ≡ [] → outcome e (located member_form n) ≡ outcome e (located primary_form d.item)
+unfolding formed
+bare_member e n d h none = member_node e n d h ∙ ap (λ xs. formed e n.loc (f.member (located primary_form d.item) (parts_of (map listed_access xs)))) none
+
+pub accessed_member : (e : Extensions) (n : Node (Option Member)) (d : Member) → n.node ≡ Some d → (d.access ≡ [] → ⊥) → outcome e (located member_form n) ≡ refused empty_node n.loc
+unfolding formed
+accessed_member e n d h some = member_node e n d h ∙ go d.access some
+  where
+    go : (xs : List (Node (Option MemAccess))) → (xs ≡ [] → ⊥) → formed e n.loc (f.member (located primary_form d.item) (parts_of (map listed_access xs))) ≡ refused empty_node n.loc
+    go [] h = absurd (h refl)
+    go (x ∷ xs) h = refl

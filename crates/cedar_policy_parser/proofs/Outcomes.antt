@@ -1,32 +1,50 @@
 -- Answers held against outcomes that are joined.
-use Rattle.std.proofs.Common.{append-nil, ◌≡◌, ◌<◌, List, [], ◌∷◌, ◌++◌, map, length, Option, Result, Ok, Err, refl, sym, ap, ◌∙◌, arith, IfOk, IfErr, IsOkAnd, IsErrAnd}
-use Rattle.cedar_expressions.specs.declared.operators.AddOp.{AddOp}
-use Rattle.cedar_expressions.specs.Value as v
-use Rattle.cedar_expressions.specs.Value.{Value, values, terms}
+use Rattle.std.proofs.Common.{append-nil, ◌≡◌, ◌<◌, ◌+◌, ℕ, List, [], ◌∷◌, ◌++◌, append_assoc, map, take, length, get_or, Option, Result, Ok, Err, IfOk, IfErr, IsErrAnd, refl, sym, ap, ◌∙◌}
+use Rattle.cedar_expressions.specs.Value.{Value}
 use Rattle.cedar_syntax.specs.ParseErrors.{faults_of}
-use Rattle.cedar_syntax.specs.declared.cst.MultOp.{MultOp}
-use Rattle.cedar_syntax.specs.declared.cst.MultOp.TheVariants as mul
-use Rattle.cedar_syntax.specs.Tree.{Operator, or_or, and_and, add, multiply}
-use Rattle.cedar_policy_parser.specs.Converted.{Part, bodies, added}
-use Rattle.cedar_policy_parser.specs.Held.{Held, expression}
-use Rattle.cedar_policy_parser.specs.Levels.{or_outcome, and_outcome, relation_outcome, add_outcome, mult_outcome, as_expression, joined_by, one_more, with_part, factor, disjoined, conjoined, multiplied, summed}
 use Rattle.cedar_syntax.specs.declared.loc.Loc.{Loc}
 use Rattle.cedar_syntax.specs.declared.err.faults.Failure.{Failure}
 use Rattle.cedar_syntax.specs.declared.err.faults.Failure.TheVariants.{Memory, Errors}
-use Rattle.cedar_syntax.specs.declared.err.to_ast.ToASTErrorKind.{ToASTErrorKind}
+use Rattle.cedar_syntax.specs.declared.err.faults.ParseError.{ParseError}
+use Rattle.cedar_syntax.specs.Forms.{parts_of}
+use Rattle.cedar_syntax.specs.Located.{Located, none}
+use Rattle.cedar_syntax.specs.Tree.{Operator}
 use Rattle.cedar_text.specs.Joined.{TellsBoth}
-use Rattle.cedar_policy_parser.specs.Outcome.{Outcome, fault_at, both, next, Refuses, Gives, TellsAlone}
+use Rattle.cedar_policy_parser.specs.Conversion.{Part, outcome, operands, with_part, factor, value_outcome}
+use Rattle.cedar_policy_parser.specs.Extensions.{Extensions}
+use Rattle.cedar_policy_parser.specs.Held.{as_expression}
+use Rattle.cedar_policy_parser.specs.Outcome.{Kind, Outcome, both, next, refused}
+use Rattle.cedar_policy_parser.specs.Seen.{Refuses, Gives, TellsAlone, told, told_of, one_more, with_last}
+use Rattle.cedar_policy_parser.proofs.Loops.{take_next, map_snoc}
+
+-- ---- faults
+
+pub told-append : (fs gs : List ParseError) → told (fs ++ gs) ≡ told fs ++ told gs
+told-append [] gs = refl
+told-append (f ∷ fs) gs = ap (λ hs. told_of f ∷ hs) (told-append fs gs)
 
 -- one fault alone is a refusal with it
-pub refused_at : (Y : Type 0) (f : Failure) (kind : ToASTErrorKind) (place : Option Loc) → TellsAlone f kind place → Refuses {Y = Y} f (Err (fault_at kind place))
+pub refused_at : (Y : Type 0) (f : Failure) (kind : Kind) (place : Option Loc) → TellsAlone f kind place → Refuses {Y = Y} f (refused kind place)
 refused_at Y (Memory e) kind place h = tt
 refused_at Y (Errors es) kind place h = ap Err (sym h)
+
+-- an outcome that is one fault refuses with what tells it
+pub refuses : {Y : Type 0} (f : Failure) (o : Outcome Y) (kind : Kind) (place : Option Loc) → o ≡ refused kind place → TellsAlone f kind place → Refuses f o
+refuses {Y = Y} f o kind place e h = rw e (refused_at Y f kind place h)
+
+-- ---- what is joined
 
 -- what refuses what is wanted first refuses all that comes next
 pub refused_next : {X Y : Type 0} (f : Failure) (x : Outcome X) (g : X → Outcome Y) → Refuses f x → Refuses f (next x g)
 refused_next (Memory e) x g h = tt
 refused_next (Errors es) (Ok x) g h = cc
-refused_next (Errors es) (Err fs) g h = let same : fs ≡ faults_of es = cc in ap Err same
+refused_next (Errors es) (Err fs) g h = let same : fs ≡ told (faults_of es) = cc in ap Err same
+
+pub given_next : {X Y : Type 0} (o : Outcome X) (x : X) (g : X → Outcome Y) → o ≡ Ok x → next o g ≡ g x
+given_next o x g e = rw e refl
+
+joined_faults : (es fs gs : List ParseError) → es ≡ fs ++ gs → told fs ++ told gs ≡ told es
+joined_faults es fs gs e = sym (told-append fs gs) ∙ ap told (sym e)
 
 -- the failure of two parts refuses both
 pub both_refused : {A B X Y : Type 0} (u : A → X) (v : B → Y) (a : Result A Failure) (b : Result B Failure) (x : Outcome X) (y : Outcome Y) (f : Failure) → Gives u a x → Gives v b y → TellsBoth f a b
@@ -35,10 +53,10 @@ both_refused u v a b x y (Memory e) h k t = tt
 both_refused u v (Ok a) (Ok b) x y (Errors es) h k t = let impossible = t.0 in cc
 both_refused u v (Ok a) (Err (Memory e)) x y (Errors es) h k t = absurd (t.2 tt)
 both_refused u v (Err (Memory e)) b x y (Errors es) h k t = absurd (t.1 tt)
-both_refused u v (Ok a) (Err (Errors gs)) x y (Errors es) h k t = rw (h, k) (ap Err (sym t.0))
-both_refused u v (Err (Errors gs)) (Ok b) x y (Errors es) h k t = rw (h, k) (ap Err (sym (t.0 ∙ append-nil (faults_of gs))))
+both_refused u v (Ok a) (Err (Errors gs)) x y (Errors es) h k t = rw (h, k) (ap (λ fs. Err (told fs)) (sym t.0))
+both_refused u v (Err (Errors gs)) (Ok b) x y (Errors es) h k t = rw (h, k) (ap (λ fs. Err (told fs)) (sym (t.0 ∙ append-nil (faults_of gs))))
 both_refused u v (Err (Errors gs)) (Err (Memory e)) x y (Errors es) h k t = absurd (t.2 tt)
-both_refused u v (Err (Errors fs)) (Err (Errors gs)) x y (Errors es) h k t = rw (h, k) (ap Err (sym t.0))
+both_refused u v (Err (Errors fs)) (Err (Errors gs)) x y (Errors es) h k t = rw (h, k) (ap Err (joined_faults (faults_of es) (faults_of fs) (faults_of gs) t.0))
 
 pub both_given : {A B X Y : Type 0} (u : A → X) (v : B → Y) (a : Result A Failure) (b : Result B Failure) (x : Outcome X) (y : Outcome Y) (p : A) (q : B) → Gives u a x → Gives v b y → a ≡ Ok p → b ≡ Ok q
     → both x y ≡ Ok (u p, v q)
@@ -47,117 +65,66 @@ both_given u v a b x y p q h k e f =
     let second : y ≡ Ok (v q) = rw f at k in
     rw (first, second) refl
 
--- ---- one part and further ones
+-- two results joined are the outcomes joined
+pub both_gives : {A B X Y : Type 0} (u : A → X) (v : B → Y) (a : Result A Failure) (b : Result B Failure) (r : Result (A × B) Failure) (x : Outcome X) (y : Outcome Y)
+    → IfOk r (λ p. (a ≡ Ok p.0) × (b ≡ Ok p.1)) → IfErr r (λ f. TellsBoth f a b) → Gives u a x → Gives v b y → Gives (λ p. (u p.0, v p.1)) r (both x y)
+both_gives u v a b (Ok p) x y ok err h k = both_given u v a b x y p.0 p.1 h k ok.0 ok.1
+both_gives u v a b (Err f) x y ok err h k = both_refused u v a b x y f h k err
 
-pub joined_refused : (join : Value → Value) (s : Held) (ps : List Part) (f : Failure) → 0 < length ps → Refuses f (as_expression s) → Refuses f (joined_by join s ps)
-joined_refused join s [] f some h = absurd (omega (arith, some))
-joined_refused join s (p ∷ ps) f some h = refused_next f (as_expression s) (λ a. Ok (expression (join a))) h
-
-pub joined_alone : (join : Value → Value) (s : Held) (ps : List Part) → ps ≡ [] → joined_by join s ps ≡ Ok s
-joined_alone join s ps e = rw e refl
-
-pub joined_made : (join : Value → Value) (s : Held) (ps : List Part) (a : Value) → 0 < length ps → as_expression s ≡ Ok a → joined_by join s ps ≡ Ok (expression (join a))
-joined_made join s [] a some h = absurd (omega (arith, some))
-joined_made join s (p ∷ ps) a some h = rw h refl
-
--- what comes next, where both are given
-pub next_is : {X Y : Type 0} (o : Outcome X) (x : X) (g : X → Outcome Y) → o ≡ Ok x → next o g ≡ g x
-next_is o x g e = rw e refl
-
-pub bodies-under : {E : Type 0} (op : Operator) (m : E → Value) (es : List E) → bodies (map (λ e. (op, m e)) es) ≡ map m es
-bodies-under op m [] = refl
-bodies-under op m (e ∷ es) = ap (λ vs. m e ∷ vs) (bodies-under op m es)
-
-pub added-parts : {E : Type 0} (m : E → Value) (es : List (AddOp × E)) → added (map (λ p. (add p.0, m p.1)) es) ≡ map (λ p. (p.0, m p.1)) es
-added-parts m [] = refl
-added-parts m (e ∷ es) = ap (λ vs. (e.0, m e.1) ∷ vs) (added-parts m es)
-
--- one more part
-pub more_gives : {A B C : Type 0} (u : A → List Part) (v : B → Value) (w : C → List Part) (op : Operator) (all : Result A Failure) (next_part : Result B Failure) (r : Result C Failure) (ps : Outcome (List Part)) (x : Outcome Value)
-    → Gives u all ps → Gives v next_part x → IfOk r (λ longer. IsOkAnd all (λ shorter. IsOkAnd next_part (λ item. w longer ≡ u shorter ++ (op, v item) ∷ []))) → IfErr r (λ f. TellsBoth f all next_part)
-    → Gives w r (one_more op ps x)
-more_gives u v w op (Ok a) (Ok b) (Ok c) ps x h k ok err = rw (h, k) (ap Ok (sym ok))
-more_gives u v w op (Ok a) (Err f) (Ok c) ps x h k ok err = absurd ok
-more_gives u v w op (Err f) b (Ok c) ps x h k ok err = absurd ok
-more_gives u v w op a b (Err f) ps x h k ok err = refused_next f (both ps x) (with_part op) (both_refused u v a b ps x f h k err)
-
--- a factor behind `/` or `%` is none, whatever operator it is counted behind
-pub factors_alike : (place : Option Loc) (op : MultOp) (ps : Outcome (List Part)) (x : Outcome Value)
-    → one_more (multiply op) ps (next x (factor place op)) ≡ one_more (multiply mul.Times) ps (next x (factor place op))
-factors_alike place mul.Times ps x = refl
-factors_alike place mul.Divide (Ok ps) (Ok x) = refl
-factors_alike place mul.Divide (Ok ps) (Err fs) = refl
-factors_alike place mul.Divide (Err gs) (Ok x) = refl
-factors_alike place mul.Divide (Err gs) (Err fs) = refl
-factors_alike place mul.Mod (Ok ps) (Ok x) = refl
-factors_alike place mul.Mod (Ok ps) (Err fs) = refl
-factors_alike place mul.Mod (Err gs) (Ok x) = refl
-factors_alike place mul.Mod (Err gs) (Err fs) = refl
-
--- ---- chains, each exit
-
--- some part isn't given
-pub chain_refused : {A B X Y : Type 0} (u : A → X) (v : B → Y) (g : X × Y → Outcome Held) (a : Result A Failure) (b : Result B Failure) (x : Outcome X) (y : Outcome Y) (f : Failure) → Gives u a x → Gives v b y → TellsBoth f a b
-    → Refuses f (next (both x y) g)
-chain_refused u v g a b x y f h k t = refused_next f (both x y) g (both_refused u v a b x y f h k t)
-
--- all are given, and this comes next
-pub chain_next : {A B X Y : Type 0} (u : A → X) (v : B → Y) (g : X × Y → Outcome Held) (a : Result A Failure) (b : Result B Failure) (x : Outcome X) (y : Outcome Y) (p : A) (q : B) → Gives u a x → Gives v b y → a ≡ Ok p → b ≡ Ok q
-    → next (both x y) g ≡ g (u p, v q)
-chain_next u v g a b x y p q h k e f = next_is (both x y) (u p, v q) g (both_given u v a b x y p q h k e f)
-
--- ---- one expression of a first part and further ones
-
-pub or_made : {E : Type 0} (m : E → Value) (s : Held) (es : List E) (a w : Value) → 0 < length es → as_expression s ≡ Ok a → w ≡ v.or_nary a (values (map m es))
-    → joined_by (disjoined (map (λ e. (or_or, m e)) es)) s (map (λ e. (or_or, m e)) es) ≡ Ok (expression w)
-or_made m s [] a w some h k = absurd (omega (arith, some))
-or_made m s (e ∷ es) a w some h k = rw (h, k, bodies-under or_or m es) refl
-
-pub and_made : {E : Type 0} (m : E → Value) (s : Held) (es : List E) (a w : Value) → 0 < length es → as_expression s ≡ Ok a → w ≡ v.and_naryl a (values (map m es))
-    → joined_by (conjoined (map (λ e. (and_and, m e)) es)) s (map (λ e. (and_and, m e)) es) ≡ Ok (expression w)
-and_made m s [] a w some h k = absurd (omega (arith, some))
-and_made m s (e ∷ es) a w some h k = rw (h, k, bodies-under and_and m es) refl
-
-pub mult_made : {E : Type 0} (m : E → Value) (s : Held) (es : List E) (a w : Value) → 0 < length es → as_expression s ≡ Ok a → w ≡ v.mul_nary a (values (map m es))
-    → joined_by (multiplied (map (λ e. (multiply mul.Times, m e)) es)) s (map (λ e. (multiply mul.Times, m e)) es) ≡ Ok (expression w)
-mult_made m s [] a w some h k = absurd (omega (arith, some))
-mult_made m s (e ∷ es) a w some h k = rw (h, k, bodies-under (multiply mul.Times) m es) refl
-
-pub add_made : {E : Type 0} (m : E → Value) (s : Held) (es : List (AddOp × E)) (a w : Value) → 0 < length es → as_expression s ≡ Ok a → w ≡ v.add_nary a (terms (map (λ p. (p.0, m p.1)) es))
-    → joined_by (summed (map (λ p. (add p.0, m p.1)) es)) s (map (λ p. (add p.0, m p.1)) es) ≡ Ok (expression w)
-add_made m s [] a w some h k = absurd (omega (arith, some))
-add_made m s (e ∷ es) a w some h k = rw (h, k, added-parts m es) refl
-
--- ---- what `?` passes on
-
+-- what `?` passes on
 pub passed_on : {X Y : Type 0} (u : X → Y) (r : Result X Failure) (f : Failure) (o : Outcome Y) → IsErrAnd r (λ e. e ≡ f) → Refuses f o → Gives u r o
 passed_on u (Ok x) f o is h = absurd is
 passed_on u (Err e) f o is h = rw is h
 
--- the first part, where there are others, isn't an expression
-pub first_refused : {A E : Type 0} (m : E → Held) (r : Result E Failure) (f : Failure) (join : Value → Value) (s : Held) (g : A → Part) (es : List A) → IsErrAnd r (λ e. e ≡ f) → 0 < length es
-    → Refuses f (as_expression s) → Gives m r (joined_by join s (map g es))
-first_refused m r f join s g [] is some h = absurd (omega (arith, some))
-first_refused m r f join s g (e ∷ es) is some h = passed_on m r f _ is (refused_next f (as_expression s) (λ a. Ok (expression (join a))) h)
+-- an outcome in other words
+pub gives_at : {X Y : Type 0} (u : X → Y) (r : Result X Failure) (o p : Outcome Y) → o ≡ p → Gives u r p → Gives u r o
+gives_at u r o p e h = rw e h
 
--- ---- one part alone gives what it gives
+-- ---- operands, from the last
 
-pub or_alone : (o : Outcome Held) → or_outcome o (Ok []) ≡ o
-or_alone (Ok s) = refl
-or_alone (Err fs) = refl
+pub none_yet : (e : Extensions) (place : Option Loc) → operands e place none ≡ Ok []
+unfolding operands
+none_yet e place = refl
 
-pub and_alone : (o : Outcome Held) → and_outcome o (Ok []) ≡ o
-and_alone (Ok s) = refl
-and_alone (Err fs) = refl
+last : (op : Operator) (x : Outcome Value) → next (both x (Ok [])) (with_part op) ≡ one_more op (Ok []) x
+last op (Ok v) = refl
+last op (Err fs) = refl
 
-pub relation_alone : (place : Option Loc) (o : Outcome Held) → relation_outcome place 0 o (Ok []) ≡ o
-relation_alone place (Ok s) = refl
-relation_alone place (Err fs) = refl
+shifted : (a b : Operator) (x : Outcome Value) (o : Outcome (List Part)) (y : Outcome Value) → next (both x (one_more b o y)) (with_part a) ≡ one_more b (next (both x o) (with_part a)) y
+shifted a b (Ok x) (Ok o) (Ok y) = refl
+shifted a b (Ok x) (Ok o) (Err hs) = refl
+shifted a b (Ok x) (Err gs) (Ok y) = refl
+shifted a b (Ok x) (Err gs) (Err hs) = refl
+shifted a b (Err fs) (Ok o) (Ok y) = refl
+shifted a b (Err fs) (Ok o) (Err hs) = refl
+shifted a b (Err fs) (Err gs) (Ok y) = refl
+shifted a b (Err fs) (Err gs) (Err hs) = ap Err (sym (append_assoc fs gs hs))
 
-pub add_alone : (o : Outcome Held) → add_outcome o (Ok []) ≡ o
-add_alone (Ok s) = refl
-add_alone (Err fs) = refl
+-- a part's value where its operator lets it stand
+abbrev pub operand : Extensions → Option Loc → Operator × Located → Outcome Value
+operand e place p = next (value_outcome e p.1) (factor place p.0)
 
-pub mult_alone : (o : Outcome Held) → mult_outcome o (Ok []) ≡ o
-mult_alone (Ok s) = refl
-mult_alone (Err fs) = refl
+pub operands_snoc : (e : Extensions) (place : Option Loc) (ps : List (Operator × Located)) (p : Operator × Located)
+    → operands e place (parts_of (ps ++ p ∷ [])) ≡ one_more p.0 (operands e place (parts_of ps)) (operand e place p)
+unfolding operands
+operands_snoc e place [] p = last p.0 (operand e place p)
+operands_snoc e place (q ∷ ps) p =
+    ap (λ o. next (both (operand e place q) o) (with_part q.0)) (operands_snoc e place ps p)
+    ∙ shifted q.0 p.0 (operand e place q) (operands e place (parts_of ps)) (operand e place p)
+
+-- one part more than those that a loop has gone over
+pub part_more : {X : Type 0} (e : Extensions) (place : Option Loc) (g : X → Operator × Located) (xs : List X) (i : ℕ) (x : X) → i < length xs → x ≡ get_or xs i x
+    → operands e place (parts_of (map g (take (i + 1) xs))) ≡ one_more (g x).0 (operands e place (parts_of (map g (take i xs)))) (operand e place (g x))
+part_more e place g xs i x h k = rw (take_next xs i x h k, map_snoc g (take i xs) x) (operands_snoc e place (map g (take i xs)) (g x))
+
+-- an operator that lets every value stand
+pub settled : (place : Option Loc) (op : Operator) (x : Outcome Value) → ((v : Value) → factor place op v ≡ Ok v) → next x (factor place op) ≡ x
+settled place op (Ok v) h = h v
+settled place op (Err fs) h = refl
+
+-- the same where every value may stand behind the operator
+pub plain_more : {X : Type 0} (e : Extensions) (place : Option Loc) (g : X → Operator × Located) (xs : List X) (i : ℕ) (x : X) → i < length xs → x ≡ get_or xs i x
+    → ((v : Value) → factor place (g x).0 v ≡ Ok v)
+    → operands e place (parts_of (map g (take (i + 1) xs))) ≡ one_more (g x).0 (operands e place (parts_of (map g (take i xs)))) (value_outcome e (g x).1)
+plain_more e place g xs i x h k stands =
+    part_more e place g xs i x h k ∙ ap (λ v. one_more (g x).0 (operands e place (parts_of (map g (take i xs)))) v) (settled place (g x).0 (value_outcome e (g x).1) stands)

@@ -1,5 +1,5 @@
 -- A string's raw text, laid out in its one way.
-use Rattle.std.proofs.Common.{◌≡◌, ℕ, List, [], ◌∷◌, Option, Some, option_map, Ok, Err, refl, sym}
+use Rattle.std.proofs.Common.{◌≡◌, ℕ, List, [], ◌∷◌, Option, Ok, Err, refl, sym}
 use Rattle.std.specs.Str.{chars}
 use Rattle.cedar_expressions.specs.declared.literal.Literal.TheVariants as literals
 use Rattle.cedar_expressions.specs.Value as v
@@ -10,9 +10,9 @@ use Rattle.cedar_syntax.specs.declared.err.escape.UnescapeError.{UnescapeError}
 use Rattle.cedar_syntax.specs.declared.err.non_empty.NonEmpty.{NonEmpty}
 use Rattle.cedar_text.specs.Piece.{Placed, IsLaidOut, IsUnescaped, HasEscapeFaults}
 use Rattle.cedar_text.proofs.Layouts.{laid_out, laid_once}
-use Rattle.cedar_policy_parser.specs.Converted.{text_of}
-use Rattle.cedar_policy_parser.specs.Levels.{string_outcome, told_at}
-use Rattle.cedar_policy_parser.specs.Strings.{layout, escape_faults, unescaped}
+use Rattle.cedar_policy_parser.specs.Held.{text_value}
+use Rattle.cedar_policy_parser.specs.Outcome.{Outcome, next}
+use Rattle.cedar_policy_parser.specs.Strings.{layout, escape_faults, unescaped, told_at, unless_faulty, text_outcome}
 
 layout_laid : (raw : List ℕ) → IsLaidOut raw (layout raw)
 unfolding layout
@@ -27,27 +27,21 @@ faultless raw text u = rw (sym (is_layout raw u.pieces u.laid_out)) u.faultless
 stands_for : (raw text : List ℕ) → IsUnescaped raw text → unescaped raw ≡ text
 stands_for raw text u = rw (sym (is_layout raw u.pieces u.laid_out)) u.unescaped
 
-pub string_given : (raw text : List ℕ) → IsUnescaped raw text → text_of (escape_faults raw) (unescaped raw) ≡ Some text
-string_given raw text u = rw (faultless raw text u, stands_for raw text u) refl
+pub text_expected : (place : Option Loc) (raw text : List ℕ) → IsUnescaped raw text → text_outcome place raw ≡ Ok text
+text_expected place raw text u = rw (faultless raw text u, stands_for raw text u) refl
+
+pub faults_expected : (place : Option Loc) (raw : List ℕ) (faults : NonEmpty UnescapeError) → HasEscapeFaults raw (list_of faults) → text_outcome place raw ≡ Err (told_at place (list_of faults))
+faults_expected place raw faults f =
+    let same : escape_faults raw ≡ list_of faults = rw (sym (is_layout raw f.pieces f.laid_out)) f.told in
+    rw same refl
 
 -- what a string's value says of its raw text
 abbrev pub StandsFor : List ℕ → Value → Type 0
 StandsFor raw w = (text : List ℕ) × IsUnescaped raw text × (w ≡ v.val (literals.String text))
 
-value_meant : (raw : List ℕ) (w : Value) (faults : List UnescapeError) → escape_faults raw ≡ faults → option_map (λ t. v.val (literals.String t)) (text_of faults (unescaped raw)) ≡ Some w → StandsFor raw w
-value_meant raw w [] none e = (unescaped raw, record { pieces = layout raw; laid_out = layout_laid raw; faultless = none; unescaped = refl }, cc)
-value_meant raw w (fault ∷ faults) some e = cc
+value_meant : (place : Option Loc) (raw : List ℕ) (w : Value) (faults : List UnescapeError) → escape_faults raw ≡ faults → next (unless_faulty place faults (unescaped raw)) text_value ≡ Ok w → StandsFor raw w
+value_meant place raw w [] none e = (unescaped raw, record { pieces = layout raw; laid_out = layout_laid raw; faultless = none; unescaped = refl }, cc)
+value_meant place raw w (fault ∷ faults) some e = cc
 
-pub string_meant : (raw : List ℕ) (w : Value) → option_map (λ t. v.val (literals.String t)) (text_of (escape_faults raw) (unescaped raw)) ≡ Some w → StandsFor raw w
-string_meant raw w e = value_meant raw w (escape_faults raw) refl e
-
--- ---- what the call that unescapes answers
-
-pub text_expected : (place : Option Loc) (raw text : List ℕ) → IsUnescaped raw text → string_outcome place (escape_faults raw) (unescaped raw) ≡ Ok text
-text_expected place raw text u = rw (faultless raw text u, stands_for raw text u) refl
-
-pub faults_expected : (place : Option Loc) (raw : List ℕ) (faults : NonEmpty UnescapeError) → HasEscapeFaults raw (list_of faults)
-    → string_outcome place (escape_faults raw) (unescaped raw) ≡ Err (told_at place (list_of faults))
-faults_expected place raw faults f =
-    let same : escape_faults raw ≡ list_of faults = rw (sym (is_layout raw f.pieces f.laid_out)) f.told in
-    rw same refl
+pub string_meant : (place : Option Loc) (raw : List ℕ) (w : Value) → next (text_outcome place raw) text_value ≡ Ok w → StandsFor raw w
+string_meant place raw w e = value_meant place raw w (escape_faults raw) refl e

@@ -1,10 +1,9 @@
+pub mod Alike
 pub mod Alone
-pub mod Answers
-pub mod Converted
+pub mod Conversion
+pub mod Extensions
 pub mod Held
-pub mod Levels
 pub mod Outcome
-pub mod Paired
 pub mod Refused
 pub mod Seen
 pub mod Strict

@@ -1,23 +1,33 @@
--- What a conversion gives, want of memory aside: what is wanted, or all faults that hinder it, in their order.
---
--- Each contract of the conversion holds an answer against an outcome (`Gives`), and outcomes are joined by `both` and `next` alone: the parts' faults one after
--- another, or what comes next only where all before it is given. So what is to be said of faults, their kinds, places and blocks, is a law about outcomes, and
--- no contract of a joining call changes with it.
-use Rattle.std.specs.Prelude.{◌≡◌, List, [], ◌∷◌, ◌++◌, Option, Some, None, Result, Ok, Err}
-use Rattle.cedar_syntax.specs.ParseErrors.{faults_of}
+-- What a conversion gives, want of memory aside: what is wanted, or all faults that hinder it, in
+-- their order. Outcomes are joined by `both` and `next` alone: the
+-- parts' faults one after another, or what comes next only where all before it is given.
+use Rattle.std.specs.Prelude.{List, [], ◌∷◌, ◌++◌, Option, Some, None, Result, Ok, Err}
 use Rattle.cedar_syntax.specs.declared.loc.Loc.{Loc}
-use Rattle.cedar_syntax.specs.declared.err.faults.Failure.{Failure}
-use Rattle.cedar_syntax.specs.declared.err.faults.Failure.TheVariants.{Memory, Errors}
-use Rattle.cedar_syntax.specs.declared.err.faults.ParseError.{ParseError}
-use Rattle.cedar_syntax.specs.declared.err.faults.ParseError.TheVariants.{ToAST}
-use Rattle.cedar_syntax.specs.declared.err.to_ast.ToASTErrorKind.{ToASTErrorKind}
+
+-- what is wrong; what a message shows of it beside its kind isn't told
+pub data Kind : Type 0 where
+  empty_node : Kind
+  ambiguous_operators : Kind
+  invalid_single_eq : Kind
+  unary_op_limit : Kind
+  integer_literal_too_large : Kind
+  unsupported_division : Kind
+  unsupported_modulo : Kind
+  arbitrary_variable : Kind
+  invalid_string : Kind
+  unescape : Kind
+  -- a text has no tree, which no conversion finds
+  no_tree : Kind
+
+abbrev pub Told : Type 0
+Told = Kind × Option Loc
 
 abbrev pub Outcome : Type 0 → Type 0
-Outcome Y = Result Y (List ParseError)
+Outcome Y = Result Y (List Told)
 
 -- one fault alone
-abbrev pub fault_at : ToASTErrorKind → Option Loc → List ParseError
-fault_at kind place = ToAST record { kind = kind; loc = place } ∷ []
+abbrev pub refused : {Y : Type 0} → Kind → Option Loc → Outcome Y
+refused kind place = Err ((kind, place) ∷ [])
 
 -- both, or the faults of each
 abbrev pub both : {X Y : Type 0} → Outcome X → Outcome Y → Outcome (X × Y)
@@ -35,18 +45,3 @@ next (Err fs) f = Err fs
 abbrev pub given : {Y : Type 0} → Outcome Y → Option Y
 given (Ok y) = Some y
 given (Err fs) = None
-
--- A failure tells the outcome's faults. Want of memory may be the answer whatever the outcome is.
-abbrev pub Refuses : {Y : Type 0} → Failure → Outcome Y → Type 0
-Refuses (Memory error) outcome = Unit {0}
-Refuses (Errors errors) outcome = outcome ≡ Err (faults_of errors)
-
--- An answer, seen by view, is the outcome.
-abbrev pub Gives : {X Y : Type 0} → (X → Y) → Result X Failure → Outcome Y → Type 0
-Gives view (Ok x) outcome = outcome ≡ Ok (view x)
-Gives view (Err failure) outcome = Refuses failure outcome
-
--- the failure is one fault alone, or want of memory
-abbrev pub TellsAlone : Failure → ToASTErrorKind → Option Loc → Type 0
-TellsAlone (Memory error) kind place = Unit {0}
-TellsAlone (Errors errors) kind place = faults_of errors ≡ fault_at kind place

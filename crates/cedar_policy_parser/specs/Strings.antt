@@ -1,11 +1,14 @@
 -- What a string stands for where an expression is wanted.
-use Rattle.std.specs.Prelude.{ℕ, List}
+use Rattle.std.specs.Prelude.{ℕ, List, [], ◌∷◌, map, Option, Ok, Err}
 use Rattle.std.specs.Str.{chars}
 use Rattle.cedar_syntax.specs.declared.err.escape.UnescapeError.{UnescapeError}
+use Rattle.cedar_syntax.specs.declared.loc.Loc.{Loc}
 use Rattle.cedar_text.specs.Piece.{Placed, piece_faults, unescaped_pieces}
 use Rattle.cedar_text.proofs.Layouts.{laid_out}
+use Rattle.cedar_policy_parser.specs.Outcome.{Outcome, Told, unescape}
 
--- the pieces that a raw text is laid out of: there are such, and no others (the law `one_layout` of `cedar_text`)
+-- the pieces that a raw text is laid out of: there are such, and no others (the law `one_layout`
+-- of `cedar_text`)
 unfoldable pub layout : List ℕ → List Placed
 layout raw = (laid_out 0 (chars raw)).0
 
@@ -15,3 +18,15 @@ escape_faults raw = piece_faults raw (layout raw)
 
 abbrev pub unescaped : List ℕ → List ℕ
 unescaped raw = unescaped_pieces (layout raw)
+
+-- escape faults, each at the string's place
+abbrev pub told_at : Option Loc → List UnescapeError → List Told
+told_at place faults = map (λ fault. (unescape, place)) faults
+
+abbrev pub unless_faulty : {X : Type 0} → Option Loc → List UnescapeError → X → Outcome X
+unless_faulty place [] x = Ok x
+unless_faulty place (fault ∷ faults) x = Err (told_at place (fault ∷ faults))
+
+-- the text that a raw text at a place stands for
+abbrev pub text_outcome : Option Loc → List ℕ → Outcome (List ℕ)
+text_outcome place raw = unless_faulty place (escape_faults raw) (unescaped raw)

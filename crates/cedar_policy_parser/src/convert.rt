@@ -3,21 +3,23 @@
 //! A node with one part goes through a function with a small frame, so that a level of nesting takes little of the stack; a node with several goes to
 //! the function of its level's chain. That one takes the node itself, by which the proof sees that the calls end, so it opens the node again and has an
 //! arm for what its caller has already taken.
-ghost use Rattle.cedar_policy_parser.specs.Answers.{ExprAnswers, OrAnswers, AndAnswers, RelationAnswers, AddAnswers, MultAnswers, UnaryAnswers, MemberAnswers, PrimaryAnswers};
-ghost use Rattle.cedar_policy_parser.specs.Held.{Held};
-ghost use Rattle.cedar_policy_parser.specs.Outcome.{Outcome, Gives};
-ghost use Rattle.cedar_policy_parser.specs.Seen.{plain};
 ghost use Rattle.std.specs.Prelude.{◌≡◌};
 ghost use Rattle.cedar_syntax.specs.declared.cst.Expr.TheVariants as exprs;
+ghost use Rattle.cedar_syntax.specs.Forms.{located, expr_form, or_form, and_form, relation_form, add_form, mult_form, unary_form, member_form, primary_form};
+ghost use Rattle.cedar_policy_parser.specs.Conversion.{outcome};
+ghost use Rattle.cedar_policy_parser.specs.Extensions.{table_of};
+ghost use Rattle.cedar_policy_parser.specs.Seen.{Gives, plain};
 
-use crate::join::{
-    add_from, and_from, expr_of, factor_of, if_from, more, more_added, more_related, mult_from,
-    or_from, parens_from, relation_from,
-};
-use crate::leaf::{bare_number, literal, named, signed_from, without_operand};
-use crate::special::{ExprOrSpecial, unreached};
+use crate::chain::{AndAnd, OrOr, chain_from, factor_of};
+use crate::conditional::{if_from, parens_from};
+use crate::cst_to_ast::ExtStyles;
+use crate::join::{at_most_one, more};
+use crate::literals::{bare_number, literal};
+use crate::names::named;
+use crate::signs::{signed_from, without_operand};
+use crate::special::{ExprOrSpecial, expr_of, unreached};
 use cedar_expressions::{AddOp, ExprBuilderInfallibleBuild};
-use cedar_syntax::cst::{self, RelOp};
+use cedar_syntax::cst::{self, MultOp, RelOp};
 use cedar_syntax::err::Failure;
 use cedar_syntax::node::Node;
 use std::alloc::Global;
@@ -35,16 +37,17 @@ fn inner_of(tree: &cst::Expr) -> &cst::ExprImpl
 #[inline(never)]
 pub(crate) fn expr<B: ExprBuilderInfallibleBuild>(
     alloc: Global,
+    styles: &ExtStyles,
     node: &Node<Option<cst::Expr>>,
 ) -> Result<ExprOrSpecial<B::Expr>, Failure>
-    ensures { (o : Outcome Held) × ExprAnswers node.now o × Gives (plain B.meaning) result o }
+    ensures { Gives (plain B.meaning) result (outcome (table_of styles.now) (located expr_form node.now)) }
 {
     match &node.node {
         Some(tree) => match inner_of(tree).expr.as_ref() {
-            cst::ExprData::Or(part) => or::<B>(alloc, part),
-            cst::ExprData::If(_, _, _) => conditional::<B>(alloc, node),
+            cst::ExprData::Or(part) => or::<B>(alloc, styles, part),
+            cst::ExprData::If(_, _, _) => conditional::<B>(alloc, styles, node),
         },
-        None => conditional::<B>(alloc, node),
+        None => conditional::<B>(alloc, styles, node),
     }
 }
 
@@ -52,17 +55,18 @@ pub(crate) fn expr<B: ExprBuilderInfallibleBuild>(
 #[inline(never)]
 fn conditional<B: ExprBuilderInfallibleBuild>(
     alloc: Global,
+    styles: &ExtStyles,
     node: &Node<Option<cst::Expr>>,
 ) -> Result<ExprOrSpecial<B::Expr>, Failure>
-    ensures { (o : Outcome Held) × ExprAnswers node.now o × Gives (plain B.meaning) result o }
+    ensures { Gives (plain B.meaning) result (outcome (table_of styles.now) (located expr_form node.now)) }
 {
     match &node.node {
         Some(tree) => match inner_of(tree).expr.as_ref() {
-            cst::ExprData::Or(part) => or::<B>(alloc, part),
+            cst::ExprData::Or(part) => or::<B>(alloc, styles, part),
             cst::ExprData::If(guard, consequent, alternative) => {
-                let guard = expr_of::<B>(alloc, expr::<B>(alloc, guard));
-                let consequent = expr_of::<B>(alloc, expr::<B>(alloc, consequent));
-                let alternative = expr_of::<B>(alloc, expr::<B>(alloc, alternative));
+                let guard = expr_of::<B>(alloc, expr::<B>(alloc, styles, guard));
+                let consequent = expr_of::<B>(alloc, expr::<B>(alloc, styles, consequent));
+                let alternative = expr_of::<B>(alloc, expr::<B>(alloc, styles, alternative));
                 if_from::<B>(alloc, &node.loc, guard, consequent, alternative)
             }
         },
@@ -75,13 +79,14 @@ fn conditional<B: ExprBuilderInfallibleBuild>(
 #[inline(never)]
 fn or<B: ExprBuilderInfallibleBuild>(
     alloc: Global,
+    styles: &ExtStyles,
     node: &Node<Option<cst::Or>>,
 ) -> Result<ExprOrSpecial<B::Expr>, Failure>
-    ensures { (o : Outcome Held) × OrAnswers node.now o × Gives (plain B.meaning) result o }
+    ensures { Gives (plain B.meaning) result (outcome (table_of styles.now) (located or_form node.now)) }
 {
     match &node.node {
-        Some(or) if or.extended.is_empty() => and::<B>(alloc, &or.initial),
-        _ => or_chain::<B>(alloc, node),
+        Some(or) if or.extended.is_empty() => and::<B>(alloc, styles, &or.initial),
+        _ => or_chain::<B>(alloc, styles, node),
     }
 }
 
@@ -89,18 +94,20 @@ fn or<B: ExprBuilderInfallibleBuild>(
 #[inline(never)]
 fn or_chain<B: ExprBuilderInfallibleBuild>(
     alloc: Global,
+    styles: &ExtStyles,
     node: &Node<Option<cst::Or>>,
 ) -> Result<ExprOrSpecial<B::Expr>, Failure>
-    ensures { (o : Outcome Held) × OrAnswers node.now o × Gives (plain B.meaning) result o }
+    ensures { Gives (plain B.meaning) result (outcome (table_of styles.now) (located or_form node.now)) }
 {
     match &node.node {
         Some(or) => {
-            let first = and::<B>(alloc, &or.initial);
-            let mut rest: Result<Vec<B::Expr>, Failure> = Ok(Vec::new(alloc));
+            let first = and::<B>(alloc, styles, &or.initial);
+            let mut rest: Result<Vec<(OrOr, B::Expr)>, Failure> = Ok(Vec::new(alloc));
             for part in or.extended.as_slice() {
-                rest = more::<B>(rest, expr_of::<B>(alloc, and::<B>(alloc, part)));
+                let part = expr_of::<B>(alloc, and::<B>(alloc, styles, part));
+                rest = more::<B, OrOr>(rest, OrOr, part);
             }
-            or_from::<B>(alloc, &node.loc, first, rest)
+            chain_from::<B, OrOr>(alloc, &node.loc, first, rest, Ok(()))
         }
         None => Err(unreached(alloc, &node.loc)),
     }
@@ -111,13 +118,14 @@ fn or_chain<B: ExprBuilderInfallibleBuild>(
 #[inline(never)]
 fn and<B: ExprBuilderInfallibleBuild>(
     alloc: Global,
+    styles: &ExtStyles,
     node: &Node<Option<cst::And>>,
 ) -> Result<ExprOrSpecial<B::Expr>, Failure>
-    ensures { (o : Outcome Held) × AndAnswers node.now o × Gives (plain B.meaning) result o }
+    ensures { Gives (plain B.meaning) result (outcome (table_of styles.now) (located and_form node.now)) }
 {
     match &node.node {
-        Some(and) if and.extended.is_empty() => relation::<B>(alloc, &and.initial),
-        _ => and_chain::<B>(alloc, node),
+        Some(and) if and.extended.is_empty() => relation::<B>(alloc, styles, &and.initial),
+        _ => and_chain::<B>(alloc, styles, node),
     }
 }
 
@@ -125,18 +133,20 @@ fn and<B: ExprBuilderInfallibleBuild>(
 #[inline(never)]
 fn and_chain<B: ExprBuilderInfallibleBuild>(
     alloc: Global,
+    styles: &ExtStyles,
     node: &Node<Option<cst::And>>,
 ) -> Result<ExprOrSpecial<B::Expr>, Failure>
-    ensures { (o : Outcome Held) × AndAnswers node.now o × Gives (plain B.meaning) result o }
+    ensures { Gives (plain B.meaning) result (outcome (table_of styles.now) (located and_form node.now)) }
 {
     match &node.node {
         Some(and) => {
-            let first = relation::<B>(alloc, &and.initial);
-            let mut rest: Result<Vec<B::Expr>, Failure> = Ok(Vec::new(alloc));
+            let first = relation::<B>(alloc, styles, &and.initial);
+            let mut rest: Result<Vec<(AndAnd, B::Expr)>, Failure> = Ok(Vec::new(alloc));
             for part in and.extended.as_slice() {
-                rest = more::<B>(rest, expr_of::<B>(alloc, relation::<B>(alloc, part)));
+                let part = expr_of::<B>(alloc, relation::<B>(alloc, styles, part));
+                rest = more::<B, AndAnd>(rest, AndAnd, part);
             }
-            and_from::<B>(alloc, &node.loc, first, rest)
+            chain_from::<B, AndAnd>(alloc, &node.loc, first, rest, Ok(()))
         }
         None => Err(unreached(alloc, &node.loc)),
     }
@@ -147,15 +157,16 @@ fn and_chain<B: ExprBuilderInfallibleBuild>(
 #[inline(never)]
 fn relation<B: ExprBuilderInfallibleBuild>(
     alloc: Global,
+    styles: &ExtStyles,
     node: &Node<Option<cst::Relation>>,
 ) -> Result<ExprOrSpecial<B::Expr>, Failure>
-    ensures { (o : Outcome Held) × RelationAnswers node.now o × Gives (plain B.meaning) result o }
+    ensures { Gives (plain B.meaning) result (outcome (table_of styles.now) (located relation_form node.now)) }
 {
     match &node.node {
         Some(cst::Relation::Common { initial, extended }) if extended.is_empty() => {
-            add::<B>(alloc, initial)
+            add::<B>(alloc, styles, initial)
         }
-        _ => relation_chain::<B>(alloc, node),
+        _ => relation_chain::<B>(alloc, styles, node),
     }
 }
 
@@ -163,18 +174,21 @@ fn relation<B: ExprBuilderInfallibleBuild>(
 #[inline(never)]
 fn relation_chain<B: ExprBuilderInfallibleBuild>(
     alloc: Global,
+    styles: &ExtStyles,
     node: &Node<Option<cst::Relation>>,
 ) -> Result<ExprOrSpecial<B::Expr>, Failure>
-    ensures { (o : Outcome Held) × RelationAnswers node.now o × Gives (plain B.meaning) result o }
+    ensures { Gives (plain B.meaning) result (outcome (table_of styles.now) (located relation_form node.now)) }
 {
     match &node.node {
         Some(cst::Relation::Common { initial, extended }) => {
-            let first = add::<B>(alloc, initial);
+            let first = add::<B>(alloc, styles, initial);
             let mut rest: Result<Vec<(RelOp, B::Expr)>, Failure> = Ok(Vec::new(alloc));
             for (op, part) in extended.as_slice() {
-                rest = more_related::<B>(rest, *op, expr_of::<B>(alloc, add::<B>(alloc, part)));
+                let part = expr_of::<B>(alloc, add::<B>(alloc, styles, part));
+                rest = more::<B, RelOp>(rest, *op, part);
             }
-            relation_from::<B>(alloc, &node.loc, extended.len(), first, rest)
+            let allowed = at_most_one(alloc, &node.loc, extended.as_slice());
+            chain_from::<B, RelOp>(alloc, &node.loc, first, rest, allowed)
         }
         Some(cst::Relation::Has { .. }) => Err(unreached(alloc, &node.loc)),
         Some(cst::Relation::Like { .. }) => Err(unreached(alloc, &node.loc)),
@@ -188,13 +202,14 @@ fn relation_chain<B: ExprBuilderInfallibleBuild>(
 #[inline(never)]
 fn add<B: ExprBuilderInfallibleBuild>(
     alloc: Global,
+    styles: &ExtStyles,
     node: &Node<Option<cst::Add>>,
 ) -> Result<ExprOrSpecial<B::Expr>, Failure>
-    ensures { (o : Outcome Held) × AddAnswers node.now o × Gives (plain B.meaning) result o }
+    ensures { Gives (plain B.meaning) result (outcome (table_of styles.now) (located add_form node.now)) }
 {
     match &node.node {
-        Some(add) if add.extended.is_empty() => mult::<B>(alloc, &add.initial),
-        _ => add_chain::<B>(alloc, node),
+        Some(add) if add.extended.is_empty() => mult::<B>(alloc, styles, &add.initial),
+        _ => add_chain::<B>(alloc, styles, node),
     }
 }
 
@@ -202,18 +217,20 @@ fn add<B: ExprBuilderInfallibleBuild>(
 #[inline(never)]
 fn add_chain<B: ExprBuilderInfallibleBuild>(
     alloc: Global,
+    styles: &ExtStyles,
     node: &Node<Option<cst::Add>>,
 ) -> Result<ExprOrSpecial<B::Expr>, Failure>
-    ensures { (o : Outcome Held) × AddAnswers node.now o × Gives (plain B.meaning) result o }
+    ensures { Gives (plain B.meaning) result (outcome (table_of styles.now) (located add_form node.now)) }
 {
     match &node.node {
         Some(add) => {
-            let first = mult::<B>(alloc, &add.initial);
+            let first = mult::<B>(alloc, styles, &add.initial);
             let mut rest: Result<Vec<(AddOp, B::Expr)>, Failure> = Ok(Vec::new(alloc));
             for (op, part) in add.extended.as_slice() {
-                rest = more_added::<B>(rest, *op, expr_of::<B>(alloc, mult::<B>(alloc, part)));
+                let part = expr_of::<B>(alloc, mult::<B>(alloc, styles, part));
+                rest = more::<B, AddOp>(rest, *op, part);
             }
-            add_from::<B>(alloc, &node.loc, first, rest)
+            chain_from::<B, AddOp>(alloc, &node.loc, first, rest, Ok(()))
         }
         None => Err(unreached(alloc, &node.loc)),
     }
@@ -224,13 +241,14 @@ fn add_chain<B: ExprBuilderInfallibleBuild>(
 #[inline(never)]
 fn mult<B: ExprBuilderInfallibleBuild>(
     alloc: Global,
+    styles: &ExtStyles,
     node: &Node<Option<cst::Mult>>,
 ) -> Result<ExprOrSpecial<B::Expr>, Failure>
-    ensures { (o : Outcome Held) × MultAnswers node.now o × Gives (plain B.meaning) result o }
+    ensures { Gives (plain B.meaning) result (outcome (table_of styles.now) (located mult_form node.now)) }
 {
     match &node.node {
-        Some(mult) if mult.extended.is_empty() => unary::<B>(alloc, &mult.initial),
-        _ => mult_chain::<B>(alloc, node),
+        Some(mult) if mult.extended.is_empty() => unary::<B>(alloc, styles, &mult.initial),
+        _ => mult_chain::<B>(alloc, styles, node),
     }
 }
 
@@ -238,19 +256,20 @@ fn mult<B: ExprBuilderInfallibleBuild>(
 #[inline(never)]
 fn mult_chain<B: ExprBuilderInfallibleBuild>(
     alloc: Global,
+    styles: &ExtStyles,
     node: &Node<Option<cst::Mult>>,
 ) -> Result<ExprOrSpecial<B::Expr>, Failure>
-    ensures { (o : Outcome Held) × MultAnswers node.now o × Gives (plain B.meaning) result o }
+    ensures { Gives (plain B.meaning) result (outcome (table_of styles.now) (located mult_form node.now)) }
 {
     match &node.node {
         Some(mult) => {
-            let first = unary::<B>(alloc, &mult.initial);
-            let mut rest: Result<Vec<B::Expr>, Failure> = Ok(Vec::new(alloc));
+            let first = unary::<B>(alloc, styles, &mult.initial);
+            let mut rest: Result<Vec<(MultOp, B::Expr)>, Failure> = Ok(Vec::new(alloc));
             for (op, part) in mult.extended.as_slice() {
-                let factor = expr_of::<B>(alloc, unary::<B>(alloc, part));
-                rest = more::<B>(rest, factor_of::<B>(alloc, &node.loc, *op, factor));
+                let part = expr_of::<B>(alloc, unary::<B>(alloc, styles, part));
+                rest = more::<B, MultOp>(rest, *op, factor_of::<B>(alloc, &node.loc, *op, part));
             }
-            mult_from::<B>(alloc, &node.loc, first, rest)
+            chain_from::<B, MultOp>(alloc, &node.loc, first, rest, Ok(()))
         }
         None => Err(unreached(alloc, &node.loc)),
     }
@@ -261,13 +280,14 @@ fn mult_chain<B: ExprBuilderInfallibleBuild>(
 #[inline(never)]
 fn unary<B: ExprBuilderInfallibleBuild>(
     alloc: Global,
+    styles: &ExtStyles,
     node: &Node<Option<cst::Unary>>,
 ) -> Result<ExprOrSpecial<B::Expr>, Failure>
-    ensures { (o : Outcome Held) × UnaryAnswers node.now o × Gives (plain B.meaning) result o }
+    ensures { Gives (plain B.meaning) result (outcome (table_of styles.now) (located unary_form node.now)) }
 {
     match &node.node {
-        Some(unary) if unary.op.is_none() => member::<B>(alloc, &unary.item),
-        _ => signed::<B>(alloc, node),
+        Some(unary) if unary.op.is_none() => member::<B>(alloc, styles, &unary.item),
+        _ => signed::<B>(alloc, styles, node),
     }
 }
 
@@ -275,9 +295,10 @@ fn unary<B: ExprBuilderInfallibleBuild>(
 #[inline(never)]
 fn signed<B: ExprBuilderInfallibleBuild>(
     alloc: Global,
+    styles: &ExtStyles,
     node: &Node<Option<cst::Unary>>,
 ) -> Result<ExprOrSpecial<B::Expr>, Failure>
-    ensures { (o : Outcome Held) × UnaryAnswers node.now o × Gives (plain B.meaning) result o }
+    ensures { Gives (plain B.meaning) result (outcome (table_of styles.now) (located unary_form node.now)) }
 {
     match &node.node {
         Some(unary) => {
@@ -285,7 +306,7 @@ fn signed<B: ExprBuilderInfallibleBuild>(
             match without_operand::<B>(alloc, &node.loc, unary.op, bare) {
                 Some(answer) => answer,
                 None => {
-                    let item = member::<B>(alloc, &unary.item);
+                    let item = member::<B>(alloc, styles, &unary.item);
                     signed_from::<B>(alloc, &node.loc, unary.op, bare, item)
                 }
             }
@@ -298,14 +319,15 @@ fn signed<B: ExprBuilderInfallibleBuild>(
 #[inline(never)]
 fn member<B: ExprBuilderInfallibleBuild>(
     alloc: Global,
+    styles: &ExtStyles,
     node: &Node<Option<cst::Member>>,
 ) -> Result<ExprOrSpecial<B::Expr>, Failure>
-    ensures { (o : Outcome Held) × MemberAnswers node.now o × Gives (plain B.meaning) result o }
+    ensures { Gives (plain B.meaning) result (outcome (table_of styles.now) (located member_form node.now)) }
 {
     match &node.node {
         Some(member) => {
             if member.access.is_empty() {
-                primary::<B>(alloc, &member.item)
+                primary::<B>(alloc, styles, &member.item)
             } else {
                 Err(unreached(alloc, &node.loc))
             }
@@ -318,14 +340,17 @@ fn member<B: ExprBuilderInfallibleBuild>(
 #[inline(never)]
 fn primary<B: ExprBuilderInfallibleBuild>(
     alloc: Global,
+    styles: &ExtStyles,
     node: &Node<Option<cst::Primary>>,
 ) -> Result<ExprOrSpecial<B::Expr>, Failure>
-    ensures { (o : Outcome Held) × PrimaryAnswers node.now o × Gives (plain B.meaning) result o }
+    ensures { Gives (plain B.meaning) result (outcome (table_of styles.now) (located primary_form node.now)) }
 {
     match &node.node {
         Some(cst::Primary::Literal(inner)) => literal::<B>(alloc, inner),
         Some(cst::Primary::Name(inner)) => named::<B>(alloc, inner),
-        Some(cst::Primary::Expr(inner)) => parens_from::<B>(alloc, expr::<B>(alloc, inner)),
+        Some(cst::Primary::Expr(inner)) => {
+            parens_from::<B>(alloc, &inner.loc, expr::<B>(alloc, styles, inner))
+        }
         Some(cst::Primary::Ref(_)) => Err(unreached(alloc, &node.loc)),
         Some(cst::Primary::Slot(_)) => Err(unreached(alloc, &node.loc)),
         Some(cst::Primary::EList(_)) => Err(unreached(alloc, &node.loc)),

@@ -1,12 +1,14 @@
 //! Converts placed trees to values.
-ghost use Rattle.std.specs.Prelude.{◌≡◌, IfOk, IfErr, Some};
+ghost use Rattle.std.specs.Prelude.{◌≡◌, ℕ, List};
 ghost use Rattle.std.specs.BTreeSet.{contains};
-ghost use Rattle.cedar_syntax.specs.Unplaced.{tree_at, expr_tree};
-ghost use Rattle.cedar_policy_parser.specs.Converted.{Converts};
-ghost use Rattle.cedar_policy_parser.specs.Refused.{RefusesTree, TellsTree};
+ghost use Rattle.cedar_expressions.specs.Path.{Path};
+ghost use Rattle.cedar_syntax.specs.Forms.{located, expr_form};
+ghost use Rattle.cedar_policy_parser.specs.Conversion.{value_outcome};
+ghost use Rattle.cedar_policy_parser.specs.Extensions.{table_of};
+ghost use Rattle.cedar_policy_parser.specs.Seen.{Gives};
 
 use crate::convert::expr;
-use crate::join::expr_of;
+use crate::special::expr_of;
 use cedar_expressions::{ExprBuilderInfallibleBuild, Name, UnreservedId};
 use cedar_syntax::cst::Expr;
 use cedar_syntax::err::Failure;
@@ -14,7 +16,7 @@ use cedar_syntax::node::Node;
 use std::alloc::Global;
 use std::collections::BTreeSet;
 
-/// The extension functions and methods that a text may call.
+/// The extension functions and methods that a text may call: two sets.
 #[derive(Drop)]
 pub struct ExtStyles {
     functions: BTreeSet<Name>,
@@ -24,21 +26,24 @@ pub struct ExtStyles {
 impl ExtStyles {
     /// The table of these functions and these methods.
     pub fn new(functions: BTreeSet<Name>, methods: BTreeSet<UnreservedId>) -> ExtStyles
-        ensures { (result.functions ≡ functions) × (result.methods ≡ methods) }
+        ensures functions { (name : Path)
+            → (table_of result).functions name ≡ contains ⟦<Name as Ord>⟧.cmp functions name }
+        ensures methods { (id : List ℕ)
+            → (table_of result).methods id ≡ contains ⟦<UnreservedId as Ord>⟧.cmp methods id }
     {
         ExtStyles { functions, methods }
     }
 
     /// Whether the table has a function of this name.
     pub fn is_function(&self, name: &Name) -> bool
-        ensures { result ≡ contains ⟦<Name as Ord>⟧.cmp self.now.functions name.now }
+        ensures { result ≡ (table_of self.now).functions name.now }
     {
         self.functions.contains(name)
     }
 
     /// Whether the table has a method of this name.
     pub fn is_method(&self, id: &UnreservedId) -> bool
-        ensures { result ≡ contains ⟦<UnreservedId as Ord>⟧.cmp self.now.methods id.now }
+        ensures { result ≡ (table_of self.now).methods id.now }
     {
         self.methods.contains(id)
     }
@@ -46,7 +51,7 @@ impl ExtStyles {
 
 /// The conversion of an expression's tree.
 pub trait ExprAst {
-    /// The expression that the tree stands for, made by the builder. It is refused, want of memory aside, exactly where there is none.
+    /// The expression that the tree stands for, made by the builder, or all faults that hinder it, in their order. Or it is `Failure::Memory`.
     fn to_expr<B: ExprBuilderInfallibleBuild>(
         &self,
         alloc: Global,
@@ -58,12 +63,10 @@ impl ExprAst for Node<Option<Expr>> {
     fn to_expr<B: ExprBuilderInfallibleBuild>(
         &self,
         alloc: Global,
-        _styles: &ExtStyles,
+        styles: &ExtStyles,
     ) -> Result<B::Expr, Failure>
-        ensures value { IfOk result (λ e. Converts (tree_at expr_tree self.now) (B.meaning e)) }
-        ensures refused { IfErr result (λ failure. RefusesTree failure (tree_at expr_tree self.now)) }
-        ensures told { IfErr result (λ failure. TellsTree failure self.now) }
+        ensures { Gives B.meaning result (value_outcome (table_of styles.now) (located expr_form self.now)) }
     {
-        expr_of::<B>(alloc, expr::<B>(alloc, self))
+        expr_of::<B>(alloc, expr::<B>(alloc, styles, self))
     }
 }

@@ -1,13 +1,16 @@
 //! Converts placed trees to expressions.
 #![tactic(auto)]
 
+mod chain;
+mod conditional;
 mod convert;
 pub mod cst_to_ast;
 mod join;
 pub mod laws;
-mod leaf;
-mod one_more;
+mod literals;
+mod names;
 mod parse;
+mod signs;
 mod special;
 mod strings;
 

@@ -1,10 +1,12 @@
 //! Expressions, and what is one but may be something else where it stands bare; refusals at a place.
-ghost use Rattle.std.specs.Prelude.{◌≡◌};
+ghost use Rattle.std.specs.Prelude.{◌≡◌, Ok};
 ghost use Rattle.std.specs.Option.{option_map};
-ghost use Rattle.cedar_policy_parser.specs.Outcome.{Gives, TellsAlone};
-ghost use Rattle.cedar_policy_parser.specs.Seen.{plain};
-ghost use Rattle.cedar_policy_parser.specs.Levels.{as_expression};
+ghost use Rattle.cedar_expressions.specs.Value.{Value};
+ghost use Rattle.cedar_policy_parser.specs.Held.{Held, expression, as_expression};
+ghost use Rattle.cedar_policy_parser.specs.Outcome.{Outcome, empty_node, next};
+ghost use Rattle.cedar_policy_parser.specs.Seen.{Gives, TellsAlone, kind_of, plain};
 
+use crate::strings::text_of;
 use cedar_expressions::{ExprBuilderInfallibleBuild, Literal, Place, Text, TryClone, Var};
 use cedar_syntax::err::{Failure, ParseErrors, ToASTError, ToASTErrorKind};
 use cedar_syntax::loc::Loc;
@@ -13,41 +15,53 @@ use std::alloc::Global;
 /// An expression, or a form that is one where an expression is wanted and something else elsewhere, with its place.
 #[derive(Drop)]
 pub(crate) enum ExprOrSpecial<E> {
-    Expr(E),
-    Var(Var, Option<Place>),
-    BoolLit(bool, Option<Place>),
-    /// The text that a string stands for, or its escape faults, which are told once it is wanted as an expression.
-    StrLit(Result<Text, ParseErrors>, Option<Place>),
+    Expr(E, Option<Loc>),
+    Var(Var, Option<Loc>),
+    BoolLit(bool, Option<Loc>),
+    /// A string as it is written. Its escape faults are told once it is wanted as an expression.
+    StrLit(Text, Option<Loc>),
 }
 
-/// A place as the builder takes it.
-pub(crate) fn place_of(loc: &Option<Loc>) -> Option<Place>
-    ensures { result ≡ option_map (λ l. record { offset = l.span.offset; length = l.span.len }) loc.now }
+/// A builder for a node at a place.
+pub(crate) fn builder_at<B: ExprBuilderInfallibleBuild>(alloc: Global, loc: &Option<Loc>) -> B
+    ensures { B.node_place result ≡ option_map
+        (λ l. record { offset = l.span.offset; length = l.span.len }) loc.now }
 {
-    match loc {
+    let place = match loc {
         Some(loc) => Some(Place {
             offset: loc.span.offset(),
             length: loc.span.len(),
         }),
         None => None,
-    }
+    };
+    B::new(alloc).with_maybe_source_loc(place)
 }
 
-/// A builder for a node at a place.
-pub(crate) fn builder_at<B: ExprBuilderInfallibleBuild>(alloc: Global, place: Option<Place>) -> B
-    ensures { B.node_place result ≡ place }
+/// An expression that was made, at its place.
+pub(crate) fn made<B: ExprBuilderInfallibleBuild>(
+    expr: B::Expr,
+    loc: &Option<Loc>,
+) -> Result<ExprOrSpecial<B::Expr>, Failure>
+    ensures { Gives (plain B.meaning) result (Ok (expression loc.now (B.meaning expr))) }
 {
-    B::new(alloc).with_maybe_source_loc(place)
+    Ok(ExprOrSpecial::Expr(expr, loc.try_clone()?))
 }
 
 /// One fault at a place.
 pub(crate) fn refusal(alloc: Global, kind: ToASTErrorKind, loc: &Option<Loc>) -> Failure
-    ensures { TellsAlone result kind loc.now }
+    ensures { TellsAlone result (kind_of kind) loc.now }
 {
     match loc.try_clone() {
         Ok(loc) => Failure::Errors(ParseErrors::from_ast(alloc, ToASTError::new(kind, loc))),
         Err(error) => Failure::Memory(error),
     }
+}
+
+/// A node with nothing in it, or with a form that isn't converted yet.
+pub(crate) fn unreached(alloc: Global, loc: &Option<Loc>) -> Failure
+    ensures { TellsAlone result empty_node loc.now }
+{
+    refusal(alloc, ToASTErrorKind::EmptyNodeInvariantViolation, loc)
 }
 
 /// The expression that a form is where an expression is wanted.
@@ -58,31 +72,22 @@ pub(crate) fn into_expr<B: ExprBuilderInfallibleBuild>(
     ensures { Gives B.meaning result (as_expression (plain B.meaning special)) }
 {
     match special {
-        ExprOrSpecial::Expr(expr) => Ok(expr),
-        ExprOrSpecial::Var(var, place) => Ok(builder_at::<B>(alloc, place).var(var)?),
-        ExprOrSpecial::BoolLit(value, place) => {
-            Ok(builder_at::<B>(alloc, place).val(Literal::Bool(value))?)
+        ExprOrSpecial::Expr(expr, _) => Ok(expr),
+        ExprOrSpecial::Var(var, loc) => Ok(builder_at::<B>(alloc, &loc).var(var)?),
+        ExprOrSpecial::BoolLit(value, loc) => {
+            Ok(builder_at::<B>(alloc, &loc).val(Literal::Bool(value))?)
         }
-        ExprOrSpecial::StrLit(text, place) => match text {
-            Ok(text) => Ok(builder_at::<B>(alloc, place).val(Literal::String(text))?),
-            Err(faults) => Err(Failure::Errors(faults)),
-        },
+        ExprOrSpecial::StrLit(raw, loc) => text_of::<B>(alloc, &raw, &loc),
     }
 }
 
-/// A string that no text is written as, with its raw text.
-pub(crate) fn invalid_string(alloc: Global, raw: &Text, loc: &Option<Loc>) -> Failure
-    ensures { TellsAlone result (ToASTErrorKind.InvalidString raw.now) loc.now }
+/// The expression that a conversion gives.
+pub(crate) fn expr_of<B: ExprBuilderInfallibleBuild>(
+    alloc: Global,
+    converted: Result<ExprOrSpecial<B::Expr>, Failure>,
+) -> Result<B::Expr, Failure>
+    ensures { (x : Outcome Held) → Gives (plain B.meaning) converted x
+        → Gives B.meaning result (next x as_expression) }
 {
-    match raw.try_clone() {
-        Ok(raw) => refusal(alloc, ToASTErrorKind::InvalidString(raw), loc),
-        Err(error) => Failure::Memory(error),
-    }
-}
-
-/// A node with nothing in it, or with a form that isn't converted yet.
-pub(crate) fn unreached(alloc: Global, loc: &Option<Loc>) -> Failure
-    ensures { TellsAlone result ToASTErrorKind.EmptyNodeInvariantViolation loc.now }
-{
-    refusal(alloc, ToASTErrorKind::EmptyNodeInvariantViolation, loc)
+    into_expr::<B>(alloc, converted?)
 }

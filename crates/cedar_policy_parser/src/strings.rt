@@ -2,25 +2,28 @@
 ghost use Rattle.std.specs.Prelude.{◌≡◌, IfOk};
 ghost use Rattle.cedar_syntax.specs.NonEmpty.{list_of};
 ghost use Rattle.cedar_syntax.specs.ParseErrors.{faults_of};
-ghost use Rattle.cedar_policy_parser.specs.Levels.{string_outcome, told_at};
-ghost use Rattle.cedar_policy_parser.specs.Seen.{text_seen};
-ghost use Rattle.cedar_policy_parser.specs.Strings as s;
+ghost use Rattle.cedar_policy_parser.specs.Held.{text_value};
+ghost use Rattle.cedar_policy_parser.specs.Outcome.{next};
+ghost use Rattle.cedar_policy_parser.specs.Seen.{Gives, itself, told};
+ghost use Rattle.cedar_policy_parser.specs.Strings.{text_outcome, told_at};
 
-use cedar_expressions::{Text, TryClone};
+use crate::special::builder_at;
+use cedar_expressions::{ExprBuilderInfallibleBuild, Literal, Text, TryClone};
 use cedar_syntax::err::{
-    NonEmpty, ParseError, ParseErrors, ToASTError, ToASTErrorKind, UnescapeError, UnescapeFailure,
+    Failure, NonEmpty, ParseError, ParseErrors, ToASTError, ToASTErrorKind, UnescapeError,
+    UnescapeFailure,
 };
 use cedar_syntax::loc::Loc;
 use cedar_text::unescape::to_unescaped_string;
 use std::alloc::{AllocError, Global};
 
 /// The escape faults of a string, each at the string's place.
-fn escape_faults(
+pub(crate) fn escape_faults(
     alloc: Global,
     faults: NonEmpty<UnescapeError>,
     loc: &Option<Loc>,
 ) -> Result<ParseErrors, AllocError>
-    ensures { IfOk result (λ all. faults_of all ≡ told_at loc.now (list_of faults)) }
+    ensures { IfOk result (λ all. told (faults_of all) ≡ told_at loc.now (list_of faults)) }
 {
     let NonEmpty { head, tail } = faults;
     let first = ToASTError::new(ToASTErrorKind::Unescape(head), loc.try_clone()?);
@@ -33,16 +36,26 @@ fn escape_faults(
 }
 
 /// The text that a raw text stands for, or its escape faults, each at the string's place.
-pub(crate) fn unescape(
-    alloc: Global,
-    raw: &str,
-    loc: &Option<Loc>,
-) -> Result<Result<Text, ParseErrors>, AllocError>
-    ensures { IfOk result (λ text. text_seen text ≡ string_outcome loc.now (s.escape_faults raw.now) (s.unescaped raw.now)) }
+pub(crate) fn unescaped(alloc: Global, raw: &Text, loc: &Option<Loc>) -> Result<Text, Failure>
+    ensures { Gives itself result (text_outcome loc.now raw.now) }
 {
-    match to_unescaped_string(alloc, raw) {
-        Ok(text) => Ok(Ok(Text::from(text))),
-        Err(UnescapeFailure::Memory(error)) => Err(error),
-        Err(UnescapeFailure::Errors(faults)) => Ok(Err(escape_faults(alloc, faults, loc)?)),
+    match to_unescaped_string(alloc, raw.as_str()) {
+        Ok(text) => Ok(Text::from(text)),
+        Err(UnescapeFailure::Memory(error)) => Err(Failure::Memory(error)),
+        Err(UnescapeFailure::Errors(faults)) => {
+            Err(Failure::Errors(escape_faults(alloc, faults, loc)?))
+        }
     }
+}
+
+/// The constant that a string is.
+pub(crate) fn text_of<B: ExprBuilderInfallibleBuild>(
+    alloc: Global,
+    raw: &Text,
+    loc: &Option<Loc>,
+) -> Result<B::Expr, Failure>
+    ensures { Gives B.meaning result (next (text_outcome loc.now raw.now) text_value) }
+{
+    let text = unescaped(alloc, raw, loc)?;
+    Ok(builder_at::<B>(alloc, loc).val(Literal::String(text))?)
 }

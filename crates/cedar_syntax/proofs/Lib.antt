@@ -1,3 +1,4 @@
+pub mod FormLevels
 pub mod Levels
 pub mod Printing
 pub mod Texts

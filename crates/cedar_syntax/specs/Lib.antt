@@ -1,8 +1,10 @@
 pub mod Conjoined
 pub mod Faults
+pub mod Forms
 pub mod Help
 pub mod Kept
 pub mod Lending
+pub mod Located
 pub mod Messages
 pub mod Node
 pub mod NonEmpty
@@ -13,4 +15,5 @@ pub mod RawFault
 pub mod Span
 pub mod ToASTError
 pub mod Tree
+pub mod Unlocated
 pub mod Unplaced

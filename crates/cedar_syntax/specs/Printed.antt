@@ -1,5 +1,5 @@
 -- The printed text of a tree: its tokens' texts in the order of the grammar, with one space between two.
-use Rattle.std.specs.Prelude.{ℕ, List, [], ◌∷◌, ◌++◌, Option, Some, None, codes, decimal, replicate}
+use Rattle.std.specs.Prelude.{ℕ, ◌+◌, List, [], ◌∷◌, ◌++◌, Option, Some, None, codes, decimal, replicate}
 use Rattle.cedar_expressions.specs.declared.operators.AddOp.{AddOp}
 use Rattle.cedar_expressions.specs.declared.operators.AddOp.TheVariants as add_op
 use Rattle.cedar_syntax.specs.declared.cst.Ident.{Ident}
@@ -14,6 +14,7 @@ use Rattle.cedar_syntax.specs.declared.cst.MultOp.{MultOp}
 use Rattle.cedar_syntax.specs.declared.cst.MultOp.TheVariants as mult_op
 use Rattle.cedar_syntax.specs.declared.cst.NegOp.{NegOp}
 use Rattle.cedar_syntax.specs.declared.cst.NegOp.TheVariants as neg_op
+use Rattle.cedar_syntax.specs.declared.cst.TheConstants.{SIGN_LIMIT}
 use Rattle.cedar_syntax.specs.Tree.{Tree, Rest, Operator, missing, ite, chain, has, like, is, is_in, unary, member, field, call, index, number, truth, falsity, string, name, slot, entity, reference, ref_init, parens, set, record_of, init, word, annotation, variable_def, condition, empty_condition, policy, policies, none, more, or_or, and_and, compare, add, multiply, beside}
 
 -- the texts of tokens, in order
@@ -51,12 +52,12 @@ mult_op_texts mult_op.Times = codes "*" ∷ []
 mult_op_texts mult_op.Divide = codes "/" ∷ []
 mult_op_texts mult_op.Mod = codes "%" ∷ []
 
--- more signs than a value may have are five
+-- more signs than are counted are one more than the limit
 abbrev pub neg_op_texts : NegOp → Texts
 neg_op_texts (neg_op.Bang n) = replicate n (codes "!")
-neg_op_texts neg_op.OverBang = replicate 5 (codes "!")
+neg_op_texts neg_op.OverBang = replicate (SIGN_LIMIT + 1) (codes "!")
 neg_op_texts (neg_op.Dash n) = replicate n (codes "-")
-neg_op_texts neg_op.OverDash = replicate 5 (codes "-")
+neg_op_texts neg_op.OverDash = replicate (SIGN_LIMIT + 1) (codes "-")
 
 -- words are themselves
 abbrev pub ident_texts : Ident → Texts

@@ -1,4 +1,4 @@
--- The place-free tree of each syntax tree.
+-- The place-free tree of each syntax tree: an expression's is its form without the places.
 use Rattle.std.specs.Prelude.{List, [], ◌∷◌, map, Option, Some, None, option_map}
 use Rattle.cedar_expressions.specs.declared.operators.AddOp.{AddOp}
 use Rattle.cedar_syntax.specs.declared.node.Node.{Node}
@@ -33,8 +33,9 @@ use Rattle.cedar_syntax.specs.declared.cst.Mult.{Mult}
 use Rattle.cedar_syntax.specs.declared.cst.Or.{Or}
 use Rattle.cedar_syntax.specs.declared.cst.RecInit.{RecInit}
 use Rattle.cedar_syntax.specs.declared.cst.Unary.{Unary}
-use Rattle.cedar_syntax.specs.declared.cst.Expr.TheOpen.{Expr-F, ExprData-F, MemAccess-F, Primary-F, Relation-F, Add-F, And-F, ExprImpl-F, Member-F, Mult-F, Or-F, RecInit-F, Unary-F}
-use Rattle.cedar_syntax.specs.declared.cst.Expr.TheFolds.{fold-Expr, fold-ExprData, fold-MemAccess, fold-Primary, fold-Relation, fold-Add, fold-And, fold-ExprImpl, fold-Member, fold-Mult, fold-Or, fold-RecInit, fold-Unary}
+use Rattle.cedar_syntax.specs.Forms.{expr_form, data_form, access_form, primary_form, relation_form, add_form, and_form, impl_form, member_form, mult_form, or_form, init_form, unary_form}
+use Rattle.cedar_syntax.specs.Located as p
+use Rattle.cedar_syntax.specs.Located.{Located, Form, Parts}
 use Rattle.cedar_syntax.specs.Tree.{Tree, Rest, Operator, missing, ite, chain, has, like, is, is_in, unary, member, field, call, index, number, truth, falsity, string, name, slot, entity, reference, ref_init, parens, set, record_of, init, word, annotation, variable_def, condition, empty_condition, policy, policies, none, more, disjunction, conjunction, relation, sum, product, or_or, and_and, compare, add, multiply, beside}
 
 -- ---- nodes and lists
@@ -122,107 +123,82 @@ ref_in r = or_missing (option_map ref_tree r)
 abbrev pub annotation_tree : Annotation → Tree
 annotation_tree a = annotation a.key.node (option_map (λ (v : Node (Option Str)). v.node) a.value)
 
--- ---- one level of an expression, its parts already without places
-
-abbrev pub T : Type 0
-T = Tree
-
-abbrev pub expr_step : Expr-F T T T T T T T T T T T T T → Tree
-expr_step (Expr-F.«Expr::Expr» e) = e
-
-abbrev pub impl_step : ExprImpl-F T T T T T T T T T T T T T → Tree
-impl_step e = e.expr
-
-abbrev pub data_step : ExprData-F T T T T T T T T T T T T T → Tree
-data_step (ExprData-F.Or n) = content n
-data_step (ExprData-F.If a b c) = ite (content a) (content b) (content c)
-
-abbrev pub or_step : Or-F T T T T T T T T T T T T T → Tree
-or_step o = chain disjunction (content o.initial) (behind or_or o.extended)
-
-abbrev pub and_step : And-F T T T T T T T T T T T T T → Tree
-and_step o = chain conjunction (content o.initial) (behind and_and o.extended)
+-- ---- an expression without its places
 
 -- `is` alone, or with what stands behind `in`
 abbrev pub typed : Tree → Tree → Option (Node (Option Tree)) → Tree
 typed target entity_type None = is target entity_type
 typed target entity_type (Some n) = is_in target entity_type (content n)
 
-abbrev pub relation_step : Relation-F T T T T T T T T T T T T T → Tree
-relation_step (Relation-F.Common initial extended) = chain relation (content initial) (rest_of (map rel_part extended))
-relation_step (Relation-F.Has target right) = has (content target) (content right)
-relation_step (Relation-F.Like target pattern) = like (content target) (content pattern)
-relation_step (Relation-F.IsIn target entity_type in_entity) = typed (content target) (content entity_type) in_entity
+unfoldable mutual
+  pub forget : Located → Tree
+  forget (p.missing place) = missing
+  forget (p.at place f) = forget_form f
 
-abbrev pub add_step : Add-F T T T T T T T T T T T T T → Tree
-add_step o = chain sum (content o.initial) (rest_of (map add_part o.extended))
+  pub forget_form : Form → Tree
+  forget_form (p.only n) = forget n
+  forget_form (p.ite a b c) = ite (forget a) (forget b) (forget c)
+  forget_form (p.chain level first others) = chain level (forget first) (forget_parts others)
+  forget_form (p.has target right) = has (forget target) (forget right)
+  forget_form (p.like target pattern) = like (forget target) (forget pattern)
+  forget_form (p.is target entity_type) = is (forget target) (forget entity_type)
+  forget_form (p.is_in target entity_type within) = is_in (forget target) (forget entity_type) (forget within)
+  forget_form (p.unary op item) = unary op (forget item)
+  forget_form (p.member item accesses) = member (forget item) (forget_parts accesses)
+  forget_form (p.field n) = field n.node
+  forget_form (p.call items) = call (forget_parts items)
+  forget_form (p.index n) = index (forget n)
+  forget_form (p.literal n) = literal_in n.node
+  forget_form (p.name n) = name_in n.node
+  forget_form (p.slot n) = slot_in n.node
+  forget_form (p.reference n) = ref_in n.node
+  forget_form (p.parens n) = parens (forget n)
+  forget_form (p.set items) = set (forget_parts items)
+  forget_form (p.record_of items) = record_of (forget_parts items)
+  forget_form (p.init key value) = init (forget key) (forget value)
 
-abbrev pub mult_step : Mult-F T T T T T T T T T T T T T → Tree
-mult_step o = chain product (content o.initial) (rest_of (map mult_part o.extended))
-
-abbrev pub unary_step : Unary-F T T T T T T T T T T T T T → Tree
-unary_step u = unary u.op (content u.item)
-
-abbrev pub member_step : Member-F T T T T T T T T T T T T T → Tree
-member_step m = member (content m.item) (behind beside m.access)
-
-abbrev pub access_step : MemAccess-F T T T T T T T T T T T T T → Tree
-access_step (MemAccess-F.Field n) = field n.node
-access_step (MemAccess-F.Call ns) = call (behind beside ns)
-access_step (MemAccess-F.Index n) = index (content n)
-
-abbrev pub primary_step : Primary-F T T T T T T T T T T T T T → Tree
-primary_step (Primary-F.Literal n) = literal_in n.node
-primary_step (Primary-F.Ref n) = ref_in n.node
-primary_step (Primary-F.Name n) = name_in n.node
-primary_step (Primary-F.Slot n) = slot_in n.node
-primary_step (Primary-F.«Primary::Expr» n) = parens (content n)
-primary_step (Primary-F.EList ns) = set (behind beside ns)
-primary_step (Primary-F.RInits ns) = record_of (behind beside ns)
-
-abbrev pub init_step : RecInit-F T T T T T T T T T T T T T → Tree
-init_step i = init (content i.0) (content i.1)
-
--- ---- expressions
+  pub forget_parts : Parts → Rest
+  forget_parts p.none = none
+  forget_parts (p.more op n others) = more op (forget n) (forget_parts others)
 
 unfoldable pub expr_tree : Expr → Tree
-expr_tree = fold-Expr T T T T T T T T T T T T T expr_step data_step access_step primary_step relation_step add_step and_step impl_step member_step mult_step or_step init_step unary_step
+expr_tree d = forget_form (expr_form d)
 
 unfoldable pub data_tree : ExprData → Tree
-data_tree = fold-ExprData T T T T T T T T T T T T T expr_step data_step access_step primary_step relation_step add_step and_step impl_step member_step mult_step or_step init_step unary_step
+data_tree d = forget_form (data_form d)
 
 unfoldable pub access_tree : MemAccess → Tree
-access_tree = fold-MemAccess T T T T T T T T T T T T T expr_step data_step access_step primary_step relation_step add_step and_step impl_step member_step mult_step or_step init_step unary_step
+access_tree d = forget_form (access_form d)
 
 unfoldable pub primary_tree : Primary → Tree
-primary_tree = fold-Primary T T T T T T T T T T T T T expr_step data_step access_step primary_step relation_step add_step and_step impl_step member_step mult_step or_step init_step unary_step
+primary_tree d = forget_form (primary_form d)
 
 unfoldable pub relation_tree : Relation → Tree
-relation_tree = fold-Relation T T T T T T T T T T T T T expr_step data_step access_step primary_step relation_step add_step and_step impl_step member_step mult_step or_step init_step unary_step
+relation_tree d = forget_form (relation_form d)
 
 unfoldable pub add_tree : Add → Tree
-add_tree = fold-Add T T T T T T T T T T T T T expr_step data_step access_step primary_step relation_step add_step and_step impl_step member_step mult_step or_step init_step unary_step
+add_tree d = forget_form (add_form d)
 
 unfoldable pub and_tree : And → Tree
-and_tree = fold-And T T T T T T T T T T T T T expr_step data_step access_step primary_step relation_step add_step and_step impl_step member_step mult_step or_step init_step unary_step
+and_tree d = forget_form (and_form d)
 
 unfoldable pub impl_tree : ExprImpl → Tree
-impl_tree = fold-ExprImpl T T T T T T T T T T T T T expr_step data_step access_step primary_step relation_step add_step and_step impl_step member_step mult_step or_step init_step unary_step
+impl_tree d = forget_form (impl_form d)
 
 unfoldable pub member_tree : Member → Tree
-member_tree = fold-Member T T T T T T T T T T T T T expr_step data_step access_step primary_step relation_step add_step and_step impl_step member_step mult_step or_step init_step unary_step
+member_tree d = forget_form (member_form d)
 
 unfoldable pub mult_tree : Mult → Tree
-mult_tree = fold-Mult T T T T T T T T T T T T T expr_step data_step access_step primary_step relation_step add_step and_step impl_step member_step mult_step or_step init_step unary_step
+mult_tree d = forget_form (mult_form d)
 
 unfoldable pub or_tree : Or → Tree
-or_tree = fold-Or T T T T T T T T T T T T T expr_step data_step access_step primary_step relation_step add_step and_step impl_step member_step mult_step or_step init_step unary_step
+or_tree d = forget_form (or_form d)
 
 unfoldable pub init_tree : RecInit → Tree
-init_tree = fold-RecInit T T T T T T T T T T T T T expr_step data_step access_step primary_step relation_step add_step and_step impl_step member_step mult_step or_step init_step unary_step
+init_tree d = forget_form (init_form d)
 
 unfoldable pub unary_tree : Unary → Tree
-unary_tree = fold-Unary T T T T T T T T T T T T T expr_step data_step access_step primary_step relation_step add_step and_step impl_step member_step mult_step or_step init_step unary_step
+unary_tree d = forget_form (unary_form d)
 
 -- ---- parts of an expression with their operators
 

@@ -145,6 +145,9 @@ pub enum MultOp {
     Mod,
 }
 
+/// So many signs before an operand are counted; more are one form, whatever their number.
+pub const SIGN_LIMIT: u8 = 4;
+
 #[derive(Debug, Clone, Copy, PartialEq, Eq)]
 pub enum NegOp {
     Bang(u8),

@@ -3,7 +3,9 @@
 ghost use Rattle.cedar_syntax.specs.Printed.{printed, rel_op_texts, add_op_texts, mult_op_texts, neg_op_texts};
 ghost use Rattle.cedar_syntax.specs.Unplaced.{ident_tree, name_tree, str_tree, literal_tree, slot_tree, ref_tree, ref_init_tree};
 
-use crate::cst::{AddOp, Ident, Literal, MultOp, Name, NegOp, Ref, RefInit, RelOp, Slot, Str};
+use crate::cst::{
+    AddOp, Ident, Literal, MultOp, Name, NegOp, Ref, RefInit, RelOp, SIGN_LIMIT, Slot, Str,
+};
 use crate::tokens::{
     Tokens, write_between, write_followed, write_number, write_quoted, write_repeated, write_token,
 };
@@ -71,9 +73,9 @@ impl Tokens for NegOp {
     ) -> Result<bool, fmt::Error> {
         match self {
             NegOp::Bang(n) => write_repeated("!", *n, fresh, f),
-            NegOp::OverBang => write_repeated("!", 5, fresh, f),
+            NegOp::OverBang => write_repeated("!", SIGN_LIMIT + 1, fresh, f),
             NegOp::Dash(n) => write_repeated("-", *n, fresh, f),
-            NegOp::OverDash => write_repeated("-", 5, fresh, f),
+            NegOp::OverDash => write_repeated("-", SIGN_LIMIT + 1, fresh, f),
         }
     }
 }

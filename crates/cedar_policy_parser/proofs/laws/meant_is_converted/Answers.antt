@@ -1,5 +1,6 @@
+use Rattle.cedar_text.specs.Place.{placed}
 use Rattle.cedar_policy_parser.proofs.Complete.{complete}
 use Rattle.cedar_policy_parser.proofs.laws.meant_is_converted.Goals as goal
 
 pub returns : goal.returns
-returns c src ts w h = let d = complete src h in (d.tree, d.reads, d.gives)
+returns c e src ts w h = let d = complete e src h in (d.tree, d.reads, d.gives (placed src ts d.tree).loc)

@@ -1,0 +1,67 @@
+-- What is made of a first value and those behind operators.
+use Rattle.std.proofs.Common.{◌≡◌, ◌<◌, ◌≤◌, List, [], ◌∷◌, map, length, Option, Ok, Err, refl, sym, ap, ◌∙◌, arith}
+use Rattle.cedar_expressions.specs.declared.operators.AddOp.{AddOp}
+use Rattle.cedar_expressions.specs.Value as v
+use Rattle.cedar_expressions.specs.Value.{Value, values, terms}
+use Rattle.cedar_syntax.specs.declared.loc.Loc.{Loc}
+use Rattle.cedar_syntax.specs.Forms.{parts_of}
+use Rattle.cedar_syntax.specs.Located.{Located, none}
+use Rattle.cedar_syntax.specs.Tree.{Operator, Level, disjunction, conjunction, relation, sum, product, add}
+use Rattle.cedar_policy_parser.specs.Conversion.{Part, bodies, added, combined, joined, allowed, chained, made}
+use Rattle.cedar_policy_parser.specs.Held.{Held, expression, as_expression}
+use Rattle.cedar_policy_parser.specs.Outcome.{Outcome, refused, next, ambiguous_operators}
+
+pub bodies_behind : {O E : Type 0} (operator : O → Operator) (m : E → Value) (es : List (O × E)) → bodies (map (λ p. (operator p.0, m p.1)) es) ≡ map m (map (λ p. p.1) es)
+bodies_behind operator m [] = refl
+bodies_behind operator m (e ∷ es) = ap (λ vs. m e.1 ∷ vs) (bodies_behind operator m es)
+
+pub or_made : {O E : Type 0} (operator : O → Operator) (m : E → Value) (place : Option Loc) (es : List (O × E)) (rest : List E) (a w : Value) → rest ≡ map (λ p. p.1) es → w ≡ v.or_nary a (values (map m rest))
+    → combined disjunction place (map (λ p. (operator p.0, m p.1)) es) a ≡ made place w
+or_made operator m place es rest a w e h = rw (h, e, bodies_behind operator m es) refl
+
+pub and_made : {O E : Type 0} (operator : O → Operator) (m : E → Value) (place : Option Loc) (es : List (O × E)) (rest : List E) (a w : Value) → rest ≡ map (λ p. p.1) es → w ≡ v.and_naryl a (values (map m rest))
+    → combined conjunction place (map (λ p. (operator p.0, m p.1)) es) a ≡ made place w
+and_made operator m place es rest a w e h = rw (h, e, bodies_behind operator m es) refl
+
+pub mult_made : {O E : Type 0} (operator : O → Operator) (m : E → Value) (place : Option Loc) (es : List (O × E)) (rest : List E) (a w : Value) → rest ≡ map (λ p. p.1) es → w ≡ v.mul_nary a (values (map m rest))
+    → combined product place (map (λ p. (operator p.0, m p.1)) es) a ≡ made place w
+mult_made operator m place es rest a w e h = rw (h, e, bodies_behind operator m es) refl
+
+added_behind : {E : Type 0} (m : E → Value) (es : List (AddOp × E)) → added (map (λ p. (add p.0, m p.1)) es) ≡ map (λ p. (p.0, m p.1)) es
+added_behind m [] = refl
+added_behind m (e ∷ es) = ap (λ vs. (e.0, m e.1) ∷ vs) (added_behind m es)
+
+pub sum_made : {E : Type 0} (m : E → Value) (place : Option Loc) (es : List (AddOp × E)) (a w : Value) → w ≡ v.add_nary a (terms (map (λ p. (p.0, m p.1)) es))
+    → combined sum place (map (λ p. (add p.0, m p.1)) es) a ≡ made place w
+sum_made m place es a w h = rw (h, added_behind m es) refl
+
+-- ---- one operator at most
+
+pub several : {X : Type 0} (place : Option Loc) (g : X → Operator × Located) (xs : List X) → 1 < length xs → allowed relation place (parts_of (map g xs)) ≡ refused ambiguous_operators place
+several place g [] h = absurd (omega arith)
+several place g (x ∷ []) h = absurd (omega arith)
+several place g (x ∷ y ∷ xs) h = refl
+
+pub one : {X : Type 0} (place : Option Loc) (g : X → Operator × Located) (xs : List X) → length xs ≤ 1 → allowed relation place (parts_of (map g xs)) ≡ Ok tt
+one place g [] h = refl
+one place g (x ∷ []) h = refl
+one place g (x ∷ y ∷ xs) h = absurd (omega arith)
+
+-- ---- one part and further ones
+
+pub joined_some : {A : Type 0} (level : Level) (place : Option Loc) (s : Held) (g : A → Part) (es : List A) → 0 < length es → joined level place s (map g es) ≡ next (as_expression s) (combined level place (map g es))
+joined_some level place s g [] h = absurd (omega arith)
+joined_some level place s g (e ∷ es) h = refl
+
+-- one part alone gives what it gives
+pub alone : (level : Level) (place : Option Loc) (x : Outcome Held) → chained level place none x (Ok []) ≡ x
+alone disjunction p (Ok s) = refl
+alone disjunction p (Err fs) = refl
+alone conjunction p (Ok s) = refl
+alone conjunction p (Err fs) = refl
+alone relation p (Ok s) = refl
+alone relation p (Err fs) = refl
+alone sum p (Ok s) = refl
+alone sum p (Err fs) = refl
+alone product p (Ok s) = refl
+alone product p (Err fs) = refl
