@@ -1,5 +1,6 @@
 pub mod formers
 pub mod Keys
+pub mod Lending
 pub mod Meaning
 pub mod Path
 pub mod Placed

@@ -19,11 +19,22 @@ impl<T> Model for Boxed<T> {
 }
 
 impl<T> Boxed<T> {
+    ghost use Rattle.std.specs.Borrow.{sem};
+    ghost use Rattle.cedar_expressions.specs.Lending.{lends_boxed};
+
     /// The value, lent.
     pub fn as_ref(&self) -> &T
         ensures { result.now ≡ self.now }
     {
         &self.inner
+    }
+
+    /// The value, lent to be changed where it is.
+    pub fn as_mut(&mut self) -> &mut T
+        ensures* writes_back { sem 𝓛 (lends_boxed T.row self.entry result) }
+        ensures value { result.now ≡ self.old }
+    {
+        self.inner.as_mut()
     }
 
     /// The value, moved out.

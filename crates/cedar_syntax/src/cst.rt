@@ -2,9 +2,6 @@ use crate::node::Node;
 pub use cedar_expressions::AddOp;
 use cedar_expressions::{Boxed, Items, Text};
 
-/// How many signs may stand before one operand.
-pub const SIGN_LIMIT: u8 = 4;
-
 /// The policies of a set.
 #[derive(Debug, Drop, PartialEq, Eq)]
 pub struct Policies(pub Items<Node<Option<Policy>>>);

@@ -2,6 +2,7 @@
 use Rattle.std.specs.Prelude.{ℕ, List, Option, nat_le, cond}
 use Rattle.cedar_expressions.specs.declared.operators.AddOp.{AddOp}
 use Rattle.cedar_syntax.specs.declared.node.Node.{Node}
+use Rattle.cedar_syntax.specs.declared.cst.TheConstants.{SIGN_LIMIT}
 use Rattle.cedar_syntax.specs.declared.cst.Expr.{Expr}
 use Rattle.cedar_syntax.specs.declared.cst.Expr.TheVariants as expr
 use Rattle.cedar_syntax.specs.declared.cst.ExprData.TheVariants as data_of
@@ -99,7 +100,7 @@ policies_of xs = record { 0 = xs }
 
 -- so many signs are counted
 abbrev pub sign_limit : ℕ
-sign_limit = 4
+sign_limit = SIGN_LIMIT
 
 -- n times `!`
 abbrev pub bangs_of : ℕ → NegOp

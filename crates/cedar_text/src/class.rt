@@ -5,7 +5,7 @@ ghost use Rattle.cedar_text.specs.Machine.{class_of, ident_of, number_class, ope
 ghost use Rattle.cedar_text.specs.Written.{Written};
 
 use cedar_lexer::token::TokenKind;
-use cedar_syntax::cst::{AddOp, Ident, MultOp, NegOp, RelOp};
+use cedar_syntax::cst::{AddOp, Ident, MultOp, NegOp, RelOp, SIGN_LIMIT};
 
 /// The words that stand for a part of a request.
 #[derive(Drop, Clone, Copy)]
@@ -132,9 +132,6 @@ pub fn as_ident(variable: Variable) -> Ident
         Variable::Context => Ident::Context,
     }
 }
-
-/// So many signs before an operand are counted.
-const SIGN_LIMIT: u8 = 4;
 
 /// One sign more before an operand, or `None` where the other sign stands before it.
 pub fn signed(op: Option<NegOp>, sign: Sign) -> Option<NegOp>
