@@ -68,6 +68,10 @@ clause_message None = codes "condition clause cannot be empty"
 clause_message (Some word) =
     codes "`" ++ (joined (printed (ident_tree word)) ++ codes "` condition clause cannot be empty")
 
+abbrev pub unnormalized_message : List ℕ → List ℕ → List ℕ
+unnormalized_message what text =
+    codes "`" ++ (what ++ (codes "` needs to be normalized (e.g., whitespace removed): " ++ text))
+
 abbrev pub kind_message : ToASTErrorKind → List ℕ
 kind_message (kind.DuplicateTemplateId id) =
     codes "a template with id `" ++ (id ++ codes "` already exists in the policy set")
@@ -151,8 +155,7 @@ kind_message (kind.InvalidIndex lhs field) =
 kind_message kind.NonStringIndex =
     codes "the contents of an index expression must be a string literal"
 kind_message kind.TypeConstraints = codes "type constraints using `:` are not supported"
-kind_message (kind.NonNormalizedString what src normalized) =
-    codes "`" ++ (what.now ++ (codes "` needs to be normalized (e.g., whitespace removed): " ++ src))
+kind_message (kind.NonNormalizedString what src normalized) = unnormalized_message what.now src
 kind_message kind.EmptyNodeInvariantViolation =
     codes "internal invariant violated. Parsed data node should not be empty"
 kind_message (kind.WrongArity name expected got) = arity_message name.now expected got

@@ -2,9 +2,10 @@
 ghost use Rattle.std.proofs.Common.{Some};
 ghost use Rattle.std.specs.Prelude.{◌≡◌};
 ghost use Rattle.std.specs.Fmt.{WritesOnOk};
-ghost use Rattle.cedar_syntax.specs.Messages.{kind_message, arity_message, arguments_word};
+ghost use Rattle.cedar_syntax.specs.Messages.{kind_message, unnormalized_message, arity_message, arguments_word};
 
 use crate::err::ToASTErrorKind;
+use cedar_expressions::Text;
 use std::fmt;
 
 impl fmt::Display for ToASTErrorKind {
@@ -121,10 +122,7 @@ impl fmt::Display for ToASTErrorKind {
                 f.write_str("the contents of an index expression must be a string literal")
             }
             Self::TypeConstraints => f.write_str("type constraints using `:` are not supported"),
-            Self::NonNormalizedString { kind, src, .. } => write!(
-                f,
-                "`{kind}` needs to be normalized (e.g., whitespace removed): {src}"
-            ),
+            Self::NonNormalizedString { kind, src, .. } => write_unnormalized(kind, src, f),
             Self::EmptyNodeInvariantViolation => f.write_str(
                 "internal invariant violated. Parsed data node should not be empty",
             ),
@@ -142,6 +140,20 @@ impl fmt::Display for ToASTErrorKind {
             }
         }
     }
+}
+
+// Of what kind a text is that isn't in its normal form, and the text.
+fn write_unnormalized<W: fmt::Write>(
+    kind: &str,
+    src: &Text,
+    f: &mut fmt::Formatter<W>,
+) -> fmt::Result
+    ensures { WritesOnOk W.write_str_gives f.old result (unnormalized_message kind.now src.now) f.new }
+{
+    write!(
+        f,
+        "`{kind}` needs to be normalized (e.g., whitespace removed): {src}"
+    )
 }
 
 // How many arguments a call takes, and how many it has.
