@@ -2,7 +2,28 @@
 ghost use Rattle.std.specs.Prelude.{◌≡◌, ◌⊎◌, ◌++◌, IfOk, IfErr};
 ghost use Rattle.cedar_text.specs.Joined.{WantsMemory, TellsBoth, TellsAll, failures, IsJoined};
 
-use cedar_syntax::err::Failure;
+use cedar_syntax::err::{Failure, ParseErrors};
+
+/// The faults, then the others.
+fn followed(faults: ParseErrors, more: ParseErrors) -> Failure
+    ensures { TellsAll result (Failure.Errors faults) (Failure.Errors more) }
+{
+    let mut all = faults;
+    match all.extend(more) {
+        Ok(()) => Failure::Errors(all),
+        Err(error) => Failure::Memory(error),
+    }
+}
+
+/// The faults, then those of the second.
+fn behind(faults: ParseErrors, second: Failure) -> Failure
+    ensures { TellsAll result (Failure.Errors faults) second }
+{
+    match second {
+        Failure::Memory(error) => Failure::Memory(error),
+        Failure::Errors(more) => followed(faults, more),
+    }
+}
 
 /// The faults of the first, then those of the second. Want of memory in either is the answer.
 fn joined(first: Failure, second: Failure) -> Failure
@@ -10,13 +31,7 @@ fn joined(first: Failure, second: Failure) -> Failure
 {
     match first {
         Failure::Memory(error) => Failure::Memory(error),
-        Failure::Errors(mut faults) => match second {
-            Failure::Memory(error) => Failure::Memory(error),
-            Failure::Errors(more) => match faults.extend(more) {
-                Ok(()) => Failure::Errors(faults),
-                Err(error) => Failure::Memory(error),
-            },
-        },
+        Failure::Errors(faults) => behind(faults, second),
     }
 }
 
