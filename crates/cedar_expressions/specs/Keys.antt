@@ -12,7 +12,9 @@ repeats_key (key ∷ keys) = list_any (bytes_eq key) keys || repeats_key keys
 
 -- the first key that stands again: it is one of those before it, and they all differ
 abbrev pub StandsAgain : List ℕ → List (List ℕ) → Type 0
-StandsAgain key keys = (before : List (List ℕ)) × (after : List (List ℕ)) × (keys ≡ before ++ key ∷ after) × (list_any (bytes_eq key) before ≡ true) × (repeats_key before ≡ false)
+StandsAgain key keys = (before : List (List ℕ)) × (after : List (List ℕ))
+    × (keys ≡ before ++ key ∷ after) × (list_any (bytes_eq key) before ≡ true)
+    × (repeats_key before ≡ false)
 
 -- what a refusal says of the keys: some key stands twice, and it names the first that stands again
 abbrev pub IsDue : RecordError → List (List ℕ) → Type 0

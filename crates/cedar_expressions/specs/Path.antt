@@ -24,7 +24,8 @@ is_identifier (b ∷ bs) = begins_identifier b && list_all continues_identifier 
 -- the words that no name may hold
 abbrev pub reserved_words : List (List ℕ)
 reserved_words =
-    codes "if" ∷ codes "true" ∷ codes "false" ∷ codes "then" ∷ codes "else" ∷ codes "in" ∷ codes "is" ∷ codes "has" ∷ codes "like" ∷ []
+    codes "if" ∷ codes "true" ∷ codes "false" ∷ codes "then" ∷ codes "else" ∷ codes "in" ∷ codes
+        "is" ∷ codes "has" ∷ codes "like" ∷ []
 
 abbrev pub is_reserved_word : List ℕ → Bool
 is_reserved_word text = list_any (bytes_eq text) reserved_words
@@ -42,7 +43,8 @@ is_unreserved_identifier text = is_valid_identifier text && not (is_reserved_nam
 
 -- whether an identifier of the name is that one
 abbrev pub has_reserved_namespace : Path → Bool
-has_reserved_namespace name = list_any is_reserved_namespace name.path || is_reserved_namespace name.id
+has_reserved_namespace name =
+    list_any is_reserved_namespace name.path || is_reserved_namespace name.id
 
 -- identifiers, each with `::` behind it
 abbrev pub namespace_text : List (List ℕ) → List ℕ

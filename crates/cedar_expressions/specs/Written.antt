@@ -55,7 +55,8 @@ text_in_quotes text = codes "\"" ++ (text ++ codes "\"")
 
 -- an entity: its type, `::` and the identifier in double quotes
 abbrev pub entity_text : EntityUID → List ℕ
-entity_text entity = name_text entity.entity_type.name ++ (codes "::" ++ text_in_quotes entity.eid.text)
+entity_text entity = name_text entity.entity_type.name
+    ++ (codes "::" ++ text_in_quotes entity.eid.text)
 
 abbrev pub literal_text : Literal → List ℕ
 literal_text (literal.Bool b) = if b then codes "true" else codes "false"
@@ -69,7 +70,8 @@ element_text (element.Char character) = encode_utf8 character
 element_text element.Wildcard = codes "*"
 
 abbrev pub place_text : Place → List ℕ
-place_text place = decimal place.length ++ (codes " bytes from " ++ (decimal place.offset ++ codes " on"))
+place_text place = decimal place.length ++ (codes " bytes from "
+    ++ (decimal place.offset ++ codes " on"))
 
 -- what an expression is: a constant, a variable or a slot as it stands, all else in words
 abbrev pub list_call_text : ListCall → List ℕ
@@ -100,4 +102,5 @@ record_error_text (Memory _) = codes "want of memory"
 record_error_text (Construction error) = duplicate_text error
 
 abbrev pub reserved_text : ReservedNameError → List ℕ
-reserved_text error = codes "the name `" ++ (name_text error.name ++ codes "` is reserved: it holds `__cedar`")
+reserved_text error = codes "the name `" ++ (name_text error.name
+    ++ codes "` is reserved: it holds `__cedar`")

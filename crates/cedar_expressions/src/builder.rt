@@ -45,7 +45,8 @@ pub trait ExprBuilderInfallibleBuild: Drop {
         consequent: Self::Expr,
         alternative: Self::Expr,
     ) -> Result<Self::Expr, AllocError>
-        ensures { IfOk result (λ e. meaning e ≡ v.ite (meaning guard) (meaning consequent) (meaning alternative)) };
+        ensures { IfOk result (λ e. meaning e ≡ v.ite (meaning guard) (meaning consequent)
+            (meaning alternative)) };
 
     /// `!inner`.
     fn not(self, inner: Self::Expr) -> Result<Self::Expr, AllocError>
@@ -61,11 +62,13 @@ pub trait ExprBuilderInfallibleBuild: Drop {
 
     /// A first operand and later ones, joined by `||`.
     fn or_nary(self, first: Self::Expr, rest: Vec<Self::Expr>) -> Result<Self::Expr, AllocError>
-        ensures { IfOk result (λ e. meaning e ≡ v.or_nary (meaning first) (v.values (map meaning rest.items))) };
+        ensures { IfOk result (λ e. meaning e ≡ v.or_nary (meaning first)
+            (v.values (map meaning rest.items))) };
 
     /// A first operand and later ones, joined by `&&`.
     fn and_naryl(self, first: Self::Expr, rest: Vec<Self::Expr>) -> Result<Self::Expr, AllocError>
-        ensures { IfOk result (λ e. meaning e ≡ v.and_naryl (meaning first) (v.values (map meaning rest.items))) };
+        ensures { IfOk result (λ e. meaning e ≡ v.and_naryl (meaning first)
+            (v.values (map meaning rest.items))) };
 
     /// A first operand and later ones, each behind its `+` or `-`.
     fn add_nary(
@@ -73,11 +76,13 @@ pub trait ExprBuilderInfallibleBuild: Drop {
         first: Self::Expr,
         rest: Vec<(AddOp, Self::Expr)>,
     ) -> Result<Self::Expr, AllocError>
-        ensures { IfOk result (λ e. meaning e ≡ v.add_nary (meaning first) (v.terms (map (λ t. (t.0, meaning t.1)) rest.items))) };
+        ensures { IfOk result (λ e. meaning e ≡ v.add_nary (meaning first)
+            (v.terms (map (λ t. (t.0, meaning t.1)) rest.items))) };
 
     /// A first operand and later ones, joined by `*`.
     fn mul_nary(self, first: Self::Expr, rest: Vec<Self::Expr>) -> Result<Self::Expr, AllocError>
-        ensures { IfOk result (λ e. meaning e ≡ v.mul_nary (meaning first) (v.values (map meaning rest.items))) };
+        ensures { IfOk result (λ e. meaning e ≡ v.mul_nary (meaning first)
+            (v.values (map meaning rest.items))) };
 
     /// `left < right`.
     fn less(self, left: Self::Expr, right: Self::Expr) -> Result<Self::Expr, AllocError>
@@ -126,7 +131,8 @@ pub trait ExprBuilderInfallibleBuild: Drop {
         entity_type: EntityType,
         entity: Self::Expr,
     ) -> Result<Self::Expr, AllocError>
-        ensures { IfOk result (λ e. meaning e ≡ v.is_in_entity_type (meaning expr) entity_type (meaning entity)) };
+        ensures { IfOk result (λ e. meaning e ≡ v.is_in_entity_type (meaning expr) entity_type
+            (meaning entity)) };
 
     /// `expr has first.rest`: attributes within attributes.
     fn extended_has_attr(
@@ -135,7 +141,8 @@ pub trait ExprBuilderInfallibleBuild: Drop {
         first: Text,
         rest: Vec<Text>,
     ) -> Result<Self::Expr, AllocError>
-        ensures { IfOk result (λ e. meaning e ≡ v.extended_has_attr (meaning expr) first rest.items) };
+        ensures { IfOk result (λ e. meaning e ≡ v.extended_has_attr
+            (meaning expr) first rest.items) };
 
     /// `expr.attr`.
     fn get_attr(self, expr: Self::Expr, attr: Text) -> Result<Self::Expr, AllocError>
@@ -171,7 +178,8 @@ pub trait ExprBuilderInfallibleBuild: Drop {
         function: Name,
         args: Vec<Self::Expr>,
     ) -> Result<Self::Expr, AllocError>
-        ensures { IfOk result (λ e. meaning e ≡ v.call_extension_fn function (v.values (map meaning args.items))) };
+        ensures { IfOk result (λ e. meaning e ≡ v.call_extension_fn function
+            (v.values (map meaning args.items))) };
 
     /// A set of elements.
     fn set(self, elements: Vec<Self::Expr>) -> Result<Self::Expr, AllocError>
@@ -179,6 +187,8 @@ pub trait ExprBuilderInfallibleBuild: Drop {
 
     /// A record of its pairs, in the order in which they stand. It is refused, want of memory aside, exactly where a key is there twice.
     fn record(self, pairs: Vec<(Text, Self::Expr)>) -> Result<Self::Expr, RecordError>
-        ensures ok { IfOk result (λ e. (meaning e ≡ v.«record» (v.fields (map (λ p. (p.0, meaning p.1)) pairs.items))) × (repeats_key (map (λ p. p.0) pairs.items) ≡ false)) }
+        ensures ok { IfOk result
+            (λ e. (meaning e ≡ v.«record» (v.fields (map (λ p. (p.0, meaning p.1)) pairs.items)))
+            × (repeats_key (map (λ p. p.0) pairs.items) ≡ false)) }
         ensures err { IfErr result (λ error. IsDue error (map (λ p. p.0) pairs.items)) };
 }

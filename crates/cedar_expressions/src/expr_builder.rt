@@ -37,7 +37,8 @@ impl ExprBuilder<()> {
 
     #[tactic(auto, unfolding(crate::specs::Meaning::unplaced))]
     fn binary(self, call: BinaryCall, parts: (Expr, Expr)) -> Result<Expr, AllocError>
-        ensures value { IfOk result (λ e. unplaced e ≡ binary_call call (unplaced parts.0) (unplaced parts.1)) }
+        ensures value { IfOk result (λ e. unplaced e ≡ binary_call call (unplaced parts.0)
+            (unplaced parts.1)) }
         ensures place { IfOk result (λ e. place_of e ≡ builders_place self) }
     {
         let parts = Boxed::new(self.alloc, parts)?;
@@ -55,7 +56,8 @@ impl ExprBuilder<()> {
 
     #[tactic(auto, unfolding(crate::specs::Meaning::unplaced))]
     fn nary(self, op: NaryOp, first: Expr, rest: Vec<Expr>) -> Result<Expr, AllocError>
-        ensures value { IfOk result (λ e. unplaced e ≡ nary_call op (unplaced first) (v.values (map unplaced rest.items))) }
+        ensures value { IfOk result (λ e. unplaced e ≡ nary_call op (unplaced first)
+            (v.values (map unplaced rest.items))) }
         ensures place { IfOk result (λ e. place_of e ≡ builders_place self) }
     {
         let first = self.boxed(first)?;
@@ -72,7 +74,8 @@ impl ExprBuilder<()> {
 
     #[tactic(auto, unfolding(crate::specs::Meaning::unplaced))]
     fn record_node(self, pairs: Vec<(Text, Expr)>) -> Expr
-        ensures value { unplaced result ≡ v.«record» (v.fields (map (λ p. (p.0, unplaced p.1)) pairs.items)) }
+        ensures value { unplaced result
+            ≡ v.«record» (v.fields (map (λ p. (p.0, unplaced p.1)) pairs.items)) }
         ensures place { place_of result ≡ builders_place self }
     {
         self.node(ExprKind::Record(Items::from(pairs)))
@@ -128,7 +131,8 @@ impl ExprBuilderInfallibleBuild for ExprBuilder<()> {
 
     #[tactic(auto, unfolding(crate::specs::Meaning::unplaced))]
     fn ite(self, guard: Expr, consequent: Expr, alternative: Expr) -> Result<Expr, AllocError>
-        ensures value { IfOk result (λ e. unplaced e ≡ v.ite (unplaced guard) (unplaced consequent) (unplaced alternative)) }
+        ensures value { IfOk result (λ e. unplaced e ≡ v.ite (unplaced guard)
+            (unplaced consequent) (unplaced alternative)) }
         ensures place { IfOk result (λ e. place_of e ≡ builders_place self) }
     {
         let parts = Boxed::new(self.alloc, (guard, consequent, alternative))?;
@@ -157,14 +161,16 @@ impl ExprBuilderInfallibleBuild for ExprBuilder<()> {
     }
 
     fn or_nary(self, first: Expr, rest: Vec<Expr>) -> Result<Expr, AllocError>
-        ensures value { IfOk result (λ e. unplaced e ≡ v.or_nary (unplaced first) (v.values (map unplaced rest.items))) }
+        ensures value { IfOk result (λ e. unplaced e ≡ v.or_nary (unplaced first)
+            (v.values (map unplaced rest.items))) }
         ensures place { IfOk result (λ e. place_of e ≡ builders_place self) }
     {
         self.nary(NaryOp::Or, first, rest)
     }
 
     fn and_naryl(self, first: Expr, rest: Vec<Expr>) -> Result<Expr, AllocError>
-        ensures value { IfOk result (λ e. unplaced e ≡ v.and_naryl (unplaced first) (v.values (map unplaced rest.items))) }
+        ensures value { IfOk result (λ e. unplaced e ≡ v.and_naryl (unplaced first)
+            (v.values (map unplaced rest.items))) }
         ensures place { IfOk result (λ e. place_of e ≡ builders_place self) }
     {
         self.nary(NaryOp::And, first, rest)
@@ -172,7 +178,8 @@ impl ExprBuilderInfallibleBuild for ExprBuilder<()> {
 
     #[tactic(auto, unfolding(crate::specs::Meaning::unplaced))]
     fn add_nary(self, first: Expr, rest: Vec<(AddOp, Expr)>) -> Result<Expr, AllocError>
-        ensures value { IfOk result (λ e. unplaced e ≡ v.add_nary (unplaced first) (v.terms (map (λ t. (t.0, unplaced t.1)) rest.items))) }
+        ensures value { IfOk result (λ e. unplaced e ≡ v.add_nary (unplaced first)
+            (v.terms (map (λ t. (t.0, unplaced t.1)) rest.items))) }
         ensures place { IfOk result (λ e. place_of e ≡ builders_place self) }
     {
         let first = self.boxed(first)?;
@@ -180,7 +187,8 @@ impl ExprBuilderInfallibleBuild for ExprBuilder<()> {
     }
 
     fn mul_nary(self, first: Expr, rest: Vec<Expr>) -> Result<Expr, AllocError>
-        ensures value { IfOk result (λ e. unplaced e ≡ v.mul_nary (unplaced first) (v.values (map unplaced rest.items))) }
+        ensures value { IfOk result (λ e. unplaced e ≡ v.mul_nary (unplaced first)
+            (v.values (map unplaced rest.items))) }
         ensures place { IfOk result (λ e. place_of e ≡ builders_place self) }
     {
         self.nary(NaryOp::Mul, first, rest)
@@ -201,14 +209,16 @@ impl ExprBuilderInfallibleBuild for ExprBuilder<()> {
     }
 
     fn greater(self, left: Expr, right: Expr) -> Result<Expr, AllocError>
-        ensures value { IfOk result (λ e. unplaced e ≡ v.greater (unplaced left) (unplaced right)) }
+        ensures value { IfOk result (λ e. unplaced e ≡ v.greater (unplaced left)
+            (unplaced right)) }
         ensures place { IfOk result (λ e. place_of e ≡ builders_place self) }
     {
         self.binary(BinaryCall::Op(BinaryOp::Greater), (left, right))
     }
 
     fn greatereq(self, left: Expr, right: Expr) -> Result<Expr, AllocError>
-        ensures value { IfOk result (λ e. unplaced e ≡ v.greatereq (unplaced left) (unplaced right)) }
+        ensures value { IfOk result (λ e. unplaced e ≡ v.greatereq (unplaced left)
+            (unplaced right)) }
         ensures place { IfOk result (λ e. place_of e ≡ builders_place self) }
     {
         self.binary(BinaryCall::Op(BinaryOp::GreaterEq), (left, right))
@@ -243,7 +253,8 @@ impl ExprBuilderInfallibleBuild for ExprBuilder<()> {
     }
 
     fn is_entity_type(self, expr: Expr, entity_type: EntityType) -> Result<Expr, AllocError>
-        ensures value { IfOk result (λ e. unplaced e ≡ v.is_entity_type (unplaced expr) entity_type) }
+        ensures value { IfOk result (λ e. unplaced e ≡ v.is_entity_type
+            (unplaced expr) entity_type) }
         ensures place { IfOk result (λ e. place_of e ≡ builders_place self) }
     {
         self.unary(UnaryCall::Is(entity_type), expr)
@@ -255,14 +266,16 @@ impl ExprBuilderInfallibleBuild for ExprBuilder<()> {
         entity_type: EntityType,
         entity: Expr,
     ) -> Result<Expr, AllocError>
-        ensures value { IfOk result (λ e. unplaced e ≡ v.is_in_entity_type (unplaced expr) entity_type (unplaced entity)) }
+        ensures value { IfOk result (λ e. unplaced e ≡ v.is_in_entity_type
+            (unplaced expr) entity_type (unplaced entity)) }
         ensures place { IfOk result (λ e. place_of e ≡ builders_place self) }
     {
         self.binary(BinaryCall::IsIn(entity_type), (expr, entity))
     }
 
     fn extended_has_attr(self, expr: Expr, first: Text, rest: Vec<Text>) -> Result<Expr, AllocError>
-        ensures value { IfOk result (λ e. unplaced e ≡ v.extended_has_attr (unplaced expr) first rest.items) }
+        ensures value { IfOk result (λ e. unplaced e ≡ v.extended_has_attr
+            (unplaced expr) first rest.items) }
         ensures place { IfOk result (λ e. place_of e ≡ builders_place self) }
     {
         self.unary(UnaryCall::ExtendedHasAttr(first, Items::from(rest)), expr)
@@ -276,21 +289,24 @@ impl ExprBuilderInfallibleBuild for ExprBuilder<()> {
     }
 
     fn contains(self, set: Expr, element: Expr) -> Result<Expr, AllocError>
-        ensures value { IfOk result (λ e. unplaced e ≡ v.contains (unplaced set) (unplaced element)) }
+        ensures value { IfOk result (λ e. unplaced e ≡ v.contains (unplaced set)
+            (unplaced element)) }
         ensures place { IfOk result (λ e. place_of e ≡ builders_place self) }
     {
         self.binary(BinaryCall::Op(BinaryOp::Contains), (set, element))
     }
 
     fn contains_all(self, set: Expr, other: Expr) -> Result<Expr, AllocError>
-        ensures value { IfOk result (λ e. unplaced e ≡ v.contains_all (unplaced set) (unplaced other)) }
+        ensures value { IfOk result (λ e. unplaced e ≡ v.contains_all (unplaced set)
+            (unplaced other)) }
         ensures place { IfOk result (λ e. place_of e ≡ builders_place self) }
     {
         self.binary(BinaryCall::Op(BinaryOp::ContainsAll), (set, other))
     }
 
     fn contains_any(self, set: Expr, other: Expr) -> Result<Expr, AllocError>
-        ensures value { IfOk result (λ e. unplaced e ≡ v.contains_any (unplaced set) (unplaced other)) }
+        ensures value { IfOk result (λ e. unplaced e ≡ v.contains_any (unplaced set)
+            (unplaced other)) }
         ensures place { IfOk result (λ e. place_of e ≡ builders_place self) }
     {
         self.binary(BinaryCall::Op(BinaryOp::ContainsAny), (set, other))
@@ -304,35 +320,42 @@ impl ExprBuilderInfallibleBuild for ExprBuilder<()> {
     }
 
     fn get_tag(self, entity: Expr, tag: Expr) -> Result<Expr, AllocError>
-        ensures value { IfOk result (λ e. unplaced e ≡ v.get_tag (unplaced entity) (unplaced tag)) }
+        ensures value { IfOk result (λ e. unplaced e ≡ v.get_tag (unplaced entity)
+            (unplaced tag)) }
         ensures place { IfOk result (λ e. place_of e ≡ builders_place self) }
     {
         self.binary(BinaryCall::Op(BinaryOp::GetTag), (entity, tag))
     }
 
     fn has_tag(self, entity: Expr, tag: Expr) -> Result<Expr, AllocError>
-        ensures value { IfOk result (λ e. unplaced e ≡ v.has_tag (unplaced entity) (unplaced tag)) }
+        ensures value { IfOk result (λ e. unplaced e ≡ v.has_tag (unplaced entity)
+            (unplaced tag)) }
         ensures place { IfOk result (λ e. place_of e ≡ builders_place self) }
     {
         self.binary(BinaryCall::Op(BinaryOp::HasTag), (entity, tag))
     }
 
     fn call_extension_fn(self, function: Name, args: Vec<Expr>) -> Result<Expr, AllocError>
-        ensures value { IfOk result (λ e. unplaced e ≡ v.call_extension_fn function (v.values (map unplaced args.items))) }
+        ensures value { IfOk result (λ e. unplaced e ≡ v.call_extension_fn function
+            (v.values (map unplaced args.items))) }
         ensures place { IfOk result (λ e. place_of e ≡ builders_place self) }
     {
         Ok(self.list(ListCall::Extension(function), args))
     }
 
     fn set(self, elements: Vec<Expr>) -> Result<Expr, AllocError>
-        ensures value { IfOk result (λ e. unplaced e ≡ v.set (v.values (map unplaced elements.items))) }
+        ensures value { IfOk result (λ e. unplaced e ≡ v.set
+            (v.values (map unplaced elements.items))) }
         ensures place { IfOk result (λ e. place_of e ≡ builders_place self) }
     {
         Ok(self.list(ListCall::Set, elements))
     }
 
     fn record(self, pairs: Vec<(Text, Expr)>) -> Result<Expr, RecordError>
-        ensures ok { IfOk result (λ e. (unplaced e ≡ v.«record» (v.fields (map (λ p. (p.0, unplaced p.1)) pairs.items))) × (repeats_key (map (λ p. p.0) pairs.items) ≡ false)) }
+        ensures ok { IfOk result
+            (λ e. (unplaced e ≡ v.«record»
+            (v.fields (map (λ p. (p.0, unplaced p.1)) pairs.items)))
+            × (repeats_key (map (λ p. p.0) pairs.items) ≡ false)) }
         ensures err { IfErr result (λ error. IsDue error (map (λ p. p.0) pairs.items)) }
         ensures place { IfOk result (λ e. place_of e ≡ builders_place self) }
     {

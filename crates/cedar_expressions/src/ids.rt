@@ -32,7 +32,8 @@ impl Model for AnyId {
 impl AnyId {
     /// The text as an identifier, or `None` where it isn't spelled as one.
     pub fn new(text: Text) -> Option<AnyId>
-        ensures { MatchOption result (is_identifier text ≡ false) (λ id. (id ≡ text) × (is_identifier text ≡ true)) }
+        ensures { MatchOption result (is_identifier text ≡ false)
+            (λ id. (id ≡ text) × (is_identifier text ≡ true)) }
     {
         if is_spelled_as_identifier(text.as_str()) {
             Some(AnyId { text })
@@ -83,7 +84,8 @@ impl Model for Id {
 impl Id {
     /// The text as an identifier, or `None` where it isn't spelled as one or is a reserved word.
     pub fn new(text: Text) -> Option<Id>
-        ensures { MatchOption result (is_valid_identifier text ≡ false) (λ id. (id ≡ text) × (is_valid_identifier text ≡ true)) }
+        ensures { MatchOption result (is_valid_identifier text ≡ false)
+            (λ id. (id ≡ text) × (is_valid_identifier text ≡ true)) }
     {
         if is_spelled_as_identifier(text.as_str()) && !is_word(text.as_str()) {
             Some(Id { text })
@@ -155,7 +157,9 @@ impl From<UnreservedId> for Id {
 impl UnreservedId {
     /// The identifier, or the same one back where it is `__cedar`.
     pub fn unless_reserved(id: Id) -> Result<UnreservedId, Id>
-        ensures { MatchResult result (λ unreserved. (unreserved ≡ id) × (is_reserved_namespace id ≡ false)) (λ back. (back ≡ id) × (is_reserved_namespace id ≡ true)) }
+        ensures { MatchResult result (λ unreserved. (unreserved ≡ id)
+            × (is_reserved_namespace id ≡ false)) (λ back. (back ≡ id)
+            × (is_reserved_namespace id ≡ true)) }
     {
         if id.is_reserved() {
             Err(id)

@@ -73,7 +73,8 @@ fn collect_items(items: &Items<Expr>, found: &mut Vec<Slot>) -> Result<(), Alloc
 
 #[cycle(collect)]
 fn collect_terms(terms: &Items<(AddOp, Expr)>, found: &mut Vec<Slot>) -> Result<(), AllocError>
-    ensures { OnOk result (found.new.items ≡ found.old.items ++ slots_in_row term_slots terms.now) }
+    ensures { OnOk result (found.new.items ≡ found.old.items
+        ++ slots_in_row term_slots terms.now) }
 {
     for (_, item) in terms.as_slice() {
         collect(item, found)?;
@@ -83,7 +84,8 @@ fn collect_terms(terms: &Items<(AddOp, Expr)>, found: &mut Vec<Slot>) -> Result<
 
 #[cycle(collect)]
 fn collect_pairs(pairs: &Items<(Text, Expr)>, found: &mut Vec<Slot>) -> Result<(), AllocError>
-    ensures { OnOk result (found.new.items ≡ found.old.items ++ slots_in_row pair_slots pairs.now) }
+    ensures { OnOk result (found.new.items ≡ found.old.items
+        ++ slots_in_row pair_slots pairs.now) }
 {
     for (_, item) in pairs.as_slice() {
         collect(item, found)?;

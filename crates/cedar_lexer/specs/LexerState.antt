@@ -49,5 +49,6 @@ IsCutOrStop source offset ts (Some place) = StopsFrom source offset ts place
 -- the answers are these tokens, and then the invalid token, where there is a bad place
 abbrev pub AnswersAre : List (Result Token InvalidToken) → List Lexeme → Option ℕ → Type 0
 AnswersAre [] ts bad = (ts ≡ []) × (bad ≡ None)
-AnswersAre (Ok t ∷ answers) ts bad = (us : List Lexeme) × (ts ≡ lexeme_of t ∷ us) × AnswersAre answers us bad
+AnswersAre (Ok t ∷ answers) ts bad = (us : List Lexeme) × (ts ≡ lexeme_of t ∷ us)
+    × AnswersAre answers us bad
 AnswersAre (Err e ∷ answers) ts bad = (answers ≡ []) × (ts ≡ []) × (bad ≡ Some e.location)

@@ -27,17 +27,20 @@ is_given_text (Some given) text = bytes_eq text given
 -- the first of these kinds whose one text this is, or `other`
 abbrev pub kind_among : List TokenKind → List ℕ → TokenKind → TokenKind
 kind_among [] text other = other
-kind_among (kind ∷ kinds) text other = cond (is_given_text (one_text kind) text) kind (kind_among kinds text other)
+kind_among (kind ∷ kinds) text other = cond (is_given_text (one_text kind) text) kind
+    (kind_among kinds text other)
 
 abbrev pub words : List TokenKind
-words = True ∷ False ∷ If ∷ Permit ∷ Forbid ∷ When ∷ Unless ∷ In ∷ Has ∷ Like ∷ Is ∷ Then ∷ Else ∷ Principal ∷ Action ∷ Resource ∷ Context ∷ []
+words = True ∷ False ∷ If ∷ Permit ∷ Forbid ∷ When ∷ Unless ∷ In ∷ Has ∷ Like ∷ Is ∷ Then ∷ Else ∷
+    Principal ∷ Action ∷ Resource ∷ Context ∷ []
 
 abbrev pub slots : List TokenKind
 slots = PrincipalSlot ∷ ResourceSlot ∷ []
 
 -- a word or an identifier, and a number, whose first byte has been seen
 abbrev pub word : List ℕ → Option Found
-word text = let n = prefix_len continues_identifier text in Some (kind_among words (take n text) Identifier, n)
+word text = let n = prefix_len continues_identifier text in Some
+    (kind_among words (take n text) Identifier, n)
 
 abbrev pub number : List ℕ → Option Found
 number text = Some (Number, prefix_len is_ascii_digit text)
@@ -45,7 +48,8 @@ number text = Some (Number, prefix_len is_ascii_digit text)
 -- a slot, whose first byte is `?`
 abbrev pub slot : List ℕ → Option Found
 slot text = cond (begins_identifier (slice_index text 1))
-    (let n = 1 + prefix_len continues_identifier (drop 1 text) in Some (kind_among slots (take n text) OtherSlot, n))
+    (let n = 1 + prefix_len continues_identifier (drop 1 text) in Some
+        (kind_among slots (take n text) OtherSlot, n))
     None
 
 -- how many bytes a string has through its closing quote, where n of them are read, the last a backslash that
@@ -53,7 +57,8 @@ slot text = cond (begins_identifier (slice_index text 1))
 abbrev pub string_len : Bool → List ℕ → ℕ → Option ℕ
 string_len escaped [] n = None
 string_len true (b ∷ bs) n = string_len false bs (n + 1)
-string_len false (b ∷ bs) n = cond (b == byte "\"") (Some (n + 1)) (string_len (b == byte "\\") bs (n + 1))
+string_len false (b ∷ bs) n =
+    cond (b == byte "\"") (Some (n + 1)) (string_len (b == byte "\\") bs (n + 1))
 
 abbrev pub string_of : Option ℕ → Option Found
 string_of None = None
@@ -101,7 +106,8 @@ abbrev pub NoSkip : List ℕ → Type 0
 NoSkip text = (front after : List ℕ) → text ≡ front ++ after → ¬ (IsSkip front after)
 
 abbrev pub NoSpelling : List ℕ → Type 0
-NoSpelling text = (kind : TokenKind) (front after : List ℕ) → text ≡ front ++ after → ¬ (IsSpelled kind front after)
+NoSpelling text = (kind : TokenKind) (front after : List ℕ) → text ≡ front ++ after
+    → ¬ (IsSpelled kind front after)
 
 -- the skip that starts the text has n bytes, or none starts it and n is 0
 pub record IsSkipLen (text : List ℕ) (n : ℕ) : Type 0 where

@@ -27,9 +27,11 @@ IsNumber (b ∷ bs) = IsTrue (is_ascii_digit b) × AllPass is_ascii_digit bs
 pub data IsStringTail : List ℕ → Type 0 where
   closing : IsStringTail (codes "\"")
   -- a character that is neither a quote nor a backslash is a piece
-  plain : (c : ℕ) (bs : List ℕ) → IsScalar c → c ≢ byte "\"" → c ≢ byte "\\" → IsStringTail bs → IsStringTail (encode_utf8 c ++ bs)
+  plain : (c : ℕ) (bs : List ℕ) → IsScalar c → c
+      ≢ byte "\"" → c ≢ byte "\\" → IsStringTail bs → IsStringTail (encode_utf8 c ++ bs)
   -- so is a backslash with the one character behind it, whichever that is
-  escaped : (c : ℕ) (bs : List ℕ) → IsScalar c → IsStringTail bs → IsStringTail (codes "\\" ++ encode_utf8 c ++ bs)
+  escaped : (c : ℕ) (bs : List ℕ) → IsScalar c → IsStringTail bs
+      → IsStringTail (codes "\\" ++ encode_utf8 c ++ bs)
 
 -- a string begins with a quote
 abbrev pub IsString : List ℕ → Type 0

@@ -42,7 +42,8 @@ pub record Streams : Type 0 where
   pub out : WriterState
   pub err : WriterState
 
-abbrev pub streams_at : {R O E : Type 0} → Option (List ℕ) → Input R → Output O → Output E → Streams
+abbrev pub streams_at : {R O E : Type 0} → Option (List ℕ) → Input R → Output O → Output E
+    → Streams
 streams_at known input out err =
     record {
       known = known;

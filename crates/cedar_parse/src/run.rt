@@ -211,8 +211,15 @@ fn convert(alloc: Global, tree: &Node<Option<Expr>>) -> Result<(), Failure>
         (w : Value) × Converts no_extensions (located expr_form tree.now) w) }
     ensures refused { IfErr result (λ failure. TellsTree no_extensions failure tree.now) }
 {
-    let styles = ExtStyles::new(BTreeSet::new(alloc), BTreeSet::new(alloc));
+    let styles = empty_table(alloc);
     tree.to_expr::<ExprBuilder<()>>(alloc, &styles).and(Ok(()))
+}
+
+/// The table without extension functions and methods.
+fn empty_table(alloc: Global) -> ExtStyles
+    ensures { table_of result ≡ no_extensions }
+{
+    ExtStyles::new(BTreeSet::new(alloc), BTreeSet::new(alloc))
 }
 
 fn print_tree<O: Write>(tree: &Node<Option<Expr>>, out: &mut Output<O>) -> Result<Verdict, Stop>

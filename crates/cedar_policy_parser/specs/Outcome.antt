@@ -6,16 +6,62 @@ use Rattle.cedar_syntax.specs.declared.loc.Loc.{Loc}
 
 -- what is wrong; what a message shows of it beside its kind isn't told
 pub data Kind : Type 0 where
-  empty_node : Kind
-  ambiguous_operators : Kind
+  duplicate_template_id : Kind
+  duplicate_policy_id : Kind
+  expected_static_policy : Kind
+  expected_template : Kind
+  duplicate_annotation : Kind
+  slots_in_condition_clause : Kind
+  missing_scope_variable : Kind
+  extra_scope_element : Kind
+  reserved_identifier : Kind
+  invalid_identifier : Kind
   invalid_single_eq : Kind
-  unary_op_limit : Kind
-  integer_literal_too_large : Kind
+  invalid_effect : Kind
+  invalid_condition : Kind
+  invalid_scope_variable : Kind
+  incorrect_variable : Kind
+  invalid_scope_operator : Kind
+  invalid_action_scope_operator : Kind
+  is_in_action_scope : Kind
+  is_with_eq : Kind
+  invalid_action_type : Kind
+  empty_clause : Kind
+  membership_invariant_violation : Kind
+  invalid_string : Kind
+  arbitrary_variable : Kind
+  invalid_attribute : Kind
+  invalid_has_rhs : Kind
+  path_as_attribute : Kind
+  function_call_on_method : Kind
+  method_call_on_function : Kind
+  invalid_pattern : Kind
+  invalid_is_type : Kind
+  wrong_node : Kind
+  ambiguous_operators : Kind
   unsupported_division : Kind
   unsupported_modulo : Kind
-  arbitrary_variable : Kind
-  invalid_string : Kind
+  expression_construction_error : Kind
+  integer_literal_too_large : Kind
+  unary_op_limit : Kind
+  variable_call : Kind
+  no_methods : Kind
+  unknown_method : Kind
+  unknown_function : Kind
+  invalid_entity_literal : Kind
+  expression_call : Kind
+  invalid_access : Kind
+  invalid_index : Kind
+  non_string_index : Kind
+  type_constraints : Kind
+  non_normalized_string : Kind
+  empty_node : Kind
+  wrong_arity : Kind
   unescape : Kind
+  wrong_entity_argument : Kind
+  invalid_slot : Kind
+  reserved_namespace : Kind
+  inverted_is_in : Kind
   -- a text has no tree, which no conversion finds
   no_tree : Kind
 

@@ -53,7 +53,8 @@ impl Joins for OrOr {
         rest: Vec<(OrOr, B::Expr)>,
     ) -> Result<ExprOrSpecial<B::Expr>, Failure>
         ensures { Gives (plain B.meaning) result
-            (combined disjunction loc.now (behind (λ op. or_or) B.meaning rest) (B.meaning first)) }
+            (combined disjunction loc.now (behind (λ op. or_or) B.meaning rest)
+                (B.meaning first)) }
     {
         let rest = bodies_of(alloc, rest)?;
         made::<B>(builder_at::<B>(alloc, loc).or_nary(first, rest)?, loc)
@@ -72,7 +73,8 @@ impl Joins for AndAnd {
         rest: Vec<(AndAnd, B::Expr)>,
     ) -> Result<ExprOrSpecial<B::Expr>, Failure>
         ensures { Gives (plain B.meaning) result
-            (combined conjunction loc.now (behind (λ op. and_and) B.meaning rest) (B.meaning first)) }
+            (combined conjunction loc.now (behind (λ op. and_and) B.meaning rest)
+                (B.meaning first)) }
     {
         let rest = bodies_of(alloc, rest)?;
         made::<B>(builder_at::<B>(alloc, loc).and_naryl(first, rest)?, loc)

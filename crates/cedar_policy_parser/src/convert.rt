@@ -40,7 +40,8 @@ pub(crate) fn expr<B: ExprBuilderInfallibleBuild>(
     styles: &ExtStyles,
     node: &Node<Option<cst::Expr>>,
 ) -> Result<ExprOrSpecial<B::Expr>, Failure>
-    ensures { Gives (plain B.meaning) result (outcome (table_of styles.now) (located expr_form node.now)) }
+    ensures { Gives (plain B.meaning) result (outcome (table_of styles.now)
+        (located expr_form node.now)) }
 {
     match &node.node {
         Some(tree) => match inner_of(tree).expr.as_ref() {
@@ -58,7 +59,8 @@ fn conditional<B: ExprBuilderInfallibleBuild>(
     styles: &ExtStyles,
     node: &Node<Option<cst::Expr>>,
 ) -> Result<ExprOrSpecial<B::Expr>, Failure>
-    ensures { Gives (plain B.meaning) result (outcome (table_of styles.now) (located expr_form node.now)) }
+    ensures { Gives (plain B.meaning) result (outcome (table_of styles.now)
+        (located expr_form node.now)) }
 {
     match &node.node {
         Some(tree) => match inner_of(tree).expr.as_ref() {
@@ -82,7 +84,8 @@ fn or<B: ExprBuilderInfallibleBuild>(
     styles: &ExtStyles,
     node: &Node<Option<cst::Or>>,
 ) -> Result<ExprOrSpecial<B::Expr>, Failure>
-    ensures { Gives (plain B.meaning) result (outcome (table_of styles.now) (located or_form node.now)) }
+    ensures { Gives (plain B.meaning) result (outcome (table_of styles.now)
+        (located or_form node.now)) }
 {
     match &node.node {
         Some(or) if or.extended.is_empty() => and::<B>(alloc, styles, &or.initial),
@@ -97,7 +100,8 @@ fn or_chain<B: ExprBuilderInfallibleBuild>(
     styles: &ExtStyles,
     node: &Node<Option<cst::Or>>,
 ) -> Result<ExprOrSpecial<B::Expr>, Failure>
-    ensures { Gives (plain B.meaning) result (outcome (table_of styles.now) (located or_form node.now)) }
+    ensures { Gives (plain B.meaning) result (outcome (table_of styles.now)
+        (located or_form node.now)) }
 {
     match &node.node {
         Some(or) => {
@@ -121,7 +125,8 @@ fn and<B: ExprBuilderInfallibleBuild>(
     styles: &ExtStyles,
     node: &Node<Option<cst::And>>,
 ) -> Result<ExprOrSpecial<B::Expr>, Failure>
-    ensures { Gives (plain B.meaning) result (outcome (table_of styles.now) (located and_form node.now)) }
+    ensures { Gives (plain B.meaning) result (outcome (table_of styles.now)
+        (located and_form node.now)) }
 {
     match &node.node {
         Some(and) if and.extended.is_empty() => relation::<B>(alloc, styles, &and.initial),
@@ -136,7 +141,8 @@ fn and_chain<B: ExprBuilderInfallibleBuild>(
     styles: &ExtStyles,
     node: &Node<Option<cst::And>>,
 ) -> Result<ExprOrSpecial<B::Expr>, Failure>
-    ensures { Gives (plain B.meaning) result (outcome (table_of styles.now) (located and_form node.now)) }
+    ensures { Gives (plain B.meaning) result (outcome (table_of styles.now)
+        (located and_form node.now)) }
 {
     match &node.node {
         Some(and) => {
@@ -160,7 +166,8 @@ fn relation<B: ExprBuilderInfallibleBuild>(
     styles: &ExtStyles,
     node: &Node<Option<cst::Relation>>,
 ) -> Result<ExprOrSpecial<B::Expr>, Failure>
-    ensures { Gives (plain B.meaning) result (outcome (table_of styles.now) (located relation_form node.now)) }
+    ensures { Gives (plain B.meaning) result (outcome (table_of styles.now)
+        (located relation_form node.now)) }
 {
     match &node.node {
         Some(cst::Relation::Common { initial, extended }) if extended.is_empty() => {
@@ -177,7 +184,8 @@ fn relation_chain<B: ExprBuilderInfallibleBuild>(
     styles: &ExtStyles,
     node: &Node<Option<cst::Relation>>,
 ) -> Result<ExprOrSpecial<B::Expr>, Failure>
-    ensures { Gives (plain B.meaning) result (outcome (table_of styles.now) (located relation_form node.now)) }
+    ensures { Gives (plain B.meaning) result (outcome (table_of styles.now)
+        (located relation_form node.now)) }
 {
     match &node.node {
         Some(cst::Relation::Common { initial, extended }) => {
@@ -205,7 +213,8 @@ fn add<B: ExprBuilderInfallibleBuild>(
     styles: &ExtStyles,
     node: &Node<Option<cst::Add>>,
 ) -> Result<ExprOrSpecial<B::Expr>, Failure>
-    ensures { Gives (plain B.meaning) result (outcome (table_of styles.now) (located add_form node.now)) }
+    ensures { Gives (plain B.meaning) result (outcome (table_of styles.now)
+        (located add_form node.now)) }
 {
     match &node.node {
         Some(add) if add.extended.is_empty() => mult::<B>(alloc, styles, &add.initial),
@@ -220,7 +229,8 @@ fn add_chain<B: ExprBuilderInfallibleBuild>(
     styles: &ExtStyles,
     node: &Node<Option<cst::Add>>,
 ) -> Result<ExprOrSpecial<B::Expr>, Failure>
-    ensures { Gives (plain B.meaning) result (outcome (table_of styles.now) (located add_form node.now)) }
+    ensures { Gives (plain B.meaning) result (outcome (table_of styles.now)
+        (located add_form node.now)) }
 {
     match &node.node {
         Some(add) => {
@@ -244,7 +254,8 @@ fn mult<B: ExprBuilderInfallibleBuild>(
     styles: &ExtStyles,
     node: &Node<Option<cst::Mult>>,
 ) -> Result<ExprOrSpecial<B::Expr>, Failure>
-    ensures { Gives (plain B.meaning) result (outcome (table_of styles.now) (located mult_form node.now)) }
+    ensures { Gives (plain B.meaning) result (outcome (table_of styles.now)
+        (located mult_form node.now)) }
 {
     match &node.node {
         Some(mult) if mult.extended.is_empty() => unary::<B>(alloc, styles, &mult.initial),
@@ -259,7 +270,8 @@ fn mult_chain<B: ExprBuilderInfallibleBuild>(
     styles: &ExtStyles,
     node: &Node<Option<cst::Mult>>,
 ) -> Result<ExprOrSpecial<B::Expr>, Failure>
-    ensures { Gives (plain B.meaning) result (outcome (table_of styles.now) (located mult_form node.now)) }
+    ensures { Gives (plain B.meaning) result (outcome (table_of styles.now)
+        (located mult_form node.now)) }
 {
     match &node.node {
         Some(mult) => {
@@ -283,7 +295,8 @@ fn unary<B: ExprBuilderInfallibleBuild>(
     styles: &ExtStyles,
     node: &Node<Option<cst::Unary>>,
 ) -> Result<ExprOrSpecial<B::Expr>, Failure>
-    ensures { Gives (plain B.meaning) result (outcome (table_of styles.now) (located unary_form node.now)) }
+    ensures { Gives (plain B.meaning) result (outcome (table_of styles.now)
+        (located unary_form node.now)) }
 {
     match &node.node {
         Some(unary) if unary.op.is_none() => member::<B>(alloc, styles, &unary.item),
@@ -298,7 +311,8 @@ fn signed<B: ExprBuilderInfallibleBuild>(
     styles: &ExtStyles,
     node: &Node<Option<cst::Unary>>,
 ) -> Result<ExprOrSpecial<B::Expr>, Failure>
-    ensures { Gives (plain B.meaning) result (outcome (table_of styles.now) (located unary_form node.now)) }
+    ensures { Gives (plain B.meaning) result (outcome (table_of styles.now)
+        (located unary_form node.now)) }
 {
     match &node.node {
         Some(unary) => {
@@ -322,7 +336,8 @@ fn member<B: ExprBuilderInfallibleBuild>(
     styles: &ExtStyles,
     node: &Node<Option<cst::Member>>,
 ) -> Result<ExprOrSpecial<B::Expr>, Failure>
-    ensures { Gives (plain B.meaning) result (outcome (table_of styles.now) (located member_form node.now)) }
+    ensures { Gives (plain B.meaning) result (outcome (table_of styles.now)
+        (located member_form node.now)) }
 {
     match &node.node {
         Some(member) => {
@@ -343,7 +358,8 @@ fn primary<B: ExprBuilderInfallibleBuild>(
     styles: &ExtStyles,
     node: &Node<Option<cst::Primary>>,
 ) -> Result<ExprOrSpecial<B::Expr>, Failure>
-    ensures { Gives (plain B.meaning) result (outcome (table_of styles.now) (located primary_form node.now)) }
+    ensures { Gives (plain B.meaning) result (outcome (table_of styles.now)
+        (located primary_form node.now)) }
 {
     match &node.node {
         Some(cst::Primary::Literal(inner)) => literal::<B>(alloc, inner),

@@ -65,7 +65,8 @@ impl ExprAst for Node<Option<Expr>> {
         alloc: Global,
         styles: &ExtStyles,
     ) -> Result<B::Expr, Failure>
-        ensures { Gives B.meaning result (value_outcome (table_of styles.now) (located expr_form self.now)) }
+        ensures { Gives B.meaning result (value_outcome (table_of styles.now)
+            (located expr_form self.now)) }
     {
         expr_of::<B>(alloc, expr::<B>(alloc, styles, self))
     }

@@ -33,14 +33,16 @@ pub fn converted_is_meant()
 pub fn meant_is_converted()
     ensures { (table : Extensions) (src : List ℕ) (ts : List Lexeme) (w : Value)
         → Means table SIGN_LIMIT expression ts w
-        → (x : Tree) × ReadsExpr src ts x × Converts table (located expr_form (placed src ts x)) w }
+        → (x : Tree) × ReadsExpr src ts x × Converts table
+        (located expr_form (placed src ts x)) w }
 {}
 
 /// Tokens with a tree mean what it is converted to and nothing else.
 pub fn same_meaning()
     ensures { (table : Extensions) (src : List ℕ) (ts : List Lexeme) (x : Tree) (w : Value)
         → ReadsExpr src ts x
-        → Means table SIGN_LIMIT expression ts w ↔ Converts table (located expr_form (placed src ts x)) w }
+        → Means table SIGN_LIMIT expression ts w ↔ Converts table
+        (located expr_form (placed src ts x)) w }
 {
     one_tree();
 }
@@ -64,19 +66,24 @@ pub fn values_see_no_place()
 /// `%` in order, at its place, and for nothing else. More than four signs are `UnaryOpLimit` alone, at the place of the
 /// operand with its signs, whatever the operand is.
 pub fn refused_alone()
-    ensures ambiguous { (table : Extensions) (place : Option Loc) (a b c : Located) (op next : t.Operator)
-        (rest : Parts) → HasValue table a → HaveValues table place (f.more op b (f.more next c rest))
+    ensures ambiguous { (table : Extensions) (place : Option Loc) (a b c : Located)
+        (op next : t.Operator)
+        (rest : Parts) → HasValue table a → HaveValues table place
+            (f.more op b (f.more next c rest))
         → outcome table (f.at place (f.chain t.relation a (f.more op b (f.more next c rest))))
         ≡ refused ambiguous_operators place }
     ensures single_eq { (table : Extensions) (place : Option Loc) (a b : Located)
         → HasValue table a → HasValue table b
-        → outcome table (f.at place (f.chain t.relation a (f.more (t.compare rel.InvalidSingleEq) b f.none)))
+        → outcome table (f.at place (f.chain t.relation a
+        (f.more (t.compare rel.InvalidSingleEq) b f.none)))
         ≡ refused invalid_single_eq place }
     ensures quotients { (table : Extensions) (place : Option Loc) (a : Located) (rest : Parts)
         → HasValue table a → OperandsHaveValues table rest → ¬ (quotients place rest ≡ [])
         → outcome table (f.at place (f.chain t.product a rest)) ≡ Err (quotients place rest) }
     ensures bangs { (table : Extensions) (place : Option Loc) (a : Located)
-        → outcome table (f.at place (f.unary (Some sign.OverBang) a)) ≡ refused unary_op_limit place }
+        → outcome table (f.at place (f.unary (Some sign.OverBang) a))
+        ≡ refused unary_op_limit place }
     ensures dashes { (table : Extensions) (place : Option Loc) (a : Located)
-        → outcome table (f.at place (f.unary (Some sign.OverDash) a)) ≡ refused unary_op_limit place }
+        → outcome table (f.at place (f.unary (Some sign.OverDash) a))
+        ≡ refused unary_op_limit place }
 {}

@@ -63,7 +63,8 @@ fn quoted<E>(
 }
 
 fn truth<E>(value: bool, loc: &Option<Loc>) -> Result<ExprOrSpecial<E>, Failure>
-    ensures { (meaning : E → Value) → Gives (plain meaning) result (Ok (bare_truth loc.now value)) }
+    ensures { (meaning : E → Value) → Gives (plain meaning) result
+        (Ok (bare_truth loc.now value)) }
 {
     Ok(ExprOrSpecial::BoolLit(value, loc.try_clone()?))
 }

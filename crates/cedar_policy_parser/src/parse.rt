@@ -23,10 +23,13 @@ use std::alloc::Global;
 /// `parse_expr`, or those of `to_expr`, all that there are. Or it is `Failure::Memory`.
 pub fn parse_expression(alloc: Global, text: &str, styles: &ExtStyles) -> Result<Expr, Failure>
     ensures value { IfOk result (λ e.
-        (ts : List Lexeme) × Cuts text.now ts × Means (table_of styles.now) SIGN_LIMIT expression ts (unplaced e)) }
+        (ts : List Lexeme) × Cuts text.now ts × Means
+            (table_of styles.now) SIGN_LIMIT expression ts (unplaced e)) }
     ensures only { (ts : List Lexeme) (w : Value) → Cuts text.now ts
-        → Means (table_of styles.now) SIGN_LIMIT expression ts w → MatchResult result (λ e. unplaced e ≡ w) IsMemory }
-    ensures refused { IfErr result (λ failure. RefusesText (table_of styles.now) failure text.now) }
+        → Means (table_of styles.now) SIGN_LIMIT expression ts w
+        → MatchResult result (λ e. unplaced e ≡ w) IsMemory }
+    ensures refused { IfErr result (λ failure. RefusesText
+        (table_of styles.now) failure text.now) }
 {
     let tree = parse_expr(alloc, text)?;
     tree.to_expr::<ExprBuilder<()>>(alloc, styles)

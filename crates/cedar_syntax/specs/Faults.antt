@@ -14,7 +14,8 @@ use Rattle.cedar_syntax.specs.declared.err.parse_errors.Ref.TheVariants.{Single,
 
 abbrev pub static_policy_message : ExpectedStaticPolicy → List ℕ
 static_policy_message fault =
-    codes "expected a static policy, got a template containing the slot " ++ slot_text fault.slot.id
+    codes "expected a static policy, got a template containing the slot "
+        ++ slot_text fault.slot.id
 
 abbrev pub template_message : List ℕ
 template_message = codes "expected a template, got a static policy"
@@ -22,7 +23,8 @@ template_message = codes "expected a template, got a static policy"
 abbrev pub condition_slot_message : SlotsInConditionClause → List ℕ
 condition_slot_message fault =
     codes "found template slot "
-    ++ (slot_text fault.slot.id ++ (codes " in a `" ++ (fault.clause_type.now ++ codes "` clause")))
+    ++ (slot_text fault.slot.id ++ (codes " in a `"
+    ++ (fault.clause_type.now ++ codes "` clause")))
 
 abbrev pub quoted_entity : EntityUID → List ℕ
 quoted_entity entity = codes "`" ++ (entity_text entity ++ codes "`")
@@ -35,7 +37,8 @@ entities_with_type (second ∷ more) = codes "expected entity uids with type `Ac
 abbrev pub action_type_message : InvalidActionType → List ℕ
 action_type_message fault =
     entities_with_type fault.euids.tail
-    ++ conjoined (codes "and") (quoted_entity fault.euids.head) (map quoted_entity fault.euids.tail)
+    ++ conjoined (codes "and") (quoted_entity fault.euids.head)
+    (map quoted_entity fault.euids.tail)
 
 abbrev pub reference_text : Ref → List ℕ
 reference_text Single = codes "single entity uid"
@@ -49,4 +52,5 @@ wanted_text (Right two) = reference_text two.0 ++ (codes " or " ++ reference_tex
 
 abbrev pub argument_message : WrongEntityArgument → List ℕ
 argument_message fault =
-    codes "expected " ++ (wanted_text fault.expected ++ (codes ", found " ++ reference_text fault.got))
+    codes "expected " ++ (wanted_text fault.expected
+        ++ (codes ", found " ++ reference_text fault.got))

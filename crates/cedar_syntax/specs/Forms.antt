@@ -60,7 +60,8 @@ abbrev pub or_step : Or-F F F F F F F F F F F F F F → Form
 or_step o = chain disjunction (cell o.initial) (parts_of (map (λ n. (or_or, cell n)) o.extended))
 
 abbrev pub and_step : And-F F F F F F F F F F F F F F → Form
-and_step o = chain conjunction (cell o.initial) (parts_of (map (λ n. (and_and, cell n)) o.extended))
+and_step o = chain conjunction (cell o.initial)
+    (parts_of (map (λ n. (and_and, cell n)) o.extended))
 
 -- `is` alone, or with what stands behind `in`
 abbrev pub typed_by : Located → Located → Option (Node (Option Form)) → Form
@@ -72,13 +73,15 @@ relation_step (Relation-F.Common initial extended) =
     chain relation (cell initial) (parts_of (map (λ p. (compare p.0, cell p.1)) extended))
 relation_step (Relation-F.Has target right) = has (cell target) (cell right)
 relation_step (Relation-F.Like target pattern) = like (cell target) (cell pattern)
-relation_step (Relation-F.IsIn target entity_type in_entity) = typed_by (cell target) (cell entity_type) in_entity
+relation_step (Relation-F.IsIn target entity_type in_entity) =
+    typed_by (cell target) (cell entity_type) in_entity
 
 abbrev pub add_step : Add-F F F F F F F F F F F F F F → Form
 add_step o = chain sum (cell o.initial) (parts_of (map (λ p. (add p.0, cell p.1)) o.extended))
 
 abbrev pub mult_step : Mult-F F F F F F F F F F F F F F → Form
-mult_step o = chain product (cell o.initial) (parts_of (map (λ p. (multiply p.0, cell p.1)) o.extended))
+mult_step o = chain product (cell o.initial) (parts_of
+    (map (λ p. (multiply p.0, cell p.1)) o.extended))
 
 abbrev pub unary_step : Unary-F F F F F F F F F F F F F F → Form
 unary_step u = unary u.op (cell u.item)
@@ -106,43 +109,58 @@ init_step i = init (cell i.0) (cell i.1)
 -- ---- expressions
 
 unfoldable pub expr_form : Expr → Form
-expr_form = fold-Expr F F F F F F F F F F F F F expr_step data_step access_step primary_step relation_step add_step and_step impl_step member_step mult_step or_step init_step unary_step
+expr_form = fold-Expr F F F F F F F F F F F F F expr_step data_step access_step primary_step
+    relation_step add_step and_step impl_step member_step mult_step or_step init_step unary_step
 
 unfoldable pub data_form : ExprData → Form
-data_form = fold-ExprData F F F F F F F F F F F F F expr_step data_step access_step primary_step relation_step add_step and_step impl_step member_step mult_step or_step init_step unary_step
+data_form = fold-ExprData F F F F F F F F F F F F F expr_step data_step access_step primary_step
+    relation_step add_step and_step impl_step member_step mult_step or_step init_step unary_step
 
 unfoldable pub access_form : MemAccess → Form
-access_form = fold-MemAccess F F F F F F F F F F F F F expr_step data_step access_step primary_step relation_step add_step and_step impl_step member_step mult_step or_step init_step unary_step
+access_form = fold-MemAccess F F F F F F F F F F F F F expr_step data_step access_step
+    primary_step relation_step add_step and_step impl_step member_step mult_step or_step init_step
+    unary_step
 
 unfoldable pub primary_form : Primary → Form
-primary_form = fold-Primary F F F F F F F F F F F F F expr_step data_step access_step primary_step relation_step add_step and_step impl_step member_step mult_step or_step init_step unary_step
+primary_form = fold-Primary F F F F F F F F F F F F F expr_step data_step access_step primary_step
+    relation_step add_step and_step impl_step member_step mult_step or_step init_step unary_step
 
 unfoldable pub relation_form : Relation → Form
-relation_form = fold-Relation F F F F F F F F F F F F F expr_step data_step access_step primary_step relation_step add_step and_step impl_step member_step mult_step or_step init_step unary_step
+relation_form = fold-Relation F F F F F F F F F F F F F expr_step data_step access_step
+    primary_step relation_step add_step and_step impl_step member_step mult_step or_step init_step
+    unary_step
 
 unfoldable pub add_form : Add → Form
-add_form = fold-Add F F F F F F F F F F F F F expr_step data_step access_step primary_step relation_step add_step and_step impl_step member_step mult_step or_step init_step unary_step
+add_form = fold-Add F F F F F F F F F F F F F expr_step data_step access_step primary_step
+    relation_step add_step and_step impl_step member_step mult_step or_step init_step unary_step
 
 unfoldable pub and_form : And → Form
-and_form = fold-And F F F F F F F F F F F F F expr_step data_step access_step primary_step relation_step add_step and_step impl_step member_step mult_step or_step init_step unary_step
+and_form = fold-And F F F F F F F F F F F F F expr_step data_step access_step primary_step
+    relation_step add_step and_step impl_step member_step mult_step or_step init_step unary_step
 
 unfoldable pub impl_form : ExprImpl → Form
-impl_form = fold-ExprImpl F F F F F F F F F F F F F expr_step data_step access_step primary_step relation_step add_step and_step impl_step member_step mult_step or_step init_step unary_step
+impl_form = fold-ExprImpl F F F F F F F F F F F F F expr_step data_step access_step primary_step
+    relation_step add_step and_step impl_step member_step mult_step or_step init_step unary_step
 
 unfoldable pub member_form : Member → Form
-member_form = fold-Member F F F F F F F F F F F F F expr_step data_step access_step primary_step relation_step add_step and_step impl_step member_step mult_step or_step init_step unary_step
+member_form = fold-Member F F F F F F F F F F F F F expr_step data_step access_step primary_step
+    relation_step add_step and_step impl_step member_step mult_step or_step init_step unary_step
 
 unfoldable pub mult_form : Mult → Form
-mult_form = fold-Mult F F F F F F F F F F F F F expr_step data_step access_step primary_step relation_step add_step and_step impl_step member_step mult_step or_step init_step unary_step
+mult_form = fold-Mult F F F F F F F F F F F F F expr_step data_step access_step primary_step
+    relation_step add_step and_step impl_step member_step mult_step or_step init_step unary_step
 
 unfoldable pub or_form : Or → Form
-or_form = fold-Or F F F F F F F F F F F F F expr_step data_step access_step primary_step relation_step add_step and_step impl_step member_step mult_step or_step init_step unary_step
+or_form = fold-Or F F F F F F F F F F F F F expr_step data_step access_step primary_step
+    relation_step add_step and_step impl_step member_step mult_step or_step init_step unary_step
 
 unfoldable pub init_form : RecInit → Form
-init_form = fold-RecInit F F F F F F F F F F F F F expr_step data_step access_step primary_step relation_step add_step and_step impl_step member_step mult_step or_step init_step unary_step
+init_form = fold-RecInit F F F F F F F F F F F F F expr_step data_step access_step primary_step
+    relation_step add_step and_step impl_step member_step mult_step or_step init_step unary_step
 
 unfoldable pub unary_form : Unary → Form
-unary_form = fold-Unary F F F F F F F F F F F F F expr_step data_step access_step primary_step relation_step add_step and_step impl_step member_step mult_step or_step init_step unary_step
+unary_form = fold-Unary F F F F F F F F F F F F F expr_step data_step access_step primary_step
+    relation_step add_step and_step impl_step member_step mult_step or_step init_step unary_step
 
 -- ---- parts with what stands before them
 

@@ -9,4 +9,5 @@ use Rattle.cedar_syntax.specs.contracts.err.non_empty.NonEmpty as list
 
 -- the faults end as the list last written
 abbrev pub LendsFaults : MutBor ParseErrors → MutBor (NonEmpty ParseError) → Fml
-LendsFaults errors lent = Lends the_row (list.the_row fault.the_row) errors lent (λ written. record errors.now { faults = written })
+LendsFaults errors lent = Lends the_row (list.the_row fault.the_row) errors lent
+    (λ written. record errors.now { faults = written })

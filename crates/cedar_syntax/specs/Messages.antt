@@ -24,7 +24,9 @@ use Rattle.cedar_syntax.specs.declared.err.faults.Failure.TheVariants as failure
 
 -- the piece of the raw text that is no escape, in backquotes; nothing where its range is none of the text
 abbrev pub escape_message : UnescapeError → List ℕ
-escape_message fault = codes "the input `" ++ (unwrap_or (part_of fault.input fault.range.start fault.range.end) [] ++ codes "` is not a valid escape")
+escape_message fault = codes "the input `"
+    ++ (unwrap_or (part_of fault.input fault.range.start fault.range.end) []
+    ++ codes "` is not a valid escape")
 
 -- want of memory, or the first piece's
 abbrev pub unescape_message : UnescapeFailure → List ℕ
@@ -33,7 +35,8 @@ unescape_message (Errors faults) = escape_message faults.head
 
 abbrev pub raw_message : RawFault → List ℕ
 raw_message (InvalidToken location) = codes "invalid token"
-raw_message (UnrecognizedToken start end token expected) = codes "unexpected token `" ++ (token ++ codes "`")
+raw_message (UnrecognizedToken start end token expected) = codes "unexpected token `"
+    ++ (token ++ codes "`")
 raw_message (UnrecognizedEof location expected) = codes "unexpected end of input"
 raw_message (User error) = error.node
 raw_message (ExtraToken start end token) = codes "extra token `" ++ (token ++ codes "`")
@@ -43,7 +46,8 @@ abbrev pub quote_help : Option ℕ → Option (List ℕ)
 quote_help None = None
 quote_help (Some character) =
     if character == 34 then Some (codes "try checking that all strings are closed properly")
-    else (if character == 39 then Some (codes "strings must use double quotes, not single quotes") else None)
+    else (if character == 39 then Some
+        (codes "strings must use double quotes, not single quotes") else None)
 
 abbrev pub raw_help : List ℕ → RawFault → Option (List ℕ)
 raw_help text (InvalidToken location) = quote_help (slice_get text location)
@@ -127,7 +131,8 @@ kind_message (kind.InvalidIsType lhs rhs) =
     ++ (rhs ++ codes "`")
 kind_message (kind.WrongNode expected got suggestion) =
     codes "expected " ++ (expected.now ++ (codes ", found " ++ got))
-kind_message kind.AmbiguousOperators = codes "multiple relational operators (>, ==, in, etc.) must be used with parentheses to make ordering explicit"
+kind_message kind.AmbiguousOperators =
+    codes "multiple relational operators (>, ==, in, etc.) must be used with parentheses to make ordering explicit"
 kind_message kind.UnsupportedDivision = codes "division is not supported"
 kind_message kind.UnsupportedModulo = codes "remainder/modulo is not supported"
 kind_message (kind.ExpressionConstructionError fault) = duplicate_text fault
@@ -161,7 +166,8 @@ kind_message kind.EmptyNodeInvariantViolation =
 kind_message (kind.WrongArity name expected got) = arity_message name.now expected got
 kind_message (kind.Unescape fault) = escape_message fault
 kind_message (kind.WrongEntityArgument fault) = argument_message fault
-kind_message (kind.InvalidSlot text) = codes "`" ++ (text ++ codes "` is not a valid template slot")
+kind_message (kind.InvalidSlot text) = codes "`"
+    ++ (text ++ codes "` is not a valid template slot")
 kind_message (kind.ReservedNamespace fault) = reserved_text fault
 kind_message kind.InvertedIsIn =
     codes "when `is` and `in` are used together, `is` must come first"
@@ -178,4 +184,5 @@ failure_message (failure.Errors list) = fault_message list.faults.head
 -- the first fault's, or the expression that is no literal
 abbrev pub literal_message : LiteralParseError → List ℕ
 literal_message (literal.Parse list) = fault_message list.faults.head
-literal_message (literal.InvalidLiteral expression) = codes "invalid literal: " ++ expr_text expression
+literal_message (literal.InvalidLiteral expression) = codes "invalid literal: "
+    ++ expr_text expression

@@ -123,7 +123,8 @@ unfoldable mutual
   -- the tokens of a tree
   pub printed : Tree → Texts
   printed missing = []
-  printed (ite a b c) = codes "if" ∷ (printed a ++ (codes "then" ∷ (printed b ++ (codes "else" ∷ printed c))))
+  printed (ite a b c) = codes "if" ∷ (printed a
+      ++ (codes "then" ∷ (printed b ++ (codes "else" ∷ printed c))))
   printed (chain level first rest) = printed first ++ in_order rest
   printed (has a b) = printed a ++ (codes "has" ∷ printed b)
   printed (like a b) = printed a ++ (codes "like" ∷ printed b)
@@ -141,7 +142,8 @@ unfoldable mutual
   printed (name path last) = path_texts path ++ option_texts ident_texts last
   printed (slot s) = slot_texts s
   printed (entity path id) = printed path ++ (codes "::" ∷ option_texts str_texts id)
-  printed (reference path fields) = printed path ++ (codes "::" ∷ (codes "{" ∷ (listed fields ++ (codes "}" ∷ []))))
+  printed (reference path fields) = printed path
+      ++ (codes "::" ∷ (codes "{" ∷ (listed fields ++ (codes "}" ∷ []))))
   printed (ref_init i t) = option_texts ident_texts i ++ (codes ":" ∷ printed t)
   printed (parens t) = codes "(" ∷ (printed t ++ (codes ")" ∷ []))
   printed (set elements) = codes "[" ∷ (listed elements ++ (codes "]" ∷ []))
@@ -149,11 +151,15 @@ unfoldable mutual
   printed (init a b) = printed a ++ (codes ":" ∷ printed b)
   printed (word i) = ident_texts i
   printed (annotation key value) = codes "@" ∷ (option_texts ident_texts key ++ value_texts value)
-  printed (variable_def i n t c) = option_texts ident_texts i ++ (each_behind (codes ":") n ++ (each_behind (codes "is") t ++ in_order c))
-  printed (condition i t) = option_texts ident_texts i ++ (codes "{" ∷ (printed t ++ (codes "}" ∷ [])))
+  printed (variable_def i n t c) = option_texts ident_texts i
+      ++ (each_behind (codes ":") n ++ (each_behind (codes "is") t ++ in_order c))
+  printed (condition i t) = option_texts ident_texts i
+      ++ (codes "{" ∷ (printed t ++ (codes "}" ∷ [])))
   printed (empty_condition i) = option_texts ident_texts i ++ (codes "{" ∷ (codes "}" ∷ []))
   printed (policy annotations effect variables conditions) =
-      in_order annotations ++ (option_texts ident_texts effect ++ (codes "(" ∷ (listed variables ++ (codes ")" ∷ (in_order conditions ++ (codes ";" ∷ []))))))
+      in_order annotations ++ (option_texts ident_texts effect
+          ++ (codes "(" ∷ (listed variables
+          ++ (codes ")" ∷ (in_order conditions ++ (codes ";" ∷ []))))))
   printed (policies ps) = in_order ps
 
   -- further parts, each behind its operator

@@ -16,13 +16,16 @@ text_from true ts = joined ts
 text_from false ts = spaced ts
 
 -- g is f after writing ts, and `still` says whether still nothing was written
-pub record HasPrinted {W : Type 0} (took : W → List ℕ → W → Type 0) (f : Formatter W) (fresh : Bool) (ts : Texts) (still : Bool) (g : Formatter W) : Type 0 where
+pub record HasPrinted {W : Type 0} (took : W → List ℕ → W → Type 0) (f : Formatter W)
+    (fresh : Bool) (ts : Texts) (still : Bool) (g : Formatter W) : Type 0 where
   pub written : HasWritten took f (text_from fresh ts) g
   pub first : still ≡ (fresh && is_none ts)
 
 -- if r is `Ok`, the tokens ts were written
-abbrev pub Prints : {W : Type 0} → (W → List ℕ → W → Type 0) → Formatter W → Bool → Texts → Result Bool Error → Formatter W → Type 0
-Prints took f fresh ts r g = IsPlainFormatter f → IfOk r (λ still. HasPrinted took f fresh ts still g)
+abbrev pub Prints : {W : Type 0} → (W → List ℕ → W → Type 0) → Formatter W → Bool → Texts
+    → Result Bool Error → Formatter W → Type 0
+Prints took f fresh ts r g = IsPlainFormatter f
+    → IfOk r (λ still. HasPrinted took f fresh ts still g)
 
 -- each item behind the token `mark`
 abbrev pub marked : {T : Type 0} → List ℕ → (T → Texts) → List T → Texts

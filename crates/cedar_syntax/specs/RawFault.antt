@@ -50,7 +50,8 @@ place_of (ExtraToken start end token) = None
 -- where the parse stopped: an invalid token and the end take no bytes
 abbrev pub span_of_raw : RawFault → Option Span
 span_of_raw (InvalidToken location) = Some (record { offset = location; len = 0 })
-span_of_raw (UnrecognizedToken start end token expected) = Some (record { offset = start; len = end - start })
+span_of_raw (UnrecognizedToken start end token expected) =
+    Some (record { offset = start; len = end - start })
 span_of_raw (UnrecognizedEof location expected) = Some (record { offset = location; len = 0 })
 span_of_raw (User error) = option_map (λ loc. loc.span) error.loc
 span_of_raw (ExtraToken start end token) = Some (record { offset = start; len = end - start })

@@ -19,8 +19,12 @@ pub record IsRangeOf (text : List ℕ) (start end : ℕ) : Type 0 where
 
 -- whether a character of the text begins at the place, or the text ends there: in UTF-8 the bytes 128 to 191 go on with a character
 abbrev pub is_boundary : List ℕ → ℕ → Bool
-is_boundary text at = nat_le at (length text) && (nat_le (length text) at || (nat_lt (slice_index text at) 128 || nat_le 192 (slice_index text at)))
+is_boundary text at = nat_le at (length text) &&
+    (nat_le (length text) at || (nat_lt (slice_index text at) 128 || nat_le 192
+    (slice_index text at)))
 
 -- the text of a range, or nothing where it leaves the text or cuts a character
 abbrev pub part_of : List ℕ → ℕ → ℕ → Option (List ℕ)
-part_of text start end = if nat_le start end && (is_boundary text start && is_boundary text end) then Some (slice_range text start end) else None
+part_of text start end = if nat_le start end &&
+    (is_boundary text start && is_boundary text end) then Some
+    (slice_range text start end) else None

@@ -115,7 +115,8 @@ ref_init_tree i = ref_init i.0.node (literal_in i.1.node)
 
 abbrev pub ref_tree : Ref → Tree
 ref_tree (refs.Uid path eid) = entity (name_in path.node) eid.node
-ref_tree (refs.Ref path inits) = reference (name_in path.node) (behind beside (map (unplaced_in ref_init_tree) inits))
+ref_tree (refs.Ref path inits) = reference (name_in path.node)
+    (behind beside (map (unplaced_in ref_init_tree) inits))
 
 abbrev pub ref_in : Option Ref → Tree
 ref_in r = or_missing (option_map ref_tree r)
@@ -142,7 +143,8 @@ unfoldable mutual
   forget_form (p.has target right) = has (forget target) (forget right)
   forget_form (p.like target pattern) = like (forget target) (forget pattern)
   forget_form (p.is target entity_type) = is (forget target) (forget entity_type)
-  forget_form (p.is_in target entity_type within) = is_in (forget target) (forget entity_type) (forget within)
+  forget_form (p.is_in target entity_type within) =
+      is_in (forget target) (forget entity_type) (forget within)
   forget_form (p.unary op item) = unary op (forget item)
   forget_form (p.member item accesses) = member (forget item) (forget_parts accesses)
   forget_form (p.field n) = field n.node
@@ -218,7 +220,9 @@ compared None = none
 compared (Some p) = more (compare p.0) (tree_at expr_tree p.1) none
 
 abbrev pub variable_def_tree : VariableDef → Tree
-variable_def_tree v = variable_def v.variable.node (optional (option_map (tree_at name_tree) v.unused_type_name)) (optional (option_map (tree_at add_tree) v.entity_type)) (compared v.ineq)
+variable_def_tree v = variable_def v.variable.node
+    (optional (option_map (tree_at name_tree) v.unused_type_name))
+    (optional (option_map (tree_at add_tree) v.entity_type)) (compared v.ineq)
 
 abbrev pub condition_of : Option Ident → Option (Node (Option Expr)) → Tree
 condition_of i None = empty_condition i
@@ -228,7 +232,10 @@ abbrev pub cond_tree : Cond → Tree
 cond_tree c = condition_of c.cond.node c.expr
 
 abbrev pub policy_impl_tree : PolicyImpl → Tree
-policy_impl_tree p = policy (behind beside (map (unplaced_in annotation_tree) p.annotations)) p.effect.node (behind beside (map (unplaced_in variable_def_tree) p.variables)) (behind beside (map (unplaced_in cond_tree) p.conds))
+policy_impl_tree p =
+    policy (behind beside (map (unplaced_in annotation_tree) p.annotations)) p.effect.node
+    (behind beside (map (unplaced_in variable_def_tree) p.variables))
+    (behind beside (map (unplaced_in cond_tree) p.conds))
 
 abbrev pub policy_tree : Policy → Tree
 policy_tree (pol.Policy p) = policy_impl_tree p

@@ -34,7 +34,8 @@ impl Model for SourceSpan {
 impl SourceSpan {
     /// The range of `len` bytes from `offset` on, or `None` where its end doesn't fit `usize`.
     pub fn new(offset: usize, len: usize) -> Option<SourceSpan>
-        ensures { MatchOption result (2 ^ 64 ≤ offset + len) (λ span. (span.offset ≡ offset) × (span.len ≡ len)) }
+        ensures { MatchOption result (2 ^ 64 ≤ offset + len)
+            (λ span. (span.offset ≡ offset) × (span.len ≡ len)) }
     {
         offset.checked_add(len)?;
         Some(SourceSpan { offset, len })

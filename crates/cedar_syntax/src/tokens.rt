@@ -58,7 +58,8 @@ fn write_all_marked<T: Tokens, W: fmt::Write>(
     fresh: bool,
     f: &mut fmt::Formatter<W>,
 ) -> Result<bool, fmt::Error>
-    ensures { Prints W.write_str_gives f.old fresh (marked mark.now T.tokens items.now) result f.new }
+    ensures { Prints W.write_str_gives f.old fresh
+        (marked mark.now T.tokens items.now) result f.new }
 {
     let mut fresh = fresh;
     for item in items {
@@ -75,7 +76,8 @@ pub fn write_marked<T: Tokens, W: fmt::Write>(
     fresh: bool,
     f: &mut fmt::Formatter<W>,
 ) -> Result<bool, fmt::Error>
-    ensures { Prints W.write_str_gives f.old fresh (marked mark.now T.tokens items.now) result f.new }
+    ensures { Prints W.write_str_gives f.old fresh
+        (marked mark.now T.tokens items.now) result f.new }
 {
     write_all_marked(mark, items.as_slice(), fresh, f)
 }
@@ -87,7 +89,8 @@ pub fn write_between<T: Tokens, W: fmt::Write>(
     fresh: bool,
     f: &mut fmt::Formatter<W>,
 ) -> Result<bool, fmt::Error>
-    ensures { Prints W.write_str_gives f.old fresh (between mark.now T.tokens items.now) result f.new }
+    ensures { Prints W.write_str_gives f.old fresh
+        (between mark.now T.tokens items.now) result f.new }
 {
     match items.as_slice().split_first() {
         None => Ok(fresh),
@@ -105,7 +108,8 @@ pub fn write_opt_marked<T: Tokens, W: fmt::Write>(
     fresh: bool,
     f: &mut fmt::Formatter<W>,
 ) -> Result<bool, fmt::Error>
-    ensures { Prints W.write_str_gives f.old fresh (opt_marked mark.now T.tokens item.now) result f.new }
+    ensures { Prints W.write_str_gives f.old fresh
+        (opt_marked mark.now T.tokens item.now) result f.new }
 {
     match item {
         None => Ok(fresh),
@@ -123,7 +127,8 @@ pub fn write_followed<T: Tokens, W: fmt::Write>(
     fresh: bool,
     f: &mut fmt::Formatter<W>,
 ) -> Result<bool, fmt::Error>
-    ensures { Prints W.write_str_gives f.old fresh (followed mark.now T.tokens items.now) result f.new }
+    ensures { Prints W.write_str_gives f.old fresh
+        (followed mark.now T.tokens items.now) result f.new }
 {
     let mut fresh = fresh;
     for item in items.as_slice() {

@@ -27,19 +27,26 @@ NumbersFit (t ∷ ts) = ((t.kind ≡ kind.Number) → fits t.text ≡ true) × N
 -- the first fault of a text by this rule: the tokens before it begin a sentence and their numbers fit
 pub data FirstFault (e : Entry) (text : List ℕ) : RawFault → Type 0 where
   -- no sentence goes on with the token behind them
-  unexpected : (before : List Lexeme) (t : Lexeme) → NumbersFit before → StandsBehind text before t → IsFirstRefused e (kinds before) (Some t.kind) →
+  unexpected : (before : List Lexeme) (t : Lexeme) → NumbersFit before
+      → StandsBehind text before t → IsFirstRefused e (kinds before) (Some t.kind) →
       FirstFault e text (fault.UnrecognizedToken t.start t.end t.text [])
   -- the text ends behind them, and no sentence does
-  early_end : (before : List Lexeme) → NumbersFit before → Cuts text before → IsFirstRefused e (kinds before) None →
+  early_end : (before : List Lexeme) → NumbersFit before → Cuts text before
+      → IsFirstRefused e (kinds before) None →
       FirstFault e text (fault.UnrecognizedEof (end_of before) [])
   -- some sentence goes on with a number behind them, and the one there is past 64 bits
-  large_number : (before : List Lexeme) (t : Lexeme) → NumbersFit before → StandsBehind text before t → t.kind ≡ kind.Number → fits t.text ≡ false → Allowed e (kinds before) (Some kind.Number) →
-      FirstFault e text (fault.User record { node = too_large; loc = loc_at text (Some (extent_of t)) })
+  large_number : (before : List Lexeme) (t : Lexeme) → NumbersFit before
+      → StandsBehind text before t → t.kind ≡ kind.Number → fits t.text ≡ false
+      → Allowed e (kinds before) (Some kind.Number) →
+      FirstFault e text (fault.User record { node = too_large;
+          loc = loc_at text (Some (extent_of t)) })
   -- behind them stands something at which no token starts
-  bad_place : (before : List Lexeme) (place : ℕ) → NumbersFit before → StopsAt text before place → Begins e (kinds before) →
+  bad_place : (before : List Lexeme) (place : ℕ) → NumbersFit before → StopsAt text before place
+      → Begins e (kinds before) →
       FirstFault e text (fault.InvalidToken place)
 
 -- a refusal is want of memory, or just this one fault
 abbrev pub IsRefusal : Entry → List ℕ → Failure → Type 0
 IsRefusal e text (Memory m) = Unit {0}
-IsRefusal e text (Errors errors) = (raw : RawFault) × FirstFault e text raw × (faults_of errors ≡ ToCST record { raw = raw; src = text } ∷ [])
+IsRefusal e text (Errors errors) = (raw : RawFault) × FirstFault e text raw
+    × (faults_of errors ≡ ToCST record { raw = raw; src = text } ∷ [])

@@ -76,11 +76,13 @@ Marked T O = Chain T (O × Cell T)
 
 abbrev pub linked : {T : Type 0} → List ℕ → Option (Plain T) → Ranged T → Plain T
 linked src None x = record { initial = node_of src x; extended = []; extent = x.extent }
-linked src (Some c) x = record { initial = c.initial; extended = c.extended ++ node_of src x ∷ []; extent = join c.extent x.extent }
+linked src (Some c) x = record { initial = c.initial; extended = c.extended ++ node_of src x ∷ [];
+    extent = join c.extent x.extent }
 
 abbrev pub marked : {T O : Type 0} → List ℕ → Option (Pending T O) → Ranged T → Marked T O
 marked src None x = record { initial = node_of src x; extended = []; extent = x.extent }
-marked src (Some p) x = record { initial = p.chain.initial; extended = p.chain.extended ++ (p.op, node_of src x) ∷ []; extent = join p.chain.extent x.extent }
+marked src (Some p) x = record { initial = p.chain.initial; extended = p.chain.extended
+    ++ (p.op, node_of src x) ∷ []; extent = join p.chain.extent x.extent }
 
 -- a chain and an operator
 abbrev pub onward : {T I : Type 0} → Chain T I → Extent → Chain T I
@@ -92,7 +94,8 @@ pending c o e = record { chain = onward c e; op = o }
 -- what a level and its last operand are
 
 abbrev pub unary_at : List ℕ → Operand → Ranged Unary
-unary_at src m = ranged (join m.signs.extent m.extent) (unary_of m.signs.op (node_at src m.extent (member_of m.item m.access)))
+unary_at src m = ranged (join m.signs.extent m.extent)
+    (unary_of m.signs.op (node_at src m.extent (member_of m.item m.access)))
 
 abbrev pub made_mult : Marked Unary MultOp → Ranged Mult
 made_mult c = ranged c.extent (mult_of c.initial c.extended)
@@ -115,7 +118,8 @@ made_expr src x = ranged x.extent (expr_of (node_of src x))
 -- the `if`s around an expression
 abbrev pub branched : List ℕ → List Branch → Ranged Expr → Ranged Expr
 branched src [] x = x
-branched src (b ∷ bs) x = branched src bs (ranged (join b.extent x.extent) (if_of b.guard b.yes (node_of src x)))
+branched src (b ∷ bs) x =
+    branched src bs (ranged (join b.extent x.extent) (if_of b.guard b.yes (node_of src x)))
 
 abbrev pub mult_at : List ℕ → Levels → Operand → Ranged Mult
 mult_at src lv m = made_mult (marked src lv.mult (unary_at src m))
@@ -138,7 +142,9 @@ whole src lv m = branched src lv.branches (made_expr src (or_at src lv m))
 
 -- states
 
-abbrev pub levels_of : List Branch → Option (Plain And) → Option (Plain Relation) → Option (Pending Add RelOp) → Option (Pending Mult AddOp) → Option (Pending Unary MultOp) → Levels
+abbrev pub levels_of : List Branch → Option (Plain And) → Option (Plain Relation)
+    → Option (Pending Add RelOp) → Option (Pending Mult AddOp) → Option (Pending Unary MultOp)
+    → Levels
 levels_of bs o a r s m = record { branches = bs; or = o; and = a; relation = r; add = s; mult = m }
 
 abbrev pub fresh : List Branch → Levels
@@ -175,13 +181,16 @@ operand src st lv sg x = state st lv (mode.Have (operand_of src sg x))
 -- operators
 
 abbrev pub after_multiply : List Frame → Levels → Marked Unary MultOp → MultOp → Extent → State
-after_multiply st lv c o e = going_on st (levels_of lv.branches lv.or lv.and lv.relation lv.add (Some (pending c o e)))
+after_multiply st lv c o e =
+    going_on st (levels_of lv.branches lv.or lv.and lv.relation lv.add (Some (pending c o e)))
 
 abbrev pub after_sum : List Frame → Levels → Marked Mult AddOp → AddOp → Extent → State
-after_sum st lv c o e = going_on st (levels_of lv.branches lv.or lv.and lv.relation (Some (pending c o e)) None)
+after_sum st lv c o e =
+    going_on st (levels_of lv.branches lv.or lv.and lv.relation (Some (pending c o e)) None)
 
 abbrev pub after_compare : List Frame → Levels → Marked Add RelOp → RelOp → Extent → State
-after_compare st lv c o e = going_on st (levels_of lv.branches lv.or lv.and (Some (pending c o e)) None None)
+after_compare st lv c o e =
+    going_on st (levels_of lv.branches lv.or lv.and (Some (pending c o e)) None None)
 
 abbrev pub after_and : List Frame → Levels → Plain Relation → Extent → State
 after_and st lv c e = going_on st (levels_of lv.branches lv.or (Some (onward c e)) None None None)
@@ -192,25 +201,33 @@ after_or st lv c e = going_on st (levels_of lv.branches (Some (onward c e)) None
 -- brackets
 
 abbrev pub in_parens : List ℕ → Extent → Ranged Expr → Extent → Ranged Primary
-in_parens src l x m = ranged (join (join (Some l) x.extent) (Some m)) (primary.Expr (node_of src x))
+in_parens src l x m = ranged (join (join (Some l) x.extent) (Some m))
+    (primary.Expr (node_of src x))
 
-abbrev pub paren_ended : List ℕ → List Frame → Levels → Signs → Extent → Ranged Expr → Closing → Extent → Outcome
-paren_ended src st lv sg l x closing.Paren m = outcome.Next (operand src st lv sg (in_parens src l x m))
+abbrev pub paren_ended : List ℕ → List Frame → Levels → Signs → Extent → Ranged Expr → Closing
+    → Extent → Outcome
+paren_ended src st lv sg l x closing.Paren m =
+    outcome.Next (operand src st lv sg (in_parens src l x m))
 paren_ended src st lv sg l x closing.Then m = outcome.Refused
 paren_ended src st lv sg l x closing.Else m = outcome.Refused
 
-abbrev pub guard_ended : List ℕ → List Frame → List Branch → Extent → Ranged Expr → Closing → Extent → Outcome
+abbrev pub guard_ended : List ℕ → List Frame → List Branch → Extent → Ranged Expr → Closing
+    → Extent → Outcome
 guard_ended src st bs l x closing.Paren m = outcome.Refused
-guard_ended src st bs l x closing.Then m = outcome.Next (beginning_in (frame.Yes bs (node_of src x) (join (join (Some l) x.extent) (Some m)) ∷ st) [])
+guard_ended src st bs l x closing.Then m = outcome.Next
+    (beginning_in (frame.Yes bs (node_of src x) (join (join (Some l) x.extent) (Some m)) ∷ st) [])
 guard_ended src st bs l x closing.Else m = outcome.Refused
 
 abbrev pub branch_of : List ℕ → Cell Expr → Option Extent → Ranged Expr → Extent → Branch
-branch_of src c l x m = record { guard = c; yes = node_of src x; extent = join (join l x.extent) (Some m) }
+branch_of src c l x m = record { guard = c; yes = node_of src x;
+    extent = join (join l x.extent) (Some m) }
 
-abbrev pub yes_ended : List ℕ → List Frame → List Branch → Cell Expr → Option Extent → Ranged Expr → Closing → Extent → Outcome
+abbrev pub yes_ended : List ℕ → List Frame → List Branch → Cell Expr → Option Extent → Ranged Expr
+    → Closing → Extent → Outcome
 yes_ended src st bs c l x closing.Paren m = outcome.Refused
 yes_ended src st bs c l x closing.Then m = outcome.Refused
-yes_ended src st bs c l x closing.Else m = outcome.Next (beginning_in st (branch_of src c l x m ∷ bs))
+yes_ended src st bs c l x closing.Else m = outcome.Next
+    (beginning_in st (branch_of src c l x m ∷ bs))
 
 -- a token that ends an expression
 abbrev pub ended_by : List ℕ → List Frame → Ranged Expr → Closing → Extent → Outcome
@@ -278,27 +295,33 @@ abbrev pub literal_at : List ℕ → Extent → Literal → Ranged Primary
 literal_at src e x = ranged (Some e) (primary.Literal (node_at src (Some e) x))
 
 abbrev pub string_at : List ℕ → Extent → List ℕ → Ranged Primary
-string_at src e text = literal_at src e (literal.Str (node_at src (Some e) (str.String (between_quotes text))))
+string_at src e text =
+    literal_at src e (literal.Str (node_at src (Some e) (str.String (between_quotes text))))
 
 abbrev pub variable_at : List ℕ → Extent → Variable → Ranged Primary
-variable_at src e v = ranged (Some e) (primary.Name (node_at src (Some e) (name_of [] (node_at src (Some e) (ident_of v)))))
+variable_at src e v =
+    ranged (Some e) (primary.Name (node_at src (Some e)
+    (name_of [] (node_at src (Some e) (ident_of v)))))
 
 -- one sign more: both kinds of sign never stand together
 abbrev pub signed : Option NegOp → Sign → Option NegOp
 signed None sign.Bang = Some (neg.Bang 1)
 signed None sign.Dash = Some (neg.Dash 1)
-signed (Some (neg.Bang n)) sign.Bang = Some (cond (nat_lt n sign_limit) (neg.Bang (n + 1)) neg.OverBang)
+signed (Some (neg.Bang n)) sign.Bang =
+    Some (cond (nat_lt n sign_limit) (neg.Bang (n + 1)) neg.OverBang)
 signed (Some (neg.Bang n)) sign.Dash = None
 signed (Some neg.OverBang) sign.Bang = Some neg.OverBang
 signed (Some neg.OverBang) sign.Dash = None
 signed (Some (neg.Dash n)) sign.Bang = None
-signed (Some (neg.Dash n)) sign.Dash = Some (cond (nat_lt n sign_limit) (neg.Dash (n + 1)) neg.OverDash)
+signed (Some (neg.Dash n)) sign.Dash =
+    Some (cond (nat_lt n sign_limit) (neg.Dash (n + 1)) neg.OverDash)
 signed (Some neg.OverDash) sign.Bang = None
 signed (Some neg.OverDash) sign.Dash = Some neg.OverDash
 
 abbrev pub after_signs : List Frame → Levels → Option Extent → Option NegOp → Extent → Outcome
 after_signs st lv l None e = outcome.Refused
-after_signs st lv l (Some o) e = outcome.Next (state st lv (mode.Want false (signs_of (Some o) (join l (Some e)))))
+after_signs st lv l (Some o) e = outcome.Next
+    (state st lv (mode.Want false (signs_of (Some o) (join l (Some e)))))
 
 abbrev pub after_open : List Frame → Levels → Signs → Extent → State
 after_open st lv sg e = beginning_in (frame.Paren lv sg e ∷ st) []
@@ -307,13 +330,19 @@ abbrev pub after_if : List Frame → Levels → Bool → Extent → Outcome
 after_if st lv true e = outcome.Next (beginning_in (frame.Guard lv.branches e ∷ st) [])
 after_if st lv false e = outcome.Refused
 
-abbrev pub wanted : List ℕ → List Frame → Levels → Bool → Signs → Beginning → Extent → List ℕ → Outcome
-wanted src st lv f sg beginning.True e text = outcome.Next (operand src st lv sg (literal_at src e literal.True))
-wanted src st lv f sg beginning.False e text = outcome.Next (operand src st lv sg (literal_at src e literal.False))
-wanted src st lv f sg (beginning.Number n) e text = outcome.Next (operand src st lv sg (literal_at src e (literal.Num n)))
+abbrev pub wanted : List ℕ → List Frame → Levels → Bool → Signs → Beginning → Extent → List ℕ
+    → Outcome
+wanted src st lv f sg beginning.True e text =
+    outcome.Next (operand src st lv sg (literal_at src e literal.True))
+wanted src st lv f sg beginning.False e text =
+    outcome.Next (operand src st lv sg (literal_at src e literal.False))
+wanted src st lv f sg (beginning.Number n) e text =
+    outcome.Next (operand src st lv sg (literal_at src e (literal.Num n)))
 wanted src st lv f sg beginning.TooLarge e text = outcome.TooLarge
-wanted src st lv f sg beginning.String e text = outcome.Next (operand src st lv sg (string_at src e text))
-wanted src st lv f sg (beginning.Variable v) e text = outcome.Next (operand src st lv sg (variable_at src e v))
+wanted src st lv f sg beginning.String e text =
+    outcome.Next (operand src st lv sg (string_at src e text))
+wanted src st lv f sg (beginning.Variable v) e text =
+    outcome.Next (operand src st lv sg (variable_at src e v))
 wanted src st lv f sg (beginning.Sign s) e text = after_signs st lv sg.extent (signed sg.op s) e
 wanted src st lv f sg beginning.Open e text = outcome.Next (after_open st lv sg e)
 wanted src st lv f sg beginning.If e text = after_if st lv f e
@@ -325,11 +354,16 @@ wanting src st lv f sg t = wanted src st lv f sg (beginning_of t) (extent_of t) 
 -- behind an operand
 
 abbrev pub had : List ℕ → List Frame → Levels → Operand → Operator → Extent → Outcome
-had src st lv m (operator.Multiply o) e = outcome.Next (after_multiply st lv (marked src lv.mult (unary_at src m)) o e)
-had src st lv m (operator.Sum o) e = outcome.Next (after_sum st lv (marked src lv.add (mult_at src lv m)) o e)
-had src st lv m (operator.Compare o) e = outcome.Next (after_compare st lv (marked src lv.relation (add_at src lv m)) o e)
-had src st lv m operator.And e = outcome.Next (after_and st lv (linked src lv.and (relation_at src lv m)) e)
-had src st lv m operator.Or e = outcome.Next (after_or st lv (linked src lv.or (and_at src lv m)) e)
+had src st lv m (operator.Multiply o) e = outcome.Next
+    (after_multiply st lv (marked src lv.mult (unary_at src m)) o e)
+had src st lv m (operator.Sum o) e = outcome.Next
+    (after_sum st lv (marked src lv.add (mult_at src lv m)) o e)
+had src st lv m (operator.Compare o) e = outcome.Next
+    (after_compare st lv (marked src lv.relation (add_at src lv m)) o e)
+had src st lv m operator.And e = outcome.Next
+    (after_and st lv (linked src lv.and (relation_at src lv m)) e)
+had src st lv m operator.Or e =
+    outcome.Next (after_or st lv (linked src lv.or (and_at src lv m)) e)
 had src st lv m (operator.Ends c) e = ended_by src st (whole src lv m) c e
 had src st lv m operator.Refused e = outcome.Refused
 

@@ -30,7 +30,8 @@ elem_of p (Fault kind) = if is_escaped_star p.text then Char (byte "*") ∷ [] e
 abbrev pub pattern_fault_of : List ℕ → Placed → PieceValue → List UnescapeError
 pattern_fault_of raw p Nothing = []
 pattern_fault_of raw p (Character c) = []
-pattern_fault_of raw p (Fault kind) = if is_escaped_star p.text then [] else fault_at raw p kind ∷ []
+pattern_fault_of raw p (Fault kind) =
+    if is_escaped_star p.text then [] else fault_at raw p kind ∷ []
 
 abbrev pub pattern_pieces : List Placed → List PatternElem
 pattern_pieces ps = flat_map (λ p. elem_of p p.outcome) ps

@@ -41,7 +41,8 @@ unskipped (c ∷ cs) = if is_blank c then unskipped cs else (c ∷ cs)
 
 -- behind `\x`
 abbrev pub ascii : ℕ → List ℕ → PieceAhead
-ascii code cs = if nat_lt 0x7F code then faulty OutOfRangeHexEscape cs else piece_ahead (Character code) cs
+ascii code cs = if nat_lt 0x7F code then faulty OutOfRangeHexEscape cs else piece_ahead
+    (Character code) cs
 
 abbrev pub low_digit : ℕ → List ℕ → Option ℕ → PieceAhead
 low_digit high cs None = faulty InvalidCharInHexEscape cs
@@ -76,13 +77,16 @@ with_digit t d = tally (t.count + 1) (t.number * 16 + d)
 -- at `}`
 abbrev pub scalar_outcome : ℕ → Option ℕ → PieceValue
 scalar_outcome number (Some c) = Character c
-scalar_outcome number None = if nat_lt 0x10FFFF number then Fault OutOfRangeUnicodeEscape else Fault LoneSurrogateUnicodeEscape
+scalar_outcome number None =
+    if nat_lt 0x10FFFF number then Fault OutOfRangeUnicodeEscape else Fault
+    LoneSurrogateUnicodeEscape
 
 abbrev pub as_char : ℕ → Option ℕ
 as_char number = if scalar number then Some number else None
 
 abbrev pub closed : Tally → PieceValue
-closed t = if nat_lt 6 t.count then Fault OverlongUnicodeEscape else scalar_outcome t.number (as_char t.number)
+closed t = if nat_lt 6 t.count then Fault OverlongUnicodeEscape else scalar_outcome t.number
+    (as_char t.number)
 
 abbrev pub inside_braces : Tally → List ℕ → PieceAhead
 inside_braces t [] = faulty UnclosedUnicodeEscape []
@@ -107,7 +111,8 @@ behind_brace (Some p) =
 -- behind `\u`
 abbrev pub unicode_escape : Option (ℕ × List ℕ) → PieceAhead
 unicode_escape None = faulty NoBraceInUnicodeEscape []
-unicode_escape (Some p) = if p.0 == byte "{" then behind_brace (first_of p.1) else faulty NoBraceInUnicodeEscape p.1
+unicode_escape (Some p) = if p.0 == byte "{" then behind_brace
+    (first_of p.1) else faulty NoBraceInUnicodeEscape p.1
 
 -- behind a backslash
 abbrev pub short_outcome : Option ℕ → PieceValue

@@ -24,7 +24,8 @@ use Rattle.cedar_text.specs.Runs.{Comes, RunsTo}
 pub use Rattle.cedar_text.specs.machines.Judged.{Ahead, tokens_left, IsFault, FailsWith, GivesToken, StopsBadly}
 
 -- some tokens of the text are read, and the next is ahead
-pub record Progress (text : List ℕ) (e : Entry) (s : State) (end : ℕ) (ahead : Option Token) (l : LexerState) : Type 0 where
+pub record Progress (text : List ℕ) (e : Entry) (s : State) (end : ℕ) (ahead : Option Token)
+    (l : LexerState) : Type 0 where
   pub utf8 : IsUtf8 text
   pub before : List Lexeme
   pub comes : Comes text e before s
@@ -47,9 +48,11 @@ unexpected_at t = fault.UnrecognizedToken t.start t.end t.text []
 abbrev pub StopsAtToken : List ℕ → State → Lexeme → Failure → Type 0
 StopsAtToken src s t (Memory m) = Unit {0}
 StopsAtToken src s t (Errors errors) =
-    ((step_of src s t ≡ outcome.Refused) × IsFault src errors (unexpected_at t)) ⊎ ((step_of src s t ≡ outcome.TooLarge) × IsFault src errors (large_at src t))
+    ((step_of src s t ≡ outcome.Refused) × IsFault src errors (unexpected_at t))
+        ⊎ ((step_of src s t ≡ outcome.TooLarge) × IsFault src errors (large_at src t))
 
 -- no tree at the end
 abbrev pub StopsAtEnd : List ℕ → State → ℕ → Failure → Type 0
 StopsAtEnd src s end (Memory m) = Unit {0}
-StopsAtEnd src s end (Errors errors) = (finish_of src s ≡ None) × IsFault src errors (fault.UnrecognizedEof end [])
+StopsAtEnd src s end (Errors errors) = (finish_of src s ≡ None)
+    × IsFault src errors (fault.UnrecognizedEof end [])

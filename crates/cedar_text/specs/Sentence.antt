@@ -25,6 +25,7 @@ Allowed e ks (Some k) = (more : List TokenKind) × Sentence e (ks ++ k ∷ more)
 Allowed e ks None = Sentence e ks
 
 -- what stands behind these kinds, a kind or the end, is the first that no sentence allows
-pub record IsFirstRefused (e : Entry) (ks : List TokenKind) (next : Option TokenKind) : Type 0 where
+pub record IsFirstRefused (e : Entry) (ks : List TokenKind)
+    (next : Option TokenKind) : Type 0 where
   pub begins : Begins e ks
   pub refuses : ¬ (Allowed e ks next)

@@ -86,14 +86,17 @@ ref_init_of x y = record { 0 = x; 1 = y }
 abbrev pub annotation_of : Cell Ident → Option (Cell Str) → Annotation
 annotation_of x y = record { key = x; value = y }
 
-abbrev pub variable_def_of : Cell Ident → Option (Cell Name) → Option (Cell Add) → Option (RelOp × Cell Expr) → VariableDef
+abbrev pub variable_def_of : Cell Ident → Option (Cell Name) → Option (Cell Add)
+    → Option (RelOp × Cell Expr) → VariableDef
 variable_def_of x y z w = record { variable = x; unused_type_name = y; entity_type = z; ineq = w }
 
 abbrev pub cond_of : Cell Ident → Option (Cell Expr) → Cond
 cond_of x y = record { cond = x; expr = y }
 
-abbrev pub policy_of : List (Cell Annotation) → Cell Ident → List (Cell VariableDef) → List (Cell Cond) → Policy
-policy_of xs x ys zs = policy.Policy record { annotations = xs; effect = x; variables = ys; conds = zs }
+abbrev pub policy_of : List (Cell Annotation) → Cell Ident → List (Cell VariableDef)
+    → List (Cell Cond) → Policy
+policy_of xs x ys zs = policy.Policy record { annotations = xs; effect = x; variables = ys;
+    conds = zs }
 
 abbrev pub policies_of : List (Cell Policy) → Policies
 policies_of xs = record { 0 = xs }

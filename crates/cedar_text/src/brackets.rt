@@ -42,7 +42,8 @@ fn close_paren(
     item: Ranged<Expr>,
     end: Extent,
 ) -> Result<Outcome, AllocError>
-    ensures { IfOk result (λ next. next ≡ Outcome.Next (operand source.now stack levels signs (in_parens source.now begun item end))) }
+    ensures { IfOk result (λ next. next ≡ Outcome.Next
+        (operand source.now stack levels signs (in_parens source.now begun item end))) }
 {
     let primary = in_parens(source, begun, item, end)?;
     with_operand(alloc, source, stack, levels, signs, primary)
@@ -60,7 +61,8 @@ fn end_paren(
     closing: Closing,
     end: Extent,
 ) -> Result<Outcome, AllocError>
-    ensures { IfOk result (λ next. next ≡ paren_ended source.now stack levels signs begun item closing end) }
+    ensures { IfOk result
+        (λ next. next ≡ paren_ended source.now stack levels signs begun item closing end) }
 {
     match closing {
         Closing::Paren => close_paren(alloc, source, stack, levels, signs, begun, item, end),
@@ -79,7 +81,8 @@ fn open_yes(
     item: Ranged<Expr>,
     end: Extent,
 ) -> Result<Outcome, AllocError>
-    ensures { IfOk result (λ next. next ≡ guard_ended source.now stack branches begun item Closing.Then end) }
+    ensures { IfOk result
+        (λ next. next ≡ guard_ended source.now stack branches begun item Closing.Then end) }
 {
     let extent = joined(joined(Some(begun), item.extent), Some(end));
     let guard = node_of(source, item)?;
@@ -102,7 +105,8 @@ fn end_guard(
     closing: Closing,
     end: Extent,
 ) -> Result<Outcome, AllocError>
-    ensures { IfOk result (λ next. next ≡ guard_ended source.now stack branches begun item closing end) }
+    ensures { IfOk result
+        (λ next. next ≡ guard_ended source.now stack branches begun item closing end) }
 {
     match closing {
         Closing::Paren => Ok(Outcome::Refused),
@@ -133,7 +137,8 @@ fn open_no(
     item: Ranged<Expr>,
     end: Extent,
 ) -> Result<Outcome, AllocError>
-    ensures { IfOk result (λ next. next ≡ Outcome.Next (beginning_in stack (branch_of source.now guard begun item end ∷ branches))) }
+    ensures { IfOk result (λ next. next ≡ Outcome.Next
+        (beginning_in stack (branch_of source.now guard begun item end ∷ branches))) }
 {
     let extent = joined(joined(begun, item.extent), Some(end));
     let yes = node_of(source, item)?;
@@ -152,7 +157,8 @@ fn end_yes(
     closing: Closing,
     end: Extent,
 ) -> Result<Outcome, AllocError>
-    ensures { IfOk result (λ next. next ≡ yes_ended source.now stack branches guard begun item closing end) }
+    ensures { IfOk result
+        (λ next. next ≡ yes_ended source.now stack branches guard begun item closing end) }
 {
     match closing {
         Closing::Paren => Ok(Outcome::Refused),
@@ -206,7 +212,8 @@ pub fn end_expr(
     closing: Closing,
     end: Extent,
 ) -> Result<Outcome, AllocError>
-    ensures { IfOk result (λ next. next ≡ ended_by source.now stack (whole source.now levels operand) closing end) }
+    ensures { IfOk result (λ next. next ≡ ended_by source.now stack
+        (whole source.now levels operand) closing end) }
 {
     let item = close_expr(alloc, source, levels, operand)?;
     end_by(alloc, source, stack, item, closing, end)

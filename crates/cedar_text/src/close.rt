@@ -151,7 +151,8 @@ pub fn close_mult(
     mult: Option<Product>,
     operand: Operand,
 ) -> Result<Ranged<Mult>, AllocError>
-    ensures { IfOk result (λ closed. closed ≡ made_mult (marked source.now mult (unary_at source.now operand))) }
+    ensures { IfOk result (λ closed. closed ≡ made_mult
+        (marked source.now mult (unary_at source.now operand))) }
 {
     let unary = close_unary(source, operand)?;
     let Chain {
@@ -173,7 +174,9 @@ pub fn close_add(
     mult: Option<Product>,
     operand: Operand,
 ) -> Result<Ranged<Add>, AllocError>
-    ensures { IfOk result (λ closed. closed ≡ made_add (marked source.now add (made_mult (marked source.now mult (unary_at source.now operand))))) }
+    ensures { IfOk result (λ closed. closed ≡ made_add
+        (marked source.now add
+        (made_mult (marked source.now mult (unary_at source.now operand))))) }
 {
     let mult = close_mult(alloc, source, mult, operand)?;
     let Chain {
@@ -196,7 +199,10 @@ pub fn close_relation(
     mult: Option<Product>,
     operand: Operand,
 ) -> Result<Ranged<Relation>, AllocError>
-    ensures { IfOk result (λ closed. closed ≡ made_relation (marked source.now relation (made_add (marked source.now add (made_mult (marked source.now mult (unary_at source.now operand))))))) }
+    ensures { IfOk result (λ closed. closed ≡ made_relation
+        (marked source.now relation
+        (made_add (marked source.now add
+        (made_mult (marked source.now mult (unary_at source.now operand))))))) }
 {
     let add = close_add(alloc, source, add, mult, operand)?;
     let Chain {
@@ -220,7 +226,11 @@ pub fn close_and(
     mult: Option<Product>,
     operand: Operand,
 ) -> Result<Ranged<And>, AllocError>
-    ensures { IfOk result (λ closed. closed ≡ made_and (linked source.now and (made_relation (marked source.now relation (made_add (marked source.now add (made_mult (marked source.now mult (unary_at source.now operand))))))))) }
+    ensures { IfOk result (λ closed. closed ≡ made_and
+        (linked source.now and
+        (made_relation (marked source.now relation (made_add
+        (marked source.now add
+        (made_mult (marked source.now mult (unary_at source.now operand))))))))) }
 {
     let relation = close_relation(alloc, source, relation, add, mult, operand)?;
     let Chain {
@@ -274,7 +284,8 @@ fn close_branch(
     branch: Branch,
     item: Ranged<Expr>,
 ) -> Result<Ranged<Expr>, AllocError>
-    ensures { IfOk result (λ expr. expr ≡ ranged (join branch.extent item.extent) (if_of branch.guard branch.yes (node_of source.now item))) }
+    ensures { IfOk result (λ expr. expr ≡ ranged (join branch.extent item.extent)
+        (if_of branch.guard branch.yes (node_of source.now item))) }
 {
     let Branch { guard, yes, extent } = branch;
     let extent = joined(extent, item.extent);

@@ -23,7 +23,8 @@ pub fn one_tree()
 /// Behind tokens that the parser has taken, what it takes next, a kind of token or the end, is just what some sentence
 /// has there.
 pub(crate) fn takes_what_is_allowed()
-    ensures { (src : List ℕ) (e : Entry) (ts : List Lexeme) (s : State) (next : Option TokenKind) → Comes src e ts s → IsTrue (allows s next) ↔ Allowed e (kinds ts) next }
+    ensures { (src : List ℕ) (e : Entry) (ts : List Lexeme) (s : State) (next : Option TokenKind)
+        → Comes src e ts s → IsTrue (allows s next) ↔ Allowed e (kinds ts) next }
 {}
 
 /// A text has at most one first fault, and none if it has a tree.

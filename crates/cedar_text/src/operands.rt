@@ -58,7 +58,8 @@ pub fn with_operand(
     signs: Signs,
     item: Ranged<Primary>,
 ) -> Result<Outcome, AllocError>
-    ensures { IfOk result (λ next. next ≡ Outcome.Next (operand source.now stack levels signs item)) }
+    ensures { IfOk result (λ next. next ≡ Outcome.Next
+        (operand source.now stack levels signs item)) }
 {
     let extent = item.extent;
     let item = node_of(source, item)?;
@@ -141,7 +142,8 @@ pub fn literal(
     extent: Extent,
     value: Literal,
 ) -> Result<Outcome, AllocError>
-    ensures { IfOk result (λ next. next ≡ Outcome.Next (operand source.now stack levels signs (literal_at source.now extent value))) }
+    ensures { IfOk result (λ next. next ≡ Outcome.Next
+        (operand source.now stack levels signs (literal_at source.now extent value))) }
 {
     let item = literal_at(source, extent, value)?;
     with_operand(alloc, source, stack, levels, signs, item)
@@ -158,7 +160,8 @@ pub fn string(
     text: &str,
 ) -> Result<Outcome, AllocError>
     requires { Written kind.StringLit text.now }
-    ensures { IfOk result (λ next. next ≡ Outcome.Next (operand source.now stack levels signs (string_at source.now extent text.now))) }
+    ensures { IfOk result (λ next. next ≡ Outcome.Next
+        (operand source.now stack levels signs (string_at source.now extent text.now))) }
 {
     let item = string_at(alloc, source, extent, text)?;
     with_operand(alloc, source, stack, levels, signs, item)
@@ -174,7 +177,8 @@ pub fn variable(
     extent: Extent,
     variable: Variable,
 ) -> Result<Outcome, AllocError>
-    ensures { IfOk result (λ next. next ≡ Outcome.Next (operand source.now stack levels signs (variable_at source.now extent variable))) }
+    ensures { IfOk result (λ next. next ≡ Outcome.Next
+        (operand source.now stack levels signs (variable_at source.now extent variable))) }
 {
     let item = variable_at(alloc, source, extent, variable)?;
     with_operand(alloc, source, stack, levels, signs, item)

@@ -46,7 +46,8 @@ fn go_on_mult(
     op: MultOp,
     operator: Extent,
 ) -> Result<Product, AllocError>
-    ensures { IfOk result (λ next. next ≡ pending (marked source.now mult (unary_at source.now operand)) op operator) }
+    ensures { IfOk result (λ next. next ≡ pending
+        (marked source.now mult (unary_at source.now operand)) op operator) }
 {
     let unary = close_unary(source, operand)?;
     link_pending(alloc, source, mult, unary, op, operator)
@@ -62,7 +63,9 @@ fn go_on_add(
     op: AddOp,
     operator: Extent,
 ) -> Result<Sum, AllocError>
-    ensures { IfOk result (λ next. next ≡ pending (marked source.now add (made_mult (marked source.now mult (unary_at source.now operand)))) op operator) }
+    ensures { IfOk result (λ next. next ≡ pending
+        (marked source.now add
+        (made_mult (marked source.now mult (unary_at source.now operand)))) op operator) }
 {
     let mult = close_mult(alloc, source, mult, operand)?;
     link_pending(alloc, source, add, mult, op, operator)
@@ -79,7 +82,10 @@ fn go_on_relation(
     op: RelOp,
     operator: Extent,
 ) -> Result<Comparison, AllocError>
-    ensures { IfOk result (λ next. next ≡ pending (marked source.now relation (made_add (marked source.now add (made_mult (marked source.now mult (unary_at source.now operand)))))) op operator) }
+    ensures { IfOk result (λ next. next ≡ pending
+        (marked source.now relation
+        (made_add (marked source.now add
+        (made_mult (marked source.now mult (unary_at source.now operand)))))) op operator) }
 {
     let add = close_add(alloc, source, add, mult, operand)?;
     link_pending(alloc, source, relation, add, op, operator)
@@ -96,7 +102,11 @@ fn go_on_and(
     operand: Operand,
     operator: Extent,
 ) -> Result<Conjunction, AllocError>
-    ensures { IfOk result (λ next. next ≡ onward (linked source.now and (made_relation (marked source.now relation (made_add (marked source.now add (made_mult (marked source.now mult (unary_at source.now operand)))))))) operator) }
+    ensures { IfOk result
+        (λ next. next ≡ onward (linked source.now and
+        (made_relation (marked source.now relation (made_add
+        (marked source.now add
+        (made_mult (marked source.now mult (unary_at source.now operand)))))))) operator) }
 {
     let relation = close_relation(alloc, source, relation, add, mult, operand)?;
     link_on(alloc, source, and, relation, operator)
@@ -112,7 +122,9 @@ pub fn multiply(
     op: MultOp,
     operator: Extent,
 ) -> Result<Outcome, AllocError>
-    ensures { IfOk result (λ next. next ≡ Outcome.Next (after_multiply stack levels (marked source.now levels.mult (unary_at source.now operand)) op operator)) }
+    ensures { IfOk result (λ next. next ≡ Outcome.Next
+        (after_multiply stack levels (marked source.now levels.mult
+        (unary_at source.now operand)) op operator)) }
 {
     let Levels {
         branches,
@@ -144,7 +156,9 @@ pub fn add_on(
     op: AddOp,
     operator: Extent,
 ) -> Result<Outcome, AllocError>
-    ensures { IfOk result (λ next. next ≡ Outcome.Next (after_sum stack levels (marked source.now levels.add (mult_at source.now levels operand)) op operator)) }
+    ensures { IfOk result (λ next. next ≡ Outcome.Next
+        (after_sum stack levels (marked source.now levels.add
+        (mult_at source.now levels operand)) op operator)) }
 {
     let Levels {
         branches,
@@ -176,7 +190,9 @@ pub fn compare(
     op: RelOp,
     operator: Extent,
 ) -> Result<Outcome, AllocError>
-    ensures { IfOk result (λ next. next ≡ Outcome.Next (after_compare stack levels (marked source.now levels.relation (add_at source.now levels operand)) op operator)) }
+    ensures { IfOk result (λ next. next ≡ Outcome.Next
+        (after_compare stack levels (marked source.now levels.relation
+        (add_at source.now levels operand)) op operator)) }
 {
     let Levels {
         branches,
@@ -207,7 +223,9 @@ pub fn and_then(
     operand: Operand,
     operator: Extent,
 ) -> Result<Outcome, AllocError>
-    ensures { IfOk result (λ next. next ≡ Outcome.Next (after_and stack levels (linked source.now levels.and (relation_at source.now levels operand)) operator)) }
+    ensures { IfOk result (λ next. next ≡ Outcome.Next
+        (after_and stack levels (linked source.now levels.and
+        (relation_at source.now levels operand)) operator)) }
 {
     let Levels {
         branches,
@@ -238,7 +256,9 @@ pub fn or_else(
     operand: Operand,
     operator: Extent,
 ) -> Result<Outcome, AllocError>
-    ensures { IfOk result (λ next. next ≡ Outcome.Next (after_or stack levels (linked source.now levels.or (and_at source.now levels operand)) operator)) }
+    ensures { IfOk result (λ next. next ≡ Outcome.Next
+        (after_or stack levels (linked source.now levels.or
+        (and_at source.now levels operand)) operator)) }
 {
     let Levels {
         branches,

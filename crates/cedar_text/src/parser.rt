@@ -45,7 +45,8 @@ fn unexpected(alloc: Global, token: Token<'_>) -> Result<RawFault, AllocError>
 /// The state behind this token.
 fn judge(alloc: Global, source: &Source, state: State, token: Token<'_>) -> Result<State, Failure>
     requires { IsWritten (lexeme_of token) }
-    ensures { MatchResult result (λ next. step_of source.now state (lexeme_of token.entry) ≡ outcome.Next next) (λ f. StopsAtToken source.now state (lexeme_of token.entry) f) }
+    ensures { MatchResult result (λ next. step_of source.now state (lexeme_of token.entry)
+        ≡ outcome.Next next) (λ f. StopsAtToken source.now state (lexeme_of token.entry) f) }
 {
     match step(alloc, source, state, token)? {
         Outcome::Next(next) => Ok(next),
@@ -56,7 +57,8 @@ fn judge(alloc: Global, source: &Source, state: State, token: Token<'_>) -> Resu
 
 /// The tree at the end of the text.
 fn conclude(alloc: Global, source: &Source, state: State, end: usize) -> Result<Parsed, Failure>
-    ensures { MatchResult result (λ x. finish_of source.now state ≡ Some x) (λ f. StopsAtEnd source.now state end f) }
+    ensures { MatchResult result (λ x. finish_of source.now state ≡ Some x)
+        (λ f. StopsAtEnd source.now state end f) }
 {
     match finish(alloc, source, state)? {
         Some(parsed) => Ok(parsed),
@@ -75,7 +77,9 @@ impl<'a> Parser<'a> {
     /// Before the first token.
     fn new(alloc: Global, rule: Entry, text: &'a str) -> Result<Parser<'a>, Failure>
         ensures source { IfOk result (λ p. (p.source ≡ text.now) × (p.rule ≡ rule)) }
-        ensures progress { MatchResult result (λ p. Progress text.now rule p.state p.end p.ahead p.lexer) (λ f. IsRefusal rule text.now f) }
+        ensures progress { MatchResult result
+            (λ p. Progress text.now rule p.state p.end p.ahead p.lexer)
+            (λ f. IsRefusal rule text.now f) }
     {
         let source = Source::from_str(alloc, text)?;
         let mut lexer = Lexer::new(text);
@@ -94,7 +98,8 @@ impl<'a> Parser<'a> {
     /// Reads the text to its end.
     fn read(self) -> Result<Parsed, Failure>
         requires { Progress self.source self.rule self.state self.end self.ahead self.lexer }
-        ensures { MatchResult result (λ x. IsRead self.entry.source self.entry.rule x) (λ f. IsRefusal self.entry.rule self.entry.source f) }
+        ensures { MatchResult result (λ x. IsRead self.entry.source self.entry.rule x)
+            (λ f. IsRefusal self.entry.rule self.entry.source f) }
     {
         let Parser {
             alloc,

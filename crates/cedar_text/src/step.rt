@@ -42,7 +42,8 @@ fn want_as(
     text: &str,
 ) -> Result<Outcome, AllocError>
     requires { IsBeginningOf beginning text.now }
-    ensures { IfOk result (λ next. next ≡ wanted source.now stack levels first signs beginning extent text.now) }
+    ensures { IfOk result
+        (λ next. next ≡ wanted source.now stack levels first signs beginning extent text.now) }
 {
     match beginning {
         Beginning::True => literal(alloc, source, stack, levels, signs, extent, Literal::True),
@@ -77,7 +78,8 @@ fn want(
     token: Token<'_>,
 ) -> Result<Outcome, AllocError>
     requires { IsWritten (lexeme_of token) }
-    ensures { IfOk result (λ next. next ≡ wanting source.now stack levels first signs (lexeme_of token.entry)) }
+    ensures { IfOk result (λ next. next ≡ wanting source.now stack levels first signs
+        (lexeme_of token.entry)) }
 {
     let beginning = as_beginning(token.kind, token.text);
     let extent = token_extent(token);
@@ -120,7 +122,8 @@ fn have(
     operand: Operand,
     token: Token<'_>,
 ) -> Result<Outcome, AllocError>
-    ensures { IfOk result (λ next. next ≡ having source.now stack levels operand (lexeme_of token.entry)) }
+    ensures { IfOk result (λ next. next ≡ having source.now stack levels operand
+        (lexeme_of token.entry)) }
 {
     let operator = as_operator(token.kind);
     let extent = token_extent(token);
@@ -155,7 +158,8 @@ fn finish_expr(
     levels: Levels,
     operand: Operand,
 ) -> Result<Parsed, AllocError>
-    ensures { IfOk result (λ parsed. parsed ≡ Parsed.Expr (node_of source.now (whole source.now levels operand))) }
+    ensures { IfOk result (λ parsed. parsed ≡ Parsed.Expr
+        (node_of source.now (whole source.now levels operand))) }
 {
     let expr = close_expr(alloc, source, levels, operand)?;
     Ok(Parsed::Expr(node_of(source, expr)?))

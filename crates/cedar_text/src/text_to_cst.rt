@@ -48,9 +48,11 @@ use std::alloc::Global;
 /// `User`, a number past `u64` where a number may stand, at its digits; `InvalidToken`, where no token starts. Or it is
 /// `Failure::Memory`.
 pub fn parse_expr(alloc: Global, text: &str) -> Result<Node<Option<Expr>>, Failure>
-    ensures found { IfOk result (λ x. (ts : List Lexeme) × Cuts text.now ts × Reads text.now entry.Expr ts (parsed.Expr x)) }
+    ensures found { IfOk result (λ x. (ts : List Lexeme) × Cuts text.now ts
+        × Reads text.now entry.Expr ts (parsed.Expr x)) }
     ensures places { IfOk result (λ x. PlacesExpr text.now x) }
-    ensures only { (ts : List Lexeme) (y : Cell Expr) → Cuts text.now ts → Reads text.now entry.Expr ts (parsed.Expr y) → MatchResult result (λ x. x ≡ y) IsMemory }
+    ensures only { (ts : List Lexeme) (y : Cell Expr) → Cuts text.now ts
+        → Reads text.now entry.Expr ts (parsed.Expr y) → MatchResult result (λ x. x ≡ y) IsMemory }
     ensures refused { IfErr result (λ f. old_fault.IsRefusal entry.Expr text.now f) }
 {
     let parsed = parse(alloc, Entry::Expr, text)?;

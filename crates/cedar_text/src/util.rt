@@ -45,7 +45,8 @@ pub fn flatten_tuple_2<T1: Drop, T2: Drop>(
     ensures both { IfOk result (λ pair. (first ≡ Ok pair.0) × (second ≡ Ok pair.1)) }
     ensures memory { WantsMemory first ⊎ WantsMemory second → WantsMemory result }
     ensures faults { IfErr result (λ failure. TellsBoth failure first second) }
-    ensures failure { IfErr result (λ failure. IsJoined failure (failures first ++ failures second)) }
+    ensures failure { IfErr result (λ failure. IsJoined failure
+        (failures first ++ failures second)) }
 {
     match first {
         Ok(first) => match second {

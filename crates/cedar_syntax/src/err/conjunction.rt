@@ -40,7 +40,8 @@ pub fn write_list<T: Listed, W: fmt::Write>(
 
 // Each behind a comma.
 fn write_between<T: Listed, W: fmt::Write>(items: &[T], f: &mut fmt::Formatter<W>) -> fmt::Result
-    ensures { WritesOnOk W.write_str_gives f.old result (flat_map (λ item. codes ", " ++ T.text item) items.now) f.new }
+    ensures { WritesOnOk W.write_str_gives f.old result
+        (flat_map (λ item. codes ", " ++ T.text item) items.now) f.new }
 {
     for item in items {
         f.write_str(", ")?;

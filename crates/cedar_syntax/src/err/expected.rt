@@ -96,7 +96,8 @@ pub fn policy_token_config(alloc: Global) -> Result<ExpectedTokenConfig, AllocEr
 
 // How words, slots and classes of tokens are shown.
 fn policy_token_names(alloc: Global) -> Result<HashMap<&'static str, &'static str>, AllocError>
-    ensures { IfOk result (λ map. friendly_of map ≡ (λ name. lookup (bytes_eq name) friendly_names)) }
+    ensures { IfOk result (λ map. friendly_of map
+        ≡ (λ name. lookup (bytes_eq name) friendly_names)) }
 {
     table_of(
         alloc,
@@ -153,7 +154,8 @@ fn without<'a>(
     set: &HashSet<&'static str>,
 ) -> Result<Vec<&'a str>, AllocError>
     ensures { IfOk result (λ left.
-        left.items ≡ filter (λ name. not (bag.contains_by (λ key. bytes_eq name.now key.now) set.now)) names.now) }
+        left.items ≡ filter (λ name. not (bag.contains_by
+            (λ key. bytes_eq name.now key.now) set.now)) names.now) }
 {
     names
         .iter()
@@ -167,7 +169,8 @@ fn kept_names<'a>(
     names: &[&'a str],
     config: &ExpectedTokenConfig,
 ) -> Result<Vec<&'a str>, AllocError>
-    ensures { IfOk result (λ left. map (λ name. name.now) left.items ≡ kept (rules_of config.now) (map (λ name. name.now) names.now)) }
+    ensures { IfOk result (λ left. map (λ name. name.now) left.items
+        ≡ kept (rules_of config.now) (map (λ name. name.now) names.now)) }
 {
     let possible = without(alloc, names, &config.impossible_tokens)?;
     if !possible.contains(&config.identifier_sentinel) {
@@ -241,7 +244,8 @@ fn keys_of<'a>(alloc: Global, set: BTreeSet<&'a str>) -> Result<Vec<&'a str>, Al
 
 // The names as a set.
 fn set_of<'a>(alloc: Global, names: &[&'a str]) -> Result<BTreeSet<&'a str>, AllocError>
-    ensures { IfOk result (tree.IsFromIterResult (λ x y. slice_cmp nat_cmp x.now y.now) names.now) }
+    ensures { IfOk result
+        (tree.IsFromIterResult (λ x y. slice_cmp nat_cmp x.now y.now) names.now) }
 {
     names.iter().copied().collect(alloc)
 }

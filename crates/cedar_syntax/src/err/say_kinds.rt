@@ -148,7 +148,8 @@ fn write_unnormalized<W: fmt::Write>(
     src: &Text,
     f: &mut fmt::Formatter<W>,
 ) -> fmt::Result
-    ensures { WritesOnOk W.write_str_gives f.old result (unnormalized_message kind.now src.now) f.new }
+    ensures { WritesOnOk W.write_str_gives f.old result
+        (unnormalized_message kind.now src.now) f.new }
 {
     write!(
         f,
@@ -163,7 +164,8 @@ fn write_arity<W: fmt::Write>(
     got: usize,
     f: &mut fmt::Formatter<W>,
 ) -> fmt::Result
-    ensures { WritesOnOk W.write_str_gives f.old result (arity_message name.now expected got) f.new }
+    ensures { WritesOnOk W.write_str_gives f.old result
+        (arity_message name.now expected got) f.new }
 {
     let expected_arguments = arguments(expected);
     let got_arguments = arguments(got);

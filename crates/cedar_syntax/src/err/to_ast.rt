@@ -329,10 +329,18 @@ impl From<WrongEntityArgument> for ToASTErrorKind {
 impl Error for ToASTErrorKind {}
 
 /// Why a tree has no value, and the place of the node that hinders it.
-#[derive(Debug, Drop, PartialEq, Eq)]
+#[derive(Debug, PartialEq, Eq)]
 pub struct ToASTError {
     pub kind: ToASTErrorKind,
     pub loc: Option<Loc>,
+}
+
+/// A fault is dropped in a frame of its own, so that what lets faults go has one call there and no case for each kind.
+impl Drop for ToASTError {
+    #[inline(never)]
+    fn drop(self) {
+        let ToASTError { kind: _, loc: _ } = self;
+    }
 }
 
 impl ToASTError {

@@ -286,7 +286,8 @@ impl ToCSTError {
     /// What could have stood where the parse stopped, in Cedar's own words for tokens, or `None` where that says nothing.
     /// Only want of memory refuses it.
     pub fn label(&self, alloc: Global) -> Result<Option<String>, AllocError>
-        ensures { IfOk result (λ label. SaysExpected policy_rules (map name_of (expected_of self.now.raw))
+        ensures { IfOk result (λ label. SaysExpected policy_rules
+            (map name_of (expected_of self.now.raw))
             (option_map (λ text. string_bytes text) label)) }
     {
         let names = names_of(alloc, self.expected_kinds())?;

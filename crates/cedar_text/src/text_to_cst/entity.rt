@@ -358,7 +358,8 @@ impl WordsState {
         requires { IsWritten (lexeme_of token) }
         ensures { IfOk result
             (λ taken. answer_of taken self.new
-            ≡ inits_step source.now inits.begun.path inits.begun.start inits.begun.inits inits.place
+            ≡ inits_step source.now inits.begun.path inits.begun.start inits.begun.inits
+            inits.place
             (lexeme_of token.entry)) }
     {
         let Inits { begun, place } = inits;

@@ -5,5 +5,6 @@ ghost use Rattle.cedar_text.specs.Piece.{Placed, IsLaidOut};
 /// A raw text is laid out of pieces in exactly one way.
 pub fn one_layout()
     ensures some { (raw : List ℕ) → (ps : List Placed) × IsLaidOut raw ps }
-    ensures one { (raw : List ℕ) (ps qs : List Placed) → IsLaidOut raw ps → IsLaidOut raw qs → ps ≡ qs }
+    ensures one { (raw : List ℕ) (ps qs : List Placed) → IsLaidOut raw ps → IsLaidOut raw qs → ps
+        ≡ qs }
 {}

@@ -38,7 +38,8 @@ abbrev the_field : Former {0}
 the_field =
     via (pair (const (Ptr × Global)) this) Inside
     (λ Value struct. ((struct.inner.ptr, struct.inner.alloc), struct.inner.value))
-    (λ Value parts. record { inner = record { ptr = parts.0.0; alloc = parts.0.1; value = parts.1 } })
+    (λ Value parts. record { inner = record { ptr = parts.0.0; alloc = parts.0.1;
+        value = parts.1 } })
     (λ Value struct. refl)
     (λ Value parts. refl)
 
@@ -61,11 +62,14 @@ module _ (Old New : RattleType) (renewed : Old.Denot → New.Denot) where
   std_box_places : Alike Old New renewed → Alike (std_box Old) (std_box New) refill
   unfolding part_of
   std_box_places alike = record {
-    mir_same = λ i. (std_box (one_value Old (alike.mir_same i) (λ _. ftrue) (λ _ _. nothing) gnil)).mir;
+    mir_same = λ i. (std_box (one_value Old (alike.mir_same i) (λ _. ftrue)
+        (λ _ _. nothing) gnil)).mir;
     own_same = λ filled i.
-        (std_box (one_value Old (alike.mir_same i) (alike.own_same filled.value i) (alike.shr_same filled.value i) gnil)).own_val (refilled filled tt);
+        (std_box (one_value Old (alike.mir_same i) (alike.own_same filled.value i)
+            (alike.shr_same filled.value i) gnil)).own_val (refilled filled tt);
     shr_same = λ filled i.
-        (std_box (one_value Old (alike.mir_same i) (alike.own_same filled.value i) (alike.shr_same filled.value i) gnil)).shr_at (refilled filled tt);
+        (std_box (one_value Old (alike.mir_same i) (alike.own_same filled.value i)
+            (alike.shr_same filled.value i) gnil)).shr_at (refilled filled tt);
   }
 
   -- and so is the struct around it
@@ -84,5 +88,6 @@ module _ (Old New : RattleType) (renewed : Old.Denot → New.Denot) where
       (laid _ _ _ (std_box_places alike), tt))
 
   -- and a box has its value's code
-  pub the_codes_placed : Recodes Old New renewed → Recodes (whole.the_row Old) (whole.the_row New) map_of
+  pub the_codes_placed : Recodes Old New renewed
+      → Recodes (whole.the_row Old) (whole.the_row New) map_of
   the_codes_placed recoded seen = recoded seen

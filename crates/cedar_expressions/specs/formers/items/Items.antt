@@ -38,7 +38,8 @@ the_empty = []
 abbrev pub the_items : (Element : Type 0) → List Element → List Element
 the_items Element seen = seen
 
-pub the_items_listed : (Element : Type 0) (seen : List Element) → listed _ (children (the_former this) Element seen) ≡ the_items Element seen
+pub the_items_listed : (Element : Type 0) (seen : List Element)
+    → listed _ (children (the_former this) Element seen) ≡ the_items Element seen
 the_items_listed Element seen = list-listed Element seen
 
 -- the struct's one field, as the `Vec` splits into its elements and the rest
@@ -71,5 +72,7 @@ module _ (Old New : RattleType) (renewed : Old.Denot → New.Denot) where
       (laid _ _ _ (vec.the_places global.the_row ghosts Old New renewed alike), tt))
 
   -- and a list's code is that of its elements' codes
-  pub the_codes_placed : Recodes Old New renewed → Recodes (whole.the_row Old) (whole.the_row New) map_of
-  the_codes_placed recoded seen = sym (code_map Old.coded.code New.coded.code renewed (λ element. sym (recoded element)) seen)
+  pub the_codes_placed : Recodes Old New renewed
+      → Recodes (whole.the_row Old) (whole.the_row New) map_of
+  the_codes_placed recoded seen =
+      sym (code_map Old.coded.code New.coded.code renewed (λ element. sym (recoded element)) seen)
