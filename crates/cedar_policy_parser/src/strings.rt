@@ -1,10 +1,10 @@
 //! The texts that strings stand for.
-ghost use Rattle.std.specs.Prelude.{◌≡◌, IfOk};
+ghost use Rattle.std.specs.Prelude.{◌≡◌, ◌∷◌, [], ◌++◌, IfOk, OnOk};
 ghost use Rattle.cedar_syntax.specs.NonEmpty.{list_of};
 ghost use Rattle.cedar_syntax.specs.ParseErrors.{faults_of};
 ghost use Rattle.cedar_policy_parser.specs.Held.{text_value};
-ghost use Rattle.cedar_policy_parser.specs.Outcome.{next};
-ghost use Rattle.cedar_policy_parser.specs.Seen.{Gives, itself, told};
+ghost use Rattle.cedar_policy_parser.specs.Outcome.{next, unescape};
+ghost use Rattle.cedar_policy_parser.specs.Seen.{Gives, itself, told, told_of};
 ghost use Rattle.cedar_policy_parser.specs.Strings.{text_outcome, told_at};
 
 use crate::special::builder_at;
@@ -26,13 +26,32 @@ pub(crate) fn escape_faults(
     ensures { IfOk result (λ all. told (faults_of all) ≡ told_at loc.now (list_of faults)) }
 {
     let NonEmpty { head, tail } = faults;
-    let first = ToASTError::new(ToASTErrorKind::Unescape(head), loc.try_clone()?);
-    let mut all = ParseErrors::from_ast(alloc, first);
+    let mut all = ParseErrors::from_ast(alloc, escape_fault(head, loc)?);
     for fault in tail.into_vec() {
-        let fault = ToASTError::new(ToASTErrorKind::Unescape(fault), loc.try_clone()?);
-        all.faults.push(ParseError::ToAST(fault))?;
+        add_escape_fault(&mut all, fault, loc)?;
     }
     Ok(all)
+}
+
+/// One more escape fault, at the string's place.
+fn add_escape_fault(
+    all: &mut ParseErrors,
+    fault: UnescapeError,
+    loc: &Option<Loc>,
+) -> Result<(), AllocError>
+    ensures { OnOk result (told (faults_of all.new)
+        ≡ told (faults_of all.old) ++ (unescape, loc.now) ∷ []) }
+{
+    let fault = escape_fault(fault, loc)?;
+    all.faults.push(ParseError::ToAST(fault))
+}
+
+/// An escape fault at the string's place.
+fn escape_fault(fault: UnescapeError, loc: &Option<Loc>) -> Result<ToASTError, AllocError>
+    ensures { IfOk result (λ made. told_of (ParseError.ToAST made) ≡ (unescape, loc.now)) }
+{
+    let loc = loc.try_clone()?;
+    Ok(ToASTError::new(ToASTErrorKind::Unescape(fault), loc))
 }
 
 /// The text that a raw text stands for, or its escape faults, each at the string's place.
