@@ -4,7 +4,7 @@ ghost use Rattle.std.specs.IoError.{error_kind};
 ghost use Rattle.cedar_expressions.specs.Value.{Value};
 ghost use Rattle.cedar_syntax.specs.Forms.{located, expr_form};
 ghost use Rattle.cedar_policy_parser.specs.Conversion.{Converts};
-ghost use Rattle.cedar_policy_parser.specs.Extensions.{no_extensions};
+ghost use Rattle.cedar_policy_parser.specs.Extensions.{no_extensions, table_of};
 ghost use Rattle.cedar_policy_parser.specs.Refused.{TellsTree};
 ghost use Rattle.cedar_parse.specs.Ends.{AsksForExpression, IsMeant, IsVerdict, Streams, streams_at, Ends, Stops, StopsWriting, TellsEnd, status_of};
 ghost use Rattle.cedar_parse.specs.Streams.{reader_of, read_failure, writer_state};
