@@ -25,7 +25,7 @@ is_identifier (b ∷ bs) = begins_identifier b && list_all continues_identifier 
 abbrev pub reserved_words : List (List ℕ)
 reserved_words =
     codes "if" ∷ codes "true" ∷ codes "false" ∷ codes "then" ∷ codes "else" ∷ codes "in" ∷ codes
-        "is" ∷ codes "has" ∷ codes "like" ∷ []
+    "is" ∷ codes "has" ∷ codes "like" ∷ []
 
 abbrev pub is_reserved_word : List ℕ → Bool
 is_reserved_word text = list_any (bytes_eq text) reserved_words

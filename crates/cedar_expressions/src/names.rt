@@ -128,8 +128,7 @@ impl TryFrom<InternalName> for Name {
     ghost use Rattle.std.specs.Prelude.{◌≡◌, MatchResult, true, false};
     ghost use Rattle.cedar_expressions.specs.Path.{has_reserved_namespace};
 
-    ghost try_from_gives =
-        { λ name result. MatchResult result (λ unreserved. (unreserved ≡ name)
+    ghost try_from_gives = { λ name result. MatchResult result (λ unreserved. (unreserved ≡ name)
         × (has_reserved_namespace name ≡ false)) (λ error. (error.name ≡ name)
         × (has_reserved_namespace name ≡ true)) };
 
@@ -148,8 +147,7 @@ impl TryFrom<Id> for UnreservedId {
     ghost use Rattle.std.specs.Prelude.{◌≡◌, [], MatchResult, true, false};
     ghost use Rattle.cedar_expressions.specs.Path.{is_reserved_namespace};
 
-    ghost try_from_gives =
-        { λ id result. MatchResult result (λ unreserved. (unreserved ≡ id)
+    ghost try_from_gives = { λ id result. MatchResult result (λ unreserved. (unreserved ≡ id)
         × (is_reserved_namespace id ≡ false)) (λ error.
         (error.name ≡ record { path = []; id = id }) × (is_reserved_namespace id ≡ true)) };
 

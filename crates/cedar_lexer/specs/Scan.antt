@@ -49,7 +49,7 @@ number text = Some (Number, prefix_len is_ascii_digit text)
 abbrev pub slot : List ℕ → Option Found
 slot text = cond (begins_identifier (slice_index text 1))
     (let n = 1 + prefix_len continues_identifier (drop 1 text) in Some
-        (kind_among slots (take n text) OtherSlot, n))
+    (kind_among slots (take n text) OtherSlot, n))
     None
 
 -- how many bytes a string has through its closing quote, where n of them are read, the last a backslash that

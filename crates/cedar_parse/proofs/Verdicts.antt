@@ -1,4 +1,8 @@
 -- A text, its tree, and what both say of its meaning.
+use Rattle.std.specs.BTreeMap.{is_at}
+use Rattle.std.specs.BTreeSet.{BTreeSet, contains, IsEmpty}
+use Rattle.std.specs.List.{list_any}
+use Rattle.std.specs.declared.cmp.Ordering.{Ordering}
 use Rattle.std.proofs.Common.{◌≡◌, ℕ, List, false, Result, Ok, Err, IfErr, IsErrAnd, sym, ap, ◌∙◌}
 use Rattle.cedar_lexer.specs.Cut.{Cuts}
 use Rattle.cedar_lexer.specs.Token.{Lexeme}
@@ -39,8 +43,20 @@ refused_for_memory (Memory e) n o w same r k = tt
 refused_for_memory (Errors es) n o w same r k = let no = sym r ∙ ap (λ t. value_outcome no_extensions (located expr_form t)) same ∙ k in cc
 
 -- a table without functions and methods
-pub empty_table : (table : Extensions) → ((name : Path) → table.functions name ≡ false) → ((id : List ℕ) → table.methods id ≡ false) → table ≡ no_extensions
+empty_table : (table : Extensions) → ((name : Path) → table.functions name ≡ false) → ((id : List ℕ) → table.methods id ≡ false) → table ≡ no_extensions
 empty_table table h k = λ i. record { functions = λ name. h name i; methods = λ id. k id i }
+
+-- a set without keys holds nothing
+none_held : {K : Type 0} (compare : K → K → Ordering) (s : BTreeSet K) (x : K) → IsEmpty s → contains compare s x ≡ false
+none_held compare s x none = ap (λ keys. list_any (is_at (compare x)) keys) none
+
+-- a table of two empty sets is the one
+pub table_of_none : (table : Extensions) (names : Path → Path → Ordering) (ids : List ℕ → List ℕ → Ordering) (functions : BTreeSet Path) (methods : BTreeSet (List ℕ))
+    → IsEmpty functions → IsEmpty methods
+    → ((name : Path) → table.functions name ≡ contains names functions name) → ((id : List ℕ) → table.methods id ≡ contains ids methods id)
+    → table ≡ no_extensions
+table_of_none table names ids functions methods no_function no_method h k =
+    empty_table table (λ name. h name ∙ none_held names functions name no_function) (λ id. k id ∙ none_held ids methods id no_method)
 
 pub err_on : {E F : Type 0} (r : Result E F) (f : F) (Q : F → Type 0) → IsErrAnd r (λ e. e ≡ f) → Q f → IfErr r Q
 err_on (Ok e) f Q is q = tt

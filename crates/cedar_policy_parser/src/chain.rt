@@ -54,7 +54,7 @@ impl Joins for OrOr {
     ) -> Result<ExprOrSpecial<B::Expr>, Failure>
         ensures { Gives (plain B.meaning) result
             (combined disjunction loc.now (behind (λ op. or_or) B.meaning rest)
-                (B.meaning first)) }
+            (B.meaning first)) }
     {
         let rest = bodies_of(alloc, rest)?;
         made::<B>(builder_at::<B>(alloc, loc).or_nary(first, rest)?, loc)
@@ -74,7 +74,7 @@ impl Joins for AndAnd {
     ) -> Result<ExprOrSpecial<B::Expr>, Failure>
         ensures { Gives (plain B.meaning) result
             (combined conjunction loc.now (behind (λ op. and_and) B.meaning rest)
-                (B.meaning first)) }
+            (B.meaning first)) }
     {
         let rest = bodies_of(alloc, rest)?;
         made::<B>(builder_at::<B>(alloc, loc).and_naryl(first, rest)?, loc)

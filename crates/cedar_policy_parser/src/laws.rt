@@ -69,7 +69,7 @@ pub fn refused_alone()
     ensures ambiguous { (table : Extensions) (place : Option Loc) (a b c : Located)
         (op next : t.Operator)
         (rest : Parts) → HasValue table a → HaveValues table place
-            (f.more op b (f.more next c rest))
+        (f.more op b (f.more next c rest))
         → outcome table (f.at place (f.chain t.relation a (f.more op b (f.more next c rest))))
         ≡ refused ambiguous_operators place }
     ensures single_eq { (table : Extensions) (place : Option Loc) (a b : Located)

@@ -24,7 +24,7 @@ use std::alloc::Global;
 pub fn parse_expression(alloc: Global, text: &str, styles: &ExtStyles) -> Result<Expr, Failure>
     ensures value { IfOk result (λ e.
         (ts : List Lexeme) × Cuts text.now ts × Means
-            (table_of styles.now) SIGN_LIMIT expression ts (unplaced e)) }
+        (table_of styles.now) SIGN_LIMIT expression ts (unplaced e)) }
     ensures only { (ts : List Lexeme) (w : Value) → Cuts text.now ts
         → Means (table_of styles.now) SIGN_LIMIT expression ts w
         → MatchResult result (λ e. unplaced e ≡ w) IsMemory }

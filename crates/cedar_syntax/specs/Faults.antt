@@ -15,7 +15,7 @@ use Rattle.cedar_syntax.specs.declared.err.parse_errors.Ref.TheVariants.{Single,
 abbrev pub static_policy_message : ExpectedStaticPolicy → List ℕ
 static_policy_message fault =
     codes "expected a static policy, got a template containing the slot "
-        ++ slot_text fault.slot.id
+    ++ slot_text fault.slot.id
 
 abbrev pub template_message : List ℕ
 template_message = codes "expected a template, got a static policy"
@@ -53,4 +53,4 @@ wanted_text (Right two) = reference_text two.0 ++ (codes " or " ++ reference_tex
 abbrev pub argument_message : WrongEntityArgument → List ℕ
 argument_message fault =
     codes "expected " ++ (wanted_text fault.expected
-        ++ (codes ", found " ++ reference_text fault.got))
+    ++ (codes ", found " ++ reference_text fault.got))

@@ -139,7 +139,7 @@ abbrev pub expected_text : TokenRules → List TokenName → List ℕ
 expected_text rules [] = []
 expected_text rules (first ∷ more) =
     codes "expected " ++ conjoined (codes "or") (shown_name rules first)
-        (map (shown_name rules) more)
+    (map (shown_name rules) more)
 
 -- what is said of expected names: nothing exactly if none is kept, else the kept ones
 abbrev pub SaysExpected : TokenRules → List TokenName → Option (List ℕ) → Type 0

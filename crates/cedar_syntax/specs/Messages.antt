@@ -47,7 +47,7 @@ quote_help None = None
 quote_help (Some character) =
     if character == 34 then Some (codes "try checking that all strings are closed properly")
     else (if character == 39 then Some
-        (codes "strings must use double quotes, not single quotes") else None)
+    (codes "strings must use double quotes, not single quotes") else None)
 
 abbrev pub raw_help : List ℕ → RawFault → Option (List ℕ)
 raw_help text (InvalidToken location) = quote_help (slice_get text location)

@@ -158,8 +158,8 @@ unfoldable mutual
   printed (empty_condition i) = option_texts ident_texts i ++ (codes "{" ∷ (codes "}" ∷ []))
   printed (policy annotations effect variables conditions) =
       in_order annotations ++ (option_texts ident_texts effect
-          ++ (codes "(" ∷ (listed variables
-          ++ (codes ")" ∷ (in_order conditions ++ (codes ";" ∷ []))))))
+      ++ (codes "(" ∷ (listed variables
+      ++ (codes ")" ∷ (in_order conditions ++ (codes ";" ∷ []))))))
   printed (policies ps) = in_order ps
 
   -- further parts, each behind its operator

@@ -38,8 +38,10 @@ pub data FirstFault (e : Entry) (text : List ℕ) : RawFault → Type 0 where
   large_number : (before : List Lexeme) (t : Lexeme) → NumbersFit before
       → StandsBehind text before t → t.kind ≡ kind.Number → fits t.text ≡ false
       → Allowed e (kinds before) (Some kind.Number) →
-      FirstFault e text (fault.User record { node = too_large;
-          loc = loc_at text (Some (extent_of t)) })
+      FirstFault e text (fault.User record {
+        node = too_large;
+        loc = loc_at text (Some (extent_of t));
+      })
   -- behind them stands something at which no token starts
   bad_place : (before : List Lexeme) (place : ℕ) → NumbersFit before → StopsAt text before place
       → Begins e (kinds before) →

@@ -78,7 +78,7 @@ mutual
     if_expr : {ts us vs : List Lexeme} {c x y : Expr} (l m n : Spot) → ReadsExpr src ts c
         → ReadsExpr src us x → ReadsExpr src vs y →
         ReadsExpr src (one kind.If l ++ ts ++ one kind.Then m ++ us ++ one kind.Else n ++ vs)
-            (if_of (placed src ts c) (placed src us x) (placed src vs y))
+        (if_of (placed src ts c) (placed src us x) (placed src vs y))
 
   -- Or = And ("||" And)*
   pub data ReadsOr (src : List ℕ) : List Lexeme → Or → Type 0 where
@@ -90,7 +90,7 @@ mutual
         → ReadsAnds src ts (placed src ts x) []
     more_and : {ts us : List Lexeme} {x : Cell And} {y : And} {xs : List (Cell And)} (p : Spot) →
         ReadsAnds src ts x xs → ReadsAnd src us y → ReadsAnds src (ts ++ one kind.OrOr p ++ us) x
-            (xs ++ placed src us y ∷ [])
+        (xs ++ placed src us y ∷ [])
 
   -- And = Relation ("&&" Relation)*
   pub data ReadsAnd (src : List ℕ) : List Lexeme → And → Type 0 where
@@ -104,7 +104,7 @@ mutual
     more_relation : {ts us : List Lexeme} {x : Cell Relation} {y : Relation} {xs : List
         (Cell Relation)} (p : Spot) →
         ReadsRelations src ts x xs → ReadsRelation src us y
-            → ReadsRelations src (ts ++ one kind.AndAnd p ++ us) x (xs ++ placed src us y ∷ [])
+        → ReadsRelations src (ts ++ one kind.AndAnd p ++ us) x (xs ++ placed src us y ∷ [])
 
   -- Relation = Add (RelOp Add)*
   pub data ReadsRelation (src : List ℕ) : List Lexeme → Relation → Type 0 where
@@ -118,7 +118,7 @@ mutual
     more_add : {ts us : List Lexeme} {k : TokenKind} {o : RelOp} {x : Cell Add} {y : Add}
         {xs : List (RelOp × Cell Add)} (p : Spot) →
         ReadsAdds src ts x xs → ReadsRelOp k o → ReadsAdd src us y
-            → ReadsAdds src (ts ++ one k p ++ us) x (xs ++ (o, placed src us y) ∷ [])
+        → ReadsAdds src (ts ++ one k p ++ us) x (xs ++ (o, placed src us y) ∷ [])
 
   -- Add = Mult (("+" | "-") Mult)*
   pub data ReadsAdd (src : List ℕ) : List Lexeme → Add → Type 0 where
@@ -132,7 +132,7 @@ mutual
     more_mult : {ts us : List Lexeme} {k : TokenKind} {o : AddOp} {x : Cell Mult} {y : Mult}
         {xs : List (AddOp × Cell Mult)} (p : Spot) →
         ReadsMults src ts x xs → ReadsAddOp k o → ReadsMult src us y
-            → ReadsMults src (ts ++ one k p ++ us) x (xs ++ (o, placed src us y) ∷ [])
+        → ReadsMults src (ts ++ one k p ++ us) x (xs ++ (o, placed src us y) ∷ [])
 
   -- Mult = Unary (("*" | "/" | "%") Unary)*
   pub data ReadsMult (src : List ℕ) : List Lexeme → Mult → Type 0 where
@@ -146,7 +146,7 @@ mutual
     more_unary : {ts us : List Lexeme} {k : TokenKind} {o : MultOp} {x : Cell Unary} {y : Unary}
         {xs : List (MultOp × Cell Unary)} (p : Spot) →
         ReadsUnaries src ts x xs → ReadsMultOp k o → ReadsUnary src us y
-            → ReadsUnaries src (ts ++ one k p ++ us) x (xs ++ (o, placed src us y) ∷ [])
+        → ReadsUnaries src (ts ++ one k p ++ us) x (xs ++ (o, placed src us y) ∷ [])
 
   -- Unary = Member | "!"+ Member | "-"+ Member
   pub data ReadsUnary (src : List ℕ) : List Lexeme → Unary → Type 0 where
@@ -171,10 +171,10 @@ mutual
     -- a name of one identifier
     variable : {k : TokenKind} {i : Ident} (p : Spot) → ReadsVariable k i →
         ReadsPrimary src (one k p)
-            (primary.Name (placed src (one k p) (name_of [] (placed src (one k p) i))))
+        (primary.Name (placed src (one k p) (name_of [] (placed src (one k p) i))))
     paren : {ts : List Lexeme} {x : Expr} (l m : Spot) → ReadsExpr src ts x →
         ReadsPrimary src (one kind.OpenParen l ++ ts ++ one kind.CloseParen m)
-            (primary.Expr (placed src ts x))
+        (primary.Expr (placed src ts x))
 
 -- the rule that a whole text is read by, and its tree as a node
 pub data Reads (src : List ℕ) : Entry → List Lexeme → Parsed → Type 0 where

@@ -76,13 +76,20 @@ Marked T O = Chain T (O × Cell T)
 
 abbrev pub linked : {T : Type 0} → List ℕ → Option (Plain T) → Ranged T → Plain T
 linked src None x = record { initial = node_of src x; extended = []; extent = x.extent }
-linked src (Some c) x = record { initial = c.initial; extended = c.extended ++ node_of src x ∷ [];
-    extent = join c.extent x.extent }
+linked src (Some c) x = record {
+  initial = c.initial;
+  extended = c.extended ++ node_of src x ∷ [];
+  extent = join c.extent x.extent;
+}
 
 abbrev pub marked : {T O : Type 0} → List ℕ → Option (Pending T O) → Ranged T → Marked T O
 marked src None x = record { initial = node_of src x; extended = []; extent = x.extent }
-marked src (Some p) x = record { initial = p.chain.initial; extended = p.chain.extended
-    ++ (p.op, node_of src x) ∷ []; extent = join p.chain.extent x.extent }
+marked src (Some p) x = record {
+  initial = p.chain.initial;
+  extended = p.chain.extended
+      ++ (p.op, node_of src x) ∷ [];
+  extent = join p.chain.extent x.extent;
+}
 
 -- a chain and an operator
 abbrev pub onward : {T I : Type 0} → Chain T I → Extent → Chain T I
@@ -219,8 +226,11 @@ guard_ended src st bs l x closing.Then m = outcome.Next
 guard_ended src st bs l x closing.Else m = outcome.Refused
 
 abbrev pub branch_of : List ℕ → Cell Expr → Option Extent → Ranged Expr → Extent → Branch
-branch_of src c l x m = record { guard = c; yes = node_of src x;
-    extent = join (join l x.extent) (Some m) }
+branch_of src c l x m = record {
+  guard = c;
+  yes = node_of src x;
+  extent = join (join l x.extent) (Some m);
+}
 
 abbrev pub yes_ended : List ℕ → List Frame → List Branch → Cell Expr → Option Extent → Ranged Expr
     → Closing → Extent → Outcome

@@ -22,8 +22,10 @@ extent (t ∷ ts) = join (Some (extent_of t)) (extent ts)
 -- a range of bytes of the source, which each place carries whole
 abbrev pub loc_at : List ℕ → Option Extent → Option Loc
 loc_at src None = None
-loc_at src (Some e) = Some record { span = record { offset = e.start; len = e.end - e.start };
-    src = src }
+loc_at src (Some e) = Some record {
+  span = record { offset = e.start; len = e.end - e.start };
+  src = src;
+}
 
 -- a tree as a node, at the bytes of the source that it takes
 abbrev pub node_at : {T : Type 0} → List ℕ → Option Extent → T → Node (Option T)

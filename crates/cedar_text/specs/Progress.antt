@@ -49,7 +49,7 @@ abbrev pub StopsAtToken : List ℕ → State → Lexeme → Failure → Type 0
 StopsAtToken src s t (Memory m) = Unit {0}
 StopsAtToken src s t (Errors errors) =
     ((step_of src s t ≡ outcome.Refused) × IsFault src errors (unexpected_at t))
-        ⊎ ((step_of src s t ≡ outcome.TooLarge) × IsFault src errors (large_at src t))
+    ⊎ ((step_of src s t ≡ outcome.TooLarge) × IsFault src errors (large_at src t))
 
 -- no tree at the end
 abbrev pub StopsAtEnd : List ℕ → State → ℕ → Failure → Type 0

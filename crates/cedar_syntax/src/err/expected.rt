@@ -155,7 +155,7 @@ fn without<'a>(
 ) -> Result<Vec<&'a str>, AllocError>
     ensures { IfOk result (λ left.
         left.items ≡ filter (λ name. not (bag.contains_by
-            (λ key. bytes_eq name.now key.now) set.now)) names.now) }
+        (λ key. bytes_eq name.now key.now) set.now)) names.now) }
 {
     names
         .iter()

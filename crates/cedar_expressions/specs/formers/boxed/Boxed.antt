@@ -38,8 +38,13 @@ abbrev the_field : Former {0}
 the_field =
     via (pair (const (Ptr × Global)) this) Inside
     (λ Value struct. ((struct.inner.ptr, struct.inner.alloc), struct.inner.value))
-    (λ Value parts. record { inner = record { ptr = parts.0.0; alloc = parts.0.1;
-        value = parts.1 } })
+    (λ Value parts. record {
+      inner = record {
+        ptr = parts.0.0;
+        alloc = parts.0.1;
+        value = parts.1;
+      };
+    })
     (λ Value struct. refl)
     (λ Value parts. refl)
 
@@ -66,10 +71,10 @@ module _ (Old New : RattleType) (renewed : Old.Denot → New.Denot) where
         (λ _ _. nothing) gnil)).mir;
     own_same = λ filled i.
         (std_box (one_value Old (alike.mir_same i) (alike.own_same filled.value i)
-            (alike.shr_same filled.value i) gnil)).own_val (refilled filled tt);
+        (alike.shr_same filled.value i) gnil)).own_val (refilled filled tt);
     shr_same = λ filled i.
         (std_box (one_value Old (alike.mir_same i) (alike.own_same filled.value i)
-            (alike.shr_same filled.value i) gnil)).shr_at (refilled filled tt);
+        (alike.shr_same filled.value i) gnil)).shr_at (refilled filled tt);
   }
 
   -- and so is the struct around it
