@@ -10,6 +10,7 @@ mod kinds;
 mod lexer;
 mod names;
 mod places;
+mod primaries;
 mod program;
 mod shapes;
 mod store;

@@ -20,19 +20,19 @@ use Rattle.cedar_text.specs.TreePlaces.{IsPlace, node_places, ident_places, str_
 use Rattle.cedar_text.specs.LooseWords.{ReadsItems, one_item, more_items, ReadsList, no_item, items, items_comma, ReadsLiteral, truth, falsity, number, string, ReadsAny, any, ReadsIdent, ReadsPath, one_word, more_words, ReadsName, common, qualified, ReadsRefInit, ref_init, ReadsRef, uid, with_inits}
 use Rattle.cedar_text.proofs.Lying.{Lies, Some_of, some_append, split, stands, laid_lies}
 
-abbrev Lie : List ℕ → List (Option Loc) → Type 0
+abbrev pub Lie : List ℕ → List (Option Loc) → Type 0
 Lie src ps = All (IsPlace src) ps
 
 -- tokens that stand in the text, of which there are some
-record Stand (src : List ℕ) (ts : List Lexeme) : Type 0 where
-  from : ℕ
-  to : ℕ
-  lies : Lies src from ts to
+pub record Stand (src : List ℕ) (ts : List Lexeme) : Type 0 where
+  pub from : ℕ
+  pub to : ℕ
+  pub lies : Lies src from ts to
 
-parts : (src : List ℕ) (ts us : List Lexeme) → Stand src (ts ++ us) → Stand src ts × Stand src us
+pub parts : (src : List ℕ) (ts us : List Lexeme) → Stand src (ts ++ us) → Stand src ts × Stand src us
 parts src ts us h = let s = split src h.from ts us h.to h.lies in (record { from = h.from; to = s.0; lies = s.1 }, record { from = s.0; to = h.to; lies = s.2 })
 
-node_lies : {T : Type 0} (src : List ℕ) (f : T → List (Option Loc)) (ts : List Lexeme) (x : T) → Stand src ts → Some_of ts → Lie src (f x) → Lie src (node_places f (placed src ts x))
+pub node_lies : {T : Type 0} (src : List ℕ) (f : T → List (Option Loc)) (ts : List Lexeme) (x : T) → Stand src ts → Some_of ts → Lie src (f x) → Lie src (node_places f (placed src ts x))
 node_lies src f ts x h s l = All-cons (IsPlace src) (loc_at src (extent ts)) (f x) (stands src h.from ts h.to h.lies s) l
 
 flat_snoc : {T : Type 0} (f : T → List (Option Loc)) (xs : List (Cell T)) (x : Cell T) → flat_map (node_places f) (xs ++ x ∷ []) ≡ flat_map (node_places f) xs ++ (node_places f x ++ [])
@@ -44,20 +44,20 @@ more_lie src f xs x h l = subst (Lie src) (sym (flat_snoc f xs x)) (All-append (
 
 -- ---- identifiers and paths
 
-any_some : {ts : List Lexeme} {i : Ident} → ReadsAny ts i → Some_of ts
+pub any_some : {ts : List Lexeme} {i : Ident} → ReadsAny ts i → Some_of ts
 any_some (any p e) = tt
 
-no_places : (src : List ℕ) → Lie src []
+pub no_places : (src : List ℕ) → Lie src []
 no_places src = All-nil (IsPlace src)
 
-ident_lies : {src : List ℕ} {ts : List Lexeme} {i : Ident} → ReadsAny ts i → Stand src ts → Lie src (node_places ident_places (placed src ts i))
+pub ident_lies : {src : List ℕ} {ts : List Lexeme} {i : Ident} → ReadsAny ts i → Stand src ts → Lie src (node_places ident_places (placed src ts i))
 ident_lies {src = src} {ts = ts} {i = i} r h = node_lies src ident_places ts i h (any_some r) (no_places src)
 
-path_some : {src : List ℕ} {ts : List Lexeme} {xs : List (Cell Ident)} {x : Cell Ident} → ReadsPath src ts xs x → Some_of ts
+pub path_some : {src : List ℕ} {ts : List Lexeme} {xs : List (Cell Ident)} {x : Cell Ident} → ReadsPath src ts xs x → Some_of ts
 path_some (one_word r) = any_some r
 path_some (more_words {ts = ts} {us = us} p r s) = some_append (ts ++ one kind.ColonColon p) us (some_append ts (one kind.ColonColon p) (path_some r))
 
-path_lies : {src : List ℕ} {ts : List Lexeme} {xs : List (Cell Ident)} {x : Cell Ident} → ReadsPath src ts xs x → Stand src ts → Lie src (flat_map (node_places ident_places) xs) × Lie src (node_places ident_places x)
+pub path_lies : {src : List ℕ} {ts : List Lexeme} {xs : List (Cell Ident)} {x : Cell Ident} → ReadsPath src ts xs x → Stand src ts → Lie src (flat_map (node_places ident_places) xs) × Lie src (node_places ident_places x)
 path_lies {src = src} (one_word r) h = (no_places src, ident_lies r h)
 path_lies {src = src} (more_words {ts = ts} {us = us} {xs = xs} {x = x} p r s) h =
     let w = parts src (ts ++ one kind.ColonColon p) us h in
@@ -69,19 +69,19 @@ name_of_path {src = src} {ts = ts} {xs = xs} {x = x} r h =
     let v = path_lies r h in
     node_lies src name_places ts (name_of xs x) h (path_some r) (All-append (IsPlace src) (flat_map (node_places ident_places) xs) (node_places ident_places x) v.0 v.1)
 
-name_path : {src : List ℕ} {ts : List Lexeme} {x : Name} → ReadsName src ts x → ReadsPath src ts x.path x.name
+pub name_path : {src : List ℕ} {ts : List Lexeme} {x : Name} → ReadsName src ts x → ReadsPath src ts x.path x.name
 name_path (common r c) = one_word r
 name_path (qualified p r s) = more_words p r s
 
 -- ---- entity literals
 
-literal_some : {src : List ℕ} {ts : List Lexeme} {x : Literal} → ReadsLiteral src ts x → Some_of ts
+pub literal_some : {src : List ℕ} {ts : List Lexeme} {x : Literal} → ReadsLiteral src ts x → Some_of ts
 literal_some (truth p) = tt
 literal_some (falsity p) = tt
 literal_some (number p h) = tt
 literal_some (string p) = tt
 
-literal_lies : {src : List ℕ} {ts : List Lexeme} {x : Literal} → ReadsLiteral src ts x → Stand src ts → Lie src (literal_places x)
+pub literal_lies : {src : List ℕ} {ts : List Lexeme} {x : Literal} → ReadsLiteral src ts x → Stand src ts → Lie src (literal_places x)
 literal_lies {src = src} (truth p) h = no_places src
 literal_lies {src = src} (falsity p) h = no_places src
 literal_lies {src = src} (number p e) h = no_places src
@@ -107,13 +107,13 @@ list_lies {src = src} no_item h = no_places src
 list_lies (items r) h = items_lie r h
 list_lies {src = src} (items_comma {ts = ts} p r) h = items_lie r (parts src ts (one kind.Comma p) h).0
 
-ref_some : {src : List ℕ} {ts : List Lexeme} {x : Ref} → ReadsRef src ts x → Some_of ts
+pub ref_some : {src : List ℕ} {ts : List Lexeme} {x : Ref} → ReadsRef src ts x → Some_of ts
 ref_some (uid {ts = ts} p q r) = some_append (ts ++ one kind.ColonColon p) (one kind.StringLit q) (some_append ts (one kind.ColonColon p) (path_some r))
 ref_some (with_inits {ts = ts} {us = us} p l m r s) =
     some_append (ts ++ one kind.ColonColon p ++ one kind.OpenBrace l ++ us) (one kind.CloseBrace m) (some_append (ts ++ one kind.ColonColon p ++ one kind.OpenBrace l) us
     (some_append (ts ++ one kind.ColonColon p) (one kind.OpenBrace l) (some_append ts (one kind.ColonColon p) (path_some r))))
 
-ref_lies : {src : List ℕ} {ts : List Lexeme} {x : Ref} → ReadsRef src ts x → Stand src ts → Lie src (ref_places x)
+pub ref_lies : {src : List ℕ} {ts : List Lexeme} {x : Ref} → ReadsRef src ts x → Stand src ts → Lie src (ref_places x)
 ref_lies {src = src} (uid {ts = ts} {xs = xs} {x = x} p q r) h =
     let w = parts src (ts ++ one kind.ColonColon p) (one kind.StringLit q) h in
     All-append (IsPlace src) (node_places name_places (placed src ts (name_of xs x))) (node_places str_places (placed src (one kind.StringLit q) (str.String (between_quotes q.text)))) (name_of_path r (parts src ts (one kind.ColonColon p) w.0).0)
@@ -126,14 +126,14 @@ ref_lies {src = src} (with_inits {ts = ts} {us = us} {xs = xs} {x = x} {ys = ys}
 
 -- ---- the node of a whole text
 
-start_is : {T : Type 0} (src : List ℕ) (ts : List Lexeme) (x : T) → Some_of ts → placed_or_start src ts x ≡ placed src ts x
+pub start_is : {T : Type 0} (src : List ℕ) (ts : List Lexeme) (x : T) → Some_of ts → placed_or_start src ts x ≡ placed src ts x
 start_is src [] x h = absurd h
 start_is src (t ∷ ts) x h = refl
 
-whole_lies : {T : Type 0} (src : List ℕ) (f : T → List (Option Loc)) (ts : List Lexeme) (x : T) (y : Cell T) → Stand src ts → Some_of ts → Lie src (f x) → y ≡ placed_or_start src ts x → Lie src (node_places f y)
+pub whole_lies : {T : Type 0} (src : List ℕ) (f : T → List (Option Loc)) (ts : List Lexeme) (x : T) (y : Cell T) → Stand src ts → Some_of ts → Lie src (f x) → y ≡ placed_or_start src ts x → Lie src (node_places f y)
 whole_lies src f ts x y h s l e = subst (λ y. Lie src (node_places f y)) (sym (e ∙ start_is src ts x s)) (node_lies src f ts x h s l)
 
-stand_of : {T : Type 0} {R : Rule T} (text : List ℕ) (y : Cell T) → IsUtf8 text → (g : IsTreeOf R text y) → Stand text g.tokens
+pub stand_of : {T : Type 0} {R : Rule T} (text : List ℕ) (y : Cell T) → IsUtf8 text → (g : IsTreeOf R text y) → Stand text g.tokens
 stand_of text y u g = record { from = 0; to = length text; lies = laid_lies g.cut (omega arith) u }
 
 pub ident_places_lie : (text : List ℕ) (y : Cell Ident) → IsUtf8 text → IsTreeOf ReadsIdent text y → Lie text (node_places ident_places y)

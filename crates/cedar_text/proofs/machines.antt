@@ -2,10 +2,13 @@ pub mod Driving
 pub mod Entries
 pub mod Expected
 pub mod Extents
+pub mod Images
 pub mod Keeping
 pub mod Laws
+pub mod Named
 pub mod Names
 pub mod Told
+pub mod WholeExpressions
 pub mod WordShapes
 pub mod Words
 pub mod WordsDoor

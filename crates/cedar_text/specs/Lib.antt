@@ -6,6 +6,7 @@ pub mod FirstFault
 pub mod Grammar
 pub mod Joined
 pub mod Loose
+pub mod LooseExpressions
 pub mod LooseWords
 pub mod Machine
 pub mod Pattern

@@ -11,17 +11,21 @@ ghost use Rattle.cedar_text.specs.Places.{PlacesExpr};
 ghost use Rattle.std.specs.List.{All};
 ghost use Rattle.cedar_syntax.specs.declared.cst.Ident.{Ident};
 ghost use Rattle.cedar_syntax.specs.declared.cst.Name.{Name};
+ghost use Rattle.cedar_syntax.specs.declared.cst.Primary.{Primary};
 ghost use Rattle.cedar_syntax.specs.declared.cst.Ref.{Ref};
 ghost use Rattle.cedar_text.specs.Fault.{IsMemory};
 ghost use Rattle.cedar_text.specs.Fault as old_fault;
 ghost use Rattle.cedar_text.specs.FirstFault.{IsRefusal};
 ghost use Rattle.cedar_text.specs.Grammar.{IsTreeOf};
+ghost use Rattle.cedar_text.specs.LooseExpressions.{ReadsExpr, ReadsPrimary};
 ghost use Rattle.cedar_text.specs.LooseWords.{ReadsIdent, ReadsName, ReadsRef};
-ghost use Rattle.cedar_text.specs.TreePlaces.{IsPlace, node_places, ident_places, name_places, ref_places};
+ghost use Rattle.cedar_text.specs.TreePlaces.{IsPlace, node_places, expr_places, ident_places, name_places, primary_places, ref_places};
 
 pub(crate) mod driver;
 mod entity;
 mod expected;
+mod expression;
+mod ground;
 mod ident;
 pub mod laws;
 pub(crate) mod literal;
@@ -32,8 +36,9 @@ mod words;
 use crate::entry::Entry;
 use crate::parser::parse;
 use crate::text_to_cst::expected::Narrowing;
+use crate::text_to_cst::expression::entries::{ExprState, PrimaryState};
 use crate::text_to_cst::state::{IdentState, PathState, WordsState};
-use cedar_syntax::cst::{Expr, Ident, Name, Ref};
+use cedar_syntax::cst::{Expr, Ident, Name, Primary, Ref};
 use cedar_syntax::err::Failure;
 use cedar_syntax::node::Node;
 use std::alloc::Global;
@@ -102,4 +107,35 @@ pub fn parse_ident(alloc: Global, text: &str) -> Result<Node<Option<Ident>>, Fai
     ensures refused { IfErr result (λ f. IsRefusal ReadsIdent Narrowing.Never text.now f) }
 {
     driver::parse::<IdentState>(alloc, text, Narrowing::Never)
+}
+
+/// The tree of a primary: a literal, a name, an entity literal, a slot, or what stands in brackets.
+///
+/// It answers and refuses as `parse_ref` does, of primaries; but where an operand has ended in
+/// something that is open, only the kinds that close it are told as expected.
+pub fn parse_primary(alloc: Global, text: &str) -> Result<Node<Option<Primary>>, Failure>
+    ensures found { IfOk result (λ x. IsTreeOf ReadsPrimary text.now x) }
+    ensures places { IfOk result
+        (λ x. All (IsPlace text.now) (node_places primary_places x)) }
+    ensures only { (y : Cell Primary) → IsTreeOf ReadsPrimary text.now y
+        → MatchResult result (λ x. x ≡ y) IsMemory }
+    ensures refused { IfErr result
+        (λ f. IsRefusal ReadsPrimary Narrowing.TokensAndEnd text.now f) }
+{
+    driver::parse::<PrimaryState>(alloc, text, Narrowing::TokensAndEnd)
+}
+
+/// The tree of an expression by the whole grammar, `has`, `like`, `is`, sets and records among it.
+///
+/// It answers and refuses as `parse_primary` does, of expressions. `parse_expr` will be this once a conversion of each of
+/// these forms stands.
+pub(crate) fn parse_whole_expr(alloc: Global, text: &str) -> Result<Node<Option<Expr>>, Failure>
+    ensures found { IfOk result (λ x. IsTreeOf ReadsExpr text.now x) }
+    ensures places { IfOk result (λ x. All (IsPlace text.now) (node_places expr_places x)) }
+    ensures only { (y : Cell Expr) → IsTreeOf ReadsExpr text.now y
+        → MatchResult result (λ x. x ≡ y) IsMemory }
+    ensures refused { IfErr result
+        (λ f. IsRefusal ReadsExpr Narrowing.TokensAndEnd text.now f) }
+{
+    driver::parse::<ExprState>(alloc, text, Narrowing::TokensAndEnd)
 }

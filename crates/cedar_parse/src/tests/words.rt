@@ -39,7 +39,7 @@ const IDENTS: [(&str, &str); 4] = [
 ];
 
 /// The tree is there and has this text.
-fn prints<T: fmt::Display + Drop>(
+pub(super) fn prints<T: fmt::Display + Drop>(
     rt: &(impl Abort + AllocGlobal),
     answer: Result<Node<Option<T>>, Failure>,
     printed: &str,
@@ -71,11 +71,11 @@ fn identifiers_are_read(rt: HostRuntime) {
 
 /// A text, the place of its first fault, the message, and the names of the expected kinds, where `WORDS` stands for those of
 /// all words and of the identifiers.
-type Refused = (&'static str, usize, usize, &'static str, &'static str);
+pub(super) type Refused = (&'static str, usize, usize, &'static str, &'static str);
 
-const END: &str = "unexpected end of input";
+pub(super) const END: &str = "unexpected end of input";
 
-const TOO_LARGE: &str = "integer parse error: number too large to fit in target type";
+pub(super) const TOO_LARGE: &str = "integer parse error: number too large to fit in target type";
 
 /// The names of all words and of the identifiers without that of strings, and with it.
 const WORDS: &str =
@@ -155,7 +155,7 @@ fn is_told(rt: &(impl Abort + AllocGlobal), failure: &Failure, row: &Refused) {
 }
 
 /// The text is refused for this one fault.
-fn is_refused<T: Drop>(
+pub(super) fn is_refused<T: Drop>(
     rt: &(impl Abort + AllocGlobal),
     answer: Result<Node<Option<T>>, Failure>,
     row: &Refused,

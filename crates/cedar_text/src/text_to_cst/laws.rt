@@ -1,12 +1,20 @@
 //! Laws of the rules by which a whole text is read. Each is a function that does nothing: its
 //! contract is the law.
 ghost use Rattle.std.specs.Prelude.{◌≡◌, ◌≢◌, ℕ, List, None, IsTrue};
+ghost use Rattle.std.specs.List.{All};
+ghost use Rattle.std.specs.Str.{IsUtf8};
 ghost use Rattle.cedar_lexer.specs.declared.token.TokenKind.{TokenKind};
 ghost use Rattle.cedar_lexer.specs.declared.token.TokenKind.TheVariants as kind;
+ghost use Rattle.cedar_syntax.specs.declared.cst.Expr.{Expr};
+ghost use Rattle.cedar_syntax.specs.declared.cst.Primary.{Primary};
 ghost use Rattle.cedar_text.specs.Expected.{by_name, IsIn, stand_by_name};
 ghost use Rattle.cedar_text.specs.FirstFault.{HasOneTree, HasTreeOrFault, HasOneFault, HasNotBoth};
+ghost use Rattle.cedar_text.specs.Grammar.{IsTreeOf};
+ghost use Rattle.cedar_text.specs.LooseExpressions.{ReadsExpr, ReadsPrimary};
 ghost use Rattle.cedar_text.specs.LooseWords.{ReadsIdent, ReadsName, ReadsRef};
 ghost use Rattle.cedar_text.specs.Tokens.{any_of};
+ghost use Rattle.cedar_text.specs.TreePlaces.{IsPlace, node_places, expr_places, primary_places};
+ghost use Rattle.cedar_text.specs.Trees.{Cell};
 ghost use Rattle.cedar_text.specs.machines.Door.{Door, IsOutside, Shapes};
 ghost use Rattle.cedar_text.specs.machines.Words.{paths, words_machine};
 ghost use Rattle.cedar_text.specs.machines.WordsRead.{ReadsWholePath, ReadsWords};
@@ -37,6 +45,30 @@ pub fn identifiers()
     ensures tree_or_fault { HasTreeOrFault ReadsIdent Narrowing.Never }
     ensures one_fault { HasOneFault ReadsIdent Narrowing.Never }
     ensures not_both { HasNotBoth ReadsIdent Narrowing.Never }
+{}
+
+/// The same of expressions.
+pub fn expressions()
+    ensures one_tree { HasOneTree ReadsExpr }
+    ensures tree_or_fault { HasTreeOrFault ReadsExpr Narrowing.TokensAndEnd }
+    ensures one_fault { HasOneFault ReadsExpr Narrowing.TokensAndEnd }
+    ensures not_both { HasNotBoth ReadsExpr Narrowing.TokensAndEnd }
+{}
+
+/// The same of primaries.
+pub fn primaries()
+    ensures one_tree { HasOneTree ReadsPrimary }
+    ensures tree_or_fault { HasTreeOrFault ReadsPrimary Narrowing.TokensAndEnd }
+    ensures one_fault { HasOneFault ReadsPrimary Narrowing.TokensAndEnd }
+    ensures not_both { HasNotBoth ReadsPrimary Narrowing.TokensAndEnd }
+{}
+
+/// Each place in the tree of a text is a range of the text, on boundaries of characters.
+pub fn expressions_stand_in_texts()
+    ensures expressions { (text : List ℕ) (x : Cell Expr) → IsUtf8 text
+        → IsTreeOf ReadsExpr text x → All (IsPlace text) (node_places expr_places x) }
+    ensures primaries { (text : List ℕ) (x : Cell Primary) → IsUtf8 text
+        → IsTreeOf ReadsPrimary text x → All (IsPlace text) (node_places primary_places x) }
 {}
 
 /// The table of kinds stands in byte order of their names, and each kind is in it.

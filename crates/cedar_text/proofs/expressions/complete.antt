@@ -1,0 +1,10 @@
+pub mod Brackets
+pub mod Complete
+pub mod If
+pub mod Levels
+pub mod Members
+pub mod Relations
+pub mod Runs
+pub mod Sums
+pub mod Viable
+pub mod Words

@@ -1,0 +1,16 @@
+use Rattle.cedar_text.proofs.machines.WholeExpressions.{primaries_read}
+use Rattle.cedar_text.proofs.machines.Told.{follows, found_clause, only_clause, refused_clause, places_clause}
+use Rattle.cedar_text.proofs.ExpressionPlaces.{primary_places_lie}
+use Rattle.cedar_text.proofs.text_to_cst.parse_primary.Goals as goal
+
+pub returns-clause-found : goal.returns-clause-found
+returns-clause-found c = found_clause (follows _ _ _ _ (primaries_read c.args.text.now)) _ _ c.parse.ensures
+
+pub returns-clause-only : goal.returns-clause-only
+returns-clause-only c = only_clause (follows _ _ _ _ (primaries_read c.args.text.now)) _ _ c.parse.ensures
+
+pub returns-clause-refused : goal.returns-clause-refused
+returns-clause-refused c = refused_clause (follows _ _ _ _ (primaries_read c.args.text.now)) _ _ c.parse.ensures
+
+pub returns-clause-places : goal.returns-clause-places
+returns-clause-places c = places_clause _ (λ x g. primary_places_lie c.args.text.now x c.utf8.text g) (found_clause (follows _ _ _ _ (primaries_read c.args.text.now)) _ _ c.parse.ensures)

@@ -1,0 +1,199 @@
+-- The machine of expressions: what one token makes of the forms begun. `names` is any machine that reads words.
+use Rattle.std.specs.Prelude.{ℕ, List, [], ◌∷◌, Option, Some, None}
+use Rattle.cedar_lexer.specs.Token.{Lexeme}
+use Rattle.cedar_lexer.specs.declared.token.TokenKind.TheVariants as kind
+use Rattle.cedar_syntax.specs.declared.cst.Expr.{Expr}
+use Rattle.cedar_syntax.specs.declared.cst.Add.{Add}
+use Rattle.cedar_syntax.specs.declared.cst.Primary.{Primary}
+use Rattle.cedar_syntax.specs.declared.cst.Primary.TheVariants as primary
+use Rattle.cedar_syntax.specs.declared.cst.Literal.TheVariants as literal
+use Rattle.cedar_syntax.specs.declared.cst.Ident.{Ident}
+use Rattle.cedar_syntax.specs.declared.cst.Ident.TheVariants as ident
+use Rattle.cedar_syntax.specs.declared.cst.Name.{Name}
+use Rattle.cedar_syntax.specs.declared.cst.Ref.{Ref}
+use Rattle.cedar_text.specs.declared.text_to_cst.expression.class.Closing.TheVariants as closing
+use Rattle.cedar_text.specs.declared.text_to_cst.expression.class.Operator.{Operator}
+use Rattle.cedar_text.specs.declared.text_to_cst.expression.class.Operator.TheVariants as operator
+use Rattle.cedar_text.specs.machines.Named.{Named}
+use Rattle.cedar_text.specs.machines.Named as named
+use Rattle.cedar_text.specs.declared.text_to_cst.state.WordsState.{WordsState}
+use Rattle.cedar_text.specs.declared.text_to_cst.expression.state.Ranged.{Ranged}
+use Rattle.cedar_text.specs.declared.text_to_cst.expression.state.Levels.{Levels}
+use Rattle.cedar_text.specs.declared.text_to_cst.expression.state.Signs.{Signs}
+use Rattle.cedar_text.specs.declared.text_to_cst.expression.state.Operand.{Operand}
+use Rattle.cedar_text.specs.declared.text_to_cst.expression.state.Guard.{Guard}
+use Rattle.cedar_text.specs.declared.text_to_cst.expression.state.Frame.{Frame}
+use Rattle.cedar_text.specs.declared.text_to_cst.expression.state.Frame.TheVariants as frame
+use Rattle.cedar_text.specs.declared.text_to_cst.expression.state.Place.{Place}
+use Rattle.cedar_text.specs.declared.text_to_cst.expression.state.Place.TheVariants as place
+use Rattle.cedar_text.specs.declared.text_to_cst.expression.state.Mode.{Mode}
+use Rattle.cedar_text.specs.declared.text_to_cst.expression.state.Mode.TheVariants as mode
+use Rattle.cedar_text.specs.declared.text_to_cst.expression.state.State.{State}
+use Rattle.cedar_text.specs.declared.text_to_cst.expression.state.Wanted.{Wanted}
+use Rattle.cedar_text.specs.declared.text_to_cst.expression.state.Wanted.TheVariants as form
+use Rattle.cedar_text.specs.declared.text_to_cst.expression.state.Alone.{Alone}
+use Rattle.cedar_text.specs.declared.text_to_cst.expression.state.Alone.TheVariants as alone
+use Rattle.cedar_text.specs.machines.Outcome.{Outcome}
+use Rattle.cedar_text.specs.machines.Outcome as outcome
+use Rattle.cedar_text.specs.declared.extent.Extent.{Extent}
+use Rattle.cedar_text.specs.Place.{extent_of}
+use Rattle.cedar_text.specs.Tokens.{any_of}
+use Rattle.cedar_text.specs.Trees.{Cell}
+use Rattle.cedar_text.specs.machines.Door.{Machine, Answer, next, ended, refused, too_large, option_image}
+use Rattle.cedar_text.specs.machines.Closing.{ranged, node_of, add_at, whole, fresh, no_signs, operand_of, if_operand, if_key}
+use Rattle.cedar_text.specs.machines.ExpressionStates.{state, opening, operator_of}
+use Rattle.cedar_text.specs.machines.Wanting.{literal_at, wanting}
+use Rattle.cedar_text.specs.machines.Having.{field_read, value_begun, having}
+
+-- behind words
+
+-- what one identifier alone is
+abbrev pub word_alone : Option Ident → Alone
+word_alone (Some ident.True) = alone.True
+word_alone (Some ident.False) = alone.False
+word_alone (Some ident.If) = alone.If
+word_alone _ = alone.Name
+
+abbrev pub alone_of : List (Cell Ident) → Cell Ident → Alone
+alone_of [] x = word_alone x.node
+alone_of (y ∷ ys) x = alone.Name
+
+abbrev pub name_at : List ℕ → Ranged Name → Ranged Primary
+name_at src x = ranged x.extent (primary.Name (node_of src x))
+
+-- `if` alone: the guard of a conditional begins with the token behind it
+abbrev pub guard_begun : List ℕ → Machine Lexeme WordsState Named → List Frame → Levels
+    → Option Extent → Lexeme → Outcome
+guard_begun src names st lv l t = wanting src names
+    (frame.Guard record { branches = lv.branches; opened = l } ∷ st)
+    (fresh []) place.Expr no_signs t
+
+-- `if` and a colon where a key is wanted
+abbrev pub if_key_read : List ℕ → List Frame → Option Extent → Extent → Outcome
+if_key_read src (frame.Key f ∷ st) l e = outcome.next (value_begun st f (if_key src l) l e)
+if_key_read src _ l e = outcome.not_taken
+
+abbrev pub key_or_guard : List ℕ → Machine Lexeme WordsState Named → List Frame → Levels
+    → Option Extent → Lexeme → Operator → Outcome
+key_or_guard src names st lv l t (operator.Ends closing.Colon) = if_key_read src st l (extent_of t)
+key_or_guard src names st lv l t _ = guard_begun src names st lv l t
+
+abbrev pub if_alone : Wanted → List ℕ → Machine Lexeme WordsState Named → List Frame → Levels
+    → Place → Option Extent → Lexeme → Outcome
+if_alone w src names st lv place.Expr l t = guard_begun src names st lv l t
+if_alone w src names st lv place.Item l t = guard_begun src names st lv l t
+if_alone w src names st lv place.Key l t = key_or_guard src names st lv l t (operator_of t.kind)
+if_alone w src names st lv place.Has l t = having w src st lv (if_operand src l) t
+if_alone w src names st lv place.Operand l t = outcome.not_taken
+if_alone w src names st lv place.Primary l t = outcome.not_taken
+
+abbrev pub alone_read : Wanted → List ℕ → Machine Lexeme WordsState Named → List Frame → Levels
+    → Place → Signs → Ranged Name → Alone → Lexeme → Outcome
+alone_read w src names st lv p sg x alone.True t =
+    having w src st lv (operand_of src sg (literal_at src x.extent literal.True)) t
+alone_read w src names st lv p sg x alone.False t =
+    having w src st lv (operand_of src sg (literal_at src x.extent literal.False)) t
+alone_read w src names st lv p sg x alone.If t = if_alone w src names st lv p x.extent t
+alone_read w src names st lv p sg x alone.Name t =
+    having w src st lv (operand_of src sg (name_at src x)) t
+
+abbrev pub named_read : Wanted → List ℕ → Machine Lexeme WordsState Named → List Frame → Levels
+    → Place → Signs → Named → Lexeme → Outcome
+named_read w src names st lv p sg (named.path x) t =
+    alone_read w src names st lv p sg x (alone_of x.tree.path x.tree.name) t
+named_read w src names st lv p sg (named.entity x) t =
+    having w src st lv (operand_of src sg (ranged x.extent (primary.Ref x.tree))) t
+
+abbrev pub word_read : Wanted → List ℕ → Machine Lexeme WordsState Named → List Frame → Levels
+    → Place → Signs → Answer WordsState Named → Lexeme → Outcome
+word_read w src names st lv p sg (next s) t = outcome.next (state st lv (mode.Word p sg s))
+word_read w src names st lv p sg (ended x) t = named_read w src names st lv p sg x t
+word_read w src names st lv p sg refused t = outcome.not_taken
+word_read w src names st lv p sg too_large t = outcome.too_large
+
+-- token after token
+
+abbrev pub stepped : Wanted → List ℕ → Machine Lexeme WordsState Named → List Frame → Levels
+    → Mode → Lexeme → Outcome
+stepped w src names st lv (mode.Want p sg) t = wanting src names st lv p sg t
+stepped w src names st lv (mode.Word p sg s) t =
+    word_read w src names st lv p sg (names.step s t) t
+stepped w src names st lv (mode.Field m d) t =
+    field_read src st lv m d (any_of t.kind t.text) (extent_of t)
+stepped w src names st lv (mode.Have m) t = having w src st lv m t
+
+abbrev pub step_of : Wanted → List ℕ → Machine Lexeme WordsState Named → State → Lexeme → Outcome
+step_of w src names s t = stepped w src names s.stack s.levels s.mode t
+
+-- the end
+
+-- the operand that words alone are at the end: `if` is one only right of `has`
+abbrev pub if_at_end : List ℕ → Place → Option Extent → Option Operand
+if_at_end src place.Has l = Some (if_operand src l)
+if_at_end src _ l = None
+
+abbrev pub alone_at_end : List ℕ → Place → Signs → Ranged Name → Alone → Option Operand
+alone_at_end src p sg x alone.True =
+    Some (operand_of src sg (literal_at src x.extent literal.True))
+alone_at_end src p sg x alone.False =
+    Some (operand_of src sg (literal_at src x.extent literal.False))
+alone_at_end src p sg x alone.If = if_at_end src p x.extent
+alone_at_end src p sg x alone.Name = Some (operand_of src sg (name_at src x))
+
+abbrev pub named_at_end : List ℕ → Place → Signs → Option Named → Option Operand
+named_at_end src p sg None = None
+named_at_end src p sg (Some (named.path x)) =
+    alone_at_end src p sg x (alone_of x.tree.path x.tree.name)
+named_at_end src p sg (Some (named.entity x)) =
+    Some (operand_of src sg (ranged x.extent (primary.Ref x.tree)))
+
+-- the last operand, if no bracket is open and nothing more has to come
+abbrev pub last_operand : List ℕ → Machine Lexeme WordsState Named → List Frame → Mode
+    → Option Operand
+last_operand src names [] (mode.Want p sg) = None
+last_operand src names [] (mode.Word p sg s) = named_at_end src p sg (names.finish s)
+last_operand src names [] (mode.Field m d) = None
+last_operand src names [] (mode.Have m) = Some m
+last_operand src names (f ∷ st) m = None
+
+abbrev pub expr_at_end : List ℕ → Machine Lexeme WordsState Named → State → Option (Ranged Expr)
+expr_at_end src names s = option_image (λ m. whole src s.levels m)
+    (last_operand src names s.stack s.mode)
+
+abbrev pub sum_at_end : List ℕ → Machine Lexeme WordsState Named → State → Option (Ranged Add)
+sum_at_end src names s = option_image (λ m. add_at src s.levels m)
+    (last_operand src names s.stack s.mode)
+
+abbrev pub primary_at_end : List ℕ → Machine Lexeme WordsState Named → State
+    → Option (Cell Primary)
+primary_at_end src names s = option_image (λ m. m.item) (last_operand src names s.stack s.mode)
+
+-- what is not taken has ended the tree where there is one
+abbrev pub answered : {T : Type 0} → Option T → Outcome → Answer State T
+answered o (outcome.next s) = next s
+answered (Some x) outcome.not_taken = ended x
+answered None outcome.not_taken = refused
+answered o outcome.too_large = too_large
+
+abbrev pub expressions : List ℕ → Machine Lexeme WordsState Named
+    → Machine Lexeme State (Ranged Expr)
+expressions src names = record {
+  start = opening [] [] place.Expr;
+  step = λ s t. answered (expr_at_end src names s) (step_of form.Expr src names s t);
+  finish = λ s. expr_at_end src names s;
+}
+
+abbrev pub sums : List ℕ → Machine Lexeme WordsState Named → Machine Lexeme State (Ranged Add)
+sums src names = record {
+  start = opening [] [] place.Operand;
+  step = λ s t. answered (sum_at_end src names s) (step_of form.Sum src names s t);
+  finish = λ s. sum_at_end src names s;
+}
+
+abbrev pub primaries : List ℕ → Machine Lexeme WordsState Named
+    → Machine Lexeme State (Cell Primary)
+primaries src names = record {
+  start = opening [] [] place.Primary;
+  step = λ s t. answered (primary_at_end src names s) (step_of form.Primary src names s t);
+  finish = λ s. primary_at_end src names s;
+}

@@ -1,0 +1,65 @@
+-- What words are as trees: a path, which may be one word alone, or an entity literal; and what the
+-- machine of expressions asks of the machine of words that it holds, besides its door.
+use Rattle.std.specs.Prelude.{◌≡◌, ℕ, Bool, true, false, List, [], ◌∷◌, ◌++◌, Some}
+use Rattle.cedar_lexer.specs.Token.{Lexeme}
+use Rattle.cedar_lexer.specs.declared.token.TokenKind.{TokenKind}
+use Rattle.cedar_lexer.specs.declared.token.TokenKind.TheVariants as kind
+use Rattle.cedar_syntax.specs.declared.cst.Ident.{Ident}
+use Rattle.cedar_syntax.specs.declared.cst.Name.{Name}
+use Rattle.cedar_syntax.specs.declared.cst.Ref.{Ref}
+use Rattle.cedar_text.specs.declared.text_to_cst.expression.state.Ranged.{Ranged}
+use Rattle.cedar_text.specs.declared.text_to_cst.state.Words.{Words}
+use Rattle.cedar_text.specs.declared.text_to_cst.state.Words.TheVariants as words
+use Rattle.cedar_text.specs.declared.text_to_cst.state.WordsState.{WordsState}
+use Rattle.cedar_text.specs.Place.{extent, placed}
+use Rattle.cedar_text.specs.Tokens.{Spot, one}
+use Rattle.cedar_text.specs.Trees.{Cell, name_of}
+use Rattle.cedar_text.specs.LooseWords.{ReadsPath, ReadsRef}
+use Rattle.cedar_text.specs.machines.Closing.{ranged}
+use Rattle.cedar_text.specs.machines.Door.{Machine, ended, steps}
+use Rattle.cedar_text.specs.machines.Words.{word_node, path_extent, keeping, words_machine}
+
+pub data Named : Type 0 where
+  path : Ranged Name → Named
+  entity : Ranged (Cell Ref) → Named
+
+pub data ReadsNamed (src : List ℕ) : List Lexeme → Named → Type 0 where
+  a_path : {ts : List Lexeme} {xs : List (Cell Ident)} {x : Cell Ident} → ReadsPath src ts xs x →
+      ReadsNamed src ts (path (ranged (extent ts) (name_of xs x)))
+  a_ref : {ts : List Lexeme} {x : Ref} → ReadsRef src ts x →
+      ReadsNamed src ts (entity (ranged (extent ts) (placed src ts x)))
+
+-- words that have been read, as such a tree
+abbrev pub named_of : List ℕ → Words → Named
+named_of src (words.Path p) =
+    path (ranged (Some (path_extent p)) (name_of p.before (word_node src p.last)))
+named_of src (words.Entity e) = entity (ranged (Some e.extent) e.node)
+
+-- the machine of words, with such trees
+abbrev pub named_words : List ℕ → Machine Lexeme WordsState Named
+named_words src = keeping (λ x. Some (named_of src x)) (words_machine src)
+
+-- `::`, by which alone words go on that could end
+abbrev pub joins_words : TokenKind → Bool
+joins_words kind.ColonColon = true
+joins_words _ = false
+
+-- `::` and an identifier behind a path: a path of more than one word
+pub record IsLonger (names : Machine Lexeme WordsState Named) (s : WordsState)
+    (ts : List Lexeme) : Type 0 where
+  pub last : WordsState
+  pub longer : Ranged Name
+  pub before : List (Cell Ident)
+  pub word : Cell Ident
+  pub goes : steps names (Some s) ts ≡ Some last
+  pub ends : names.finish last ≡ Some (path longer)
+  pub joined : longer.tree.path ≡ before ++ word ∷ []
+
+pub record IsWords (names : Machine Lexeme WordsState Named) : Type 0 where
+  -- any other token has ended the words before it
+  pub ends : (s : WordsState) (x : Named) (t : Lexeme) → joins_words t.kind ≡ false →
+      names.finish s ≡ Some x → names.step s t ≡ ended x
+  -- a path can always go on
+  pub longer : (s : WordsState) (x : Ranged Name) (p q : Spot) →
+      names.finish s ≡ Some (path x) →
+      IsLonger names s (one kind.ColonColon p ++ one kind.Identifier q)

@@ -1,0 +1,17 @@
+-- The shapes of words, as the shapes of expressions ask for them.
+use Rattle.std.specs.Prelude.{Bool, true, false}
+use Rattle.cedar_text.specs.machines.ExpressionShapes.{WordShapes}
+use Rattle.cedar_text.specs.machines.WordShapes.{PathKind, truth, condition, a_name, WordsShape, WordsKind, a_path, an_entity, words_shapes}
+
+-- a path is the word `if` alone
+abbrev pub is_condition : PathKind → Bool
+is_condition truth = false
+is_condition condition = true
+is_condition a_name = false
+
+abbrev pub is_if_alone : WordsKind → Bool
+is_if_alone (a_path c) = is_condition c
+is_if_alone an_entity = false
+
+abbrev pub named_shapes : WordShapes WordsShape WordsKind
+named_shapes = record { machine = words_shapes; is_if = is_if_alone }

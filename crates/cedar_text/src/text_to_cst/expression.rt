@@ -1,0 +1,25 @@
+//! The machine of expressions: what is begun, and what one token makes of it.
+pub mod allow;
+pub mod begin;
+pub mod call;
+pub mod chain;
+pub mod class;
+pub mod close;
+pub mod conditional;
+pub mod entries;
+pub mod finish;
+pub mod have;
+pub mod lists;
+pub mod literal;
+pub mod operators;
+pub mod paren;
+pub mod record;
+pub mod relations;
+pub mod set;
+pub mod signs;
+pub mod state;
+pub mod step;
+pub mod want;
+pub mod whole;
+pub mod word;
+pub mod words;

@@ -1,0 +1,158 @@
+//! An operator behind an operand: it closes the levels that bind tighter, and goes on the level that is its own.
+ghost use Rattle.std.specs.Prelude.{◌≡◌, Some, None, OnOk, IfOk};
+ghost use Rattle.cedar_text.specs.machines.Outcome as outcome;
+ghost use Rattle.cedar_text.specs.declared.text_to_cst.expression.state.Reach.TheVariants as reach;
+ghost use Rattle.cedar_text.specs.machines.Closing.{marked, linked, unary_at, mult_at, add_at, relation_at, and_at, onward, pending};
+ghost use Rattle.cedar_text.specs.machines.Having.{multiplied, summed, conjoined, disjoined, multiply_had, sum_had, and_had, or_had};
+ghost use Rattle.cedar_text.specs.machines.Stepped.{outcome_of};
+
+use crate::extent::Extent;
+use crate::text_to_cst::expression::begin::want_at;
+use crate::text_to_cst::expression::chain::{push_pending, push_plain};
+use crate::text_to_cst::expression::close::close_unary;
+use crate::text_to_cst::expression::state::{Mark, Operand, Place, Reach, State, Taken};
+use crate::text_to_cst::ground::Ground;
+use cedar_syntax::cst::{AddOp, MultOp};
+use std::alloc::AllocError;
+
+impl State {
+    /// `*`, `/` or `%`.
+    fn multiply(
+        &mut self,
+        ground: Ground<'_>,
+        operand: Operand,
+        mark: Mark<MultOp>,
+    ) -> Result<Taken, AllocError>
+        ensures { IfOk result (λ taken. outcome_of taken self.new
+            ≡ outcome.next (multiplied ground.entry.source.now self.old.stack self.old.levels
+            operand mark.op mark.extent)) }
+    {
+        let unary = close_unary(ground, operand)?;
+        push_pending(ground, &mut self.levels.mult, unary, mark)?;
+        self.mode = want_at(Place::Operand);
+        Ok(Taken::Next)
+    }
+
+    /// `+` or `-`.
+    fn sum(
+        &mut self,
+        ground: Ground<'_>,
+        operand: Operand,
+        mark: Mark<AddOp>,
+    ) -> Result<Taken, AllocError>
+        ensures { IfOk result (λ taken. outcome_of taken self.new
+            ≡ outcome.next (summed ground.entry.source.now self.old.stack self.old.levels operand
+            mark.op mark.extent)) }
+    {
+        let mult = self.levels.close_mult(ground, operand)?;
+        push_pending(ground, &mut self.levels.add, mult, mark)?;
+        self.mode = want_at(Place::Operand);
+        Ok(Taken::Next)
+    }
+
+    /// `&&`.
+    fn and_then(
+        &mut self,
+        ground: Ground<'_>,
+        operand: Operand,
+        operator: Extent,
+    ) -> Result<Taken, AllocError>
+        ensures { IfOk result (λ taken. outcome_of taken self.new
+            ≡ outcome.next (conjoined ground.entry.source.now self.old.stack self.old.levels
+            operand operator)) }
+    {
+        let relation = self.levels.close_relation(ground, operand)?;
+        push_plain(ground, &mut self.levels.and, relation, operator)?;
+        self.mode = want_at(Place::Operand);
+        Ok(Taken::Next)
+    }
+
+    /// `||`.
+    fn or_else(
+        &mut self,
+        ground: Ground<'_>,
+        operand: Operand,
+        operator: Extent,
+    ) -> Result<Taken, AllocError>
+        ensures { IfOk result (λ taken. outcome_of taken self.new
+            ≡ outcome.next (disjoined ground.entry.source.now self.old.stack self.old.levels
+            operand operator)) }
+    {
+        let and = self.levels.close_and(ground, operand)?;
+        push_plain(ground, &mut self.levels.or, and, operator)?;
+        self.mode = want_at(Place::Operand);
+        Ok(Taken::Next)
+    }
+
+    /// An operator of products, where the operand goes on so far.
+    pub fn multiply_had(
+        &mut self,
+        ground: Ground<'_>,
+        operand: Operand,
+        reach: Reach,
+        mark: Mark<MultOp>,
+    ) -> Result<Taken, AllocError>
+        ensures { IfOk result (λ taken. outcome_of taken self.new
+            ≡ multiply_had ground.entry.source.now self.old.stack self.old.levels operand reach
+            mark.op mark.extent) }
+    {
+        match reach {
+            Reach::Primary | Reach::If => Ok(Taken::NotTaken),
+            Reach::Sum | Reach::Whole => self.multiply(ground, operand, mark),
+        }
+    }
+
+    /// An operator of sums.
+    pub fn sum_had(
+        &mut self,
+        ground: Ground<'_>,
+        operand: Operand,
+        reach: Reach,
+        mark: Mark<AddOp>,
+    ) -> Result<Taken, AllocError>
+        ensures { IfOk result (λ taken. outcome_of taken self.new
+            ≡ sum_had ground.entry.source.now self.old.stack self.old.levels operand reach mark.op
+            mark.extent) }
+    {
+        match reach {
+            Reach::Primary | Reach::If => Ok(Taken::NotTaken),
+            Reach::Sum | Reach::Whole => self.sum(ground, operand, mark),
+        }
+    }
+
+    /// `&&`.
+    pub fn and_had(
+        &mut self,
+        ground: Ground<'_>,
+        operand: Operand,
+        reach: Reach,
+        operator: Extent,
+    ) -> Result<Taken, AllocError>
+        ensures { IfOk result (λ taken. outcome_of taken self.new
+            ≡ and_had ground.entry.source.now self.old.stack self.old.levels operand reach
+            operator) }
+    {
+        match reach {
+            Reach::Primary | Reach::Sum => Ok(Taken::NotTaken),
+            Reach::If | Reach::Whole => self.and_then(ground, operand, operator),
+        }
+    }
+
+    /// `||`.
+    pub fn or_had(
+        &mut self,
+        ground: Ground<'_>,
+        operand: Operand,
+        reach: Reach,
+        operator: Extent,
+    ) -> Result<Taken, AllocError>
+        ensures { IfOk result (λ taken. outcome_of taken self.new
+            ≡ or_had ground.entry.source.now self.old.stack self.old.levels operand reach
+            operator) }
+    {
+        match reach {
+            Reach::Primary | Reach::Sum => Ok(Taken::NotTaken),
+            Reach::If | Reach::Whole => self.or_else(ground, operand, operator),
+        }
+    }
+}

@@ -1,0 +1,93 @@
+//! An expression in parentheses.
+ghost use Rattle.std.specs.Prelude.{◌≡◌, IfOk};
+ghost use Rattle.cedar_text.specs.declared.text_to_cst.expression.class.Closing.TheVariants as closing;
+ghost use Rattle.cedar_text.specs.machines.Outcome as outcome;
+ghost use Rattle.cedar_text.specs.machines.Closing.{ranged, node_of};
+ghost use Rattle.cedar_text.specs.machines.ExpressionStates.{around};
+ghost use Rattle.cedar_text.specs.machines.Wanting.{paren_opened};
+ghost use Rattle.cedar_text.specs.machines.Having.{paren_ended};
+ghost use Rattle.cedar_text.specs.machines.Stepped.{outcome_of};
+
+use crate::extent::{Extent, joined};
+use crate::stack::Stack;
+use crate::text_to_cst::expression::begin::fresh_levels;
+use crate::text_to_cst::expression::class::Closing;
+use crate::text_to_cst::expression::state::{
+    Frame, Mark, Paren, Place, Ranged, Signs, State, Taken,
+};
+use crate::text_to_cst::ground::Ground;
+use cedar_syntax::cst::{Expr, Primary};
+use std::alloc::{AllocError, Global};
+use std::mem;
+
+/// From an open bracket to its end.
+pub fn around(opened: Extent, end: Extent) -> Option<Extent>
+    ensures { result ≡ around opened end }
+{
+    joined(Some(opened), Some(end))
+}
+
+impl State {
+    /// `(` where an operand is wanted.
+    pub fn open_paren(
+        &mut self,
+        alloc: Global,
+        signs: Signs,
+        opened: Extent,
+    ) -> Result<Taken, AllocError>
+        ensures { IfOk result (λ taken. outcome_of taken self.new
+            ≡ outcome.next (paren_opened self.old.stack self.old.levels signs opened)) }
+    {
+        let outer = mem::replace(&mut self.levels, fresh_levels(Stack::new(alloc)));
+        let frame = Paren {
+            outer,
+            signs,
+            opened,
+        };
+        self.open(alloc, Frame::Paren(frame), Place::Expr)
+    }
+
+    /// `)` behind the expression.
+    fn close_paren(
+        &mut self,
+        ground: Ground<'_>,
+        frame: Paren,
+        item: Ranged<Expr>,
+        end: Extent,
+    ) -> Result<Taken, AllocError>
+        ensures { IfOk result (λ taken. outcome_of taken self.new
+            ≡ paren_ended ground.entry.source.now self.old.stack frame item closing.Paren end) }
+    {
+        let Paren {
+            outer,
+            signs,
+            opened,
+        } = frame;
+        let tree = Primary::Expr(ground.node_of(item)?);
+        let extent = around(opened, end);
+        self.levels = outer;
+        self.have_primary(ground, signs, Ranged { tree, extent })
+    }
+
+    /// What ends an expression, behind the one in parentheses.
+    pub fn end_paren(
+        &mut self,
+        ground: Ground<'_>,
+        frame: Paren,
+        item: Ranged<Expr>,
+        mark: Mark<Closing>,
+    ) -> Result<Taken, AllocError>
+        ensures { IfOk result (λ taken. outcome_of taken self.new
+            ≡ paren_ended ground.entry.source.now self.old.stack frame item mark.op mark.extent) }
+    {
+        match mark.op {
+            Closing::Paren => self.close_paren(ground, frame, item, mark.extent),
+            Closing::Bracket
+            | Closing::Brace
+            | Closing::Comma
+            | Closing::Colon
+            | Closing::Then
+            | Closing::Else => Ok(Taken::NotTaken),
+        }
+    }
+}

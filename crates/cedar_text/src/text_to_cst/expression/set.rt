@@ -1,0 +1,100 @@
+//! A set in brackets.
+ghost use Rattle.std.specs.Prelude.{◌≡◌, IfOk};
+ghost use Rattle.cedar_text.specs.declared.text_to_cst.expression.class.Closing.TheVariants as closing;
+ghost use Rattle.cedar_text.specs.machines.Outcome as outcome;
+ghost use Rattle.cedar_text.specs.machines.Wanting.{set_opened, set_closed};
+ghost use Rattle.cedar_text.specs.machines.Having.{set_more, set_ended};
+ghost use Rattle.cedar_text.specs.machines.Stepped.{outcome_of};
+
+use crate::extent::Extent;
+use crate::stack::Stack;
+use crate::text_to_cst::expression::begin::fresh_levels;
+use crate::text_to_cst::expression::class::Closing;
+use crate::text_to_cst::expression::paren::around;
+use crate::text_to_cst::expression::state::{Frame, Mark, Place, Ranged, Set, Signs, State, Taken};
+use crate::text_to_cst::ground::Ground;
+use cedar_expressions::Items;
+use cedar_syntax::cst::{Expr, Primary};
+use std::alloc::{AllocError, Global};
+use std::mem;
+
+impl Set {
+    /// One element more.
+    fn with(self, ground: Ground<'_>, item: Ranged<Expr>) -> Result<Set, AllocError>
+        ensures { IfOk result (λ longer. longer ≡ set_more ground.entry.source.now self item) }
+    {
+        let mut set = self;
+        set.items.push(ground.node_of(item)?)?;
+        Ok(set)
+    }
+}
+
+impl State {
+    /// `[` where an operand is wanted.
+    pub fn open_set(
+        &mut self,
+        alloc: Global,
+        signs: Signs,
+        opened: Extent,
+    ) -> Result<Taken, AllocError>
+        ensures { IfOk result (λ taken. outcome_of taken self.new
+            ≡ outcome.next (set_opened self.old.stack self.old.levels signs opened)) }
+    {
+        let outer = mem::replace(&mut self.levels, fresh_levels(Stack::new(alloc)));
+        let frame = Set {
+            outer,
+            signs,
+            opened,
+            items: Items::new(alloc),
+        };
+        self.open(alloc, Frame::Set(frame), Place::Item)
+    }
+
+    /// `]` behind the elements.
+    pub fn close_set(
+        &mut self,
+        ground: Ground<'_>,
+        frame: Set,
+        end: Extent,
+    ) -> Result<Taken, AllocError>
+        ensures { IfOk result (λ taken. outcome_of taken self.new
+            ≡ outcome.next (set_closed ground.entry.source.now self.old.stack frame end)) }
+    {
+        let Set {
+            outer,
+            signs,
+            opened,
+            items,
+        } = frame;
+        let tree = Primary::EList(items);
+        let extent = around(opened, end);
+        self.levels = outer;
+        self.have_primary(ground, signs, Ranged { tree, extent })
+    }
+
+    /// What ends an expression, behind an element.
+    pub fn end_set(
+        &mut self,
+        ground: Ground<'_>,
+        frame: Set,
+        item: Ranged<Expr>,
+        mark: Mark<Closing>,
+    ) -> Result<Taken, AllocError>
+        ensures { IfOk result (λ taken. outcome_of taken self.new
+            ≡ set_ended ground.entry.source.now self.old.stack frame item mark.op mark.extent) }
+    {
+        match mark.op {
+            Closing::Comma => {
+                let frame = frame.with(ground, item)?;
+                self.open(ground.alloc, Frame::Set(frame), Place::Item)
+            }
+            Closing::Bracket => {
+                let frame = frame.with(ground, item)?;
+                self.close_set(ground, frame, mark.extent)
+            }
+            Closing::Paren | Closing::Brace | Closing::Colon | Closing::Then | Closing::Else => Ok(
+                Taken::NotTaken,
+            ),
+        }
+    }
+}

@@ -1,0 +1,43 @@
+//! Signs before an operand.
+ghost use Rattle.std.specs.Prelude.{◌≡◌};
+ghost use Rattle.cedar_text.specs.machines.Wanting.{signed, after_signs, sign_read};
+ghost use Rattle.cedar_text.specs.machines.Stepped.{outcome_of};
+
+use crate::extent::{Extent, joined};
+use crate::text_to_cst::expression::class::{Sign, signed};
+use crate::text_to_cst::expression::state::{Gap, Mode, Place, Signs, State, Taken};
+use cedar_syntax::cst::NegOp;
+
+impl State {
+    /// Behind signs that begin here.
+    fn want_signed(&mut self, before: Option<Extent>, op: Option<NegOp>, extent: Extent) -> Taken
+        ensures { outcome_of result self.new
+            ≡ after_signs self.old.stack self.old.levels before op extent }
+    {
+        match op {
+            None => Taken::NotTaken,
+            Some(op) => {
+                let extent = joined(before, Some(extent));
+                let op = Some(op);
+                self.mode = Mode::Want {
+                    place: Place::Operand,
+                    signs: Signs { op, extent },
+                };
+                Taken::Next
+            }
+        }
+    }
+
+    /// One sign more.
+    pub fn read_sign(&mut self, gap: Gap, sign: Sign, extent: Extent) -> Taken
+        ensures { outcome_of result self.new
+            ≡ sign_read self.old.stack self.old.levels gap.place gap.signs sign extent }
+    {
+        match gap.place {
+            Place::Primary => Taken::NotTaken,
+            Place::Expr | Place::Item | Place::Key | Place::Has | Place::Operand => {
+                self.want_signed(gap.signs.extent, signed(gap.signs.op, sign), extent)
+            }
+        }
+    }
+}

@@ -1,0 +1,39 @@
+//! What nodes are made with.
+ghost use Rattle.std.specs.Prelude.{◌≡◌, IfOk};
+ghost use Rattle.cedar_text.specs.Place.{node_at};
+ghost use Rattle.cedar_text.specs.machines.Closing.{node_of};
+
+use crate::extent::Extent;
+use crate::place;
+use crate::text_to_cst::expression::state::Ranged;
+use cedar_expressions::Source;
+use cedar_syntax::node::Node;
+use std::alloc::{AllocError, Global};
+
+/// Where memory comes from, and the source that each place carries.
+#[derive(Drop, Clone, Copy)]
+pub struct Ground<'a> {
+    pub alloc: Global,
+    pub source: &'a Source,
+}
+
+impl Ground<'_> {
+    /// A tree as a node, at the bytes of the source that it takes.
+    pub fn node_at<T: Drop>(
+        self,
+        extent: Option<Extent>,
+        tree: T,
+    ) -> Result<Node<Option<T>>, AllocError>
+        ensures { IfOk result (λ node. node ≡ node_at self.entry.source.now extent tree) }
+    {
+        place::node_at(self.source, extent, tree)
+    }
+
+    /// A tree as a node, at its bytes.
+    pub fn node_of<T: Drop>(self, item: Ranged<T>) -> Result<Node<Option<T>>, AllocError>
+        ensures { IfOk result (λ node. node ≡ node_of self.entry.source.now item) }
+    {
+        let Ranged { tree, extent } = item;
+        self.node_at(extent, tree)
+    }
+}
