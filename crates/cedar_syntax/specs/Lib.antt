@@ -12,6 +12,7 @@ pub mod ParseErrors
 pub mod Printed
 pub mod Printing
 pub mod RawFault
+pub mod Slots
 pub mod Span
 pub mod ToASTError
 pub mod Tree

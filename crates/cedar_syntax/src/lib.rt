@@ -13,6 +13,7 @@ pub mod loc;
 pub mod node;
 mod print;
 mod print_policies;
+mod slots;
 mod tokens;
 
 pub use cedar_expressions::{Boxed, Items, Source, Text, TryClone};
