@@ -3,7 +3,7 @@ use Rattle.std.proofs.Common.{◌≡◌, ◌≢◌, ℕ, ◌-◌, List, [], ◌�
 use denote.Ref.{Bor}
 use Rattle.std.proofs.Math.Seq.{take-append_seam}
 use Rattle.cedar_lexer.specs.declared.token.TokenKind.TheVariants as kind
-use Rattle.cedar_text.specs.Loose.{between_quotes}
+use Rattle.cedar_text.specs.Tokens.{between_quotes}
 use Rattle.cedar_text.specs.Written.{Written}
 
 -- it begins with a quote

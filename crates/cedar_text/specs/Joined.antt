@@ -5,7 +5,7 @@ use Rattle.cedar_syntax.specs.ParseErrors.{faults_of}
 use Rattle.cedar_syntax.specs.declared.err.faults.Failure.{Failure}
 use Rattle.cedar_syntax.specs.declared.err.faults.Failure.TheVariants.{Memory, Errors}
 use Rattle.cedar_syntax.specs.declared.err.faults.ParseError.{ParseError}
-use Rattle.cedar_text.specs.Fault.{IsMemory}
+use Rattle.cedar_text.specs.FirstFault.{IsMemory}
 
 abbrev pub faults_told : Failure → List ParseError
 faults_told (Memory error) = []

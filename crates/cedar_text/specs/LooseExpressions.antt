@@ -31,6 +31,7 @@ use Rattle.cedar_syntax.specs.declared.cst.Name.{Name}
 use Rattle.cedar_syntax.specs.declared.cst.Ref.{Ref}
 use Rattle.cedar_syntax.specs.declared.cst.RecInit.{RecInit}
 use Rattle.cedar_text.specs.Place.{placed}
+pub use Rattle.cedar_text.specs.Signs.{ReadsSigns, one_sign, more_signs, ReadsAddOp, plus, minus}
 use Rattle.cedar_text.specs.Tokens.{Spot, one}
 use Rattle.cedar_text.specs.Trees.{Cell, expr_of, if_of, or_of, and_of, common_of, has_of, like_of, is_of, add_of, mult_of, unary_of, member_of, rec_init_of, name_of, bangs_of, dashes_of}
 use Rattle.cedar_text.specs.LooseWords.{ReadsLiteral, ReadsAny, ReadsName, ReadsRef}
@@ -46,22 +47,11 @@ pub data ReadsRelOp : TokenKind → RelOp → Type 0 where
   within : ReadsRelOp kind.In rel.In
   single_eq : ReadsRelOp kind.Eq rel.InvalidSingleEq
 
--- "+" | "-"
-pub data ReadsAddOp : TokenKind → AddOp → Type 0 where
-  plus : ReadsAddOp kind.Plus sum.Plus
-  minus : ReadsAddOp kind.Minus sum.Minus
-
 -- "*" | "/" | "%"
 pub data ReadsMultOp : TokenKind → MultOp → Type 0 where
   times : ReadsMultOp kind.Star product.Times
   divide : ReadsMultOp kind.Slash product.Divide
   modulo : ReadsMultOp kind.Percent product.Mod
-
--- one sign or more, all of one kind, and how many they are
-pub data ReadsSigns (k : TokenKind) : List Lexeme → ℕ → Type 0 where
-  one_sign : (p : Spot) → ReadsSigns k (one k p) 1
-  more_signs : {ts : List Lexeme} {n : ℕ} (p : Spot) → ReadsSigns k ts n
-      → ReadsSigns k (ts ++ one k p) (n + 1)
 
 -- Slot = PRINCIPAL_SLOT | RESOURCE_SLOT | OTHER_SLOT; another slot keeps its whole token
 pub data ReadsSlot : TokenKind → List ℕ → Slot → Type 0 where

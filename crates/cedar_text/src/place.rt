@@ -2,10 +2,8 @@
 ghost use Rattle.std.specs.Prelude.{◌≡◌, IfOk};
 ghost use Rattle.cedar_lexer.specs.Token.{lexeme_of};
 ghost use Rattle.cedar_text.specs.Place.{extent_of, loc_at, node_at};
-ghost use Rattle.cedar_text.specs.Machine.{node_of};
 
 use crate::extent::Extent;
-use crate::state::Ranged;
 use cedar_expressions::Source;
 use cedar_lexer::token::Token;
 use cedar_syntax::loc::{Loc, SourceSpan};
@@ -48,12 +46,4 @@ pub fn node_at<T: Drop>(
         node: Some(tree),
         loc,
     })
-}
-
-/// A tree as a node, at its bytes.
-pub fn node_of<T: Drop>(source: &Source, item: Ranged<T>) -> Result<Node<Option<T>>, AllocError>
-    ensures { IfOk result (λ node. node ≡ node_of source.now item) }
-{
-    let Ranged { tree, extent } = item;
-    node_at(source, extent, tree)
 }

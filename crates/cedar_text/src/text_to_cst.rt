@@ -1,25 +1,17 @@
 //! The loose syntax tree of a text, or the first fault for which it has none.
-ghost use Rattle.std.specs.Prelude.{◌≡◌, List, MatchResult, IfOk, IfErr};
-ghost use Rattle.cedar_lexer.specs.Token.{Lexeme};
-ghost use Rattle.cedar_lexer.specs.Cut.{Cuts};
-ghost use Rattle.cedar_syntax.specs.declared.cst.Expr.{Expr};
-ghost use Rattle.cedar_text.specs.declared.entry.Entry.TheVariants as entry;
-ghost use Rattle.cedar_text.specs.declared.entry.Parsed.TheVariants as parsed;
-ghost use Rattle.cedar_text.specs.Trees.{Cell};
-ghost use Rattle.cedar_text.specs.Loose.{Reads};
-ghost use Rattle.cedar_text.specs.Places.{PlacesExpr};
+ghost use Rattle.std.specs.Prelude.{◌≡◌, MatchResult, IfOk, IfErr};
 ghost use Rattle.std.specs.List.{All};
+ghost use Rattle.cedar_syntax.specs.declared.cst.Expr.{Expr};
 ghost use Rattle.cedar_syntax.specs.declared.cst.Ident.{Ident};
 ghost use Rattle.cedar_syntax.specs.declared.cst.Name.{Name};
 ghost use Rattle.cedar_syntax.specs.declared.cst.Primary.{Primary};
 ghost use Rattle.cedar_syntax.specs.declared.cst.Ref.{Ref};
-ghost use Rattle.cedar_text.specs.Fault.{IsMemory};
-ghost use Rattle.cedar_text.specs.Fault as old_fault;
-ghost use Rattle.cedar_text.specs.FirstFault.{IsRefusal};
+ghost use Rattle.cedar_text.specs.FirstFault.{IsMemory, IsRefusal};
 ghost use Rattle.cedar_text.specs.Grammar.{IsTreeOf};
 ghost use Rattle.cedar_text.specs.LooseExpressions.{ReadsExpr, ReadsPrimary};
 ghost use Rattle.cedar_text.specs.LooseWords.{ReadsIdent, ReadsName, ReadsRef};
 ghost use Rattle.cedar_text.specs.TreePlaces.{IsPlace, node_places, expr_places, ident_places, name_places, primary_places, ref_places};
+ghost use Rattle.cedar_text.specs.Trees.{Cell};
 
 pub(crate) mod driver;
 mod entity;
@@ -33,8 +25,6 @@ mod path;
 mod state;
 mod words;
 
-use crate::entry::Entry;
-use crate::parser::parse;
 use crate::text_to_cst::expected::Narrowing;
 use crate::text_to_cst::expression::entries::{ExprState, PrimaryState};
 use crate::text_to_cst::state::{IdentState, PathState, WordsState};
@@ -49,19 +39,19 @@ use std::alloc::Global;
 /// the only one. Every place in it is a range of bytes of the text, on boundaries of characters.
 ///
 /// A refusal is one fault, the first of these: `UnrecognizedToken`, a token with which no expression goes on, at its
-/// bytes; `UnrecognizedEof`, where no expression ends at the end of the text, at the end of the last token or 0;
-/// `User`, a number past `u64` where a number may stand, at its digits; `InvalidToken`, where no token starts. Or it is
-/// `Failure::Memory`.
+/// bytes; `UnrecognizedEof`, where no expression ends at the end of the text, at the end of the last token or 0, each
+/// with the kinds of token that could have stood there, and where an operand has ended in something that is open, only
+/// with those that close it; `User`, a number past `u64` where a number may stand, at its digits; `InvalidToken`, where
+/// no token starts. Or it is `Failure::Memory`.
 pub fn parse_expr(alloc: Global, text: &str) -> Result<Node<Option<Expr>>, Failure>
-    ensures found { IfOk result (λ x. (ts : List Lexeme) × Cuts text.now ts
-        × Reads text.now entry.Expr ts (parsed.Expr x)) }
-    ensures places { IfOk result (λ x. PlacesExpr text.now x) }
-    ensures only { (ts : List Lexeme) (y : Cell Expr) → Cuts text.now ts
-        → Reads text.now entry.Expr ts (parsed.Expr y) → MatchResult result (λ x. x ≡ y) IsMemory }
-    ensures refused { IfErr result (λ f. old_fault.IsRefusal entry.Expr text.now f) }
+    ensures found { IfOk result (λ x. IsTreeOf ReadsExpr text.now x) }
+    ensures places { IfOk result (λ x. All (IsPlace text.now) (node_places expr_places x)) }
+    ensures only { (y : Cell Expr) → IsTreeOf ReadsExpr text.now y
+        → MatchResult result (λ x. x ≡ y) IsMemory }
+    ensures refused { IfErr result
+        (λ f. IsRefusal ReadsExpr Narrowing.TokensAndEnd text.now f) }
 {
-    let parsed = parse(alloc, Entry::Expr, text)?;
-    Ok(parsed.into_expr())
+    driver::parse::<ExprState>(alloc, text, Narrowing::TokensAndEnd)
 }
 
 /// The tree of an entity literal.
@@ -123,19 +113,4 @@ pub fn parse_primary(alloc: Global, text: &str) -> Result<Node<Option<Primary>>,
         (λ f. IsRefusal ReadsPrimary Narrowing.TokensAndEnd text.now f) }
 {
     driver::parse::<PrimaryState>(alloc, text, Narrowing::TokensAndEnd)
-}
-
-/// The tree of an expression by the whole grammar, `has`, `like`, `is`, sets and records among it.
-///
-/// It answers and refuses as `parse_primary` does, of expressions. `parse_expr` will be this once a conversion of each of
-/// these forms stands.
-pub(crate) fn parse_whole_expr(alloc: Global, text: &str) -> Result<Node<Option<Expr>>, Failure>
-    ensures found { IfOk result (λ x. IsTreeOf ReadsExpr text.now x) }
-    ensures places { IfOk result (λ x. All (IsPlace text.now) (node_places expr_places x)) }
-    ensures only { (y : Cell Expr) → IsTreeOf ReadsExpr text.now y
-        → MatchResult result (λ x. x ≡ y) IsMemory }
-    ensures refused { IfErr result
-        (λ f. IsRefusal ReadsExpr Narrowing.TokensAndEnd text.now f) }
-{
-    driver::parse::<ExprState>(alloc, text, Narrowing::TokensAndEnd)
 }

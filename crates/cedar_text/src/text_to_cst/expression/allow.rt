@@ -1,13 +1,13 @@
 //! What may come next, by the shape of the state alone: nothing is built.
 ghost use Rattle.std.specs.Prelude.{◌≡◌, [], ◌∷◌, List, Bool};
 ghost use Rattle.cedar_text.specs.machines.Door.{Answer, is_some, is_taken};
-ghost use Rattle.cedar_text.specs.machines.ExpressionStates.{class_of, operator_of};
+ghost use Rattle.cedar_text.specs.machines.ExpressionStates.{operator_of};
 ghost use Rattle.cedar_text.specs.machines.NamedShapes.{named_shapes};
 ghost use Rattle.cedar_text.specs.machines.WordShapes.{WordsShape, WordsKind, words_shape};
 ghost use Rattle.cedar_text.specs.machines.ExpressionShapes.{FrameShape, LeftShape, left_shape, frame_shape, stack_shape, op_sign, has_access, has_sum, has_relation, has_and, compare_shape, side_shape, ended_shape, had_step, having_shape, signed_shape, sign_shape, guard_begins, if_key_shape, list_end, wanted_shape, wanting_shape, key_or_guard_shape, if_shape, after_words, word_shape, mode_shape, step_shape, if_ends, words_end, ends};
 
 use crate::text_to_cst::expression::class::{
-    Beginning, Closing, Operator, Side, Sign, SlotToken, as_operator,
+    Beginning, Closing, Operator, Side, Sign, as_operator, kind_class,
 };
 use crate::text_to_cst::expression::state::{Frame, Gap, Left, Mode, Place, Reach, State, Wanted};
 use crate::text_to_cst::expression::words::{self, Goes, begins_words};
@@ -133,34 +133,6 @@ impl State {
             Operator::Or => reach.has_and(),
             Operator::Ends(closing) => self.may_end(closing),
             Operator::Other => false,
-        }
-    }
-}
-
-/// The class of a token of this kind where an operand is wanted; each number stands for all.
-fn kind_class(kind: TokenKind) -> Beginning
-    ensures { result ≡ class_of kind [] }
-{
-    match kind {
-        TokenKind::Number => Beginning::Number(0),
-        TokenKind::StringLit => Beginning::String,
-        TokenKind::PrincipalSlot => Beginning::Slot(SlotToken::Principal),
-        TokenKind::ResourceSlot => Beginning::Slot(SlotToken::Resource),
-        TokenKind::OtherSlot => Beginning::Slot(SlotToken::Other),
-        TokenKind::Bang => Beginning::Sign(Sign::Bang),
-        TokenKind::Minus => Beginning::Sign(Sign::Dash),
-        TokenKind::OpenParen => Beginning::Paren,
-        TokenKind::OpenBracket => Beginning::Bracket,
-        TokenKind::OpenBrace => Beginning::Brace,
-        TokenKind::CloseParen => Beginning::Ends(Closing::Paren),
-        TokenKind::CloseBracket => Beginning::Ends(Closing::Bracket),
-        TokenKind::CloseBrace => Beginning::Ends(Closing::Brace),
-        _ => {
-            if is_any(kind) {
-                Beginning::Word
-            } else {
-                Beginning::Other
-            }
         }
     }
 }

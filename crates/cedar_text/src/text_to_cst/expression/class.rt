@@ -1,12 +1,13 @@
 //! Classes of tokens: the 50 kinds are told apart once, where an operand is wanted and behind one.
 
-ghost use Rattle.std.specs.Prelude.{◌≡◌};
+ghost use Rattle.std.specs.Prelude.{◌≡◌, []};
 ghost use Rattle.std.specs.Str.Parse.{IsNumeral};
 ghost use Rattle.cedar_text.specs.machines.Begins.{IsBeginningOf};
 ghost use Rattle.cedar_text.specs.Written.{Written};
 ghost use Rattle.cedar_text.specs.machines.ExpressionStates.{class_of, number_class, operator_of};
 ghost use Rattle.cedar_text.specs.machines.Wanting.{signed};
 
+use crate::text_to_cst::words::is_any;
 use cedar_lexer::token::TokenKind;
 use cedar_syntax::cst::{AddOp, MultOp, NegOp, RelOp, SIGN_LIMIT};
 
@@ -107,14 +108,12 @@ fn as_number(text: &str) -> Beginning
     }
 }
 
-/// What a token of this kind and text can be where an operand is wanted.
-pub fn as_beginning(kind: TokenKind, text: &str) -> Beginning
-    requires { Written kind text.now }
-    ensures class { result ≡ class_of kind text.now }
-    ensures text { IsBeginningOf result text.now }
+/// What a token of this kind can be where an operand is wanted; 0 stands for each number.
+pub fn kind_class(kind: TokenKind) -> Beginning
+    ensures { result ≡ class_of kind [] }
 {
     match kind {
-        TokenKind::Number => as_number(text),
+        TokenKind::Number => Beginning::Number(0),
         TokenKind::StringLit => Beginning::String,
         TokenKind::PrincipalSlot => Beginning::Slot(SlotToken::Principal),
         TokenKind::ResourceSlot => Beginning::Slot(SlotToken::Resource),
@@ -127,25 +126,25 @@ pub fn as_beginning(kind: TokenKind, text: &str) -> Beginning
         TokenKind::CloseParen => Beginning::Ends(Closing::Paren),
         TokenKind::CloseBracket => Beginning::Ends(Closing::Bracket),
         TokenKind::CloseBrace => Beginning::Ends(Closing::Brace),
-        TokenKind::True
-        | TokenKind::False
-        | TokenKind::If
-        | TokenKind::Permit
-        | TokenKind::Forbid
-        | TokenKind::When
-        | TokenKind::Unless
-        | TokenKind::In
-        | TokenKind::Has
-        | TokenKind::Like
-        | TokenKind::Is
-        | TokenKind::Then
-        | TokenKind::Else
-        | TokenKind::Principal
-        | TokenKind::Action
-        | TokenKind::Resource
-        | TokenKind::Context
-        | TokenKind::Identifier => Beginning::Word,
-        _ => Beginning::Other,
+        _ => {
+            if is_any(kind) {
+                Beginning::Word
+            } else {
+                Beginning::Other
+            }
+        }
+    }
+}
+
+/// What a token of this kind and text can be where an operand is wanted.
+pub fn as_beginning(kind: TokenKind, text: &str) -> Beginning
+    requires { Written kind text.now }
+    ensures class { result ≡ class_of kind text.now }
+    ensures text { IsBeginningOf result text.now }
+{
+    match kind {
+        TokenKind::Number => as_number(text),
+        _ => kind_class(kind),
     }
 }
 

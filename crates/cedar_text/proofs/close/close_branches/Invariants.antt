@@ -1,9 +1,0 @@
-use Rattle.std.proofs.Common.{◌≡◌, length}
-use Rattle.cedar_text.specs.Machine.{branched}
-use Rattle.cedar_text.proofs.close.close_branches.Given as goal
-
-abbrev pub invariant-loop-branch : goal.invariant-loop-branch
-invariant-loop-branch l = branched l.source l.branches l.item ≡ branched l.source l.initial.branches l.initial.item
-
-abbrev pub decreases-loop-branch : goal.decreases-loop-branch
-decreases-loop-branch l = length l.branches
