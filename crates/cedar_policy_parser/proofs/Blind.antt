@@ -1,92 +1,29 @@
--- Values don't look at places: one congruence for each join, and a line for each rule.
-use Rattle.std.proofs.Common.{◌≡◌, ℕ, zero, suc, nat_le, Bool, true, false, cond, List, [], ◌∷◌, map, Option, Some, None, option_map, Ok, Err, refl, sym, ap, ◌∙◌}
-use Rattle.cedar_expressions.specs.declared.literal.Var.{Var}
+-- Values don't look at places: a line for each rule, and the trees.
+use Rattle.std.proofs.Common.{◌≡◌, ℕ, zero, suc, nat_le, List, [], ◌∷◌, Option, Some, None, option_map, Ok, Err, refl, sym, ap, ◌∙◌}
+use Rattle.cedar_expressions.specs.Keys.{repeats_key}
 use Rattle.cedar_expressions.specs.Value as v
 use Rattle.cedar_expressions.specs.Value.{Value}
 use Rattle.cedar_syntax.specs.declared.loc.Loc.{Loc}
-use Rattle.cedar_syntax.specs.declared.node.Node.{Node}
-use Rattle.cedar_syntax.specs.declared.cst.Ident.{Ident}
 use Rattle.cedar_syntax.specs.declared.cst.Literal.{Literal}
 use Rattle.cedar_syntax.specs.declared.cst.Literal.TheVariants as lit
-use Rattle.cedar_syntax.specs.declared.cst.Name.{Name}
 use Rattle.cedar_syntax.specs.declared.cst.MultOp.TheVariants as mul
 use Rattle.cedar_syntax.specs.declared.cst.RelOp.{RelOp}
 use Rattle.cedar_syntax.specs.declared.cst.RelOp.TheVariants as rel
 use Rattle.cedar_syntax.specs.declared.cst.NegOp.{NegOp}
 use Rattle.cedar_syntax.specs.declared.cst.NegOp.TheVariants as sign
-use Rattle.cedar_syntax.specs.declared.cst.Str.{Str}
-use Rattle.cedar_syntax.specs.declared.cst.Str.TheVariants as str
-use Rattle.cedar_syntax.specs.declared.err.escape.UnescapeError.{UnescapeError}
 use Rattle.cedar_syntax.specs.Located as f
 use Rattle.cedar_syntax.specs.Located.{Located, Form, Parts}
 use Rattle.cedar_syntax.specs.Tree as t
 use Rattle.cedar_syntax.specs.Tree.{Level, Operator, disjunction, conjunction, relation, sum, product}
-use Rattle.cedar_syntax.specs.Unlocated.{unlocated, unlocated_form, unlocated_parts, unlocated_by, unlocated_literal, unlocated_name, unlocated_node}
+use Rattle.cedar_syntax.specs.Unlocated.{unlocated, unlocated_form, unlocated_parts, unlocated_literal}
 use Rattle.cedar_policy_parser.specs.Alike.{Alike, Same}
-use Rattle.cedar_policy_parser.specs.Conversion.{Part, outcome, formed, operands, value_outcome, compared, related, beside_last, combined, joined, allowed, chained, factor, with_part, applied, dashed, signed, negative, number_in, lone_literal, literal_alone, literal_outcome, written, quoted, variable_of, variable_at, word_outcome, named, name_outcome, chosen, accessed, made, place_of}
+use Rattle.cedar_policy_parser.specs.Conversion.{Part, outcome, formed, operands, accesses_given, access_outcome, access_formed, pairs_given, pair_outcome, pair_formed, value_outcome, compared, related, combined, joined, allowed, chained, factor, applied, dashed, signed, beside_type, place_of, keys, record_held, number_in, lone_literal, literal_alone}
 use Rattle.cedar_policy_parser.specs.Extensions.{Extensions}
-use Rattle.cedar_policy_parser.specs.Held.{Held, expression, variable, bare_truth, bare_string, as_expression, text_value}
-use Rattle.cedar_policy_parser.specs.Outcome.{Outcome, both, next, given}
+use Rattle.cedar_policy_parser.specs.Held.{Held, as_attribute}
+use Rattle.cedar_policy_parser.specs.Outcome.{Outcome, both, given}
 use Rattle.cedar_policy_parser.specs.Strict.{repeated, largest}
-use Rattle.cedar_policy_parser.specs.Strings.{escape_faults, unescaped, unless_faulty, text_outcome}
-
--- ---- the two congruences
-
-abbrev pub Pairs : {X Y : Type 0} → (X → X → Type 0) → (Y → Y → Type 0) → X × Y → X × Y → Type 0
-Pairs R S x y = R x.0 y.0 × S x.1 y.1
-
-pub both_alike : {X Y : Type 0} (R : X → X → Type 0) (S : Y → Y → Type 0) (o p : Outcome X) (q r : Outcome Y) → Alike R o p → Alike S q r → Alike (Pairs R S) (both o q) (both p r)
-both_alike R S (Ok x) (Ok y) (Ok z) (Ok w) a b = (a, b)
-both_alike R S (Ok x) (Ok y) (Err fs) (Err gs) a b = tt
-both_alike R S (Err fs) (Err gs) (Ok z) (Ok w) a b = tt
-both_alike R S (Err fs) (Err gs) (Err hs) (Err ks) a b = tt
-both_alike R S (Ok x) (Err gs) q r a b = absurd a
-both_alike R S (Err fs) (Ok y) q r a b = absurd a
-both_alike R S o p (Ok z) (Err gs) a b = absurd b
-both_alike R S o p (Err fs) (Ok w) a b = absurd b
-
-pub next_alike : {X Y : Type 0} (R : X → X → Type 0) (S : Y → Y → Type 0) (o p : Outcome X) (g h : X → Outcome Y) → Alike R o p → ((x y : X) → R x y → Alike S (g x) (h y)) → Alike S (next o g) (next p h)
-next_alike R S (Ok x) (Ok y) g h a k = k x y a
-next_alike R S (Ok x) (Err gs) g h a k = absurd a
-next_alike R S (Err fs) (Ok y) g h a k = absurd a
-next_alike R S (Err fs) (Err gs) g h a k = tt
-
-if_alike : {X : Type 0} (R : X → X → Type 0) (b : Bool) (o p q r : Outcome X) → Alike R o p → Alike R q r → Alike R (cond b o q) (cond b p r)
-if_alike R true o p q r h k = h
-if_alike R false o p q r h k = k
-
--- ---- forms
-
-abbrev Equal : {X : Type 0} → X → X → Type 0
-Equal x y = x ≡ y
-
-unless_alike : {X : Type 0} (p q : Option Loc) (faults : List UnescapeError) (x : X) → Alike Equal (unless_faulty p faults x) (unless_faulty q faults x)
-unless_alike p q [] x = refl
-unless_alike p q (fault ∷ faults) x = tt
-
-text_alike : (p q : Option Loc) (raw : List ℕ) → Alike Equal (next (text_outcome p raw) text_value) (next (text_outcome q raw) text_value)
-text_alike p q raw = next_alike Equal Equal _ _ _ _ (unless_alike p q (escape_faults raw) (unescaped raw)) (λ x y e. rw e refl)
-
-as_value : (h k : Held) → Same h k → Alike Equal (as_expression h) (as_expression k)
-as_value (expression p x) (expression q y) e = e
-as_value (expression p x) (variable q y) e = absurd e
-as_value (expression p x) (bare_truth q y) e = absurd e
-as_value (expression p x) (bare_string q y) e = absurd e
-as_value (variable p x) (expression q y) e = absurd e
-as_value (variable p x) (variable q y) e = rw e refl
-as_value (variable p x) (bare_truth q y) e = absurd e
-as_value (variable p x) (bare_string q y) e = absurd e
-as_value (bare_truth p x) (expression q y) e = absurd e
-as_value (bare_truth p x) (variable q y) e = absurd e
-as_value (bare_truth p x) (bare_truth q y) e = rw e refl
-as_value (bare_truth p x) (bare_string q y) e = absurd e
-as_value (bare_string p x) (expression q y) e = absurd e
-as_value (bare_string p x) (variable q y) e = absurd e
-as_value (bare_string p x) (bare_truth q y) e = absurd e
-as_value (bare_string p x) (bare_string q y) e = rw e (text_alike p q y)
-
-value_alike : (o p : Outcome Held) → Alike Same o p → Alike Equal (next o as_expression) (next p as_expression)
-value_alike o p h = next_alike Same Equal o p as_expression as_expression h as_value
+use Rattle.cedar_policy_parser.proofs.BlindLeaves.{Equal, Pairs, both_alike, next_alike, then_alike, if_alike, as_value, value_alike, as_pattern_alike, as_type_alike, as_string_alike, as_attribute_alike, unreserved_alike, literal_alike, named_alike, slot_alike, entity_alike}
+use Rattle.cedar_policy_parser.proofs.BlindMembers.{member_alike, right_alike}
 
 -- ---- rules
 
@@ -160,39 +97,6 @@ signed_alike p q (Some sign.OverBang) bare x y h = tt
 signed_alike p q (Some (sign.Dash n)) bare x y h = dashed_alike p q n bare x y h
 signed_alike p q (Some sign.OverDash) bare x y h = tt
 
-quoted_alike : (p q r s : Option Loc) (o : Option Str) → Alike Same (quoted p r o) (quoted q s o)
-quoted_alike p q r s None = tt
-quoted_alike p q r s (Some (str.String raw)) = refl
-quoted_alike p q r s (Some (str.Invalid raw)) = tt
-
-literal_alike : (p q : Option Loc) (o : Option Literal) → Alike Same (literal_outcome p o) (literal_outcome q (option_map unlocated_literal o))
-literal_alike p q None = tt
-literal_alike p q (Some lit.True) = refl
-literal_alike p q (Some lit.False) = refl
-literal_alike p q (Some (lit.Num n)) = if_alike Same (nat_le largest n) _ _ _ _ tt refl
-literal_alike p q (Some (lit.Str s)) = quoted_alike p q s.loc None s.node
-
-variable_alike : (p q : Option Loc) (o : Option Var) → Alike Same (variable_at p o) (variable_at q o)
-variable_alike p q None = tt
-variable_alike p q (Some x) = refl
-
-word_alike : (p q r s : Option Loc) (o : Option Ident) → Alike Same (word_outcome p r o) (word_outcome q s o)
-word_alike p q r s None = tt
-word_alike p q r s (Some i) = variable_alike p q (variable_of i)
-
-named_alike : (p q r s : Option Loc) (path : List (Node (Option Ident))) (o : Option Ident) → Alike Same (named p path r o) (named q (map unlocated_node path) s o)
-named_alike p q r s [] o = word_alike p q r s o
-named_alike p q r s (n ∷ path) o = tt
-
-name_alike : (p q : Option Loc) (o : Option Name) → Alike Same (name_outcome p o) (name_outcome q (option_map unlocated_name o))
-name_alike p q None = tt
-name_alike p q (Some n) = named_alike p q n.name.loc None n.path n.name.node
-
-accessed_alike : (p q : Option Loc) (ps : Parts) (x y : Outcome Held) → Alike Same x y → Alike Same (accessed p ps x) (accessed q (unlocated_parts ps) y)
-unfolding unlocated_parts
-accessed_alike p q f.none x y h = h
-accessed_alike p q (f.more op n ps) x y h = tt
-
 -- ---- the bare number
 
 number_alike : (o : Option Literal) → number_in o ≡ number_in (option_map unlocated_literal o)
@@ -256,8 +160,24 @@ bare_alike n = number_alike (lone_literal n) ∙ ap number_in (lone_alike n)
 
 -- ---- trees
 
+-- two pairs, part by part
+pair_equal : {X Y : Type 0} (o p : Outcome (X × Y)) → Alike (Pairs Equal Equal) o p → Alike Equal o p
+pair_equal (Ok x) (Ok y) e = rw (e.0, e.1) refl
+pair_equal (Ok x) (Err gs) e = absurd e
+pair_equal (Err fs) (Ok y) e = absurd e
+pair_equal (Err fs) (Err gs) e = tt
+
+type_alike : (x y : Outcome Value) (h k : Held) → Alike Equal x y → Same h k → Alike Equal (beside_type x h) (beside_type y k)
+type_alike x y h k a s = pair_equal _ _ (both_alike Equal Equal x y _ _ a (as_type_alike h k s))
+
+keyed_alike : (x y : Outcome Value) (h k : Held) → Alike Equal x y → Same h k → Alike Equal (both (as_attribute h) x) (both (as_attribute k) y)
+keyed_alike x y h k a s = pair_equal _ _ (both_alike Equal Equal _ _ x y (as_attribute_alike h k s) a)
+
+record_alike : (p q : Option Loc) (fs : List (List ℕ × Value)) → Alike Same (record_held p fs) (record_held q fs)
+record_alike p q fs = if_alike Same (repeats_key (keys fs)) _ _ _ _ tt refl
+
 mutual
-  unfolding outcome formed operands unlocated unlocated_form unlocated_parts
+  unfolding outcome formed operands accesses_given access_outcome access_formed pairs_given pair_outcome pair_formed unlocated unlocated_form unlocated_parts
 
   pub outcome_alike : (e : Extensions) (n : Located) → Alike Same (outcome e n) (outcome e (unlocated n))
   outcome_alike e (f.missing p) = tt
@@ -270,28 +190,94 @@ mutual
       (both_alike (Pairs Equal Equal) Equal _ _ _ _ (both_alike Equal Equal _ _ _ _ (value_alike _ _ (outcome_alike e a)) (value_alike _ _ (outcome_alike e b))) (value_alike _ _ (outcome_alike e c)))
       (λ x y h. rw (h.0.0, h.0.1, h.1) refl)
   formed_alike e p (f.chain level first others) = chained_alike level p None others _ _ _ _ (outcome_alike e first) (operands_alike e p None others)
-  formed_alike e p (f.has m n) = tt
-  formed_alike e p (f.like m n) = tt
-  formed_alike e p (f.is m n) = tt
-  formed_alike e p (f.is_in m n o) = tt
+  formed_alike e p (f.has m n) = then_alike Same _ _ _ _ (right_alike (place_of n) (place_of (unlocated n)) n) (λ r. then_alike Same _ _ _ _ (value_alike _ _ (outcome_alike e m)) (λ x. refl))
+  formed_alike e p (f.like m n) =
+      next_alike Same Same _ _ _ _ (outcome_alike e n)
+      (λ h k s. next_alike (Pairs Equal Equal) Same _ _ _ _ (both_alike Equal Equal _ _ _ _ (value_alike _ _ (outcome_alike e m)) (as_pattern_alike h k s)) (λ x y g. rw (g.0, g.1) refl))
+  formed_alike e p (f.is m n) =
+      then_alike Same _ _ _ _ (next_alike Same Equal _ _ _ _ (outcome_alike e n) (λ h k s. type_alike _ _ h k (value_alike _ _ (outcome_alike e m)) s)) (λ x. refl)
+  formed_alike e p (f.is_in m n o) =
+      then_alike Same _ _ _ _ (next_alike Same Equal _ _ _ _ (outcome_alike e n) (λ h k s. type_alike _ _ h k (value_alike _ _ (outcome_alike e m)) s))
+      (λ x. then_alike Same _ _ _ _ (value_alike _ _ (outcome_alike e o)) (λ y. refl))
   formed_alike e p (f.unary op item) = rw (bare_alike item) (signed_alike p None op (number_in (lone_literal (unlocated item))) _ _ (outcome_alike e item))
-  formed_alike e p (f.member item ps) = accessed_alike p None ps _ _ (outcome_alike e item)
+  formed_alike e p (f.member item ps) =
+      next_alike (Pairs Same Equal) Same _ _ _ _ (both_alike Same Equal _ _ _ _ (outcome_alike e item) (accesses_alike e ps)) (λ x y h. rw h.1 (member_alike e p None y.1 x.0 y.0 h.0))
   formed_alike e p (f.field n) = tt
   formed_alike e p (f.call ps) = tt
   formed_alike e p (f.index n) = tt
   formed_alike e p (f.literal n) = literal_alike n.loc None n.node
-  formed_alike e p (f.name n) = name_alike n.loc None n.node
-  formed_alike e p (f.slot n) = tt
-  formed_alike e p (f.reference n) = tt
-  formed_alike e p (f.parens n) = next_alike Equal Same _ _ _ _ (value_alike _ _ (outcome_alike e n)) (λ x y h. h)
-  formed_alike e p (f.set ps) = tt
-  formed_alike e p (f.record_of ps) = tt
+  formed_alike e p (f.name n) = named_alike p None n
+  formed_alike e p (f.slot n) = slot_alike n
+  formed_alike e p (f.reference n) = entity_alike n
+  formed_alike e p (f.parens n) = then_alike Same _ _ _ _ (value_alike _ _ (outcome_alike e n)) (λ x. refl)
+  formed_alike e p (f.set ps) = then_alike Same _ _ _ _ (operands_alike e p None ps) (λ x. refl)
+  formed_alike e p (f.record_of ps) = then_alike Same _ _ _ _ (pairs_alike e ps) (record_alike p None)
   formed_alike e p (f.init m n) = tt
 
   operands_alike : (e : Extensions) (p q : Option Loc) (ps : Parts) → Alike Equal (operands e p ps) (operands e q (unlocated_parts ps))
   operands_alike e p q f.none = refl
   operands_alike e p q (f.more op n ps) =
-      next_alike (Pairs Equal Equal) Equal _ _ _ _ (both_alike Equal Equal _ _ _ _ (next_alike Equal Equal _ _ _ _ (value_alike _ _ (outcome_alike e n)) (λ x y h. rw h (factor_alike p q op y))) (operands_alike e p q ps)) (λ a b h. rw (h.0, h.1) refl)
+      next_alike (Pairs Equal Equal) Equal _ _ _ _ (both_alike Equal Equal _ _ _ _ (then_alike Equal _ _ _ _ (value_alike _ _ (outcome_alike e n)) (factor_alike p q op)) (operands_alike e p q ps)) (λ a b h. rw (h.0, h.1) refl)
+
+  accesses_alike : (e : Extensions) (ps : Parts) → Alike Equal (accesses_given e ps) (accesses_given e (unlocated_parts ps))
+  accesses_alike e f.none = refl
+  accesses_alike e (f.more op n ps) = next_alike (Pairs Equal Equal) Equal _ _ _ _ (both_alike Equal Equal _ _ _ _ (access_alike e n) (accesses_alike e ps)) (λ a b h. rw (h.0, h.1) refl)
+
+  access_alike : (e : Extensions) (n : Located) → Alike Equal (access_outcome e n) (access_outcome e (unlocated n))
+  access_alike e (f.missing p) = tt
+  access_alike e (f.at p u) = access_form_alike e p u
+
+  access_form_alike : (e : Extensions) (p : Option Loc) (u : Form) → Alike Equal (access_formed e p u) (access_formed e None (unlocated_form u))
+  access_form_alike e p (f.only n) = tt
+  access_form_alike e p (f.ite a b c) = tt
+  access_form_alike e p (f.chain level n ps) = tt
+  access_form_alike e p (f.has m n) = tt
+  access_form_alike e p (f.like m n) = tt
+  access_form_alike e p (f.is m n) = tt
+  access_form_alike e p (f.is_in m n o) = tt
+  access_form_alike e p (f.unary op n) = tt
+  access_form_alike e p (f.member n ps) = tt
+  access_form_alike e p (f.field n) = then_alike Equal _ _ _ _ (unreserved_alike n) (λ id. refl)
+  access_form_alike e p (f.call ps) = then_alike Equal _ _ _ _ (operands_alike e p None ps) (λ qs. refl)
+  access_form_alike e p (f.index n) = then_alike Equal _ _ _ _ (next_alike Same Equal _ _ _ _ (outcome_alike e n) as_string_alike) (λ text. refl)
+  access_form_alike e p (f.literal n) = tt
+  access_form_alike e p (f.name n) = tt
+  access_form_alike e p (f.slot n) = tt
+  access_form_alike e p (f.reference n) = tt
+  access_form_alike e p (f.parens n) = tt
+  access_form_alike e p (f.set ps) = tt
+  access_form_alike e p (f.record_of ps) = tt
+  access_form_alike e p (f.init m n) = tt
+
+  pairs_alike : (e : Extensions) (ps : Parts) → Alike Equal (pairs_given e ps) (pairs_given e (unlocated_parts ps))
+  pairs_alike e f.none = refl
+  pairs_alike e (f.more op n ps) = next_alike (Pairs Equal Equal) Equal _ _ _ _ (both_alike Equal Equal _ _ _ _ (pair_alike e n) (pairs_alike e ps)) (λ a b h. rw (h.0, h.1) refl)
+
+  pair_alike : (e : Extensions) (n : Located) → Alike Equal (pair_outcome e n) (pair_outcome e (unlocated n))
+  pair_alike e (f.missing p) = tt
+  pair_alike e (f.at p u) = pair_form_alike e p u
+
+  pair_form_alike : (e : Extensions) (p : Option Loc) (u : Form) → Alike Equal (pair_formed e p u) (pair_formed e None (unlocated_form u))
+  pair_form_alike e p (f.only n) = tt
+  pair_form_alike e p (f.ite a b c) = tt
+  pair_form_alike e p (f.chain level n ps) = tt
+  pair_form_alike e p (f.has m n) = tt
+  pair_form_alike e p (f.like m n) = tt
+  pair_form_alike e p (f.is m n) = tt
+  pair_form_alike e p (f.is_in m n o) = tt
+  pair_form_alike e p (f.unary op n) = tt
+  pair_form_alike e p (f.member n ps) = tt
+  pair_form_alike e p (f.field n) = tt
+  pair_form_alike e p (f.call ps) = tt
+  pair_form_alike e p (f.index n) = tt
+  pair_form_alike e p (f.literal n) = tt
+  pair_form_alike e p (f.name n) = tt
+  pair_form_alike e p (f.slot n) = tt
+  pair_form_alike e p (f.reference n) = tt
+  pair_form_alike e p (f.parens n) = tt
+  pair_form_alike e p (f.set ps) = tt
+  pair_form_alike e p (f.record_of ps) = tt
+  pair_form_alike e p (f.init m n) = next_alike Same Equal _ _ _ _ (outcome_alike e m) (λ h k s. keyed_alike _ _ h k (value_alike _ _ (outcome_alike e n)) s)
 
 -- ---- two trees that differ in places alone
 

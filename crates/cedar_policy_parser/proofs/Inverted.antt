@@ -11,7 +11,7 @@ use Rattle.cedar_policy_parser.specs.Held.{Held, expression, as_expression}
 use Rattle.cedar_policy_parser.specs.Outcome.{Told, Outcome, both, next}
 use Rattle.cedar_policy_parser.specs.Seen.{one_more, with_last}
 
-abbrev given_as : {X : Type 0} → X → Outcome X
+abbrev pub given_as : {X : Type 0} → X → Outcome X
 given_as x = Ok x
 
 pub ok_is : {X : Type 0} {x y : X} → given_as x ≡ given_as y → x ≡ y

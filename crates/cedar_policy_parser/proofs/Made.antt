@@ -1,9 +1,14 @@
 -- What the trees that the loose grammar makes give, wherever they stand.
-use Rattle.std.proofs.Common.{◌≡◌, refl, ap, ◌∙◌, map, List, [], ◌∷◌, ◌++◌, Option, Some, None, Ok}
+use Rattle.std.proofs.Common.{◌≡◌, ap, ◌∙◌, map, List, [], ◌∷◌, Option, Some, None, Ok}
 use Rattle.cedar_expressions.specs.declared.operators.AddOp.{AddOp}
 use Rattle.cedar_syntax.specs.declared.loc.Loc.{Loc}
 use Rattle.cedar_syntax.specs.declared.cst.Ident.{Ident}
 use Rattle.cedar_syntax.specs.declared.cst.Name.{Name}
+use Rattle.cedar_syntax.specs.declared.cst.Ref.{Ref}
+use Rattle.cedar_syntax.specs.declared.cst.Slot.{Slot}
+use Rattle.cedar_syntax.specs.declared.cst.MemAccess.{MemAccess}
+use Rattle.cedar_syntax.specs.declared.cst.MemAccess as M
+use Rattle.cedar_syntax.specs.declared.cst.RecInit.{RecInit}
 use Rattle.cedar_syntax.specs.declared.cst.Literal.{Literal}
 use Rattle.cedar_syntax.specs.declared.cst.RelOp.{RelOp}
 use Rattle.cedar_syntax.specs.declared.cst.MultOp.{MultOp}
@@ -19,15 +24,20 @@ use Rattle.cedar_syntax.specs.declared.cst.Member.{Member}
 use Rattle.cedar_syntax.specs.declared.cst.Primary.{Primary}
 use Rattle.cedar_syntax.specs.declared.cst.Primary as P
 use Rattle.cedar_syntax.specs.declared.cst.Expr.TheViews.{out-roll-Or, out-roll-Add, out-roll-Mult, out-roll-Unary}
-use Rattle.cedar_syntax.specs.Forms.{located, parts_of, expr_form, or_form, and_form, relation_form, add_form, mult_form, unary_form, member_form, primary_form, or_operand, and_operand, relation_operand, add_operand, mult_operand}
+use Rattle.cedar_syntax.specs.Forms.{located, parts_of, expr_form, or_form, and_form, relation_form, add_form, mult_form, unary_form, member_form, primary_form, access_form, init_form, or_operand, and_operand, relation_operand, add_operand, mult_operand, listed_access, listed_expr, listed_init}
 use Rattle.cedar_syntax.specs.Located as f
 use Rattle.cedar_syntax.specs.Located.{Located, Form, at}
-use Rattle.cedar_syntax.specs.Tree.{Operator, disjunction, conjunction, relation, sum, product}
-use Rattle.cedar_syntax.proofs.FormLevels.{expr_out, impl_out, data_or, data_if, or_out, and_out, relation_common, add_out, mult_out, unary_out, member_out, primary_literal, primary_name, primary_expr}
-use Rattle.cedar_text.specs.Trees.{Cell, expr_of, if_of, or_of, and_of, common_of, add_of, mult_of, unary_of, member_of, name_of}
-use Rattle.cedar_policy_parser.specs.Conversion.{outcome, formed, operands, value_outcome, chained, chosen, signed, number_in, lone_literal, literal_alone, literal_outcome, named, made, place_of}
+use Rattle.cedar_syntax.specs.Tree.{disjunction, conjunction, relation, sum, product}
+use Rattle.cedar_syntax.proofs.FormLevels.{expr_out, impl_out, data_or, data_if, or_out, and_out, relation_common, add_out, mult_out, unary_out, member_out, init_out, relation_has, relation_like, relation_is, relation_is_in, access_field, access_call, access_index, primary_literal, primary_ref, primary_name, primary_slot, primary_expr, primary_list, primary_inits}
+use Rattle.cedar_text.specs.Trees.{Cell, expr_of, if_of, or_of, and_of, common_of, add_of, mult_of, unary_of, member_of, has_of, like_of, is_of, rec_init_of}
+use Rattle.cedar_policy_parser.specs.Conversion.{outcome, formed, operands, value_outcome, chained, chosen, signed, made, place_of, bodies, set_of, record_held, accesses_given, access_outcome, access_formed, pairs_given, pair_outcome, pair_formed, with_attributes, matched, beside_type, typed, typed_within}
+use Rattle.cedar_policy_parser.specs.HasSide.{right_side}
+use Rattle.cedar_policy_parser.specs.Leaves.{named, slot_held, entity_held}
+use Rattle.cedar_policy_parser.specs.Literals.{number_in, lone_literal, literal_alone, literal_outcome}
+use Rattle.cedar_policy_parser.specs.Members.{field, call, index, member_outcome}
+use Rattle.cedar_policy_parser.specs.Names.{unreserved_ident}
 use Rattle.cedar_policy_parser.specs.Extensions.{Extensions}
-use Rattle.cedar_policy_parser.specs.Held.{as_expression}
+use Rattle.cedar_policy_parser.specs.Held.{as_pattern, as_string, as_attribute}
 use Rattle.cedar_policy_parser.specs.Outcome.{both, next}
 
 at_form : (e : Extensions) (p : Option Loc) (t u : Form) → t ≡ u → outcome e (at p t) ≡ formed e p u
@@ -73,12 +83,56 @@ pub gives_unary : (e : Extensions) (p : Option Loc) (o : Option NegOp) (x : Cell
 unfolding formed
 gives_unary e p o x = at_form e p _ _ (unary_out (unary_of o x) ∙ ap (λ d. f.unary d.op (located member_form d.item)) (out-roll-Unary record { op = o; item = x }))
 
-pub gives_member : (e : Extensions) (p : Option Loc) (x : Cell Primary) → outcome e (at p (member_form (member_of x []))) ≡ outcome e (located primary_form x)
+pub gives_has : (e : Extensions) (p : Option Loc) (x y : Cell Add)
+    → outcome e (at p (relation_form (has_of x y))) ≡ next (right_side (place_of (located add_form y)) (located add_form y)) (λ r. next (value_outcome e (located add_form x)) (with_attributes p r))
 unfolding formed
-gives_member e p x = at_form e p _ _ (member_out (member_of x []))
+gives_has e p x y = at_form e p _ _ (relation_has x y)
+
+pub gives_like : (e : Extensions) (p : Option Loc) (x y : Cell Add)
+    → outcome e (at p (relation_form (like_of x y))) ≡ next (outcome e (located add_form y)) (λ h. next (both (value_outcome e (located add_form x)) (as_pattern h)) (matched p))
+unfolding formed
+gives_like e p x y = at_form e p _ _ (relation_like x y)
+
+pub gives_is : (e : Extensions) (p : Option Loc) (x y : Cell Add)
+    → outcome e (at p (relation_form (is_of x y None))) ≡ next (next (outcome e (located add_form y)) (beside_type (value_outcome e (located add_form x)))) (typed p)
+unfolding formed
+gives_is e p x y = at_form e p _ _ (relation_is x y)
+
+pub gives_is_in : (e : Extensions) (p : Option Loc) (x y z : Cell Add)
+    → outcome e (at p (relation_form (is_of x y (Some z)))) ≡ next (next (outcome e (located add_form y)) (beside_type (value_outcome e (located add_form x)))) (λ q. next (value_outcome e (located add_form z)) (typed_within p q))
+unfolding formed
+gives_is_in e p x y z = at_form e p _ _ (relation_is_in x y z)
+
+-- ---- members
+
+pub gives_member : (e : Extensions) (p : Option Loc) (x : Cell Primary) (xs : List (Cell MemAccess))
+    → outcome e (at p (member_form (member_of x xs))) ≡ next (both (outcome e (located primary_form x)) (accesses_given e (parts_of (map listed_access xs)))) (λ q. member_outcome e p q.0 q.1)
+unfolding formed
+gives_member e p x xs = at_form e p _ _ (member_out (member_of x xs))
 
 pub lone_member : (p : Option Loc) (x : Cell Primary) → lone_literal (at p (member_form (member_of x []))) ≡ literal_alone (located primary_form x)
 lone_member p x = ap (λ t. lone_literal (at p t)) (member_out (member_of x []))
+
+pub lone_accessed : (p : Option Loc) (x : Cell Primary) (y : Cell MemAccess) (xs : List (Cell MemAccess)) → lone_literal (at p (member_form (member_of x (y ∷ xs)))) ≡ None
+lone_accessed p x y xs = ap (λ t. lone_literal (at p t)) (member_out (member_of x (y ∷ xs)))
+
+access_at : (e : Extensions) (p : Option Loc) (t u : Form) → t ≡ u → access_outcome e (at p t) ≡ access_formed e p u
+unfolding access_outcome
+access_at e p t u h = ap (access_formed e p) h
+
+pub gives_field : (e : Extensions) (p : Option Loc) (x : Cell Ident) → access_outcome e (at p (access_form (M.Field x))) ≡ next (unreserved_ident x) (λ id. Ok (field id))
+unfolding access_formed
+gives_field e p x = access_at e p _ _ (access_field x)
+
+pub gives_call : (e : Extensions) (p : Option Loc) (xs : List (Cell Expr)) → access_outcome e (at p (access_form (M.Call xs))) ≡ next (operands e p (parts_of (map listed_expr xs))) (λ ps. Ok (call (bodies ps)))
+unfolding access_formed
+gives_call e p xs = access_at e p _ _ (access_call xs)
+
+pub gives_index : (e : Extensions) (p : Option Loc) (x : Cell Expr) → access_outcome e (at p (access_form (M.Index x))) ≡ next (next (outcome e (located expr_form x)) as_string) (λ text. Ok (index text))
+unfolding access_formed
+gives_index e p x = access_at e p _ _ (access_index x)
+
+-- ---- primaries
 
 pub gives_literally : (e : Extensions) (p : Option Loc) (x : Cell Literal) → outcome e (at p (primary_form (P.Literal x))) ≡ literal_outcome x.loc x.node
 unfolding formed
@@ -87,12 +141,26 @@ gives_literally e p x = at_form e p _ _ (primary_literal x)
 pub lone_literally : (p : Option Loc) (x : Cell Literal) → literal_alone (at p (primary_form (P.Literal x))) ≡ x.node
 lone_literally p x = ap (λ t. literal_alone (at p t)) (primary_literal x)
 
-pub gives_variable : (e : Extensions) (p : Option Loc) (x : Cell Name) (i : Cell Ident) → x.node ≡ Some (name_of [] i) → outcome e (at p (primary_form (P.Name x))) ≡ named {A = Cell Ident} x.loc [] i.loc i.node
+pub gives_named : (e : Extensions) (p : Option Loc) (x : Cell Name) → outcome e (at p (primary_form (P.Name x))) ≡ named p x
 unfolding formed
-gives_variable e p x i h = at_form e p _ _ (primary_name x) ∙ rw h refl
+gives_named e p x = at_form e p _ _ (primary_name x)
 
-pub lone_variable : (p : Option Loc) (x : Cell Name) → literal_alone (at p (primary_form (P.Name x))) ≡ None
-lone_variable p x = ap (λ t. literal_alone (at p t)) (primary_name x)
+pub lone_named : (p : Option Loc) (x : Cell Name) → literal_alone (at p (primary_form (P.Name x))) ≡ None
+lone_named p x = ap (λ t. literal_alone (at p t)) (primary_name x)
+
+pub gives_slot : (e : Extensions) (p : Option Loc) (x : Cell Slot) → outcome e (at p (primary_form (P.Slot x))) ≡ slot_held x
+unfolding formed
+gives_slot e p x = at_form e p _ _ (primary_slot x)
+
+pub lone_slot : (p : Option Loc) (x : Cell Slot) → literal_alone (at p (primary_form (P.Slot x))) ≡ None
+lone_slot p x = ap (λ t. literal_alone (at p t)) (primary_slot x)
+
+pub gives_referred : (e : Extensions) (p : Option Loc) (x : Cell Ref) → outcome e (at p (primary_form (P.Ref x))) ≡ entity_held x
+unfolding formed
+gives_referred e p x = at_form e p _ _ (primary_ref x)
+
+pub lone_referred : (p : Option Loc) (x : Cell Ref) → literal_alone (at p (primary_form (P.Ref x))) ≡ None
+lone_referred p x = ap (λ t. literal_alone (at p t)) (primary_ref x)
 
 pub gives_paren : (e : Extensions) (p : Option Loc) (x : Cell Expr) → outcome e (at p (primary_form (P.Expr x))) ≡ next (value_outcome e (located expr_form x)) (made (place_of (located expr_form x)))
 unfolding formed
@@ -100,3 +168,25 @@ gives_paren e p x = at_form e p _ _ (primary_expr x)
 
 pub lone_paren : (p : Option Loc) (x : Cell Expr) → literal_alone (at p (primary_form (P.Expr x))) ≡ None
 lone_paren p x = ap (λ t. literal_alone (at p t)) (primary_expr x)
+
+pub gives_set : (e : Extensions) (p : Option Loc) (xs : List (Cell Expr)) → outcome e (at p (primary_form (P.EList xs))) ≡ next (operands e p (parts_of (map listed_expr xs))) (set_of p)
+unfolding formed
+gives_set e p xs = at_form e p _ _ (primary_list xs)
+
+pub lone_set : (p : Option Loc) (xs : List (Cell Expr)) → literal_alone (at p (primary_form (P.EList xs))) ≡ None
+lone_set p xs = ap (λ t. literal_alone (at p t)) (primary_list xs)
+
+pub gives_braces : (e : Extensions) (p : Option Loc) (xs : List (Cell RecInit)) → outcome e (at p (primary_form (P.RInits xs))) ≡ next (pairs_given e (parts_of (map listed_init xs))) (record_held p)
+unfolding formed
+gives_braces e p xs = at_form e p _ _ (primary_inits xs)
+
+pub lone_braces : (p : Option Loc) (xs : List (Cell RecInit)) → literal_alone (at p (primary_form (P.RInits xs))) ≡ None
+lone_braces p xs = ap (λ t. literal_alone (at p t)) (primary_inits xs)
+
+entry_at : (e : Extensions) (p : Option Loc) (t u : Form) → t ≡ u → pair_outcome e (at p t) ≡ pair_formed e p u
+unfolding pair_outcome
+entry_at e p t u h = ap (pair_formed e p) h
+
+pub gives_entry : (e : Extensions) (p : Option Loc) (k x : Cell Expr) → pair_outcome e (at p (init_form (rec_init_of k x))) ≡ next (outcome e (located expr_form k)) (λ h. both (as_attribute h) (value_outcome e (located expr_form x)))
+unfolding pair_formed
+gives_entry e p k x = entry_at e p _ _ (init_out (rec_init_of k x))

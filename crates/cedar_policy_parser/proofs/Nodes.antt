@@ -1,5 +1,5 @@
 -- What each node gives, of what its parts give.
-use Rattle.std.proofs.Common.{◌≡◌, ℕ, List, [], ◌∷◌, map, Option, Some, None, refl, sym, ap, ◌∙◌, Ok}
+use Rattle.std.proofs.Common.{◌≡◌, ℕ, List, [], ◌∷◌, map, Option, Some, None, refl, sym, ap, ◌∙◌, Ok, Err}
 use Rattle.cedar_expressions.specs.declared.operators.AddOp.{AddOp}
 use Rattle.cedar_syntax.specs.declared.loc.Loc.{Loc}
 use Rattle.cedar_syntax.specs.declared.node.Node.{Node}
@@ -17,6 +17,8 @@ use Rattle.cedar_syntax.specs.declared.cst.Mult.{Mult, out-Mult}
 use Rattle.cedar_syntax.specs.declared.cst.Unary.{Unary, out-Unary}
 use Rattle.cedar_syntax.specs.declared.cst.Member.{Member}
 use Rattle.cedar_syntax.specs.declared.cst.MemAccess.{MemAccess}
+use Rattle.cedar_syntax.specs.declared.cst.MemAccess.TheVariants as accesses
+use Rattle.cedar_syntax.specs.declared.cst.Ident.{Ident}
 use Rattle.cedar_syntax.specs.declared.cst.Primary.{Primary}
 use Rattle.cedar_syntax.specs.declared.cst.Primary.TheVariants as primaries
 use Rattle.cedar_syntax.specs.declared.cst.Literal.{Literal}
@@ -24,15 +26,21 @@ use Rattle.cedar_syntax.specs.declared.cst.Name.{Name}
 use Rattle.cedar_syntax.specs.declared.cst.Slot.{Slot}
 use Rattle.cedar_syntax.specs.declared.cst.Ref.{Ref}
 use Rattle.cedar_syntax.specs.declared.cst.RecInit.{RecInit}
-use Rattle.cedar_syntax.specs.Forms.{located, parts_of, expr_form, data_form, or_form, and_form, relation_form, add_form, mult_form, unary_form, member_form, primary_form, or_operand, and_operand, relation_operand, add_operand, mult_operand, listed_access, listed_expr, listed_init, typed_form}
+use Rattle.cedar_syntax.specs.Forms.{located, parts_of, expr_form, data_form, or_form, and_form, relation_form, add_form, mult_form, unary_form, member_form, primary_form, access_form, init_form, or_operand, and_operand, relation_operand, add_operand, mult_operand, listed_access, listed_expr, listed_init, typed_form}
 use Rattle.cedar_syntax.specs.Located as f
 use Rattle.cedar_syntax.specs.Located.{Form}
 use Rattle.cedar_syntax.specs.Tree.{disjunction, conjunction, relation, sum, product}
-use Rattle.cedar_syntax.proofs.FormLevels.{expr_out, impl_out, data_or, data_if, or_out, and_out, relation_common, relation_has, relation_like, relation_typed, add_out, mult_out, unary_out, member_out, primary_literal, primary_ref, primary_name, primary_slot, primary_expr, primary_list, primary_inits}
-use Rattle.cedar_policy_parser.specs.Conversion.{outcome, formed, operands, chained, chosen, signed, number_in, lone_literal, accessed, literal_outcome, name_outcome, made, place_of}
+use Rattle.cedar_syntax.proofs.FormLevels.{expr_out, impl_out, data_or, data_if, or_out, and_out, relation_common, relation_has, relation_like, relation_typed, add_out, mult_out, unary_out, member_out, primary_literal, primary_ref, primary_name, primary_slot, primary_expr, primary_list, primary_inits, access_field, access_call, access_index, init_out}
+use Rattle.cedar_policy_parser.specs.Conversion.{outcome, formed, operands, chained, chosen, signed, number_in, lone_literal, literal_outcome, made, place_of, accesses_given, pairs_given, with_attributes, beside_type, matched, typed, typed_within, set_of, record_held, access_outcome, access_formed, pair_outcome, pair_formed, value_outcome, bodies}
+use Rattle.cedar_policy_parser.specs.Applied.{typed_by}
+use Rattle.cedar_policy_parser.specs.HasSide.{right_side}
+use Rattle.cedar_policy_parser.specs.Leaves.{named, slot_held, entity_held}
+use Rattle.cedar_policy_parser.specs.Members as member
+use Rattle.cedar_policy_parser.specs.Members.{member_outcome}
+use Rattle.cedar_policy_parser.specs.Names.{unreserved_ident}
 use Rattle.cedar_policy_parser.specs.Extensions.{Extensions}
-use Rattle.cedar_policy_parser.specs.Held.{as_expression}
-use Rattle.cedar_policy_parser.specs.Outcome.{refused, both, next, empty_node}
+use Rattle.cedar_policy_parser.specs.Held.{Held, as_expression, as_pattern, as_string, as_attribute}
+use Rattle.cedar_policy_parser.specs.Outcome.{Outcome, refused, both, next, empty_node}
 use Rattle.cedar_policy_parser.proofs.Parts.{alone}
 
 pub empty : {X : Type 0} (e : Extensions) (g : X → Form) (n : Node (Option X)) → n.node ≡ None → outcome e (located g n) ≡ refused empty_node n.loc
@@ -76,23 +84,35 @@ unfolding formed
 common_node e n d a xs h k = filled_with e relation_form n d _ h (ap relation_form k ∙ relation_common a xs)
 
 pub has_node : (e : Extensions) (n : Node (Option Relation)) (d : Relation) (a b : Node (Option Add)) → n.node ≡ Some d → d ≡ relations.Has a b
-    → outcome e (located relation_form n) ≡ refused empty_node n.loc
+    → outcome e (located relation_form n) ≡ next (right_side (place_of (located add_form b)) (located add_form b)) (λ r. next (value_outcome e (located add_form a)) (with_attributes n.loc r))
 unfolding formed
 has_node e n d a b h k = filled_with e relation_form n d _ h (ap relation_form k ∙ relation_has a b)
 
 pub like_node : (e : Extensions) (n : Node (Option Relation)) (d : Relation) (a b : Node (Option Add)) → n.node ≡ Some d → d ≡ relations.Like a b
-    → outcome e (located relation_form n) ≡ refused empty_node n.loc
+    → outcome e (located relation_form n) ≡ next (outcome e (located add_form b)) (λ h. next (both (value_outcome e (located add_form a)) (as_pattern h)) (matched n.loc))
 unfolding formed
 like_node e n d a b h k = filled_with e relation_form n d _ h (ap relation_form k ∙ relation_like a b)
 
 pub is_node : (e : Extensions) (n : Node (Option Relation)) (d : Relation) (a b : Node (Option Add)) (c : Option (Node (Option Add))) → n.node ≡ Some d → d ≡ relations.IsIn a b c
-    → outcome e (located relation_form n) ≡ refused empty_node n.loc
+    → outcome e (located relation_form n) ≡ typed_by e n.loc (next (outcome e (located add_form b)) (beside_type (value_outcome e (located add_form a)))) c
 unfolding formed
 is_node e n d a b c h k = filled_with e relation_form n d _ h (ap relation_form k ∙ relation_typed a b c) ∙ go c
   where
-    go : (c : Option (Node (Option Add))) → formed e n.loc (typed_form (located add_form a) (located add_form b) c) ≡ refused empty_node n.loc
+    go : (c : Option (Node (Option Add))) → formed e n.loc (typed_form (located add_form a) (located add_form b) c) ≡ typed_by e n.loc (next (outcome e (located add_form b)) (beside_type (value_outcome e (located add_form a)))) c
     go None = refl
     go (Some x) = refl
+
+-- `is` alone
+pub is_alone_node : (e : Extensions) (n : Node (Option Relation)) (d : Relation) (a b : Node (Option Add)) (c : Option (Node (Option Add))) → n.node ≡ Some d → d ≡ relations.IsIn a b c → c ≡ None
+    → outcome e (located relation_form n) ≡ next (next (outcome e (located add_form b)) (beside_type (value_outcome e (located add_form a)))) (typed n.loc)
+is_alone_node e n d a b c h k none =
+    is_node e n d a b c h k ∙ ap (λ o. typed_by e n.loc (next (outcome e (located add_form b)) (beside_type (value_outcome e (located add_form a)))) o) none
+
+-- `is` with `in`
+pub is_within_node : (e : Extensions) (n : Node (Option Relation)) (d : Relation) (a b : Node (Option Add)) (c : Option (Node (Option Add))) (w : Node (Option Add)) → n.node ≡ Some d → d ≡ relations.IsIn a b c → c ≡ Some w
+    → outcome e (located relation_form n) ≡ next (next (outcome e (located add_form b)) (beside_type (value_outcome e (located add_form a)))) (λ q. next (value_outcome e (located add_form w)) (typed_within n.loc q))
+is_within_node e n d a b c w h k within =
+    is_node e n d a b c h k ∙ ap (λ o. typed_by e n.loc (next (outcome e (located add_form b)) (beside_type (value_outcome e (located add_form a)))) o) within
 
 pub add_node : (e : Extensions) (n : Node (Option Add)) (d : Add) → n.node ≡ Some d
     → outcome e (located add_form n) ≡ chained sum n.loc (parts_of (map add_operand (out-Add d).extended)) (outcome e (located mult_form (out-Add d).initial)) (operands e n.loc (parts_of (map add_operand (out-Add d).extended)))
@@ -110,7 +130,8 @@ unfolding formed
 unary_node e n d h = filled_with e unary_form n d _ h (unary_out d)
 
 pub member_node : (e : Extensions) (n : Node (Option Member)) (d : Member) → n.node ≡ Some d
-    → outcome e (located member_form n) ≡ formed e n.loc (f.member (located primary_form d.item) (parts_of (map listed_access d.access)))
+    → outcome e (located member_form n) ≡ next (both (outcome e (located primary_form d.item)) (accesses_given e (parts_of (map listed_access d.access)))) (λ p. member_outcome e n.loc p.0 p.1)
+unfolding formed
 member_node e n d h = filled_with e member_form n d _ h (member_out d)
 
 -- ---- primaries
@@ -121,17 +142,17 @@ unfolding formed
 literal_node e n d a h k = filled_with e primary_form n d _ h (ap primary_form k ∙ primary_literal a)
 
 pub name_node : (e : Extensions) (n : Node (Option Primary)) (d : Primary) (a : Node (Option Name)) → n.node ≡ Some d → d ≡ primaries.Name a
-    → outcome e (located primary_form n) ≡ name_outcome a.loc a.node
+    → outcome e (located primary_form n) ≡ named n.loc a
 unfolding formed
 name_node e n d a h k = filled_with e primary_form n d _ h (ap primary_form k ∙ primary_name a)
 
 pub ref_node : (e : Extensions) (n : Node (Option Primary)) (d : Primary) (a : Node (Option Ref)) → n.node ≡ Some d → d ≡ primaries.Ref a
-    → outcome e (located primary_form n) ≡ refused empty_node n.loc
+    → outcome e (located primary_form n) ≡ entity_held a
 unfolding formed
 ref_node e n d a h k = filled_with e primary_form n d _ h (ap primary_form k ∙ primary_ref a)
 
 pub slot_node : (e : Extensions) (n : Node (Option Primary)) (d : Primary) (a : Node (Option Slot)) → n.node ≡ Some d → d ≡ primaries.Slot a
-    → outcome e (located primary_form n) ≡ refused empty_node n.loc
+    → outcome e (located primary_form n) ≡ slot_held a
 unfolding formed
 slot_node e n d a h k = filled_with e primary_form n d _ h (ap primary_form k ∙ primary_slot a)
 
@@ -147,12 +168,12 @@ parens_node e n d a h k =
     ∙ ap (λ p. next (next (outcome e (located expr_form a)) as_expression) (made p)) (placed_in expr_form a.loc a.node)
 
 pub list_node : (e : Extensions) (n : Node (Option Primary)) (d : Primary) (a : List (Node (Option Expr))) → n.node ≡ Some d → d ≡ primaries.EList a
-    → outcome e (located primary_form n) ≡ refused empty_node n.loc
+    → outcome e (located primary_form n) ≡ next (operands e n.loc (parts_of (map listed_expr a))) (set_of n.loc)
 unfolding formed
 list_node e n d a h k = filled_with e primary_form n d _ h (ap primary_form k ∙ primary_list a)
 
 pub inits_node : (e : Extensions) (n : Node (Option Primary)) (d : Primary) (a : List (Node (Option RecInit))) → n.node ≡ Some d → d ≡ primaries.RInits a
-    → outcome e (located primary_form n) ≡ refused empty_node n.loc
+    → outcome e (located primary_form n) ≡ next (pairs_given e (parts_of (map listed_init a))) (record_held n.loc)
 unfolding formed
 inits_node e n d a h k = filled_with e primary_form n d _ h (ap primary_form k ∙ primary_inits a)
 
@@ -187,14 +208,47 @@ common_alone e n d a xs h k none = common_node e n d a xs h k ∙ ap (λ ys. cha
 pub unsigned : (e : Extensions) (n : Node (Option Unary)) (d : Unary) → n.node ≡ Some d → (out-Unary d).op ≡ None → outcome e (located unary_form n) ≡ outcome e (located member_form (out-Unary d).item)
 unsigned e n d h none = unary_node e n d h ∙ ap (λ op. signed n.loc op (number_in (lone_literal (located member_form (out-Unary d).item))) (outcome e (located member_form (out-Unary d).item))) none
 
-pub bare_member : (e : Extensions) (n : Node (Option Member)) (d : Member) → n.node ≡ Some d → d.access ≡ [] → outcome e (located member_form n) ≡ outcome e (located primary_form d.item)
-unfolding formed
-bare_member e n d h none = member_node e n d h ∙ ap (λ xs. formed e n.loc (f.member (located primary_form d.item) (parts_of (map listed_access xs)))) none
+alone_member : (e : Extensions) (place : Option Loc) (o : Outcome Held) → next (both o (Ok [])) (λ p. member_outcome e place p.0 p.1) ≡ o
+alone_member e place (Ok h) = refl
+alone_member e place (Err fs) = refl
 
-pub accessed_member : (e : Extensions) (n : Node (Option Member)) (d : Member) → n.node ≡ Some d → (d.access ≡ [] → ⊥) → outcome e (located member_form n) ≡ refused empty_node n.loc
-unfolding formed
-accessed_member e n d h some = member_node e n d h ∙ go d.access some
-  where
-    go : (xs : List (Node (Option MemAccess))) → (xs ≡ [] → ⊥) → formed e n.loc (f.member (located primary_form d.item) (parts_of (map listed_access xs))) ≡ refused empty_node n.loc
-    go [] h = absurd (h refl)
-    go (x ∷ xs) h = refl
+pub bare_member : (e : Extensions) (n : Node (Option Member)) (d : Member) → n.node ≡ Some d → d.access ≡ [] → outcome e (located member_form n) ≡ outcome e (located primary_form d.item)
+unfolding accesses_given
+bare_member e n d h none =
+    member_node e n d h
+    ∙ ap (λ xs. next (both (outcome e (located primary_form d.item)) (accesses_given e (parts_of (map listed_access xs)))) (λ p. member_outcome e n.loc p.0 p.1)) none
+    ∙ alone_member e n.loc (outcome e (located primary_form d.item))
+
+-- ---- accesses and pairs
+
+access_is : (e : Extensions) (n : Node (Option MemAccess)) (x : MemAccess) (t : Form) → n.node ≡ Some x → access_form x ≡ t → access_outcome e (located access_form n) ≡ access_formed e n.loc t
+unfolding access_outcome
+access_is e n x t h k = rw h (ap (λ u. access_formed e n.loc u) k)
+
+pub no_access_node : (e : Extensions) (n : Node (Option MemAccess)) → n.node ≡ None → access_outcome e (located access_form n) ≡ refused empty_node n.loc
+unfolding access_outcome
+no_access_node e n h = rw h refl
+
+pub field_node : (e : Extensions) (n : Node (Option MemAccess)) (d : MemAccess) (a : Node (Option Ident)) → n.node ≡ Some d → d ≡ accesses.Field a
+    → access_outcome e (located access_form n) ≡ next (unreserved_ident a) (λ id. Ok (member.field id))
+unfolding access_formed
+field_node e n d a h k = access_is e n d _ h (ap access_form k ∙ access_field a)
+
+pub call_node : (e : Extensions) (n : Node (Option MemAccess)) (d : MemAccess) (a : List (Node (Option Expr))) → n.node ≡ Some d → d ≡ accesses.Call a
+    → access_outcome e (located access_form n) ≡ next (operands e n.loc (parts_of (map listed_expr a))) (λ ps. Ok (member.call (bodies ps)))
+unfolding access_formed
+call_node e n d a h k = access_is e n d _ h (ap access_form k ∙ access_call a)
+
+pub index_node : (e : Extensions) (n : Node (Option MemAccess)) (d : MemAccess) (a : Node (Option Expr)) → n.node ≡ Some d → d ≡ accesses.Index a
+    → access_outcome e (located access_form n) ≡ next (next (outcome e (located expr_form a)) as_string) (λ text. Ok (member.index text))
+unfolding access_formed
+index_node e n d a h k = access_is e n d _ h (ap access_form k ∙ access_index a)
+
+pub no_init_node : (e : Extensions) (n : Node (Option RecInit)) → n.node ≡ None → pair_outcome e (located init_form n) ≡ refused empty_node n.loc
+unfolding pair_outcome
+no_init_node e n h = rw h refl
+
+pub init_node : (e : Extensions) (n : Node (Option RecInit)) (d : RecInit) → n.node ≡ Some d
+    → pair_outcome e (located init_form n) ≡ next (outcome e (located expr_form d.0)) (λ h. both (as_attribute h) (value_outcome e (located expr_form d.1)))
+unfolding pair_outcome pair_formed
+init_node e n d h = rw h (ap (λ u. pair_formed e n.loc u) (init_out d))

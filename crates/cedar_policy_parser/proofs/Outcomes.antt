@@ -43,6 +43,10 @@ refused_next (Errors es) (Err fs) g h = let same : fs ≡ told (faults_of es) = 
 pub given_next : {X Y : Type 0} (o : Outcome X) (x : X) (g : X → Outcome Y) → o ≡ Ok x → next o g ≡ g x
 given_next o x g e = rw e refl
 
+pub next_next : {X Y Z : Type 0} (o : Outcome X) (f : X → Outcome Y) (g : Y → Outcome Z) → next o (λ x. next (f x) g) ≡ next (next o f) g
+next_next (Ok x) f g = refl
+next_next (Err fs) f g = refl
+
 joined_faults : (es fs gs : List ParseError) → es ≡ fs ++ gs → told fs ++ told gs ≡ told es
 joined_faults es fs gs e = sym (told-append fs gs) ∙ ap told (sym e)
 

@@ -1,5 +1,5 @@
 -- The tree of a text, what it is converted to, and what its tokens mean.
-use Rattle.std.proofs.Common.{◌≡◌, ℕ, List, Result, Ok, Err, IfOk, IfErr, IsErrAnd, MatchResult, inr, sym, ap, ◌∙◌}
+use Rattle.std.proofs.Common.{◌≡◌, ℕ, List, [], ◌∷◌, Result, Ok, Err, IfOk, IfErr, IsErrAnd, MatchResult, inr, refl, sym, ap, ◌∙◌}
 use Rattle.cedar_lexer.specs.Cut.{Cuts}
 use Rattle.cedar_lexer.specs.Token.{Lexeme}
 use Rattle.cedar_expressions.specs.Value.{Value}
@@ -8,14 +8,11 @@ use Rattle.cedar_syntax.specs.declared.cst.TheConstants.{SIGN_LIMIT}
 use Rattle.cedar_syntax.specs.declared.err.faults.Failure.{Failure}
 use Rattle.cedar_syntax.specs.declared.err.faults.Failure.TheVariants.{Memory, Errors}
 use Rattle.cedar_syntax.specs.Forms.{located, expr_form}
-use Rattle.cedar_syntax.specs.Located.{Located}
-use Rattle.cedar_text.specs.declared.entry.Entry.TheVariants as entry
-use Rattle.cedar_text.specs.declared.entry.Parsed.{Parsed}
-use Rattle.cedar_text.specs.declared.entry.Parsed.TheVariants as parsed
-use Rattle.cedar_text.specs.Fault.{IsMemory}
-use Rattle.cedar_text.specs.Loose as l
-use Rattle.cedar_text.specs.Loose.{Reads}
-use Rattle.cedar_text.specs.Place.{placed}
+use Rattle.cedar_syntax.specs.Located.{at}
+use Rattle.cedar_text.specs.FirstFault.{IsMemory}
+use Rattle.cedar_text.specs.Grammar.{IsTreeOf}
+use Rattle.cedar_text.specs.LooseExpressions.{ReadsExpr}
+use Rattle.cedar_text.specs.Place.{placed_or_start}
 use Rattle.cedar_text.specs.Trees.{Cell}
 use Rattle.cedar_policy_parser.specs.Conversion.{Converts, value_outcome}
 use Rattle.cedar_policy_parser.specs.Extensions.{Extensions}
@@ -24,38 +21,45 @@ use Rattle.cedar_policy_parser.specs.Refused.{TellsTree, RefusesText}
 use Rattle.cedar_policy_parser.specs.Seen.{Gives, Refuses}
 use Rattle.cedar_policy_parser.specs.Strict as m
 use Rattle.cedar_policy_parser.specs.Strict.{Means}
-use Rattle.cedar_policy_parser.proofs.Complete.{ExprRead, complete}
 use Rattle.cedar_policy_parser.proofs.Inverted.{ok_is}
-use Rattle.cedar_policy_parser.proofs.Sound.{sound_expr}
+use Rattle.cedar_policy_parser.proofs.complete.Reads.{ExprRead}
+use Rattle.cedar_policy_parser.proofs.complete.Whole.{complete}
+use Rattle.cedar_policy_parser.proofs.sound.Whole.{sound_value}
+
+-- the node of a whole text is its tree at some place
+at_start : (src : List ℕ) (ts : List Lexeme) (x : Expr) → located expr_form (placed_or_start src ts x) ≡ at (placed_or_start src ts x).loc (expr_form x)
+at_start src [] x = refl
+at_start src (t ∷ ts) x = refl
 
 -- a tree that is converted to a value is that of tokens which mean it
-pub tree_meant : (e : Extensions) (src : List ℕ) (ts : List Lexeme) (n : Cell Expr) (w : Value) → Reads src entry.Expr ts (parsed.Expr n) → Converts e (located expr_form n) w → Means e SIGN_LIMIT m.expression ts w
-tree_meant e src ts _ w (l.expression {x = x} r) h = sound_expr e (placed src ts x).loc w r h
+tree_meant : (e : Extensions) (src : List ℕ) (n : Cell Expr) (w : Value) → (g : IsTreeOf ReadsExpr src n) → Converts e (located expr_form n) w → Means e SIGN_LIMIT m.expression g.tokens w
+tree_meant e src n w g h =
+    let ts = g.tokens in
+    let x = g.stands.tree in
+    let there = ap (λ y. value_outcome e (located expr_form y)) g.stands.is ∙ ap (λ t. value_outcome e t) (at_start src ts x) in
+    sound_value e (placed_or_start src ts x).loc w g.stands.reads (sym there ∙ h)
 
 -- tokens that mean something have such a tree
-pub record Found (e : Extensions) (src : List ℕ) (ts : List Lexeme) (w : Value) : Type 0 where
+pub record Found (e : Extensions) (src : List ℕ) (w : Value) : Type 0 where
   pub tree : Cell Expr
-  pub reads : Reads src entry.Expr ts (parsed.Expr tree)
+  pub stands : IsTreeOf ReadsExpr src tree
   pub gives : Converts e (located expr_form tree) w
 
-pub tree_found : (e : Extensions) (src : List ℕ) (ts : List Lexeme) (w : Value) → Means e SIGN_LIMIT m.expression ts w → Found e src ts w
-tree_found e src ts w h =
+pub tree_found : (e : Extensions) (src : List ℕ) (ts : List Lexeme) (w : Value) → Cuts src ts → Means e SIGN_LIMIT m.expression ts w → Found e src w
+tree_found e src ts w cut h =
     let d : ExprRead e src ts w = complete e src h in
-    record { tree = placed src ts d.tree; reads = l.expression d.reads; gives = d.gives (placed src ts d.tree).loc }
-
--- the tree of what is parsed
-abbrev pub tree_of : Parsed → Located
-tree_of (parsed.Expr n) = located expr_form n
+    record {
+      tree = placed_or_start src ts d.tree;
+      stands = record { tokens = ts; cut = cut; stands = record { tree = d.tree; reads = d.reads; is = refl } };
+      gives = ap (λ t. value_outcome e t) (at_start src ts d.tree) ∙ d.gives (placed_or_start src ts d.tree).loc;
+    }
 
 -- ---- a text that is read, then converted
 
-abbrev ReadFrom : List ℕ → Cell Expr → Type 0
-ReadFrom src n = (ts : List Lexeme) × Cuts src ts × Reads src entry.Expr ts (parsed.Expr n)
-
-pub read_value : {E : Type 0} (e : Extensions) (meaning : E → Value) (src : List ℕ) (n : Cell Expr) (r : Result E Failure) → ReadFrom src n → Gives meaning r (value_outcome e (located expr_form n))
+pub read_value : {E : Type 0} (e : Extensions) (meaning : E → Value) (src : List ℕ) (n : Cell Expr) (r : Result E Failure) → IsTreeOf ReadsExpr src n → Gives meaning r (value_outcome e (located expr_form n))
     → IfOk r (λ x. (ts : List Lexeme) × Cuts src ts × Means e SIGN_LIMIT m.expression ts (meaning x))
-read_value e meaning src n (Ok x) d h = (d.0, d.1, tree_meant e src d.0 n (meaning x) d.2 h)
-read_value e meaning src n (Err f) d h = tt
+read_value e meaning src n (Ok x) g h = (g.tokens, g.cut, tree_meant e src n (meaning x) g h)
+read_value e meaning src n (Err f) g h = tt
 
 -- an outcome that gives a value is refused for want of memory alone
 memory_alone : (f : Failure) (o : Outcome Value) (w : Value) → o ≡ Ok w → Refuses f o → IsMemory f
@@ -71,6 +75,6 @@ pub err_on : {E : Type 0} (r : Result E Failure) (f : Failure) (Q : Failure → 
 err_on (Ok e) f Q is q = tt
 err_on (Err e) f Q is q = rw is q
 
-pub told_tree : {E : Type 0} (e : Extensions) (meaning : E → Value) (src : List ℕ) (n : Cell Expr) (r : Result E Failure) → ReadFrom src n → Gives meaning r (value_outcome e (located expr_form n)) → IfErr r (λ f. RefusesText e f src)
-told_tree e meaning src n (Ok x) d h = tt
-told_tree e meaning src n (Err f) d h = inr (d.0, n, d.1, d.2, h)
+pub told_tree : {E : Type 0} (e : Extensions) (meaning : E → Value) (src : List ℕ) (n : Cell Expr) (r : Result E Failure) → IsTreeOf ReadsExpr src n → Gives meaning r (value_outcome e (located expr_form n)) → IfErr r (λ f. RefusesText e f src)
+told_tree e meaning src n (Ok x) g h = tt
+told_tree e meaning src n (Err f) g h = inr (n, g, h)

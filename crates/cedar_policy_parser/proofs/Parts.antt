@@ -1,15 +1,17 @@
 -- What is made of a first value and those behind operators.
-use Rattle.std.proofs.Common.{◌≡◌, ◌<◌, ◌≤◌, List, [], ◌∷◌, map, length, Option, Ok, Err, refl, sym, ap, ◌∙◌, arith}
+use Rattle.std.proofs.Common.{◌≡◌, ◌<◌, ◌≤◌, ℕ, Bool, true, false, List, [], ◌∷◌, map, length, Option, Ok, Err, refl, sym, ap, ◌∙◌, arith}
 use Rattle.cedar_expressions.specs.declared.operators.AddOp.{AddOp}
+use Rattle.cedar_expressions.specs.Keys.{repeats_key}
 use Rattle.cedar_expressions.specs.Value as v
 use Rattle.cedar_expressions.specs.Value.{Value, values, terms}
 use Rattle.cedar_syntax.specs.declared.loc.Loc.{Loc}
 use Rattle.cedar_syntax.specs.Forms.{parts_of}
 use Rattle.cedar_syntax.specs.Located.{Located, none}
 use Rattle.cedar_syntax.specs.Tree.{Operator, Level, disjunction, conjunction, relation, sum, product, add}
-use Rattle.cedar_policy_parser.specs.Conversion.{Part, bodies, added, combined, joined, allowed, chained, made}
+use Rattle.cedar_policy_parser.specs.Conversion.{Part, bodies, added, combined, joined, allowed, chained, keys, made, record_held, set_of}
 use Rattle.cedar_policy_parser.specs.Held.{Held, expression, as_expression}
-use Rattle.cedar_policy_parser.specs.Outcome.{Outcome, refused, next, ambiguous_operators}
+use Rattle.cedar_policy_parser.specs.Members.{call}
+use Rattle.cedar_policy_parser.specs.Outcome.{Outcome, refused, next, ambiguous_operators, expression_construction_error}
 
 pub bodies_behind : {O E : Type 0} (operator : O → Operator) (m : E → Value) (es : List (O × E)) → bodies (map (λ p. (operator p.0, m p.1)) es) ≡ map m (map (λ p. p.1) es)
 bodies_behind operator m [] = refl
@@ -34,6 +36,32 @@ added_behind m (e ∷ es) = ap (λ vs. (e.0, m e.1) ∷ vs) (added_behind m es)
 pub sum_made : {E : Type 0} (m : E → Value) (place : Option Loc) (es : List (AddOp × E)) (a w : Value) → w ≡ v.add_nary a (terms (map (λ p. (p.0, m p.1)) es))
     → combined sum place (map (λ p. (add p.0, m p.1)) es) a ≡ made place w
 sum_made m place es a w h = rw (h, added_behind m es) refl
+
+-- ---- calls, sets and records
+
+pub call_made : {O E : Type 0} (operator : O → Operator) (m : E → Value) (ps : Outcome (List Part)) (es : List (O × E)) (args : List E) → ps ≡ Ok (map (λ p. (operator p.0, m p.1)) es) → args ≡ map (λ p. p.1) es
+    → next ps (λ qs. Ok (call (bodies qs))) ≡ Ok (call (map m args))
+call_made operator m ps es args h k = rw (h, k, bodies_behind operator m es) refl
+
+pub set_made : {O E : Type 0} (operator : O → Operator) (m : E → Value) (place : Option Loc) (ps : Outcome (List Part)) (es : List (O × E)) (items : List E) (w : Value)
+    → ps ≡ Ok (map (λ p. (operator p.0, m p.1)) es) → items ≡ map (λ p. p.1) es → w ≡ v.set (values (map m items)) → next ps (set_of place) ≡ made place w
+set_made operator m place ps es items w h k l = rw (h, l, k, bodies_behind operator m es) refl
+
+keys_seen : {E : Type 0} (m : E → Value) (es : List (List ℕ × E)) → keys (map (λ p. (p.0, m p.1)) es) ≡ map (λ p. p.0) es
+keys_seen m [] = refl
+keys_seen m (e ∷ es) = ap (λ ks. e.0 ∷ ks) (keys_seen m es)
+
+-- the keys of a record's pairs repeat one where the list's do
+keyed : {E : Type 0} (m : E → Value) (es : List (List ℕ × E)) (b : Bool) → repeats_key (map (λ p. p.0) es) ≡ b → repeats_key (keys (map (λ p. (p.0, m p.1)) es)) ≡ b
+keyed m es b h = ap repeats_key (keys_seen m es) ∙ h
+
+pub record_made : {E : Type 0} (m : E → Value) (place : Option Loc) (ps : Outcome (List (List ℕ × Value))) (es : List (List ℕ × E)) (w : Value)
+    → ps ≡ Ok (map (λ p. (p.0, m p.1)) es) → w ≡ v.«record» (v.fields (map (λ p. (p.0, m p.1)) es)) → repeats_key (map (λ p. p.0) es) ≡ false → next ps (record_held place) ≡ made place w
+record_made m place ps es w h k l = let unrepeated = keyed m es false l in rw (h, k, unrepeated) refl
+
+pub record_refused : {E : Type 0} (m : E → Value) (place : Option Loc) (ps : Outcome (List (List ℕ × Value))) (es : List (List ℕ × E))
+    → ps ≡ Ok (map (λ p. (p.0, m p.1)) es) → repeats_key (map (λ p. p.0) es) ≡ true → next ps (record_held place) ≡ refused expression_construction_error place
+record_refused m place ps es h k = let again = keyed m es true k in rw (h, again) refl
 
 -- ---- one operator at most
 

@@ -8,11 +8,13 @@ use Rattle.cedar_syntax.specs.NonEmpty.{list_of}
 use Rattle.cedar_syntax.specs.declared.loc.Loc.{Loc}
 use Rattle.cedar_syntax.specs.declared.err.escape.UnescapeError.{UnescapeError}
 use Rattle.cedar_syntax.specs.declared.err.non_empty.NonEmpty.{NonEmpty}
+use Rattle.cedar_expressions.specs.declared.literal.PatternElem.{PatternElem}
+use Rattle.cedar_text.specs.Pattern.{IsPattern, HasPatternFaults, pattern_faults, pattern_pieces}
 use Rattle.cedar_text.specs.Piece.{Placed, IsLaidOut, IsUnescaped, HasEscapeFaults}
 use Rattle.cedar_text.proofs.Layouts.{laid_out, laid_once}
 use Rattle.cedar_policy_parser.specs.Held.{text_value}
 use Rattle.cedar_policy_parser.specs.Outcome.{Outcome, next}
-use Rattle.cedar_policy_parser.specs.Strings.{layout, escape_faults, unescaped, told_at, unless_faulty, text_outcome}
+use Rattle.cedar_policy_parser.specs.Strings.{layout, escape_faults, unescaped, told_at, unless_faulty, text_outcome, pattern_outcome}
 
 layout_laid : (raw : List ℕ) → IsLaidOut raw (layout raw)
 unfolding layout
@@ -45,3 +47,36 @@ value_meant place raw w (fault ∷ faults) some e = cc
 
 pub string_meant : (place : Option Loc) (raw : List ℕ) (w : Value) → next (text_outcome place raw) text_value ≡ Ok w → StandsFor raw w
 string_meant place raw w e = value_meant place raw w (escape_faults raw) refl e
+
+-- ---- patterns
+
+pattern_faultless : (raw : List ℕ) (elems : List PatternElem) → IsPattern raw elems → pattern_faults raw (layout raw) ≡ []
+pattern_faultless raw elems u = rw (sym (is_layout raw u.pieces u.laid_out)) u.faultless
+
+stands_for_pattern : (raw : List ℕ) (elems : List PatternElem) → IsPattern raw elems → pattern_pieces (layout raw) ≡ elems
+stands_for_pattern raw elems u = rw (sym (is_layout raw u.pieces u.laid_out)) u.parts
+
+pub pattern_expected : (place : Option Loc) (raw : List ℕ) (elems : List PatternElem) → IsPattern raw elems → pattern_outcome place raw ≡ Ok elems
+pattern_expected place raw elems u = rw (pattern_faultless raw elems u, stands_for_pattern raw elems u) refl
+
+pub pattern_faults_expected : (place : Option Loc) (raw : List ℕ) (faults : NonEmpty UnescapeError) → HasPatternFaults raw (list_of faults) → pattern_outcome place raw ≡ Err (told_at place (list_of faults))
+pattern_faults_expected place raw faults f =
+    let same : pattern_faults raw (layout raw) ≡ list_of faults = rw (sym (is_layout raw f.pieces f.laid_out)) f.told in
+    rw same refl
+
+-- ---- what a given text or pattern says of its raw text
+
+unless_ok : {X : Type 0} (place : Option Loc) (faults : List UnescapeError) (x y : X) → unless_faulty place faults x ≡ Ok y → (faults ≡ []) × (x ≡ y)
+unless_ok place [] x y e = (refl, cc)
+unless_ok place (fault ∷ faults) x y e = cc
+
+-- a text that a raw text at a place stands for
+pub text_meant : (place : Option Loc) (raw text : List ℕ) → text_outcome place raw ≡ Ok text → IsUnescaped raw text
+text_meant place raw text e =
+    let h = unless_ok place (escape_faults raw) (unescaped raw) text e in
+    record { pieces = layout raw; laid_out = layout_laid raw; faultless = h.0; unescaped = h.1 }
+
+pub pattern_meant : (place : Option Loc) (raw : List ℕ) (pattern : List PatternElem) → pattern_outcome place raw ≡ Ok pattern → IsPattern raw pattern
+pattern_meant place raw pattern e =
+    let h = unless_ok place (pattern_faults raw (layout raw)) (pattern_pieces (layout raw)) pattern e in
+    record { pieces = layout raw; laid_out = layout_laid raw; faultless = h.0; parts = h.1 }

@@ -4,13 +4,21 @@ use Rattle.cedar_expressions.specs.declared.literal.Literal.TheVariants as liter
 use Rattle.cedar_expressions.specs.Value as v
 use Rattle.cedar_expressions.specs.Value.{Value}
 use Rattle.cedar_syntax.specs.declared.loc.Loc.{Loc}
+use Rattle.cedar_syntax.specs.declared.err.faults.Failure.{Failure}
 use Rattle.cedar_syntax.specs.declared.cst.NegOp.TheVariants as sign
 use Rattle.cedar_text.specs.Trees.{bangs_of, dashes_of, sign_limit}
 use Rattle.cedar_policy_parser.specs.Conversion.{applied, dashed, signed, negative, number_outcome, made}
 use Rattle.cedar_policy_parser.specs.Held.{Held, expression, as_expression}
 use Rattle.cedar_policy_parser.specs.Outcome.{Outcome, next, refused, integer_literal_too_large}
+use Rattle.cedar_policy_parser.specs.Seen.{Refuses}
 use Rattle.cedar_policy_parser.specs.Strict.{repeated, largest}
 use Rattle.cedar_policy_parser.proofs.Inverted.{next_ok, made_is}
+use Rattle.cedar_policy_parser.proofs.Outcomes.{refused_next}
+
+-- what refuses the operand as an expression refuses it with its signs
+pub refused_by : (p : Option Loc) (n : ℕ) (g : Value → Value) (o : Outcome Held) (f : Failure) → 0 < n → Refuses f (next o as_expression) → Refuses f (applied p n g o)
+refused_by p zero g o f h r = absurd (omega arith)
+refused_by p (suc n) g o f h r = refused_next f (next o as_expression) _ r
 
 applied_value : (p : Option Loc) (n : ℕ) (g : Value → Value) (o : Outcome Held) (x : Value) → next (applied p (suc n) g o) as_expression ≡ Ok x
     → (b : Value) × (next o as_expression ≡ Ok b) × (x ≡ repeated (suc n) g b)
@@ -78,3 +86,8 @@ literal_value p n x e = literal_within p n (nat_le largest n) x refl e
 
 pub literal_gives : (p : Option Loc) (n : ℕ) → n < largest → next (number_outcome p n) as_expression ≡ Ok (v.val (literals.Long (pos n)))
 literal_gives p n h = let no : nat_le largest n ≡ false = grind arith in rw no refl
+
+-- before what is no number each `-` applies `neg`
+pub no_number : (p : Option Loc) (n : ℕ) (o : Outcome Held) → dashed p n None o ≡ applied p n v.neg o
+no_number p zero o = refl
+no_number p (suc n) o = refl

@@ -1,37 +1,34 @@
 -- The conversion of an expression's tree: what each node gives, a value or the faults in their
 -- order. A line for each form, of what its parts give. The rules and the kinds of faults are those
--- of Cedar's `cst_to_ast`; that the values are what the tokens mean (`Strict`) is a law. Forms that
--- aren't reached yet are refused as empty nodes are.
-use Rattle.std.specs.Prelude.{◌≡◌, ℕ, zero, suc, nat_le, true, false, List, [], ◌∷◌, map, Option, Some, None, Ok, if◌then◌else◌, pos, neg_ℤ}
+-- of Cedar's `cst_to_ast`; that the values are what the tokens mean (`Strict`) is a law.
+use Rattle.std.specs.Prelude.{◌≡◌, ℕ, zero, suc, nat_le, List, [], ◌∷◌, map, Option, Some, None, Ok, if◌then◌else◌, pos, neg_ℤ}
 use Rattle.cedar_syntax.specs.declared.loc.Loc.{Loc}
-use Rattle.cedar_syntax.specs.declared.node.Node.{Node}
-use Rattle.cedar_syntax.specs.declared.cst.Ident.{Ident}
-use Rattle.cedar_syntax.specs.declared.cst.Ident.TheVariants as words
-use Rattle.cedar_syntax.specs.declared.cst.Name.{Name}
 use Rattle.cedar_syntax.specs.declared.cst.NegOp.{NegOp}
 use Rattle.cedar_syntax.specs.declared.cst.NegOp.TheVariants as sign
 use Rattle.cedar_syntax.specs.declared.cst.RelOp.{RelOp}
 use Rattle.cedar_syntax.specs.declared.cst.RelOp.TheVariants as rel
 use Rattle.cedar_syntax.specs.declared.cst.MultOp.{MultOp}
 use Rattle.cedar_syntax.specs.declared.cst.MultOp.TheVariants as mul
-use Rattle.cedar_syntax.specs.declared.cst.Literal.{Literal}
-use Rattle.cedar_syntax.specs.declared.cst.Literal.TheVariants as lit
-use Rattle.cedar_syntax.specs.declared.cst.Str.{Str}
-use Rattle.cedar_syntax.specs.declared.cst.Str.TheVariants as str
 use Rattle.cedar_expressions.specs.declared.operators.AddOp.{AddOp}
 use Rattle.cedar_expressions.specs.declared.operators.AddOp.TheVariants as adding
-use Rattle.cedar_expressions.specs.declared.literal.Var.{Var}
-use Rattle.cedar_expressions.specs.declared.literal.Var.TheVariants as vars
+use Rattle.cedar_expressions.specs.declared.entity.EntityType.{EntityType}
 use Rattle.cedar_expressions.specs.declared.literal.Literal.TheVariants as literals
+use Rattle.cedar_expressions.specs.declared.literal.PatternElem.{PatternElem}
+use Rattle.cedar_expressions.specs.Keys.{repeats_key}
 use Rattle.cedar_expressions.specs.Value as v
-use Rattle.cedar_expressions.specs.Value.{Value, values, terms}
+use Rattle.cedar_expressions.specs.Value.{Value, values, terms, fields}
 use Rattle.cedar_syntax.specs.Tree as t
 use Rattle.cedar_syntax.specs.Tree.{Level, Operator, disjunction, conjunction, relation, sum, product}
 use Rattle.cedar_syntax.specs.Located as f
 use Rattle.cedar_syntax.specs.Located.{Located, Form, Parts}
 use Rattle.cedar_policy_parser.specs.Extensions.{Extensions}
-use Rattle.cedar_policy_parser.specs.Held.{Held, expression, variable, bare_truth, bare_string, as_expression}
-use Rattle.cedar_policy_parser.specs.Outcome.{Outcome, refused, both, next, empty_node, ambiguous_operators, invalid_single_eq, unary_op_limit, integer_literal_too_large, unsupported_division, unsupported_modulo, invalid_string}
+use Rattle.cedar_policy_parser.specs.HasSide.{Attributes, right_side}
+use Rattle.cedar_policy_parser.specs.Held.{Held, expression, as_expression, as_pattern, as_entity_type, as_string, as_attribute}
+use Rattle.cedar_policy_parser.specs.Leaves.{named, slot_held, entity_held}
+pub use Rattle.cedar_policy_parser.specs.Literals.{number_in, literal_alone, lone_literal, number_outcome, written, quoted, literal_outcome}
+use Rattle.cedar_policy_parser.specs.Members.{Access, field, call, index, member_outcome}
+use Rattle.cedar_policy_parser.specs.Names.{unreserved_ident}
+use Rattle.cedar_policy_parser.specs.Outcome.{Outcome, refused, both, next, empty_node, ambiguous_operators, invalid_single_eq, unary_op_limit, integer_literal_too_large, unsupported_division, unsupported_modulo, expression_construction_error}
 use Rattle.cedar_policy_parser.specs.Strict.{repeated, largest}
 
 -- an expression at a place
@@ -108,26 +105,7 @@ factor place _ x = Ok x
 abbrev pub with_part : Operator → Value × List Part → Outcome (List Part)
 with_part op p = Ok ((op, p.0) ∷ p.1)
 
--- ---- literals and signs
-
--- the number that a node is, if it is a number and no more
-abbrev pub number_in : Option Literal → Option ℕ
-number_in (Some (lit.Num n)) = Some n
-number_in _ = None
-
-abbrev pub literal_alone : Located → Option Literal
-literal_alone (f.at place (f.literal n)) = n.node
-literal_alone _ = None
-
--- the literal that a member is, if it is a literal and no more
-abbrev pub lone_literal : Located → Option Literal
-lone_literal (f.at place (f.member item f.none)) = literal_alone item
-lone_literal _ = None
-
-abbrev pub number_outcome : Option Loc → ℕ → Outcome Held
-number_outcome place n =
-    if nat_le largest n then refused integer_literal_too_large place
-    else made place (v.val (literals.Long (pos n)))
+-- ---- signs
 
 -- the last `-` and a number are one literal, n more `-` stand before it
 abbrev pub negative : Option Loc → ℕ → ℕ → Outcome Held
@@ -153,58 +131,46 @@ signed place (Some sign.OverBang) bare x = refused unary_op_limit place
 signed place (Some (sign.Dash n)) bare x = dashed place n bare x
 signed place (Some sign.OverDash) bare x = refused unary_op_limit place
 
--- a string has its literal's place; one that no text is written as is refused at its own
-abbrev pub written : Option Loc → Option Loc → Str → Outcome Held
-written place own (str.String raw) = Ok (bare_string place raw)
-written place own (str.Invalid raw) = refused invalid_string own
-
-abbrev pub quoted : Option Loc → Option Loc → Option Str → Outcome Held
-quoted place own (Some s) = written place own s
-quoted place own None = refused empty_node own
-
-abbrev pub literal_outcome : Option Loc → Option Literal → Outcome Held
-literal_outcome place (Some lit.True) = Ok (bare_truth place true)
-literal_outcome place (Some lit.False) = Ok (bare_truth place false)
-literal_outcome place (Some (lit.Num n)) = number_outcome place n
-literal_outcome place (Some (lit.Str s)) = quoted place s.loc s.node
-literal_outcome place None = refused empty_node place
-
--- ---- names
-
--- an identifier is none of the words, whatever its text
-abbrev pub variable_of : Ident → Option Var
-variable_of words.Principal = Some vars.Principal
-variable_of words.Action = Some vars.Action
-variable_of words.Resource = Some vars.Resource
-variable_of words.Context = Some vars.Context
-variable_of _ = None
-
-abbrev pub variable_at : Option Loc → Option Var → Outcome Held
-variable_at place (Some x) = Ok (variable place x)
-variable_at place None = refused empty_node place
-
--- a name without a path
-abbrev pub word_outcome : Option Loc → Option Loc → Option Ident → Outcome Held
-word_outcome place own (Some i) = variable_at place (variable_of i)
-word_outcome place own None = refused empty_node own
-
-abbrev pub named : {A : Type 0} → Option Loc → List A → Option Loc → Option Ident → Outcome Held
-named place [] own i = word_outcome place own i
-named place (_ ∷ _) own i = refused empty_node place
-
-abbrev pub name_outcome : Option Loc → Option Name → Outcome Held
-name_outcome place (Some n) = named place n.path n.name.loc n.name.node
-name_outcome place None = refused empty_node place
-
 -- ---- trees
 
 abbrev pub chosen : Option Loc → (Value × Value) × Value → Outcome Held
 chosen place p = made place (v.ite p.0.0 p.0.1 p.1)
 
--- accesses are not reached yet
-abbrev pub accessed : Option Loc → Parts → Outcome Held → Outcome Held
-accessed place f.none x = x
-accessed place (f.more op n others) x = refused empty_node place
+-- `has`, `like`, `is` and `is .. in`, of what their sides give
+abbrev pub with_attributes : Option Loc → Attributes → Value → Outcome Held
+with_attributes place r x = made place (v.extended_has_attr x r.0 r.1)
+
+abbrev pub matched : Option Loc → Value × List PatternElem → Outcome Held
+matched place p = made place (v.like p.0 p.1)
+
+-- a value and the type right of its `is`
+abbrev pub Typed : Type 0
+Typed = Value × EntityType
+
+-- both joined, once the right side is converted
+abbrev pub beside_type : Outcome Value → Held → Outcome Typed
+beside_type x h = both x (as_entity_type h)
+
+abbrev pub typed : Option Loc → Typed → Outcome Held
+typed place p = made place (v.is_entity_type p.0 p.1)
+
+abbrev pub typed_within : Option Loc → Typed → Value → Outcome Held
+typed_within place p x = made place (v.is_in_entity_type p.0 p.1 x)
+
+abbrev pub set_of : Option Loc → List Part → Outcome Held
+set_of place ps = made place (v.set (values (bodies ps)))
+
+abbrev pub keys : List (List ℕ × Value) → List (List ℕ)
+keys fs = map (λ p. p.0) fs
+
+-- a record has no key twice
+abbrev pub record_held : Option Loc → List (List ℕ × Value) → Outcome Held
+record_held place fs =
+    if repeats_key (keys fs) then refused expression_construction_error place
+    else made place (v.«record» (fields fs))
+
+abbrev pub with_first : {X : Type 0} → X × List X → Outcome (List X)
+with_first p = Ok (p.0 ∷ p.1)
 
 -- the place of a node
 abbrev pub place_of : Located → Option Loc
@@ -224,32 +190,79 @@ unfoldable mutual
       (next (outcome e c) as_expression)) (chosen place)
   formed e place (f.chain level first others) =
       chained level place others (outcome e first) (operands e place others)
-  formed e place (f.has target right) = refused empty_node place
-  formed e place (f.like target pattern) = refused empty_node place
-  formed e place (f.is target entity_type) = refused empty_node place
-  formed e place (f.is_in target entity_type within) = refused empty_node place
+  -- the right side ends the work
+  formed e place (f.has target right) =
+      next (right_side (place_of right) right)
+      (λ r. next (next (outcome e target) as_expression) (with_attributes place r))
+  -- so does a fault of converting the pattern, or the type; that it is one is joined
+  formed e place (f.like target pattern) =
+      next (outcome e pattern)
+      (λ h. next (both (next (outcome e target) as_expression) (as_pattern h)) (matched place))
+  formed e place (f.is target entity_type) =
+      next (next (outcome e entity_type) (beside_type (next (outcome e target) as_expression)))
+      (typed place)
+  formed e place (f.is_in target entity_type within) =
+      next (next (outcome e entity_type) (beside_type (next (outcome e target) as_expression)))
+      (λ p. next (next (outcome e within) as_expression) (typed_within place p))
   formed e place (f.unary op item) =
       signed place op (number_in (lone_literal item)) (outcome e item)
-  formed e place (f.member item accesses) = accessed place accesses (outcome e item)
+  formed e place (f.member item accesses) =
+      next (both (outcome e item) (accesses_given e accesses))
+      (λ p. member_outcome e place p.0 p.1)
+  formed e place (f.literal n) = literal_outcome n.loc n.node
+  formed e place (f.name n) = named place n
+  formed e place (f.slot n) = slot_held n
+  formed e place (f.reference n) = entity_held n
+  -- what stands in parentheses is an expression and nothing else, at its own place
+  formed e place (f.parens n) = next (next (outcome e n) as_expression) (made (place_of n))
+  formed e place (f.set items) = next (operands e place items) (set_of place)
+  formed e place (f.record_of inits) = next (pairs_given e inits) (record_held place)
+  -- an access and a record's pair are no expressions
   formed e place (f.field n) = refused empty_node place
   formed e place (f.call items) = refused empty_node place
   formed e place (f.index n) = refused empty_node place
-  formed e place (f.literal n) = literal_outcome n.loc n.node
-  formed e place (f.name n) = name_outcome n.loc n.node
-  formed e place (f.slot n) = refused empty_node place
-  formed e place (f.reference n) = refused empty_node place
-  -- what stands in parentheses is an expression and nothing else, at its own place
-  formed e place (f.parens n) = next (next (outcome e n) as_expression) (made (place_of n))
-  formed e place (f.set items) = refused empty_node place
-  formed e place (f.record_of inits) = refused empty_node place
   formed e place (f.init key value) = refused empty_node place
 
-  -- the values behind operators
+  -- the values behind operators, or of a list
   pub operands : Extensions → Option Loc → Parts → Outcome (List Part)
   operands e place f.none = Ok []
   operands e place (f.more op n others) =
       next (both (next (next (outcome e n) as_expression) (factor place op))
       (operands e place others)) (with_part op)
+
+  -- the accesses of a member, joined
+  pub accesses_given : Extensions → Parts → Outcome (List Access)
+  accesses_given e f.none = Ok []
+  accesses_given e (f.more op n others) =
+      next (both (access_outcome e n) (accesses_given e others)) with_first
+
+  pub access_outcome : Extensions → Located → Outcome Access
+  access_outcome e (f.missing place) = refused empty_node place
+  access_outcome e (f.at place form) = access_formed e place form
+
+  pub access_formed : Extensions → Option Loc → Form → Outcome Access
+  access_formed e place (f.field n) = next (unreserved_ident n) (λ id. Ok (field id))
+  access_formed e place (f.call items) =
+      next (operands e place items) (λ ps. Ok (call (bodies ps)))
+  access_formed e place (f.index n) =
+      next (next (outcome e n) as_string) (λ text. Ok (index text))
+  access_formed e place _ = refused empty_node place
+
+  -- the pairs of a record, joined
+  pub pairs_given : Extensions → Parts → Outcome (List (List ℕ × Value))
+  pairs_given e f.none = Ok []
+  pairs_given e (f.more op n others) =
+      next (both (pair_outcome e n) (pairs_given e others)) with_first
+
+  pub pair_outcome : Extensions → Located → Outcome (List ℕ × Value)
+  pair_outcome e (f.missing place) = refused empty_node place
+  pair_outcome e (f.at place form) = pair_formed e place form
+
+  -- the key's own conversion ends the pair; that it is a key is joined with the value
+  pub pair_formed : Extensions → Option Loc → Form → Outcome (List ℕ × Value)
+  pair_formed e place (f.init key value) =
+      next (outcome e key) (λ h. both (as_attribute h) (next (outcome e value) as_expression))
+  pair_formed e place _ = refused empty_node place
 
 -- where an expression is wanted
 abbrev pub value_outcome : Extensions → Located → Outcome Value

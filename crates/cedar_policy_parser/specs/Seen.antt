@@ -14,12 +14,13 @@ use Rattle.cedar_syntax.specs.Tree.{Operator}
 use Rattle.cedar_policy_parser.specs.declared.special.ExprOrSpecial.{ExprOrSpecial}
 use Rattle.cedar_policy_parser.specs.declared.special.ExprOrSpecial.TheVariants as special
 use Rattle.cedar_policy_parser.specs.Conversion.{Part}
-use Rattle.cedar_policy_parser.specs.Held.{Held, expression, variable, bare_truth, bare_string}
+use Rattle.cedar_policy_parser.specs.Held.{Held, expression, variable, bare_name, bare_truth, bare_string}
 use Rattle.cedar_policy_parser.specs.Outcome as k
 use Rattle.cedar_policy_parser.specs.Outcome.{Kind, Told, Outcome, both, next, no_tree}
 use Rattle.std.specs.Prelude.{Option, None}
 use Rattle.cedar_syntax.specs.declared.loc.Loc.{Loc}
 
+-- each kind without what a message shows of it
 abbrev pub kind_of : ToASTErrorKind → Kind
 kind_of (kinds.DuplicateTemplateId a) = k.duplicate_template_id
 kind_of (kinds.DuplicatePolicyId a) = k.duplicate_policy_id
@@ -106,6 +107,7 @@ TellsAlone (Errors errors) kind place = told (faults_of errors) ≡ (kind, place
 abbrev pub plain : {E : Type 0} → (E → Value) → ExprOrSpecial E → Held
 plain meaning (special.Expr e place) = expression place (meaning e)
 plain meaning (special.Var x place) = variable place x
+plain meaning (special.Name name place) = bare_name place name
 plain meaning (special.BoolLit b place) = bare_truth place b
 plain meaning (special.StrLit raw place) = bare_string place raw
 
@@ -125,3 +127,7 @@ with_last op p = Ok (p.0 ++ (op, p.1) ∷ [])
 
 abbrev pub one_more : Operator → Outcome (List Part) → Outcome Value → Outcome (List Part)
 one_more op ps x = next (both ps x) (with_last op)
+
+-- one more item behind those so far
+abbrev pub item_more : {X : Type 0} → Outcome (List X) → Outcome X → Outcome (List X)
+item_more xs x = next (both xs x) (λ p. Ok (p.0 ++ p.1 ∷ []))

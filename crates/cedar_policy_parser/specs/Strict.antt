@@ -2,20 +2,27 @@
 -- levels, from the loosest operator to the tightest, and what each form means are those of the
 -- grammar and of the operators' pages in Cedar's reference: a relation has one operator at most, `/`
 -- and `%` mean nothing, so many signs at most as `limit` says stand before an operand, a literal
--- number fits 64 bits with its sign. What may be called is what `table` has.
-use Rattle.std.specs.Prelude.{◌≡◌, ◌≤◌, ◌<◌, ◌^◌, ◌+◌, ℕ, zero, suc, true, false, List, [], ◌∷◌, ◌++◌, length, pos, neg_ℤ}
+-- number fits 64 bits with its sign, the keys of a record are all different. What may be called
+-- beside the methods of every text is what `table` has.
+use Rattle.std.specs.Prelude.{◌≡◌, ◌≤◌, ◌<◌, ◌^◌, ◌+◌, ℕ, zero, suc, true, false, List, [], ◌∷◌, ◌++◌, map, length, pos, neg_ℤ}
 use Rattle.cedar_lexer.specs.Token.{Lexeme}
 use Rattle.cedar_lexer.specs.declared.token.TokenKind.{TokenKind}
 use Rattle.cedar_lexer.specs.declared.token.TokenKind.TheVariants as kind
 use Rattle.cedar_expressions.specs.declared.operators.AddOp.{AddOp}
+use Rattle.cedar_expressions.specs.declared.entity.EntityUID.{EntityUID}
 use Rattle.cedar_expressions.specs.declared.literal.Var.{Var}
-use Rattle.cedar_expressions.specs.declared.literal.Var.TheVariants as vars
+use Rattle.cedar_expressions.specs.declared.literal.SlotId.TheVariants as slots
+use Rattle.cedar_expressions.specs.declared.literal.PatternElem.{PatternElem}
 use Rattle.cedar_expressions.specs.declared.literal.Literal.TheVariants as literals
+use Rattle.cedar_expressions.specs.Keys.{repeats_key}
 use Rattle.cedar_expressions.specs.Value as v
-use Rattle.cedar_expressions.specs.Value.{Value, values, terms}
-use Rattle.cedar_text.specs.Loose.{Spot, one, number_of, between_quotes, ReadsSigns, ReadsAddOp}
-use Rattle.cedar_text.specs.Piece.{IsUnescaped}
+use Rattle.cedar_expressions.specs.Value.{Value, values, terms, fields}
+use Rattle.cedar_text.specs.Pattern.{IsPattern}
+use Rattle.cedar_text.specs.Signs.{ReadsSigns, ReadsAddOp}
+use Rattle.cedar_text.specs.Tokens.{Spot, one, number_of, between_quotes}
 use Rattle.cedar_policy_parser.specs.Extensions.{Extensions}
+use Rattle.cedar_policy_parser.specs.StrictCalls.{IsFunction, CallsMethod}
+use Rattle.cedar_policy_parser.specs.StrictWords.{IsVariable, IsVariableWord, IsIdentifier, IsName, IsText, IsSought, IsKey, IsEntity, name_of}
 
 -- a sign applied as often as it stands there
 abbrev pub repeated : ℕ → (Value → Value) → Value → Value
@@ -55,11 +62,9 @@ pub data Relates : TokenKind → Value → Value → Value → Type 0 where
   equal : {a b : Value} → Relates kind.EqEq a b (v.is_eq a b)
   within : {a b : Value} → Relates kind.In a b (v.is_in a b)
 
-pub data IsVariable : TokenKind → Var → Type 0 where
-  principal : IsVariable kind.Principal vars.Principal
-  action : IsVariable kind.Action vars.Action
-  resource : IsVariable kind.Resource vars.Resource
-  context : IsVariable kind.Context vars.Context
+-- the keys of a record, as they are written
+abbrev pub keys_of : List (List ℕ × Value) → List (List ℕ)
+keys_of fs = map (λ f. f.0) fs
 
 mutual
   pub data Means (table : Extensions) (limit : ℕ) : Sort → List Lexeme → Value → Type 0 where
@@ -86,6 +91,25 @@ mutual
     related : {ts us : List Lexeme} {a b c : Value} {k : TokenKind} (p : Spot)
         → Means table limit sum ts a → Relates k a b c → Means table limit sum us b
         → Means table limit relation (ts ++ one k p ++ us) c
+    -- a sum, `has`, and what is sought
+    has : {ts us : List Lexeme} {a : Value} {id : List ℕ} {ids : List (List ℕ)} (p : Spot)
+        → Means table limit sum ts a → IsSought us id ids
+        → Means table limit relation (ts ++ one kind.Has p ++ us) (v.extended_has_attr a id ids)
+    -- a sum, `like`, and a string that is read as a pattern
+    like : {ts : List Lexeme} {a : Value} {pattern : List PatternElem} (p q : Spot)
+        → Means table limit sum ts a → IsPattern (between_quotes q.text) pattern
+        → Means table limit relation (ts ++ one kind.Like p ++ one kind.StringLit q)
+        (v.like a pattern)
+    -- a sum, `is`, and the name of a type
+    is : {ts us : List Lexeme} {a : Value} {ids : List (List ℕ)} {id : List ℕ} (p : Spot)
+        → Means table limit sum ts a → IsName us ids id
+        → Means table limit relation (ts ++ one kind.Is p ++ us)
+        (v.is_entity_type a (record { name = name_of ids id }))
+    -- the same, `in`, and another sum
+    is_in : {ts us vs : List Lexeme} {a b : Value} {ids : List (List ℕ)} {id : List ℕ} (p q : Spot)
+        → Means table limit sum ts a → IsName us ids id → Means table limit sum vs b
+        → Means table limit relation (ts ++ one kind.Is p ++ us ++ one kind.In q ++ vs)
+        (v.is_in_entity_type a (record { name = name_of ids id }) b)
     one_sum : {ts : List Lexeme} {a : Value} → Means table limit sum ts a
         → Means table limit relation ts a
     -- two or more parts joined by `+` and `-`
@@ -116,22 +140,58 @@ mutual
         → Means table limit signed (ts ++ us) (repeated n v.neg a)
     unsigned : {ts : List Lexeme} {a : Value} → Means table limit member ts a
         → Means table limit signed ts a
+    -- a member is a primary or a call of a function, and links behind it, from the left
     bare : {ts : List Lexeme} {a : Value} → Means table limit primary ts a
         → Means table limit member ts a
+    -- a function's name, which is no variable, and its arguments
+    called : {ts us : List Lexeme} {ids : List (List ℕ)} {id : List ℕ} {args : List Value}
+        (l m : Spot) → IsName ts ids id → (IsVariableWord ts → ⊥) → IsFunction table ids id
+        → Listed table limit us args
+        → Means table limit member (ts ++ one kind.OpenParen l ++ us ++ one kind.CloseParen m)
+        (v.call_extension_fn (name_of ids id) (values args))
+    -- `.` and an identifier: an attribute, since no call stands behind it
+    attribute : {ts us : List Lexeme} {a : Value} {id : List ℕ} (p : Spot)
+        → Means table limit member ts a → IsIdentifier us id
+        → Means table limit member (ts ++ one kind.Dot p ++ us) (v.get_attr a id)
+    -- a string in brackets is an attribute too
+    indexed : {ts us : List Lexeme} {a : Value} {id : List ℕ} (l m : Spot)
+        → Means table limit member ts a → IsText us id
+        → Means table limit member (ts ++ one kind.OpenBracket l ++ us ++ one kind.CloseBracket m)
+        (v.get_attr a id)
+    -- `.`, a method's name and its arguments
+    method : {ts us vs : List Lexeme} {a b : Value} {id : List ℕ} {args : List Value}
+        (p l m : Spot) → Means table limit member ts a → IsIdentifier us id
+        → Listed table limit vs args → CallsMethod table id a args b
+        → Means table limit member
+        (ts ++ one kind.Dot p ++ us ++ one kind.OpenParen l ++ vs ++ one kind.CloseParen m) b
     truth : (p : Spot) → Means table limit primary (one kind.True p) (v.val (literals.Bool true))
     falsity : (p : Spot)
         → Means table limit primary (one kind.False p) (v.val (literals.Bool false))
     numeral : (p : Spot) → number_of p.text < largest
         → Means table limit primary (one kind.Number p)
         (v.val (literals.Long (pos (number_of p.text))))
-    -- a string without escape faults stands for its unescaped text
-    text : {unescaped : List ℕ} (p : Spot) → IsUnescaped (between_quotes p.text) unescaped
-        → Means table limit primary (one kind.StringLit p) (v.val (literals.String unescaped))
+    text : {ts : List Lexeme} {text : List ℕ} → IsText ts text
+        → Means table limit primary ts (v.val (literals.String text))
     variable : {k : TokenKind} {x : Var} (p : Spot) → IsVariable k x
         → Means table limit primary (one k p) (v.var x)
+    -- the two slots of a template
+    principal_slot : (p : Spot)
+        → Means table limit primary (one kind.PrincipalSlot p) (v.slot slots.Principal)
+    resource_slot : (p : Spot)
+        → Means table limit primary (one kind.ResourceSlot p) (v.slot slots.Resource)
+    entity : {ts : List Lexeme} {uid : EntityUID} → IsEntity ts uid
+        → Means table limit primary ts (v.val (literals.EntityUID uid))
     parenthesized : {ts : List Lexeme} {a : Value} (l m : Spot)
         → Means table limit expression ts a
         → Means table limit primary (one kind.OpenParen l ++ ts ++ one kind.CloseParen m) a
+    set : {ts : List Lexeme} {items : List Value} (l m : Spot) → Listed table limit ts items
+        → Means table limit primary (one kind.OpenBracket l ++ ts ++ one kind.CloseBracket m)
+        (v.set (values items))
+    -- a record's keys are all different
+    in_braces : {ts : List Lexeme} {entries : List (List ℕ × Value)} (l m : Spot)
+        → Entries table limit ts entries → repeats_key (keys_of entries) ≡ false
+        → Means table limit primary (one kind.OpenBrace l ++ ts ++ one kind.CloseBrace m)
+        (v.«record» (fields entries))
 
   -- a first part, and those behind an operator of this kind
   pub data Joined (table : Extensions) (limit : ℕ) : TokenKind → Sort → List Lexeme → Value
@@ -151,3 +211,35 @@ mutual
         {bs : List (AddOp × Value)} (p : Spot) → Added table limit ts a bs → ReadsAddOp k op
         → Means table limit product us b
         → Added table limit (ts ++ one k p ++ us) a (bs ++ (op, b) ∷ [])
+
+  -- what stands between brackets: nothing, or expressions joined by `,` and one more `,` or none
+  pub data Listed (table : Extensions) (limit : ℕ) : List Lexeme → List Value → Type 0 where
+    no_items : Listed table limit [] []
+    items : {ts : List Lexeme} {a : Value} {bs : List Value}
+        → Joined table limit kind.Comma expression ts a bs → Listed table limit ts (a ∷ bs)
+    items_comma : {ts : List Lexeme} {a : Value} {bs : List Value} (p : Spot)
+        → Joined table limit kind.Comma expression ts a bs
+        → Listed table limit (ts ++ one kind.Comma p) (a ∷ bs)
+
+  -- the same of a record's keys and values
+  pub data Entries (table : Extensions) (limit : ℕ) : List Lexeme → List (List ℕ × Value) → Type 0
+    where
+      no_entries : Entries table limit [] []
+      entries : {ts : List Lexeme} {fs : List (List ℕ × Value)} → JoinedEntries table limit ts fs
+          → Entries table limit ts fs
+      entries_comma : {ts : List Lexeme} {fs : List (List ℕ × Value)} (p : Spot)
+          → JoinedEntries table limit ts fs → Entries table limit (ts ++ one kind.Comma p) fs
+
+  pub data JoinedEntries (table : Extensions) (limit : ℕ) : List Lexeme
+      → List (List ℕ × Value) → Type 0 where
+    one_entry : {ts : List Lexeme} {key : List ℕ} {a : Value} → Entry table limit ts key a
+        → JoinedEntries table limit ts ((key, a) ∷ [])
+    more_entries : {ts us : List Lexeme} {fs : List (List ℕ × Value)} {key : List ℕ} {a : Value}
+        (p : Spot) → JoinedEntries table limit ts fs → Entry table limit us key a
+        → JoinedEntries table limit (ts ++ one kind.Comma p ++ us) (fs ++ (key, a) ∷ [])
+
+  -- a key, `:` and an expression
+  pub data Entry (table : Extensions) (limit : ℕ) : List Lexeme → List ℕ → Value → Type 0 where
+    entry : {ts us : List Lexeme} {key : List ℕ} {a : Value} (p : Spot) → IsKey ts key
+        → Means table limit expression us a
+        → Entry table limit (ts ++ one kind.Colon p ++ us) key a

@@ -1,8 +1,10 @@
--- What a string stands for where an expression is wanted.
+-- What a string stands for: a text, or a pattern right of `like`.
 use Rattle.std.specs.Prelude.{ℕ, List, [], ◌∷◌, map, Option, Ok, Err}
 use Rattle.std.specs.Str.{chars}
 use Rattle.cedar_syntax.specs.declared.err.escape.UnescapeError.{UnescapeError}
 use Rattle.cedar_syntax.specs.declared.loc.Loc.{Loc}
+use Rattle.cedar_expressions.specs.declared.literal.PatternElem.{PatternElem}
+use Rattle.cedar_text.specs.Pattern.{pattern_faults, pattern_pieces}
 use Rattle.cedar_text.specs.Piece.{Placed, piece_faults, unescaped_pieces}
 use Rattle.cedar_text.proofs.Layouts.{laid_out}
 use Rattle.cedar_policy_parser.specs.Outcome.{Outcome, Told, unescape}
@@ -30,3 +32,8 @@ unless_faulty place (fault ∷ faults) x = Err (told_at place (fault ∷ faults)
 -- the text that a raw text at a place stands for
 abbrev pub text_outcome : Option Loc → List ℕ → Outcome (List ℕ)
 text_outcome place raw = unless_faulty place (escape_faults raw) (unescaped raw)
+
+-- the pattern that a raw text at a place stands for
+abbrev pub pattern_outcome : Option Loc → List ℕ → Outcome (List PatternElem)
+pattern_outcome place raw =
+    unless_faulty place (pattern_faults raw (layout raw)) (pattern_pieces (layout raw))

@@ -3,19 +3,24 @@
 //! A node with one part goes through a function with a small frame, so that a level of nesting takes little of the stack; a node with several goes to
 //! the function of its level's chain. That one takes the node itself, by which the proof sees that the calls end, so it opens the node again and has an
 //! arm for what its caller has already taken.
-ghost use Rattle.std.specs.Prelude.{◌≡◌};
+ghost use Rattle.std.specs.Prelude.{◌≡◌, Option, Some};
+ghost use Rattle.cedar_syntax.specs.declared.node.Node.{Node as Held};
+ghost use Rattle.cedar_syntax.specs.declared.cst.Add.{Add as Sum};
+ghost use Rattle.cedar_syntax.specs.declared.cst.Relation.TheVariants as relations;
 ghost use Rattle.cedar_syntax.specs.declared.cst.Expr.TheVariants as exprs;
-ghost use Rattle.cedar_syntax.specs.Forms.{located, expr_form, or_form, and_form, relation_form, add_form, mult_form, unary_form, member_form, primary_form};
+ghost use Rattle.cedar_syntax.specs.Forms.{located, expr_form, or_form, and_form, relation_form, add_form, mult_form, unary_form};
 ghost use Rattle.cedar_policy_parser.specs.Conversion.{outcome};
 ghost use Rattle.cedar_policy_parser.specs.Extensions.{table_of};
 ghost use Rattle.cedar_policy_parser.specs.Seen.{Gives, plain};
 
 use crate::chain::{AndAnd, OrOr, chain_from, factor_of};
-use crate::conditional::{if_from, parens_from};
+use crate::conditional::if_from;
 use crate::cst_to_ast::ExtStyles;
+use crate::has_side::right_side;
 use crate::join::{at_most_one, more};
-use crate::literals::{bare_number, literal};
-use crate::names::named;
+use crate::literals::bare_number;
+use crate::primaries::member;
+use crate::sides::{has_from, is_from, is_in_from, like_from, type_beside};
 use crate::signs::{signed_from, without_operand};
 use crate::special::{ExprOrSpecial, expr_of, unreached};
 use cedar_expressions::{AddOp, ExprBuilderInfallibleBuild};
@@ -198,10 +203,52 @@ fn relation_chain<B: ExprBuilderInfallibleBuild>(
             let allowed = at_most_one(alloc, &node.loc, extended.as_slice());
             chain_from::<B, RelOp>(alloc, &node.loc, first, rest, allowed)
         }
-        Some(cst::Relation::Has { .. }) => Err(unreached(alloc, &node.loc)),
-        Some(cst::Relation::Like { .. }) => Err(unreached(alloc, &node.loc)),
-        Some(cst::Relation::IsIn { .. }) => Err(unreached(alloc, &node.loc)),
+        Some(cst::Relation::Has { target, field }) => {
+            let right = right_side::<B>(alloc, field.as_ref());
+            let target = expr_of::<B>(alloc, add::<B>(alloc, styles, target));
+            has_from::<B>(alloc, &node.loc, right, target)
+        }
+        Some(cst::Relation::Like { target, pattern }) => {
+            let target = expr_of::<B>(alloc, add::<B>(alloc, styles, target));
+            let pattern = add::<B>(alloc, styles, pattern.as_ref());
+            like_from::<B>(alloc, &node.loc, target, pattern)
+        }
+        Some(cst::Relation::IsIn { .. }) => typed::<B>(alloc, styles, node),
         None => Err(unreached(alloc, &node.loc)),
+    }
+}
+
+/// `is` alone or with `in`. Another relation than these is its caller's.
+#[cycle(convert)]
+#[inline(never)]
+fn typed<B: ExprBuilderInfallibleBuild>(
+    alloc: Global,
+    styles: &ExtStyles,
+    node: &Node<Option<cst::Relation>>,
+) -> Result<ExprOrSpecial<B::Expr>, Failure>
+    ensures { (a b : Held (Option Sum)) (c : Option (Held (Option Sum)))
+        → node.now.node ≡ Some (relations.IsIn a b c) → Gives (plain B.meaning) result
+        (outcome (table_of styles.now) (located relation_form node.now)) }
+{
+    let Some(
+        cst::Relation::IsIn {
+            target,
+            entity_type,
+            in_entity,
+        },
+    ) = &node.node
+    else {
+        return Err(unreached(alloc, &node.loc));
+    };
+    let left = expr_of::<B>(alloc, add::<B>(alloc, styles, target));
+    let right = add::<B>(alloc, styles, entity_type.as_ref());
+    let pair = type_beside::<B>(alloc, &target.loc, left, right);
+    match in_entity {
+        None => is_from::<B>(alloc, &node.loc, pair),
+        Some(within) => {
+            let within = expr_of::<B>(alloc, add::<B>(alloc, styles, within.as_ref()));
+            is_in_from::<B>(alloc, &node.loc, pair, within)
+        }
     }
 }
 
@@ -325,52 +372,6 @@ fn signed<B: ExprBuilderInfallibleBuild>(
                 }
             }
         }
-        None => Err(unreached(alloc, &node.loc)),
-    }
-}
-
-#[cycle(convert)]
-#[inline(never)]
-fn member<B: ExprBuilderInfallibleBuild>(
-    alloc: Global,
-    styles: &ExtStyles,
-    node: &Node<Option<cst::Member>>,
-) -> Result<ExprOrSpecial<B::Expr>, Failure>
-    ensures { Gives (plain B.meaning) result (outcome (table_of styles.now)
-        (located member_form node.now)) }
-{
-    match &node.node {
-        Some(member) => {
-            if member.access.is_empty() {
-                primary::<B>(alloc, styles, &member.item)
-            } else {
-                Err(unreached(alloc, &node.loc))
-            }
-        }
-        None => Err(unreached(alloc, &node.loc)),
-    }
-}
-
-#[cycle(convert)]
-#[inline(never)]
-fn primary<B: ExprBuilderInfallibleBuild>(
-    alloc: Global,
-    styles: &ExtStyles,
-    node: &Node<Option<cst::Primary>>,
-) -> Result<ExprOrSpecial<B::Expr>, Failure>
-    ensures { Gives (plain B.meaning) result (outcome (table_of styles.now)
-        (located primary_form node.now)) }
-{
-    match &node.node {
-        Some(cst::Primary::Literal(inner)) => literal::<B>(alloc, inner),
-        Some(cst::Primary::Name(inner)) => named::<B>(alloc, inner),
-        Some(cst::Primary::Expr(inner)) => {
-            parens_from::<B>(alloc, &inner.loc, expr::<B>(alloc, styles, inner))
-        }
-        Some(cst::Primary::Ref(_)) => Err(unreached(alloc, &node.loc)),
-        Some(cst::Primary::Slot(_)) => Err(unreached(alloc, &node.loc)),
-        Some(cst::Primary::EList(_)) => Err(unreached(alloc, &node.loc)),
-        Some(cst::Primary::RInits(_)) => Err(unreached(alloc, &node.loc)),
         None => Err(unreached(alloc, &node.loc)),
     }
 }

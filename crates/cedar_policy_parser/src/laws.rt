@@ -1,6 +1,8 @@
 //! Laws that join the definitions: what a text's tree is converted to is what its tokens mean.
-ghost use Rattle.std.specs.Prelude.{◌≡◌, ◌↔◌, ℕ, List, [], Option, Some, Ok, Err};
+ghost use Rattle.std.specs.Prelude.{◌≡◌, ◌↔◌, ℕ, List, [], Option, Some, Ok, Err, true};
+ghost use Rattle.cedar_lexer.specs.Spelling.{IsIdentifier};
 ghost use Rattle.cedar_lexer.specs.Token.{Lexeme};
+ghost use Rattle.cedar_expressions.specs.Path.{is_identifier};
 ghost use Rattle.cedar_expressions.specs.Value.{Value};
 ghost use Rattle.cedar_syntax.specs.declared.loc.Loc.{Loc};
 ghost use Rattle.cedar_syntax.specs.declared.cst.Expr.{Expr as Tree};
@@ -12,7 +14,7 @@ ghost use Rattle.cedar_syntax.specs.Located as f;
 ghost use Rattle.cedar_syntax.specs.Located.{Located, Parts};
 ghost use Rattle.cedar_syntax.specs.Tree as t;
 ghost use Rattle.cedar_syntax.specs.Unlocated.{unlocated};
-ghost use Rattle.cedar_text.specs.Loose.{ReadsExpr};
+ghost use Rattle.cedar_text.specs.LooseExpressions.{ReadsExpr};
 ghost use Rattle.cedar_text.specs.Place.{placed};
 ghost use Rattle.cedar_policy_parser.specs.Alone.{HasValue, HaveValues, OperandsHaveValues, quotients};
 ghost use Rattle.cedar_policy_parser.specs.Conversion.{Converts, outcome, value_outcome};
@@ -20,7 +22,7 @@ ghost use Rattle.cedar_policy_parser.specs.Extensions.{Extensions};
 ghost use Rattle.cedar_policy_parser.specs.Outcome.{given, refused, ambiguous_operators, invalid_single_eq, unary_op_limit};
 ghost use Rattle.cedar_policy_parser.specs.Strict.{Means, expression};
 
-use cedar_text::one_tree;
+use cedar_text::text_to_cst::laws::expressions;
 
 /// What a text's tree is converted to is what its tokens mean.
 pub fn converted_is_meant()
@@ -44,7 +46,7 @@ pub fn same_meaning()
         → Means table SIGN_LIMIT expression ts w ↔ Converts table
         (located expr_form (placed src ts x)) w }
 {
-    one_tree();
+    expressions();
 }
 
 /// Tokens have at most one meaning.
@@ -52,7 +54,7 @@ pub fn one_meaning()
     ensures { (table : Extensions) (ts : List Lexeme) (v w : Value)
         → Means table SIGN_LIMIT expression ts v → Means table SIGN_LIMIT expression ts w → v ≡ w }
 {
-    one_tree();
+    expressions();
 }
 
 /// Trees that differ in their places alone are converted to the same value, or none of them to any.
@@ -86,4 +88,9 @@ pub fn refused_alone()
     ensures dashes { (table : Extensions) (place : Option Loc) (a : Located)
         → outcome table (f.at place (f.unary (Some sign.OverDash) a))
         ≡ refused unary_op_limit place }
+{}
+
+/// What is spelled as an identifier is one for tokens and for names.
+pub fn one_spelling()
+    ensures { (text : List ℕ) → IsIdentifier text ↔ (is_identifier text ≡ true) }
 {}

@@ -34,7 +34,7 @@ fn number<B: ExprBuilderInfallibleBuild>(
 }
 
 /// A string that no text is written as, with its raw text.
-fn invalid_text(alloc: Global, raw: &Text, loc: &Option<Loc>) -> Failure
+pub(crate) fn invalid_text(alloc: Global, raw: &Text, loc: &Option<Loc>) -> Failure
     ensures { TellsAlone result invalid_string loc.now }
 {
     match raw.try_clone() {

@@ -4,7 +4,7 @@ ghost use Rattle.cedar_lexer.specs.Token.{Lexeme};
 ghost use Rattle.cedar_lexer.specs.Cut.{Cuts};
 ghost use Rattle.cedar_expressions.specs.Meaning.{unplaced};
 ghost use Rattle.cedar_expressions.specs.Value.{Value};
-ghost use Rattle.cedar_text.specs.Fault.{IsMemory};
+ghost use Rattle.cedar_text.specs.FirstFault.{IsMemory};
 ghost use Rattle.cedar_syntax.specs.declared.cst.TheConstants.{SIGN_LIMIT};
 ghost use Rattle.cedar_policy_parser.specs.Extensions.{table_of};
 ghost use Rattle.cedar_policy_parser.specs.Refused.{RefusesText};

@@ -1,10 +1,10 @@
 //! Signs before an operand.
 ghost use Rattle.std.specs.Prelude.{◌≡◌, ◌≤◌, MatchOption, pos, neg_ℤ, Ok};
 ghost use Rattle.cedar_expressions.specs.Value as v;
-ghost use Rattle.cedar_policy_parser.specs.Conversion.{negative as negative_of, signed};
+ghost use Rattle.cedar_policy_parser.specs.Conversion.{applied, dashed, negative as negative_of, signed};
 ghost use Rattle.cedar_policy_parser.specs.Held.{Held};
-ghost use Rattle.cedar_policy_parser.specs.Outcome.{Outcome};
-ghost use Rattle.cedar_policy_parser.specs.Seen.{Gives, plain};
+ghost use Rattle.cedar_policy_parser.specs.Outcome.{Outcome, refused, unary_op_limit};
+ghost use Rattle.cedar_policy_parser.specs.Seen.{Gives, TellsAlone, plain};
 ghost use Rattle.cedar_policy_parser.specs.Strict.{repeated, largest};
 
 use crate::literals::LARGEST;
@@ -72,6 +72,13 @@ fn negative<B: ExprBuilderInfallibleBuild>(
     made::<B>(repeat_neg::<B>(alloc, loc, others, literal)?, loc)
 }
 
+/// Signs above the limit.
+fn over_limit(alloc: Global, op: UnaryOp, loc: &Option<Loc>) -> Failure
+    ensures { TellsAlone result unary_op_limit loc.now }
+{
+    refusal(alloc, ToASTErrorKind::UnaryOpLimit(op), loc)
+}
+
 /// What signs give whatever their operand gives, or `None` where the operand is needed.
 pub(crate) fn without_operand<B: ExprBuilderInfallibleBuild>(
     alloc: Global,
@@ -85,16 +92,8 @@ pub(crate) fn without_operand<B: ExprBuilderInfallibleBuild>(
     match op {
         None => None,
         Some(NegOp::Bang(_)) => None,
-        Some(NegOp::OverBang) => Some(Err(refusal(
-            alloc,
-            ToASTErrorKind::UnaryOpLimit(UnaryOp::Not),
-            loc,
-        ))),
-        Some(NegOp::OverDash) => Some(Err(refusal(
-            alloc,
-            ToASTErrorKind::UnaryOpLimit(UnaryOp::Neg),
-            loc,
-        ))),
+        Some(NegOp::OverBang) => Some(Err(over_limit(alloc, UnaryOp::Not, loc))),
+        Some(NegOp::OverDash) => Some(Err(over_limit(alloc, UnaryOp::Neg, loc))),
         Some(NegOp::Dash(count)) => match bare {
             None => None,
             Some(number) => {
@@ -105,6 +104,75 @@ pub(crate) fn without_operand<B: ExprBuilderInfallibleBuild>(
             }
         },
     }
+}
+
+/// What `!` gives, of what its operand gives.
+fn banged<B: ExprBuilderInfallibleBuild>(
+    alloc: Global,
+    loc: &Option<Loc>,
+    count: u8,
+    item: Result<ExprOrSpecial<B::Expr>, Failure>,
+) -> Result<ExprOrSpecial<B::Expr>, Failure>
+    ensures { (x : Outcome Held) → Gives (plain B.meaning) item x
+        → Gives (plain B.meaning) result (applied loc.now count v.not x) }
+{
+    if count == 0 {
+        return item;
+    }
+    let inner = expr_of::<B>(alloc, item)?;
+    made::<B>(repeat_not::<B>(alloc, loc, count, inner)?, loc)
+}
+
+/// What `-` gives before what is no number, of what its operand gives.
+fn opposite<B: ExprBuilderInfallibleBuild>(
+    alloc: Global,
+    loc: &Option<Loc>,
+    count: u8,
+    item: Result<ExprOrSpecial<B::Expr>, Failure>,
+) -> Result<ExprOrSpecial<B::Expr>, Failure>
+    ensures { (x : Outcome Held) → Gives (plain B.meaning) item x
+        → Gives (plain B.meaning) result (applied loc.now count v.neg x) }
+{
+    if count == 0 {
+        return item;
+    }
+    let inner = expr_of::<B>(alloc, item)?;
+    made::<B>(repeat_neg::<B>(alloc, loc, count, inner)?, loc)
+}
+
+/// What `-` gives, of what its operand gives.
+fn dashed<B: ExprBuilderInfallibleBuild>(
+    alloc: Global,
+    loc: &Option<Loc>,
+    count: u8,
+    bare: Option<u64>,
+    item: Result<ExprOrSpecial<B::Expr>, Failure>,
+) -> Result<ExprOrSpecial<B::Expr>, Failure>
+    ensures { (x : Outcome Held) → Gives (plain B.meaning) item x
+        → Gives (plain B.meaning) result (dashed loc.now count bare x) }
+{
+    match bare {
+        Some(number) => {
+            if count == 0 {
+                return item;
+            }
+            negative::<B>(alloc, loc, count - 1, number)
+        }
+        None => opposite::<B>(alloc, loc, count, item),
+    }
+}
+
+/// Signs above the limit, whatever their operand gives.
+fn beyond<B: ExprBuilderInfallibleBuild>(
+    alloc: Global,
+    loc: &Option<Loc>,
+    op: UnaryOp,
+    item: Result<ExprOrSpecial<B::Expr>, Failure>,
+) -> Result<ExprOrSpecial<B::Expr>, Failure>
+    ensures { Gives (plain B.meaning) result (refused unary_op_limit loc.now) }
+{
+    drop(item);
+    Err(over_limit(alloc, op, loc))
 }
 
 /// What signs give, of what their operand gives.
@@ -120,34 +188,9 @@ pub(crate) fn signed_from<B: ExprBuilderInfallibleBuild>(
 {
     match op {
         None => item,
-        Some(NegOp::Bang(count)) => {
-            if count == 0 {
-                return item;
-            }
-            let inner = expr_of::<B>(alloc, item)?;
-            made::<B>(repeat_not::<B>(alloc, loc, count, inner)?, loc)
-        }
-        Some(NegOp::Dash(count)) => {
-            if count == 0 {
-                return item;
-            }
-            match bare {
-                Some(number) => negative::<B>(alloc, loc, count - 1, number),
-                None => {
-                    let inner = expr_of::<B>(alloc, item)?;
-                    made::<B>(repeat_neg::<B>(alloc, loc, count, inner)?, loc)
-                }
-            }
-        }
-        Some(NegOp::OverBang) => Err(refusal(
-            alloc,
-            ToASTErrorKind::UnaryOpLimit(UnaryOp::Not),
-            loc,
-        )),
-        Some(NegOp::OverDash) => Err(refusal(
-            alloc,
-            ToASTErrorKind::UnaryOpLimit(UnaryOp::Neg),
-            loc,
-        )),
+        Some(NegOp::Bang(count)) => banged::<B>(alloc, loc, count, item),
+        Some(NegOp::Dash(count)) => dashed::<B>(alloc, loc, count, bare, item),
+        Some(NegOp::OverBang) => beyond::<B>(alloc, loc, UnaryOp::Not, item),
+        Some(NegOp::OverDash) => beyond::<B>(alloc, loc, UnaryOp::Neg, item),
     }
 }

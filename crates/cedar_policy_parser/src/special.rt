@@ -3,11 +3,11 @@ ghost use Rattle.std.specs.Prelude.{◌≡◌, Ok};
 ghost use Rattle.std.specs.Option.{option_map};
 ghost use Rattle.cedar_expressions.specs.Value.{Value};
 ghost use Rattle.cedar_policy_parser.specs.Held.{Held, expression, as_expression};
-ghost use Rattle.cedar_policy_parser.specs.Outcome.{Outcome, empty_node, next};
+ghost use Rattle.cedar_policy_parser.specs.Outcome.{Outcome, arbitrary_variable, empty_node, next};
 ghost use Rattle.cedar_policy_parser.specs.Seen.{Gives, TellsAlone, kind_of, plain};
 
 use crate::strings::text_of;
-use cedar_expressions::{ExprBuilderInfallibleBuild, Literal, Place, Text, TryClone, Var};
+use cedar_expressions::{ExprBuilderInfallibleBuild, Literal, Name, Place, Text, TryClone, Var};
 use cedar_syntax::err::{Failure, ParseErrors, ToASTError, ToASTErrorKind};
 use cedar_syntax::loc::Loc;
 use std::alloc::Global;
@@ -17,6 +17,8 @@ use std::alloc::Global;
 pub(crate) enum ExprOrSpecial<E> {
     Expr(E, Option<Loc>),
     Var(Var, Option<Loc>),
+    /// A name that is no variable.
+    Name(Name, Option<Loc>),
     BoolLit(bool, Option<Loc>),
     /// A string as it is written. Its escape faults are told once it is wanted as an expression.
     StrLit(Text, Option<Loc>),
@@ -64,6 +66,19 @@ pub(crate) fn unreached(alloc: Global, loc: &Option<Loc>) -> Failure
     refusal(alloc, ToASTErrorKind::EmptyNodeInvariantViolation, loc)
 }
 
+/// A name where an expression is wanted.
+fn no_variable(alloc: Global, name: &Name, loc: &Option<Loc>) -> Failure
+    ensures { TellsAlone result arbitrary_variable loc.now }
+{
+    match format!(in alloc; "{name}") {
+        Ok(shown) => {
+            let shown = Text::from(shown);
+            refusal(alloc, ToASTErrorKind::ArbitraryVariable(shown), loc)
+        }
+        Err(error) => Failure::from(error),
+    }
+}
+
 /// The expression that a form is where an expression is wanted.
 pub(crate) fn into_expr<B: ExprBuilderInfallibleBuild>(
     alloc: Global,
@@ -74,6 +89,7 @@ pub(crate) fn into_expr<B: ExprBuilderInfallibleBuild>(
     match special {
         ExprOrSpecial::Expr(expr, _) => Ok(expr),
         ExprOrSpecial::Var(var, loc) => Ok(builder_at::<B>(alloc, &loc).var(var)?),
+        ExprOrSpecial::Name(name, loc) => Err(no_variable(alloc, &name, &loc)),
         ExprOrSpecial::BoolLit(value, loc) => {
             Ok(builder_at::<B>(alloc, &loc).val(Literal::Bool(value))?)
         }

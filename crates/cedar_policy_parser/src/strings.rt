@@ -5,17 +5,38 @@ ghost use Rattle.cedar_syntax.specs.ParseErrors.{faults_of};
 ghost use Rattle.cedar_policy_parser.specs.Held.{text_value};
 ghost use Rattle.cedar_policy_parser.specs.Outcome.{next, unescape};
 ghost use Rattle.cedar_policy_parser.specs.Seen.{Gives, itself, told, told_of};
-ghost use Rattle.cedar_policy_parser.specs.Strings.{text_outcome, told_at};
+ghost use Rattle.cedar_policy_parser.specs.Strings.{pattern_outcome, text_outcome, told_at};
 
 use crate::special::builder_at;
-use cedar_expressions::{ExprBuilderInfallibleBuild, Literal, Text, TryClone};
+use cedar_expressions::{ExprBuilderInfallibleBuild, Literal, PatternElem, Text, TryClone};
 use cedar_syntax::err::{
     Failure, NonEmpty, ParseError, ParseErrors, ToASTError, ToASTErrorKind, UnescapeError,
     UnescapeFailure,
 };
 use cedar_syntax::loc::Loc;
-use cedar_text::unescape::to_unescaped_string;
+use cedar_text::unescape::{to_pattern, to_unescaped_string};
 use std::alloc::{AllocError, Global};
+
+/// An escape fault at the string's place.
+fn escape_fault(fault: UnescapeError, loc: &Option<Loc>) -> Result<ToASTError, AllocError>
+    ensures { IfOk result (λ made. told_of (ParseError.ToAST made) ≡ (unescape, loc.now)) }
+{
+    let loc = loc.try_clone()?;
+    Ok(ToASTError::new(ToASTErrorKind::Unescape(fault), loc))
+}
+
+/// One more escape fault, at the string's place.
+fn add_escape_fault(
+    all: &mut ParseErrors,
+    fault: UnescapeError,
+    loc: &Option<Loc>,
+) -> Result<(), AllocError>
+    ensures { OnOk result (told (faults_of all.new)
+        ≡ told (faults_of all.old) ++ (unescape, loc.now) ∷ []) }
+{
+    let fault = escape_fault(fault, loc)?;
+    all.faults.push(ParseError::ToAST(fault))
+}
 
 /// The escape faults of a string, each at the string's place.
 pub(crate) fn escape_faults(
@@ -33,33 +54,29 @@ pub(crate) fn escape_faults(
     Ok(all)
 }
 
-/// One more escape fault, at the string's place.
-fn add_escape_fault(
-    all: &mut ParseErrors,
-    fault: UnescapeError,
-    loc: &Option<Loc>,
-) -> Result<(), AllocError>
-    ensures { OnOk result (told (faults_of all.new)
-        ≡ told (faults_of all.old) ++ (unescape, loc.now) ∷ []) }
-{
-    let fault = escape_fault(fault, loc)?;
-    all.faults.push(ParseError::ToAST(fault))
-}
-
-/// An escape fault at the string's place.
-fn escape_fault(fault: UnescapeError, loc: &Option<Loc>) -> Result<ToASTError, AllocError>
-    ensures { IfOk result (λ made. told_of (ParseError.ToAST made) ≡ (unescape, loc.now)) }
-{
-    let loc = loc.try_clone()?;
-    Ok(ToASTError::new(ToASTErrorKind::Unescape(fault), loc))
-}
-
 /// The text that a raw text stands for, or its escape faults, each at the string's place.
 pub(crate) fn unescaped(alloc: Global, raw: &Text, loc: &Option<Loc>) -> Result<Text, Failure>
     ensures { Gives itself result (text_outcome loc.now raw.now) }
 {
     match to_unescaped_string(alloc, raw.as_str()) {
         Ok(text) => Ok(Text::from(text)),
+        Err(UnescapeFailure::Memory(error)) => Err(Failure::Memory(error)),
+        Err(UnescapeFailure::Errors(faults)) => {
+            Err(Failure::Errors(escape_faults(alloc, faults, loc)?))
+        }
+    }
+}
+
+/// The pattern that a raw text stands for, or its escape faults, each at the string's place.
+pub(crate) fn pattern_of(
+    alloc: Global,
+    raw: &Text,
+    loc: &Option<Loc>,
+) -> Result<Vec<PatternElem>, Failure>
+    ensures { Gives (λ elements. elements.items) result (pattern_outcome loc.now raw.now) }
+{
+    match to_pattern(alloc, raw.as_str()) {
+        Ok(pattern) => Ok(pattern),
         Err(UnescapeFailure::Memory(error)) => Err(Failure::Memory(error)),
         Err(UnescapeFailure::Errors(faults)) => {
             Err(Failure::Errors(escape_faults(alloc, faults, loc)?))

@@ -1,5 +1,5 @@
 use Rattle.cedar_text.specs.Place.{placed}
-use Rattle.cedar_policy_parser.proofs.Complete.{complete}
+use Rattle.cedar_policy_parser.proofs.complete.Whole.{complete}
 use Rattle.cedar_policy_parser.proofs.laws.meant_is_converted.Goals as goal
 
 pub returns : goal.returns

@@ -1,0 +1,12 @@
+pub mod Calls
+pub mod Items
+pub mod Leaves
+pub mod Levels
+pub mod Links
+pub mod Lone
+pub mod Members
+pub mod Reads
+pub mod Sides
+pub mod Signs
+pub mod Whole
+pub mod Words

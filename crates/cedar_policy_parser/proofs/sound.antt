@@ -1,0 +1,14 @@
+pub mod Bare
+pub mod Calls
+pub mod Ifs
+pub mod Items
+pub mod Leaves
+pub mod Levels
+pub mod Links
+pub mod Numerals
+pub mod Sides
+pub mod Signs
+pub mod Sought
+pub mod Sums
+pub mod Whole
+pub mod Words

@@ -1,0 +1,29 @@
+-- What the primaries that hold no expression give, beside literals: names, slots and entities.
+use Rattle.std.specs.Prelude.{List, Option, Some, None, Ok}
+use Rattle.cedar_syntax.specs.declared.loc.Loc.{Loc}
+use Rattle.cedar_syntax.specs.declared.node.Node.{Node}
+use Rattle.cedar_syntax.specs.declared.cst.Name.{Name}
+use Rattle.cedar_syntax.specs.declared.cst.Ref.{Ref}
+use Rattle.cedar_syntax.specs.declared.cst.Slot.{Slot}
+use Rattle.cedar_expressions.specs.declared.literal.Var.{Var}
+use Rattle.cedar_expressions.specs.declared.literal.Literal.TheVariants as literals
+use Rattle.cedar_expressions.specs.Value as v
+use Rattle.cedar_policy_parser.specs.Entities.{entity_outcome, slot_outcome}
+use Rattle.cedar_policy_parser.specs.Held.{Held, expression, variable, bare_name}
+use Rattle.cedar_policy_parser.specs.Names.{name_outcome, named_variable}
+use Rattle.cedar_policy_parser.specs.Outcome.{Outcome, next}
+
+abbrev pub variable_or_name : Option Loc → Option Var → Node (Option Name) → Outcome Held
+variable_or_name place (Some x) n = Ok (variable place x)
+variable_or_name place None n = next (name_outcome n) (λ name. Ok (bare_name place name))
+
+-- a name has the place of its primary
+abbrev pub named : Option Loc → Node (Option Name) → Outcome Held
+named place n = variable_or_name place (named_variable n.node) n
+
+abbrev pub slot_held : Node (Option Slot) → Outcome Held
+slot_held n = next (slot_outcome n) (λ id. Ok (expression n.loc (v.slot id)))
+
+abbrev pub entity_held : Node (Option Ref) → Outcome Held
+entity_held n =
+    next (entity_outcome n) (λ uid. Ok (expression n.loc (v.val (literals.EntityUID uid))))
