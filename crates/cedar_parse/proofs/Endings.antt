@@ -8,8 +8,9 @@ use Rattle.cedar_parse.specs.declared.streams.Stop.{Stop}
 use Rattle.cedar_parse.specs.declared.streams.Stop.TheVariants.{InputOutput}
 use Rattle.cedar_parse.specs.declared.streams.WriterState.{WriterState}
 use Rattle.cedar_parse.specs.declared.streams.WriterState.TheVariants.{Written, Failed}
-use Rattle.cedar_parse.specs.Ends.{AsksForExpression, Streams, Stops, StopsWriting, Ends, TellsEnd, status_of}
+use Rattle.cedar_parse.specs.Ends.{Streams, Stops, StopsWriting, Ends, TellsEnd, status_of}
 use Rattle.cedar_parse.specs.Streams.{IsNoText}
+use Rattle.cedar_parse.specs.Words.{AsksForExpression}
 
 -- the text wasn't had
 pub unread : (known : Option (List ℕ)) (read : Option Stop) (out : WriterState) (stop : Stop) →

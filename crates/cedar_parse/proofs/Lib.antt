@@ -1,2 +1,4 @@
 mod Endings
 mod Verdicts
+mod Spelled
+mod Naming

@@ -1,11 +1,10 @@
 -- What each end of a run says of the words and of the text.
-use Rattle.std.specs.Prelude.{◌≡◌, ◌⊎◌, ℕ, List, [], ◌∷◌, Option, Some, None, IfSome, String, string_bytes, codes}
+use Rattle.std.specs.Prelude.{◌≡◌, ◌⊎◌, ℕ, List, Option, Some, None, IfSome, String}
 use Rattle.std.specs.Str.{IsUtf8}
 use Rattle.cedar_lexer.specs.Token.{Lexeme}
 use Rattle.cedar_lexer.specs.Cut.{Cuts}
 use Rattle.cedar_expressions.specs.Value.{Value}
 use Rattle.cedar_syntax.specs.declared.cst.TheConstants.{SIGN_LIMIT}
-use Rattle.cedar_policy_parser.specs.Extensions.{no_extensions}
 use Rattle.cedar_policy_parser.specs.Strict.{Means, expression}
 use Rattle.cedar_parse.specs.declared.run.Ending.{Ending}
 use Rattle.cedar_parse.specs.declared.run.Ending.TheVariants.{Answered, Usage, Stopped}
@@ -18,21 +17,16 @@ use Rattle.cedar_parse.specs.declared.streams.Output.{Output}
 use Rattle.cedar_parse.specs.declared.streams.WriterState.{WriterState}
 use Rattle.cedar_parse.specs.declared.streams.WriterState.TheVariants.{Flushed, Written, Failed}
 use Rattle.cedar_parse.specs.Streams.{read_failure, writer_state, IsNoText}
+use Rattle.cedar_parse.specs.Words.{AsksForExpression, styles_of}
 
--- The commands: so far there is one, the one word `expr`.
-abbrev pub AsksForExpression : {A : Type 0} → List (String A) → Type 0
-AsksForExpression [] = ⊥
-AsksForExpression (word ∷ []) = string_bytes word ≡ codes "expr"
-AsksForExpression (word ∷ next ∷ words) = ⊥
+-- the text's tokens mean an expression that calls no extension but those that the words name
+abbrev pub IsMeant : {A : Type 0} → List (String A) → List ℕ → Type 0
+IsMeant words text = (ts : List Lexeme) × (value : Value) × Cuts text ts
+    × Means (styles_of words) SIGN_LIMIT expression ts value
 
--- the text's tokens mean an expression that calls no extension
-abbrev pub IsMeant : List ℕ → Type 0
-IsMeant text = (ts : List Lexeme) × (value : Value) × Cuts text ts
-    × Means no_extensions SIGN_LIMIT expression ts value
-
-abbrev pub IsVerdict : List ℕ → Verdict → Type 0
-IsVerdict text Accepted = IsMeant text
-IsVerdict text Refused = ¬ IsMeant text
+abbrev pub IsVerdict : {A : Type 0} → List (String A) → List ℕ → Verdict → Type 0
+IsVerdict words text Accepted = IsMeant words text
+IsVerdict words text Refused = ¬ IsMeant words text
 
 -- A run's streams at its end: what is known of the reader's text, `None` where the reader can't
 -- tell it before it is read; why reading failed, if it did; how the calls of both writers went.
@@ -72,7 +66,7 @@ StopsWriting out stop = (stop ≡ Memory) ⊎ (out ≡ Failed stop)
 pub data Ends {A : Type 0} (words : List (String A)) (s : Streams) : Ending → Type 0 where
   -- the text was read, and all that was written was passed on
   answered : (verdict : Verdict) → AsksForExpression words →
-      IfSome s.known (λ text. IsVerdict text verdict) → s.read ≡ None → s.out ≡ Flushed →
+      IfSome s.known (λ text. IsVerdict words text verdict) → s.read ≡ None → s.out ≡ Flushed →
       Ends words s (Answered verdict)
   usage : ¬ AsksForExpression words → s.err ≡ Written → Ends words s Usage
   stopped : (stop : Stop) → AsksForExpression words → Stops s.known s.read s.out stop →

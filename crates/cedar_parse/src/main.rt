@@ -5,6 +5,7 @@ mod run;
 mod streams;
 #[cfg(test)]
 mod tests;
+mod words;
 
 pub use run::{run, run_on};
 use std::io::BufWriter;

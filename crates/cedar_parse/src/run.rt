@@ -1,28 +1,28 @@
 //! A run of the program: its words, its text, what it writes and its status.
-ghost use Rattle.std.specs.Prelude.{◌≡◌, ◌≢◌, ◌↔◌, None, IsTrue, OnOk, IfOk, IfErr, IfSome};
+ghost use Rattle.std.specs.Prelude.{◌≡◌, ◌≢◌, None, OnOk, IfOk, IfErr, IfSome};
 ghost use Rattle.std.specs.IoError.{error_kind};
 ghost use Rattle.cedar_expressions.specs.Value.{Value};
 ghost use Rattle.cedar_syntax.specs.Forms.{located, expr_form};
 ghost use Rattle.cedar_policy_parser.specs.Conversion.{Converts};
-ghost use Rattle.cedar_policy_parser.specs.Extensions.{no_extensions, table_of};
 ghost use Rattle.cedar_policy_parser.specs.Refused.{TellsTree};
-ghost use Rattle.cedar_parse.specs.Ends.{AsksForExpression, IsMeant, IsVerdict, Streams, streams_at, Ends, Stops, StopsWriting, TellsEnd, status_of};
+ghost use Rattle.cedar_parse.specs.Ends.{IsMeant, IsVerdict, Streams, streams_at, Ends, Stops, StopsWriting, TellsEnd, status_of};
 ghost use Rattle.cedar_parse.specs.Streams.{reader_of, read_failure, writer_state};
+ghost use Rattle.cedar_parse.specs.Words.{AsksForExpression, styles_of};
 ghost use Rattle.cedar_parse.specs.declared.run.Ending.{Ending as How};
 ghost use Rattle.cedar_parse.specs.declared.run.Ending.TheVariants.{Stopped, Usage};
 ghost use Rattle.cedar_parse.specs.declared.run.Verdict.TheVariants as verdict;
-ghost use Rattle.cedar_text.specs.Fault.{IsMemory};
+ghost use Rattle.cedar_text.specs.FirstFault.{IsMemory};
 
 use crate::streams::{Input, Output, Stop, WriterState};
+use crate::words::{asks_for_an_expression, table_named};
 use cedar_expressions::ExprBuilder;
-use cedar_policy_parser::cst_to_ast::{ExprAst, ExtStyles};
+use cedar_policy_parser::cst_to_ast::ExprAst;
 use cedar_policy_parser::laws::{converted_is_meant, meant_is_converted};
 use cedar_syntax::cst::Expr;
 use cedar_syntax::err::{Failure, ParseError, ParseErrors};
 use cedar_syntax::node::Node;
 use cedar_text::text_to_cst::parse_expr;
 use std::alloc::Global;
-use std::collections::BTreeSet;
 use std::env::Env;
 use std::io::{ErrorKind, Read, Write};
 use std::{env, io};
@@ -70,7 +70,7 @@ pub fn arguments<R: Env + AllocGlobal>(rt: &R) -> io::Result<Vec<String>> {
 /// Does what `words` (the arguments without the program's name) ask of the text that `reader` gives, and answers the
 /// status: 0 where the text is accepted, 1 where it has faults, 2 for a usage fault, 3 for want of memory, 4 where
 /// reading or writing failed, also for input that isn't UTF-8. The answer, or the faults, go to `out`; what ended a run
-/// goes to `err`.
+/// goes to `err`. A text may call the extension functions and methods that the words name, and no others.
 ///
 /// Of a reader and of writers of any kind no clause can say which of their calls fail: `run_on`,
 /// which this is, says it of streams that keep it.
@@ -106,7 +106,7 @@ pub fn run_on<R: Read + Drop, O: Write, E: Write>(
     if !asks_for_an_expression(words) {
         return tell(Ending::Usage, USAGE, err);
     }
-    match answer(alloc, input, out) {
+    match answer(alloc, words, input, out) {
         Ok(verdict) => Ending::Answered(verdict).status(),
         Err(stop) => tell(Ending::Stopped(stop), stop.message(), err),
     }
@@ -143,24 +143,15 @@ fn tell<E: Write>(ending: Ending, message: &str, err: &mut Output<E>) -> u8
     }
 }
 
-/// The only command yet is the one word `expr`.
-fn asks_for_an_expression(words: &[String]) -> bool
-    ensures { IsTrue result ↔ AsksForExpression words.now }
-{
-    match words {
-        [word] => word.as_str() == "expr",
-        _ => false,
-    }
-}
-
 /// Reads the text and answers it.
 fn answer<R: Read + Drop, O: Write>(
     alloc: Global,
+    words: &[String],
     input: &mut Input<R>,
     out: &mut Output<O>,
 ) -> Result<Verdict, Stop>
     ensures verdict { IfOk result (λ v.
-        IfSome (R.remaining (reader_of input.old)) (λ text. IsVerdict text v)) }
+        IfSome (R.remaining (reader_of input.old)) (λ text. IsVerdict words.now text v)) }
     ensures read { OnOk result (read_failure input.new ≡ None) }
     ensures flushed { OnOk result (writer_state out.new ≡ WriterState.Flushed) }
     ensures stops { IfErr result (λ stop.
@@ -168,58 +159,62 @@ fn answer<R: Read + Drop, O: Write>(
         (writer_state out.new) stop) }
 {
     let text = input.text(alloc)?;
-    passed_on(alloc, text.as_str(), out)
+    passed_on(alloc, words, text.as_str(), out)
 }
 
 /// Prints the answer and passes on what the writer holds back.
-fn passed_on<O: Write>(alloc: Global, text: &str, out: &mut Output<O>) -> Result<Verdict, Stop>
-    ensures verdict { IfOk result (λ v. IsVerdict text.now v) }
+fn passed_on<O: Write>(
+    alloc: Global,
+    words: &[String],
+    text: &str,
+    out: &mut Output<O>,
+) -> Result<Verdict, Stop>
+    ensures verdict { IfOk result (λ v. IsVerdict words.now text.now v) }
     ensures flushed { OnOk result (writer_state out.new ≡ WriterState.Flushed) }
     ensures stops { IfErr result (λ stop. StopsWriting (writer_state out.new) stop) }
 {
-    let verdict = expression(alloc, text, out)?;
+    let verdict = expression(alloc, words, text, out)?;
     out.flush()?;
     Ok(verdict)
 }
 
 /// Prints the text's tree and `ok`, or its faults.
-fn expression<O: Write>(alloc: Global, text: &str, out: &mut Output<O>) -> Result<Verdict, Stop>
-    ensures verdict { IfOk result (λ v. IsVerdict text.now v) }
+fn expression<O: Write>(
+    alloc: Global,
+    words: &[String],
+    text: &str,
+    out: &mut Output<O>,
+) -> Result<Verdict, Stop>
+    ensures verdict { IfOk result (λ v. IsVerdict words.now text.now v) }
     ensures stops { IfErr result (λ stop. StopsWriting (writer_state out.new) stop) }
 {
-    match meant(alloc, text) {
+    match meant(alloc, words, text) {
         Ok(tree) => print_tree(&tree, out),
         Err(failure) => refused(&failure, out),
     }
 }
 
-/// The tree of a text that means an expression.
-fn meant(alloc: Global, text: &str) -> Result<Node<Option<Expr>>, Failure>
-    ensures meant { IfOk result (λ tree. IsMeant text.now) }
-    ensures only { IsMeant text.now → IfErr result IsMemory }
+/// The tree of a text that means an expression under the table that the words name.
+fn meant(alloc: Global, words: &[String], text: &str) -> Result<Node<Option<Expr>>, Failure>
+    ensures meant { IfOk result (λ tree. IsMeant words.now text.now) }
+    ensures only { IsMeant words.now text.now → IfErr result IsMemory }
 {
     meant_is_converted();
     converted_is_meant();
     let tree = parse_expr(alloc, text)?;
-    convert(alloc, &tree)?;
+    convert(alloc, words, &tree)?;
     Ok(tree)
 }
 
 /// Refuses a tree that stands for no expression.
-fn convert(alloc: Global, tree: &Node<Option<Expr>>) -> Result<(), Failure>
+fn convert(alloc: Global, words: &[String], tree: &Node<Option<Expr>>) -> Result<(), Failure>
     ensures value { IfOk result (λ done.
-        (w : Value) × Converts no_extensions (located expr_form tree.now) w) }
-    ensures refused { IfErr result (λ failure. TellsTree no_extensions failure tree.now) }
+        (w : Value) × Converts (styles_of words.now) (located expr_form tree.now) w) }
+    ensures refused { IfErr result (λ failure.
+        TellsTree (styles_of words.now) failure tree.now) }
 {
-    let styles = empty_table(alloc);
+    let styles = table_named(alloc, words)?;
     tree.to_expr::<ExprBuilder<()>>(alloc, &styles).and(Ok(()))
-}
-
-/// The table without extension functions and methods.
-fn empty_table(alloc: Global) -> ExtStyles
-    ensures { table_of result ≡ no_extensions }
-{
-    ExtStyles::new(BTreeSet::new(alloc), BTreeSet::new(alloc))
 }
 
 fn print_tree<O: Write>(tree: &Node<Option<Expr>>, out: &mut Output<O>) -> Result<Verdict, Stop>

@@ -1,19 +1,27 @@
 //! Rows from the specification's tables and from the original's tests; runs of the program over memory.
 mod builder;
+mod calls;
 mod counting;
 mod escapes;
 mod example;
 mod expected;
+mod expressions;
 mod faults;
 mod held;
 mod kinds;
+mod leaves;
 mod lexer;
 mod names;
+mod nodes;
+mod originals;
 mod places;
 mod primaries;
 mod program;
+mod refusals;
 mod shapes;
 mod store;
+mod styles;
 mod texts;
 mod trees;
+mod values;
 mod words;

@@ -104,6 +104,16 @@ fn stray_token(rt: &(impl Abort + AllocGlobal)) -> ToCSTError {
     in_text(rt, raw, ") ~")
 }
 
+/// The fault of a token that stands behind the end of a text.
+fn extra_token(rt: &(impl Abort + AllocGlobal)) -> ToCSTError {
+    let raw = RawFault::ExtraToken {
+        start: 2,
+        end: 3,
+        token: text(rt, "2"),
+    };
+    in_text(rt, raw, "1 2")
+}
+
 /// A fault of the user's from this byte to the third.
 fn too_large(rt: &(impl Abort + AllocGlobal), start: usize) -> RawFault {
     RawFault::User {
@@ -136,6 +146,7 @@ fn faults_of_texts_have_their_place_and_message(rt: HostRuntime) {
         "unexpected end of input",
     );
     is_told(&rt, stray_token(&rt), (0, 1), &[], "unexpected token `)`");
+    is_told(&rt, extra_token(&rt), (2, 3), &[], "extra token `2`");
     let invalid = in_text(&rt, RawFault::InvalidToken { location: 2 }, "1 ~");
     is_told(&rt, invalid, (2, 2), &[], "invalid token");
     let large = in_text(&rt, too_large(&rt, 1), POLICY);

@@ -200,12 +200,12 @@ fn right_sides_are_told(rt: HostRuntime) {
 }
 
 /// An identifier that isn't reserved.
-fn method(rt: &(impl Abort + AllocGlobal), word: &str) -> UnreservedId {
+pub(super) fn method(rt: &(impl Abort + AllocGlobal), word: &str) -> UnreservedId {
     made(rt, UnreservedId::try_from(id(rt, word)))
 }
 
 /// A name of one part.
-fn function(rt: &(impl Abort + AllocGlobal), word: &str) -> Name {
+pub(super) fn function(rt: &(impl Abort + AllocGlobal), word: &str) -> Name {
     Name::from(method(rt, word))
 }
 

@@ -8,7 +8,7 @@ use std::io::{ErrorKind, Read, Write};
 use std::process::Abort;
 
 /// The words of a run, its input, its status, its output, and what it says on the stream of errors.
-type Row = (
+pub(super) type Row = (
     &'static [&'static str],
     &'static [u8],
     u8,
@@ -16,18 +16,20 @@ type Row = (
     &'static str,
 );
 
-const EXPR: &[&str] = &["expr"];
+pub(super) const EXPR: &[&str] = &["expr"];
 
-const USAGE_LINE: &str = "usage: cedar-parse expr|policies|format [fn:NAME | method:NAME]*\n";
+pub(super) const USAGE_LINE: &str =
+    "usage: cedar-parse expr|policies|format [fn:NAME | method:NAME]*\n";
 
 /// Words that ask for nothing that there is, and input that isn't UTF-8.
-const ENDED_EARLY: [Row; 7] = [
+const ENDED_EARLY: [Row; 8] = [
     (&[], b"\xff1 + 2", 2, "", USAGE_LINE),
     (&["policies"], b"\xff1 + 2", 2, "", USAGE_LINE),
     (&["format"], b"\xff1 + 2", 2, "", USAGE_LINE),
     (&["expression"], b"\xff1 + 2", 2, "", USAGE_LINE),
-    (&["expr", "fn:f"], b"\xff1 + 2", 2, "", USAGE_LINE),
-    (&["expr", "expr"], b"\xff1 + 2", 2, "", USAGE_LINE),
+    (&["fn:f"], b"\xff1 + 2", 2, "", USAGE_LINE),
+    (&["fn:f", "expr"], b"\xff1 + 2", 2, "", USAGE_LINE),
+    (&["expr", "fn:f", "f"], b"\xff1 + 2", 2, "", USAGE_LINE),
     (EXPR, b"1 + \xff", 4, "", "input or output failed\n"),
 ];
 
@@ -170,7 +172,7 @@ const REFUSED: [Row; 20] = [
         EXPR,
         b"1 + if true then 1 else 2",
         1,
-        "4..6: unexpected token `if`\n",
+        "7..11: unexpected token `true`\n",
         "",
     ),
     (EXPR, b"(1", 1, "2..2: unexpected end of input\n", ""),
@@ -232,7 +234,7 @@ fn run_on<R: Read + Drop, O: Write>(
 }
 
 /// The row's run ends as the row says.
-fn ends_so(rt: &(impl Abort + AllocGlobal), row: &Row) {
+pub(super) fn ends_so(rt: &(impl Abort + AllocGlobal), row: &Row) {
     let (words, input, status, written, said) = row;
     let mut out = Vec::new(rt.alloc());
     let (got, err) = run_on(rt, words, *input, &mut out);
@@ -241,6 +243,17 @@ fn ends_so(rt: &(impl Abort + AllocGlobal), row: &Row) {
         "{written}"
     );
     assert!(rt; err.as_slice() == said.as_bytes());
+}
+
+/// The text is refused, and what the program writes of it begins so.
+pub(super) fn begins_so(rt: &(impl Abort + AllocGlobal), text: &str, told: &str) {
+    let mut out = Vec::new(rt.alloc());
+    let (status, err) = run_on(rt, EXPR, text.as_bytes(), &mut out);
+    assert!(rt;
+        status == 1 && out.as_slice().starts_with(told.as_bytes()),
+        "{text}"
+    );
+    assert!(rt; err.is_empty());
 }
 
 #[test]
@@ -417,7 +430,7 @@ impl Env for Given {
 
 #[test]
 fn an_argument_that_is_no_text_is_a_usage_fault(rt: HostRuntime) {
-    let given = (Given(&[b"cedar-parse", b"expr", b"\xff"]), rt.alloc());
+    let given = (Given(&[b"cedar-parse", b"expr", b"fn:\xff"]), rt.alloc());
     let error = refusal(&rt, arguments(&given));
     let mut err = Vec::new(rt.alloc());
     let status = refuse_arguments(error, &mut Output::new(&mut err));

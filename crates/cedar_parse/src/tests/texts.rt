@@ -1,7 +1,7 @@
-//! What texts become: `parse_expr` with its trees and faults, and `parse_expression` with its values.
+//! What texts become: the places of their trees' nodes, and their values by `parse_expression`.
 use super::builder::{build, difference, long, prefixed};
 use super::counting::CountingBuilder;
-use super::held::{agrees, made, refusal, shows};
+use super::held::{agrees, made};
 use super::names::text;
 use cedar_expressions::{
     Expr as Value, ExprBuilder, ExprBuilderInfallibleBuild, ExprKind, Literal, Place, UnaryOp, Var,
@@ -9,7 +9,7 @@ use cedar_expressions::{
 use cedar_policy_parser::cst_to_ast::{ExprAst, ExtStyles};
 use cedar_policy_parser::parse_expression;
 use cedar_syntax::cst::{Expr, ExprData, Primary, Relation};
-use cedar_syntax::err::{Failure, ParseError};
+use cedar_syntax::err::Failure;
 use cedar_syntax::loc::SourceSpan;
 use cedar_syntax::node::Node;
 use cedar_text::text_to_cst::parse_expr;
@@ -31,117 +31,8 @@ pub(super) fn built<B: ExprBuilderInfallibleBuild>(
     tree.to_expr::<B>(alloc, &styles)
 }
 
-/// Texts and their trees' texts.
-const TREES: [(&str, &str); 16] = [
-    ("9223372036854775808", "9223372036854775808"),
-    ("18446744073709551615", "18446744073709551615"),
-    ("1+9223372036854775808", "1 + 9223372036854775808"),
-    ("1 + 2 == 3 && !true", "1 + 2 == 3 && ! true"),
-    (
-        "!!!!true && 9223372036854775807 > 0",
-        "! ! ! ! true && 9223372036854775807 > 0",
-    ),
-    ("1 = 2", "1 = 2"),
-    ("!!!!!true", "! ! ! ! ! true"),
-    ("-----1", "- - - - - 1"),
-    (
-        "principal < action < resource",
-        "principal < action < resource",
-    ),
-    ("1+(2)", "1 + ( 2 )"),
-    ("1 - -1", "1 - - 1"),
-    ("if true then 1 else -2", "if true then 1 else - 2"),
-    (
-        "if if true then false else true then 1 else (2)",
-        "if if true then false else true then 1 else ( 2 )",
-    ),
-    ("1 in context // the end", "1 in context"),
-    (
-        "1 / 2 % 3 * 18446744073709551615",
-        "1 / 2 % 3 * 18446744073709551615",
-    ),
-    (
-        "\"a\\q\" <= \"\" || 1 >= 2 || 3 != 4 || 5 < 6",
-        "\"a\\q\" <= \"\" || 1 >= 2 || 3 != 4 || 5 < 6",
-    ),
-];
-
-#[test]
-fn trees_are_printed_token_by_token(rt: HostRuntime) {
-    for (text, printed) in &TREES {
-        let tree = tree(&rt, text);
-        shows(&rt, inside(&rt, &tree), printed);
-        drop(tree);
-    }
-}
-
-/// A text, the place of its first fault, and the message.
-type Refused = (&'static str, usize, usize, &'static str);
-
-const REFUSED: [Refused; 16] = [
-    ("a in b", 0, 1, "unexpected token `a`"),
-    ("", 0, 0, "unexpected end of input"),
-    ("  // nothing", 0, 0, "unexpected end of input"),
-    ("1 +", 3, 3, "unexpected end of input"),
-    ("1 + ", 3, 3, "unexpected end of input"),
-    ("(1", 2, 2, "unexpected end of input"),
-    ("1 2", 2, 3, "unexpected token `2`"),
-    (") ~", 0, 1, "unexpected token `)`"),
-    ("1 & 2", 2, 2, "invalid token"),
-    ("1 ~", 2, 2, "invalid token"),
-    ("!-1", 1, 2, "unexpected token `-`"),
-    ("1 + if true then 1 else 2", 4, 6, "unexpected token `if`"),
-    (
-        "99999999999999999999 ~",
-        0,
-        20,
-        "integer parse error: number too large to fit in target type",
-    ),
-    (
-        "principal == 5555555555555555555555",
-        13,
-        35,
-        "integer parse error: number too large to fit in target type",
-    ),
-    (
-        "principal == -5555555555555555555555",
-        14,
-        36,
-        "integer parse error: number too large to fit in target type",
-    ),
-    (
-        "1 18446744073709551616",
-        2,
-        22,
-        "unexpected token `18446744073709551616`",
-    ),
-];
-
-/// The failure is one fault of the text, at this place, and says this.
-fn is_told(rt: &(impl Abort + AllocGlobal), failure: &Failure, span: SourceSpan, message: &str) {
-    let Failure::Errors(faults) = failure else {
-        return assert!(rt; false, "want of memory");
-    };
-    let ParseError::ToCST(fault) = faults.first() else {
-        return assert!(rt; false, "not a fault of the text");
-    };
-    assert!(rt; faults.len() == 1 && fault.expected_kinds().is_empty());
-    assert!(rt; fault.primary_source_span() == Some(span), "{message}");
-    shows(rt, fault, message);
-}
-
-#[test]
-fn a_refusal_is_the_first_fault(rt: HostRuntime) {
-    for (text, start, end, message) in &REFUSED {
-        let span = SourceSpan::between(*start, *end);
-        let failure = refusal(&rt, parse_expr(rt.alloc(), text));
-        is_told(&rt, &failure, span, message);
-        drop(failure);
-    }
-}
-
 /// What a node holds.
-fn inside<'a, T>(rt: &impl Abort, node: &'a Node<Option<T>>) -> &'a T {
+pub(super) fn inside<'a, T>(rt: &impl Abort, node: &'a Node<Option<T>>) -> &'a T {
     node.as_inner().expect(rt, "an empty node")
 }
 
@@ -205,7 +96,7 @@ fn places_of_nodes(whole: &Value) -> Option<[Option<Place>; 5]> {
 }
 
 /// A place as a value has it.
-fn at(offset: usize, length: usize) -> Option<Place> {
+pub(super) fn at(offset: usize, length: usize) -> Option<Place> {
     Some(Place { offset, length })
 }
 
@@ -218,13 +109,13 @@ fn each_node_of_a_value_has_its_place(rt: HostRuntime) {
 }
 
 /// The value of a text that has one.
-fn value(rt: &(impl Abort + AllocGlobal), text: &str) -> Value {
+pub(super) fn value(rt: &(impl Abort + AllocGlobal), text: &str) -> Value {
     let styles = ExtStyles::new(BTreeSet::new(rt.alloc()), BTreeSet::new(rt.alloc()));
     made(rt, parse_expression(rt.alloc(), text, &styles))
 }
 
 /// The text has this value, places aside.
-fn means(rt: &(impl Abort + AllocGlobal), text: &str, wanted: Value) {
+pub(super) fn means(rt: &(impl Abort + AllocGlobal), text: &str, wanted: Value) {
     agrees(rt, value(rt, text), wanted, text);
 }
 
@@ -236,12 +127,12 @@ fn negated_twice(rt: &(impl Abort + AllocGlobal)) -> Value {
 }
 
 /// A constant.
-fn constant(rt: &(impl Abort + AllocGlobal), literal: Literal) -> Value {
+pub(super) fn constant(rt: &(impl Abort + AllocGlobal), literal: Literal) -> Value {
     made(rt, build(rt).val(literal))
 }
 
 /// A variable.
-fn variable(rt: &(impl Abort + AllocGlobal), var: Var) -> Value {
+pub(super) fn variable(rt: &(impl Abort + AllocGlobal), var: Var) -> Value {
     made(rt, build(rt).var(var))
 }
 

@@ -252,8 +252,7 @@ fn what_no_text_has_is_told(rt: HostRuntime) {
     let empty = "internal invariant violated. Parsed data node should not be empty";
     hinders(&rt, Node::new(None), empty);
     hinders(&rt, node(Primary::Literal(Node::new(None))), empty);
-    // A form that the conversion doesn't reach yet.
-    hinders(&rt, node(Primary::Slot(node(Slot::Principal))), empty);
+    hinders(&rt, node(Primary::Slot(Node::new(None))), empty);
     let string = Str::Invalid(text(&rt, "a\"b"));
     let literal = Primary::Literal(node(Literal::Str(node(string))));
     hinders(&rt, node(literal), "invalid string literal: a\"b");

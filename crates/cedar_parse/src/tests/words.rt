@@ -78,10 +78,10 @@ pub(super) const END: &str = "unexpected end of input";
 pub(super) const TOO_LARGE: &str = "integer parse error: number too large to fit in target type";
 
 /// The names of all words and of the identifiers without that of strings, and with it.
-const WORDS: &str =
+pub(super) const WORDS: &str =
     "ACTION CONTEXT ELSE FALSE FORBID HAS IDENTIFIER IF IN IS LIKE PERMIT PRINCIPAL RESOURCE THEN TRUE UNLESS WHEN";
 
-const WORDS_AND_STRINGS: &str =
+pub(super) const WORDS_AND_STRINGS: &str =
     "\"{\" ACTION CONTEXT ELSE FALSE FORBID HAS IDENTIFIER IF IN IS LIKE PERMIT PRINCIPAL RESOURCE STRINGLIT THEN TRUE UNLESS WHEN";
 
 const CLOSING_AND_WORDS: &str =

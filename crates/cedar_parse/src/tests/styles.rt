@@ -1,0 +1,248 @@
+//! Words that name extension functions and methods: which words do, and runs with them.
+use super::held::made;
+use super::program::{EXPR, Row, USAGE_LINE, ends_so};
+use crate::run::run;
+use std::process::Abort;
+
+/// Words that name a function or a method.
+const STYLES: [&str; 14] = [
+    "fn:a",
+    "fn:a::b::c",
+    "fn:_9::A",
+    "fn:principal",
+    "fn:permit::when",
+    "fn:contains",
+    "fn:iff",
+    "fn:fn",
+    "method:a",
+    "method:__cedars",
+    "method:resource",
+    "method:isEmpty",
+    "method:True",
+    "method:method",
+];
+
+/// Words that name nothing.
+const OTHERS: [&str; 33] = [
+    "",
+    "a",
+    "fn",
+    "fn:",
+    "method",
+    "method:",
+    "expr",
+    "policies",
+    "FN:a",
+    "function:a",
+    " fn:a",
+    "fn: a",
+    "fn:a ",
+    "fn:9",
+    "fn:a-b",
+    "fn:a.b",
+    "fn:é",
+    "fn:a,b",
+    "fn:a:b",
+    "fn:a::",
+    "fn:::a",
+    "fn:::",
+    "fn:a:::b",
+    "fn:a::::b",
+    "fn:a :: b",
+    "fn:a::9",
+    "fn:__cedar",
+    "fn:a::__cedar",
+    "fn:__cedar::a",
+    "method:__cedar",
+    "method:a::b",
+    "method:a:b",
+    "method:fn:a",
+];
+
+/// The words that no name may hold.
+const RESERVED: [&str; 9] = [
+    "if", "true", "false", "then", "else", "in", "is", "has", "like",
+];
+
+/// A run with one word behind `expr`: its status, what it writes, and what it says on the stream of errors.
+fn run_with(
+    rt: &(impl Abort + AllocGlobal),
+    start: &str,
+    end: &str,
+    input: &[u8],
+) -> (u8, Vec<u8>, Vec<u8>) {
+    let mut words = Vec::new(rt.alloc());
+    made(
+        rt,
+        words.push(made(rt, String::from_str(rt.alloc(), "expr"))),
+    );
+    let mut word = made(rt, String::from_str(rt.alloc(), start));
+    made(rt, word.push_str(end));
+    made(rt, words.push(word));
+    let (mut out, mut err) = (Vec::new(rt.alloc()), Vec::new(rt.alloc()));
+    let status = run(rt.alloc(), words.as_slice(), input, &mut out, &mut err);
+    (status, out, err)
+}
+
+/// The word is a usage fault, and the input, which isn't UTF-8, doesn't matter.
+fn is_refused(rt: &(impl Abort + AllocGlobal), start: &str, end: &str) {
+    let (status, out, err) = run_with(rt, start, end, b"\xff1");
+    assert!(rt; status == 2 && out.is_empty(), "{start}{end}");
+    assert!(rt; err.as_slice() == USAGE_LINE.as_bytes());
+}
+
+#[test]
+fn words_name_functions_and_methods(rt: HostRuntime) {
+    for word in &STYLES {
+        let (status, out, err) = run_with(&rt, word, "", b"1");
+        assert!(rt;
+            status == 0 && out.as_slice() == b"1\nok\n".as_slice(),
+            "{word}"
+        );
+        assert!(rt; err.is_empty());
+    }
+}
+
+#[test]
+fn other_words_are_usage_faults(rt: HostRuntime) {
+    for word in &OTHERS {
+        is_refused(&rt, word, "");
+    }
+}
+
+#[test]
+fn reserved_words_are_usage_faults(rt: HostRuntime) {
+    for word in &RESERVED {
+        is_refused(&rt, "fn:", word);
+        is_refused(&rt, "fn:a::", word);
+        is_refused(&rt, "method:", word);
+    }
+}
+
+const ADDRESS: &[&str] = &["expr", "fn:ip", "method:isIpv4"];
+
+const REPEATED: &[&str] = &["expr", "method:isIpv4", "fn:ip", "fn:ip", "method:isIpv4"];
+
+const LESS: &[&str] = &["expr", "method:lessThan"];
+
+const FUNCTION: &[&str] = &["expr", "fn:f"];
+
+const PATH: &[&str] = &["expr", "fn:a::f"];
+
+const BOTH: &[&str] = &["expr", "fn:f", "method:f"];
+
+const STANDARD: &[&str] = &["expr", "fn:contains", "method:contains"];
+
+const CALL: &[u8] = b"ip(\"1.2.3.4\").isIpv4()";
+
+/// Calls that the words allow.
+const ALLOWED: [Row; 7] = [
+    (
+        ADDRESS,
+        CALL,
+        0,
+        "ip ( \"1.2.3.4\" ) . isIpv4 ( )\nok\n",
+        "",
+    ),
+    (
+        REPEATED,
+        CALL,
+        0,
+        "ip ( \"1.2.3.4\" ) . isIpv4 ( )\nok\n",
+        "",
+    ),
+    (
+        LESS,
+        b"principal.n.lessThan(1)",
+        0,
+        "principal . n . lessThan ( 1 )\nok\n",
+        "",
+    ),
+    (FUNCTION, b"f()", 0, "f ( )\nok\n", ""),
+    (PATH, b"a::f(1, 2)", 0, "a :: f ( 1 , 2 )\nok\n", ""),
+    (BOTH, b"[].f()", 0, "[ ] . f ( )\nok\n", ""),
+    (
+        STANDARD,
+        b"[].contains(1)",
+        0,
+        "[ ] . contains ( 1 )\nok\n",
+        "",
+    ),
+];
+
+/// Calls that the words don't allow, and input that isn't UTF-8.
+const REFUSED: [Row; 11] = [
+    (
+        EXPR,
+        b"principal.n.lessThan(1)",
+        1,
+        "0..23: `lessThan` is not a valid method\n",
+        "",
+    ),
+    (
+        LESS,
+        b"lessThan(1)",
+        1,
+        "0..11: `lessThan` is a method, not a function\n",
+        "",
+    ),
+    (LESS, CALL, 1, "0..22: `ip` is not a valid function\n", ""),
+    (
+        &["expr", "fn:ip"],
+        CALL,
+        1,
+        "0..22: `isIpv4` is not a valid method\n",
+        "",
+    ),
+    (
+        FUNCTION,
+        b"principal.f(1)",
+        1,
+        "0..14: `f` is a function, not a method\n",
+        "",
+    ),
+    (PATH, b"f(1)", 1, "0..4: `f` is not a valid function\n", ""),
+    (
+        FUNCTION,
+        b"a::f(1)",
+        1,
+        "0..7: `a::f` is not a valid function\n",
+        "",
+    ),
+    (
+        BOTH,
+        b"f(1)",
+        1,
+        "0..4: `f` is a method, not a function\n",
+        "",
+    ),
+    (
+        STANDARD,
+        b"contains(1)",
+        1,
+        "0..11: `contains` is a method, not a function\n",
+        "",
+    ),
+    (
+        STANDARD,
+        b"[].contains()",
+        1,
+        "0..13: call to `contains` requires exactly 1 argument, but got 0 arguments\n",
+        "",
+    ),
+    (FUNCTION, b"1 + \xff", 4, "", "input or output failed\n"),
+];
+
+#[test]
+fn allowed_calls_end_so(rt: HostRuntime) {
+    for row in &ALLOWED {
+        ends_so(&rt, row);
+    }
+}
+
+#[test]
+fn refused_calls_end_so(rt: HostRuntime) {
+    for row in &REFUSED {
+        ends_so(&rt, row);
+    }
+}
