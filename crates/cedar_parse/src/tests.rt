@@ -1,4 +1,5 @@
 //! Rows from the specification's tables and from the original's tests; runs of the program over memory.
+mod beginnings;
 mod builder;
 mod calls;
 mod counting;
@@ -15,6 +16,7 @@ mod names;
 mod nodes;
 mod originals;
 mod places;
+mod policies;
 mod primaries;
 mod program;
 mod refusals;

@@ -51,7 +51,7 @@ Behind src h xs = Lie src (parts_places (parts_of (map h xs)))
 held : {f g : Form} (src : List ℕ) → f ≡ g → Holds src g → Holds src f
 held src e h = subst (λ f. Holds src f) (sym e) h
 
-both : (src : List ℕ) (a b : List (Option Loc)) → Lie src a → Lie src b → Lie src (a ++ b)
+pub both : (src : List ℕ) (a b : List (Option Loc)) → Lie src a → Lie src b → Lie src (a ++ b)
 both src a b h g = All-append (IsPlace src) a b h g
 
 -- a tree at the place of its tokens
@@ -79,7 +79,7 @@ inside src ts k j l m h = (parts src (one k l) ts (parts src (one k l ++ ts) (on
 
 -- ---- names, and the word `if` as one
 
-name_lies : {src : List ℕ} {ts : List Lexeme} {x : Name} → ReadsName src ts x → Stand src ts → Lie src (node_places name_places (placed src ts x))
+pub name_lies : {src : List ℕ} {ts : List Lexeme} {x : Name} → ReadsName src ts x → Stand src ts → Lie src (node_places name_places (placed src ts x))
 name_lies {src = src} {ts = ts} {x = x} r h =
     let v = path_lies (name_path r) h in
     node_lies src name_places ts x h (path_some (name_path r)) (both src _ _ v.0 v.1)
@@ -201,7 +201,7 @@ mutual
       let b = adds_hold r a.0 in
       (b.0, one_more src relation_operand xs (o, placed src us y) b.1 (sits src add_form us y a.1 (add_some s) (add_holds s a.1)))
 
-  add_holds : {src : List ℕ} {ts : List Lexeme} {x : Add} → ReadsAdd src ts x → Stand src ts → Holds src (add_form x)
+  pub add_holds : {src : List ℕ} {ts : List Lexeme} {x : Add} → ReadsAdd src ts x → Stand src ts → Holds src (add_form x)
   add_holds {src = src} (add {x = x} {xs = xs} r) h = let a = mults_hold r h in held src (add_is x xs) (chained src mult_form x add_operand xs a.0 a.1)
 
   mults_hold : {src : List ℕ} {ts : List Lexeme} {x : Cell Mult} {xs : List (AddOp × Cell Mult)} → ReadsMults src ts x xs → Stand src ts → Sits src (located mult_form x) × Behind src add_operand xs

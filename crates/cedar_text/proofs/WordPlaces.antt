@@ -39,7 +39,7 @@ flat_snoc : {T : Type 0} (f : T → List (Option Loc)) (xs : List (Cell T)) (x :
 flat_snoc f [] x = refl
 flat_snoc f (y ∷ xs) x = ap (λ w. node_places f y ++ w) (flat_snoc f xs x) ∙ sym (append_assoc (node_places f y) (flat_map (node_places f) xs) (node_places f x ++ []))
 
-more_lie : {T : Type 0} (src : List ℕ) (f : T → List (Option Loc)) (xs : List (Cell T)) (x : Cell T) → Lie src (flat_map (node_places f) xs) → Lie src (node_places f x) → Lie src (flat_map (node_places f) (xs ++ x ∷ []))
+pub more_lie : {T : Type 0} (src : List ℕ) (f : T → List (Option Loc)) (xs : List (Cell T)) (x : Cell T) → Lie src (flat_map (node_places f) xs) → Lie src (node_places f x) → Lie src (flat_map (node_places f) (xs ++ x ∷ []))
 more_lie src f xs x h l = subst (Lie src) (sym (flat_snoc f xs x)) (All-append (IsPlace src) (flat_map (node_places f) xs) (node_places f x ++ []) h (All-append (IsPlace src) (node_places f x) [] l (All-nil (IsPlace src))))
 
 -- ---- identifiers and paths
@@ -96,16 +96,19 @@ init_lies {src = src} (ref_init {ts = ts} {us = us} {i = i} {x = x} p r s) h =
     All-append (IsPlace src) (node_places ident_places (placed src ts i)) (node_places literal_places (placed src us x)) (ident_lies r (parts src ts (one kind.Colon p) w.0).0)
     (node_lies src literal_places us x w.1 (literal_some s) (literal_lies s w.1))
 
-items_lie : {src : List ℕ} {ts : List Lexeme} {xs : List (Cell RefInit)} → ReadsItems src (ReadsRefInit src) ts xs → Stand src ts → Lie src (flat_map (node_places ref_init_places) xs)
-items_lie {src = src} (one_item {ts = ts} {x = x} r) h = All-append (IsPlace src) (node_places ref_init_places (placed src ts x)) [] (node_lies src ref_init_places ts x h (init_some r) (init_lies r h)) (no_places src)
-items_lie {src = src} (more_items {ts = ts} {us = us} {xs = xs} {y = y} p r s) h =
+-- the places of items, and of a list, whose trees have places of the text
+pub items_lie : {T : Type 0} (src : List ℕ) (R : List Lexeme → T → Type 0) (f : T → List (Option Loc)) → ((ts : List Lexeme) (x : T) → R ts x → Some_of ts) → ((ts : List Lexeme) (x : T) → R ts x → Stand src ts → Lie src (f x)) →
+    {ts : List Lexeme} {xs : List (Cell T)} → ReadsItems src R ts xs → Stand src ts → Lie src (flat_map (node_places f) xs)
+items_lie src R f s l (one_item {ts = ts} {x = x} r) h = All-append (IsPlace src) (node_places f (placed src ts x)) [] (node_lies src f ts x h (s ts x r) (l ts x r h)) (no_places src)
+items_lie src R f s l (more_items {ts = ts} {us = us} {xs = xs} {y = y} p r q) h =
     let w = parts src (ts ++ one kind.Comma p) us h in
-    more_lie src ref_init_places xs (placed src us y) (items_lie r (parts src ts (one kind.Comma p) w.0).0) (node_lies src ref_init_places us y w.1 (init_some s) (init_lies s w.1))
+    more_lie src f xs (placed src us y) (items_lie src R f s l r (parts src ts (one kind.Comma p) w.0).0) (node_lies src f us y w.1 (s us y q) (l us y q w.1))
 
-list_lies : {src : List ℕ} {ts : List Lexeme} {xs : List (Cell RefInit)} → ReadsList src (ReadsRefInit src) ts xs → Stand src ts → Lie src (flat_map (node_places ref_init_places) xs)
-list_lies {src = src} no_item h = no_places src
-list_lies (items r) h = items_lie r h
-list_lies {src = src} (items_comma {ts = ts} p r) h = items_lie r (parts src ts (one kind.Comma p) h).0
+pub list_lies : {T : Type 0} (src : List ℕ) (R : List Lexeme → T → Type 0) (f : T → List (Option Loc)) → ((ts : List Lexeme) (x : T) → R ts x → Some_of ts) → ((ts : List Lexeme) (x : T) → R ts x → Stand src ts → Lie src (f x)) →
+    {ts : List Lexeme} {xs : List (Cell T)} → ReadsList src R ts xs → Stand src ts → Lie src (flat_map (node_places f) xs)
+list_lies src R f s l no_item h = no_places src
+list_lies src R f s l (items r) h = items_lie src R f s l r h
+list_lies src R f s l (items_comma {ts = ts} p r) h = items_lie src R f s l r (parts src ts (one kind.Comma p) h).0
 
 pub ref_some : {src : List ℕ} {ts : List Lexeme} {x : Ref} → ReadsRef src ts x → Some_of ts
 ref_some (uid {ts = ts} p q r) = some_append (ts ++ one kind.ColonColon p) (one kind.StringLit q) (some_append ts (one kind.ColonColon p) (path_some r))
@@ -122,7 +125,7 @@ ref_lies {src = src} (with_inits {ts = ts} {us = us} {xs = xs} {x = x} {ys = ys}
     let w = (parts src (ts ++ one kind.ColonColon p ++ one kind.OpenBrace l ++ us) (one kind.CloseBrace m) h).0 in
     let v = parts src (ts ++ one kind.ColonColon p ++ one kind.OpenBrace l) us w in
     let u = (parts src (ts ++ one kind.ColonColon p) (one kind.OpenBrace l) v.0).0 in
-    All-append (IsPlace src) (node_places name_places (placed src ts (name_of xs x))) (flat_map (node_places ref_init_places) ys) (name_of_path r (parts src ts (one kind.ColonColon p) u).0) (list_lies s v.1)
+    All-append (IsPlace src) (node_places name_places (placed src ts (name_of xs x))) (flat_map (node_places ref_init_places) ys) (name_of_path r (parts src ts (one kind.ColonColon p) u).0) (list_lies src (ReadsRefInit src) ref_init_places (λ ts x r. init_some r) (λ ts x r h. init_lies r h) s v.1)
 
 -- ---- the node of a whole text
 

@@ -3,8 +3,12 @@ pub mod Expected
 pub mod FirstFault
 pub mod Grammar
 pub mod Joined
+pub mod Leftmost
 pub mod LooseExpressions
+pub mod LoosePolicies
 pub mod LooseWords
+pub mod Mended
+pub mod MendedFaults
 pub mod Pattern
 pub mod Piece
 pub mod PieceAhead

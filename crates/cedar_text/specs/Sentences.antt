@@ -34,3 +34,8 @@ pub record IsFirstRefused {T : Type 0} (R : List Lexeme → T → Type 0) (ts : 
     (after : Option TokenKind) : Type 0 where
   pub starts : Starts R ts
   pub refuses : ¬ (Allowed R (kinds ts) after)
+
+-- the first kind, or the end
+abbrev pub first : List Lexeme → Option TokenKind
+first [] = None
+first (t ∷ ts) = Some t.kind

@@ -3,19 +3,27 @@ use Rattle.std.specs.Prelude.{◌≡◌, ℕ, ◌+◌, List, [], ◌∷◌, ◌+
 use Rattle.std.specs.List.{flat_map}
 use Rattle.std.specs.Str.{IsCharBoundary}
 use Rattle.cedar_syntax.specs.declared.loc.Loc.{Loc}
+use Rattle.cedar_syntax.specs.declared.cst.Add.{Add}
+use Rattle.cedar_syntax.specs.declared.cst.Annotation.{Annotation}
+use Rattle.cedar_syntax.specs.declared.cst.Cond.{Cond}
 use Rattle.cedar_syntax.specs.declared.cst.Ident.{Ident}
 use Rattle.cedar_syntax.specs.declared.cst.Name.{Name}
+use Rattle.cedar_syntax.specs.declared.cst.Policies.{Policies}
+use Rattle.cedar_syntax.specs.declared.cst.Policy.{Policy}
+use Rattle.cedar_syntax.specs.declared.cst.Policy.TheVariants as policy
 use Rattle.cedar_syntax.specs.declared.cst.Ref.{Ref}
 use Rattle.cedar_syntax.specs.declared.cst.Ref.TheVariants as ref
 use Rattle.cedar_syntax.specs.declared.cst.RefInit.{RefInit}
+use Rattle.cedar_syntax.specs.declared.cst.RelOp.{RelOp}
 use Rattle.cedar_syntax.specs.declared.cst.Literal.{Literal}
 use Rattle.cedar_syntax.specs.declared.cst.Literal.TheVariants as lit
 use Rattle.cedar_syntax.specs.declared.cst.Str.{Str}
 use Rattle.cedar_syntax.specs.declared.cst.Slot.{Slot}
 use Rattle.cedar_syntax.specs.declared.cst.Expr.{Expr}
 use Rattle.cedar_syntax.specs.declared.cst.Primary.{Primary}
+use Rattle.cedar_syntax.specs.declared.cst.VariableDef.{VariableDef}
 use Rattle.cedar_syntax.specs.Located.{Located, Form, Parts, missing, at, only, ite, chain, has, like, is, is_in, unary, member, field, call, index, literal, name, slot, reference, parens, set, record_of, init, none, more}
-use Rattle.cedar_syntax.specs.Forms.{expr_form, primary_form}
+use Rattle.cedar_syntax.specs.Forms.{expr_form, add_form, primary_form}
 use Rattle.cedar_text.specs.Trees.{Cell}
 
 -- a range of the text whose ends are boundaries of characters, with the whole text as its source
@@ -97,3 +105,39 @@ expr_places x = form_places (expr_form x)
 
 abbrev pub primary_places : Primary → List (Option Loc)
 primary_places x = form_places (primary_form x)
+
+abbrev pub add_places : Add → List (Option Loc)
+add_places x = form_places (add_form x)
+
+-- ---- policies
+
+-- the places of a node that may be missing
+abbrev pub optional_places : {T : Type 0} → (T → List (Option Loc)) → Option (Cell T)
+    → List (Option Loc)
+optional_places f None = []
+optional_places f (Some c) = node_places f c
+
+abbrev pub annotation_places : Annotation → List (Option Loc)
+annotation_places a = node_places ident_places a.key ++ optional_places str_places a.value
+
+abbrev pub constraint_places : Option (RelOp × Cell Expr) → List (Option Loc)
+constraint_places None = []
+constraint_places (Some (o, c)) = node_places expr_places c
+
+abbrev pub variable_def_places : VariableDef → List (Option Loc)
+variable_def_places v =
+    node_places ident_places v.variable ++ (optional_places name_places v.unused_type_name ++
+    (optional_places add_places v.entity_type ++ constraint_places v.ineq))
+
+abbrev pub cond_places : Cond → List (Option Loc)
+cond_places c = node_places ident_places c.cond ++ optional_places expr_places c.expr
+
+abbrev pub policy_places : Policy → List (Option Loc)
+policy_places (policy.Policy p) =
+    flat_map (node_places annotation_places) p.annotations ++
+    (node_places ident_places p.effect ++
+    (flat_map (node_places variable_def_places) p.variables ++
+    flat_map (node_places cond_places) p.conds))
+
+abbrev pub policies_places : Policies → List (Option Loc)
+policies_places x = flat_map (node_places policy_places) x.0

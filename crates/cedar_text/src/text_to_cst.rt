@@ -1,18 +1,27 @@
 //! The loose syntax tree of a text, or the first fault for which it has none.
-ghost use Rattle.std.specs.Prelude.{◌≡◌, MatchResult, IfOk, IfErr};
+ghost use Rattle.std.specs.Prelude.{◌≡◌, List, MatchResult, IfOk, IfErr};
 ghost use Rattle.std.specs.List.{All};
+ghost use Rattle.cedar_lexer.specs.Cut.{Cuts};
+ghost use Rattle.cedar_lexer.specs.Token.{Lexeme};
 ghost use Rattle.cedar_syntax.specs.declared.cst.Expr.{Expr};
 ghost use Rattle.cedar_syntax.specs.declared.cst.Ident.{Ident};
 ghost use Rattle.cedar_syntax.specs.declared.cst.Name.{Name};
+ghost use Rattle.cedar_syntax.specs.declared.cst.Policies.{Policies};
+ghost use Rattle.cedar_syntax.specs.declared.cst.Policy.{Policy};
 ghost use Rattle.cedar_syntax.specs.declared.cst.Primary.{Primary};
 ghost use Rattle.cedar_syntax.specs.declared.cst.Ref.{Ref};
 ghost use Rattle.cedar_text.specs.FirstFault.{IsMemory, IsRefusal};
 ghost use Rattle.cedar_text.specs.Grammar.{IsTreeOf};
+ghost use Rattle.cedar_text.specs.Leftmost.{HasLeftmost, NumbersFit};
 ghost use Rattle.cedar_text.specs.LooseExpressions.{ReadsExpr, ReadsPrimary};
+ghost use Rattle.cedar_text.specs.LoosePolicies.{ReadsPolicies, ReadsPolicy};
 ghost use Rattle.cedar_text.specs.LooseWords.{ReadsIdent, ReadsName, ReadsRef};
-ghost use Rattle.cedar_text.specs.TreePlaces.{IsPlace, node_places, expr_places, ident_places, name_places, primary_places, ref_places};
+ghost use Rattle.cedar_text.specs.MendedFaults.{IsMendedRefusal, NothingBefore, PoliciesBefore};
+ghost use Rattle.cedar_text.specs.TreePlaces.{IsPlace, node_places, expr_places, ident_places, name_places, policies_places, policy_places, primary_places, ref_places};
 ghost use Rattle.cedar_text.specs.Trees.{Cell};
 
+mod annotation;
+mod condition;
 pub(crate) mod driver;
 mod entity;
 mod expected;
@@ -21,17 +30,73 @@ mod ground;
 mod ident;
 pub mod laws;
 pub(crate) mod literal;
+mod mark;
+mod mending;
+mod outlook;
+mod outlooks;
+mod parts;
 mod path;
+mod policies;
+mod policy;
+mod policy_entries;
+mod policy_outlook;
+mod reader;
+mod recovery;
+mod scope;
+mod sequence;
 mod state;
 mod words;
 
 use crate::text_to_cst::expected::Narrowing;
 use crate::text_to_cst::expression::entries::{ExprState, PrimaryState};
+use crate::text_to_cst::policy_entries::{AllState, OneState};
 use crate::text_to_cst::state::{IdentState, PathState, WordsState};
-use cedar_syntax::cst::{Expr, Ident, Name, Primary, Ref};
+use cedar_syntax::cst::{Expr, Ident, Name, Policies, Policy, Primary, Ref};
 use cedar_syntax::err::Failure;
 use cedar_syntax::node::Node;
 use std::alloc::Global;
+
+/// The tree of policies.
+///
+/// It answers a tree exactly if the text cuts into tokens that are policies by the loose grammar, and then that tree,
+/// the only one. Every place in it is a range of bytes of the text, on boundaries of characters.
+///
+/// A refusal is all faults of the text, the one at which the parse stops first: behind a token with which no policies
+/// go on, reading goes on with the mended tokens. Each fault is one of those of `parse_expr`, of policies; where an
+/// operand has ended in something that is open and a token is refused, only the kinds that close it are told as
+/// expected. Of a text that cuts into tokens whose numbers all fit 64 bits, one fault starts before all others: that of
+/// the first token with which no policies go on, or of the end. Or it is `Failure::Memory`.
+pub fn parse_policies(alloc: Global, text: &str) -> Result<Node<Option<Policies>>, Failure>
+    ensures found { IfOk result (λ x. IsTreeOf ReadsPolicies text.now x) }
+    ensures places { IfOk result
+        (λ x. All (IsPlace text.now) (node_places policies_places x)) }
+    ensures only { (y : Cell Policies) → IsTreeOf ReadsPolicies text.now y
+        → MatchResult result (λ x. x ≡ y) IsMemory }
+    ensures refused { IfErr result
+        (λ f. IsMendedRefusal ReadsPolicies PoliciesBefore text.now f) }
+    ensures leftmost { (ts : List Lexeme) → Cuts text.now ts → NumbersFit ts
+        → IfErr result (λ f. HasLeftmost ReadsPolicies text.now ts f) }
+{
+    mending::parse_on::<AllState>(alloc, text)
+}
+
+/// The tree of one policy.
+///
+/// It answers and refuses as `parse_policies` does, of single policies; behind a whole policy the first fault stops the
+/// parse.
+pub fn parse_policy(alloc: Global, text: &str) -> Result<Node<Option<Policy>>, Failure>
+    ensures found { IfOk result (λ x. IsTreeOf ReadsPolicy text.now x) }
+    ensures places { IfOk result
+        (λ x. All (IsPlace text.now) (node_places policy_places x)) }
+    ensures only { (y : Cell Policy) → IsTreeOf ReadsPolicy text.now y
+        → MatchResult result (λ x. x ≡ y) IsMemory }
+    ensures refused { IfErr result
+        (λ f. IsMendedRefusal ReadsPolicy NothingBefore text.now f) }
+    ensures leftmost { (ts : List Lexeme) → Cuts text.now ts → NumbersFit ts
+        → IfErr result (λ f. HasLeftmost ReadsPolicy text.now ts f) }
+{
+    mending::parse_on::<OneState>(alloc, text)
+}
 
 /// The tree of an expression.
 ///

@@ -23,19 +23,19 @@ use Rattle.cedar_text.proofs.machines.Laws.{then_steps}
 use Rattle.cedar_text.proofs.machines.Extents.{extent-append}
 use Rattle.cedar_text.proofs.Written.{AllWritten, all_written, one_bounds}
 
-end_joined : (o : Option Extent) (e : Extent) → end_at (join o (Some e)) ≡ e.end
+pub end_joined : (o : Option Extent) (e : Extent) → end_at (join o (Some e)) ≡ e.end
 end_joined None e = refl
 end_joined (Some a) e = refl
 
-end_snoc : (ts : List Lexeme) (t : Lexeme) → end_of (ts ++ t ∷ []) ≡ t.end
+pub end_snoc : (ts : List Lexeme) (t : Lexeme) → end_of (ts ++ t ∷ []) ≡ t.end
 end_snoc ts t = ap (λ o. end_at o) (extent-append ts (t ∷ [])) ∙ end_joined (extent ts) (extent_of t)
 
 -- ---- the lexer's next answer, behind tokens that are laid out
 
-abbrev Behind : List ℕ → List Lexeme → LexerState → Type 0
+abbrev pub Behind : List ℕ → List Lexeme → LexerState → Type 0
 Behind text before l = Layout text 0 before l.offset × (l.source ≡ text) × (l.ended ≡ false)
 
-token_ahead : (text : List ℕ) (before : List Lexeme) (l u : LexerState) (t : Token) → Behind text before l → Answers l (Some (Ok t)) u → Ahead text before (Some t) u
+pub token_ahead : (text : List ℕ) (before : List Lexeme) (l u : LexerState) (t : Token) → Behind text before l → Answers l (Some (Ok t)) u → Ahead text before (Some t) u
 token_ahead text before l u t b a =
     let next : Layout text l.offset (lexeme_of t ∷ []) t.end = subst (λ w. Layout w l.offset (lexeme_of t ∷ []) t.end) b.1 a.1 in
     (laid_on b.0 next, ap (λ r. r.source) a.2 ∙ b.1, ap (λ r. r.offset) a.2, ap (λ r. r.ended) a.2)
@@ -43,7 +43,7 @@ token_ahead text before l u t b a =
 not_ended : {b : Bool} → b ≡ false → b ≡ true → ⊥
 not_ended e f = cc
 
-end_ahead : (text : List ℕ) (before : List Lexeme) (l u : LexerState) → Behind text before l → Answers l None u → Cuts text before
+pub end_ahead : (text : List ℕ) (before : List Lexeme) (l u : LexerState) → Behind text before l → Answers l None u → Cuts text before
 end_ahead text before l u b a = go a.0
   where
     go : ((l.ended ≡ true) ⊎ CutsFrom l.source l.offset []) → Cuts text before
@@ -54,32 +54,32 @@ ahead_of : (text : List ℕ) (before : List Lexeme) (l u : LexerState) (o : Opti
 ahead_of text before l u (Some t) b a = token_ahead text before l u t b a
 ahead_of text before l u None b a = end_ahead text before l u b a
 
-stops_behind : (text : List ℕ) (before : List Lexeme) (l : LexerState) (place : ℕ) → Behind text before l → StopsFrom l.source l.offset [] place → StopsAt text before place
+pub stops_behind : (text : List ℕ) (before : List Lexeme) (l : LexerState) (place : ℕ) → Behind text before l → StopsFrom l.source l.offset [] place → StopsAt text before place
 stops_behind text before l place b s =
     let r : StopsFrom text l.offset [] place = subst (λ w. StopsFrom w l.offset [] place) b.1 s in
     (subst (λ w. Layout text 0 w place) (append-nil before) (laid_on b.0 r.0), r.1, r.2)
 
-behind_of : (text : List ℕ) (before : List Lexeme) (t : Token) (l : LexerState) → Ahead text before (Some t) l → Behind text (before ++ lexeme_of t ∷ []) l
+pub behind_of : (text : List ℕ) (before : List Lexeme) (t : Token) (l : LexerState) → Ahead text before (Some t) l → Behind text (before ++ lexeme_of t ∷ []) l
 behind_of text before t l a = (subst (λ n. Layout text 0 (before ++ lexeme_of t ∷ []) n) (sym a.2) a.0, a.1, a.3)
 
-begun : (text : List ℕ) → Behind text [] (beginning text)
+pub begun : (text : List ℕ) → Behind text [] (beginning text)
 begun text = (nothing, refl, refl)
 
 -- ---- the tokens behind some of them
 
-record Rest (text : List ℕ) (ts : List Lexeme) : Type 0 where
-  rest : List Lexeme
-  bad : Option ℕ
-  cut : IsCutOrStop text 0 (ts ++ rest) bad
+pub record Rest (text : List ℕ) (ts : List Lexeme) : Type 0 where
+  pub rest : List Lexeme
+  pub bad : Option ℕ
+  pub cut : IsCutOrStop text 0 (ts ++ rest) bad
 
-rest_of : (text : List ℕ) (ts : List Lexeme) (k : ℕ) → IsUtf8 text → Layout text 0 ts k → Rest text ts
+pub rest_of : (text : List ℕ) (ts : List Lexeme) (k : ℕ) → IsUtf8 text → Layout text 0 ts k → Rest text ts
 rest_of text ts k u l = go (cuts_or_stops text u)
   where
     go : ((us : List Lexeme) × Cuts text us) ⊎ ((us : List Lexeme) × (place : ℕ) × StopsAt text us place) → Rest text ts
     go (inl c) = let o = onward l c.1 (nothing_at_end text) in record { rest = o.rest; bad = None; cut = subst (λ w. Cuts text w) o.is c.1 }
     go (inr s) = let o = onward l s.2.0 s.2.2 in record { rest = o.rest; bad = Some s.1; cut = subst (λ w. StopsAt text w s.1) o.is s.2 }
 
-snoc_on : (ts : List Lexeme) (t : Lexeme) (us : List Lexeme) → (ts ++ t ∷ []) ++ us ≡ ts ++ t ∷ us
+pub snoc_on : (ts : List Lexeme) (t : Lexeme) (us : List Lexeme) → (ts ++ t ∷ []) ++ us ≡ ts ++ t ∷ us
 snoc_on ts t us = simp append_assoc
 
 -- ---- the beginning
@@ -202,13 +202,13 @@ ahead_written {t = t} q = last_written q.before (lexeme_of t) (all_written q.goe
     last_written [] t h = h.0
     last_written (u ∷ ts) t h = last_written ts t h.1
 
-next_bounds : (text : List ℕ) (i : ℕ) (t : Lexeme) → Layout text i (t ∷ []) t.end → i ≤ length text → IsUtf8 (drop i text) → (i < t.end) × (t.end ≤ length text)
+pub next_bounds : (text : List ℕ) (i : ℕ) (t : Lexeme) → Layout text i (t ∷ []) t.end → i ≤ length text → IsUtf8 (drop i text) → (i < t.end) × (t.end ≤ length text)
 next_bounds text i t h b u = one_bounds h b u
 
-less_left : (n a b : ℕ) → a < b → b ≤ n → 1 + (n - b) < 1 + (n - a)
+pub less_left : (n a b : ℕ) → a < b → b ≤ n → 1 + (n - b) < 1 + (n - a)
 less_left n a b h g = omega arith
 
-fewer : (text : List ℕ) (l u : LexerState) (t : Token) → (l.source ≡ text) → l.offset ≤ length text → IsUtf8 (drop l.offset text) → Answers l (Some (Ok t)) u → 1 + (length u.source - u.offset) < 1 + (length l.source - l.offset)
+pub fewer : (text : List ℕ) (l u : LexerState) (t : Token) → (l.source ≡ text) → l.offset ≤ length text → IsUtf8 (drop l.offset text) → Answers l (Some (Ok t)) u → 1 + (length u.source - u.offset) < 1 + (length l.source - l.offset)
 fewer text l u t e b w a =
     let next : Layout text l.offset (lexeme_of t ∷ []) t.end = subst (λ w. Layout w l.offset (lexeme_of t ∷ []) t.end) e a.1 in
     let c = next_bounds text l.offset (lexeme_of t) next b w in

@@ -15,7 +15,7 @@ use Rattle.cedar_text.proofs.machines.Laws.{exactly, ends_alike}
 use Rattle.cedar_text.proofs.machines.Names.{names_door, refs_door, idents_door}
 use Rattle.cedar_text.proofs.machines.WordShapes.{names_shaped, refs_shaped, idents_shaped}
 
-may_take_shape : {S T U V : Type 0} (f : S → U) (g : T → V) (a : Answer S T) (c : Answer U V) → IsShape f g a c → may_take a ≡ is_taken c
+pub may_take_shape : {S T U V : Type 0} (f : S → U) (g : T → V) (a : Answer S T) (c : Answer U V) → IsShape f g a c → may_take a ≡ is_taken c
 may_take_shape f g (next s) c h = sym (ap (λ c. is_taken c) h)
 may_take_shape f g (ended x) c h = sym (ap (λ c. is_taken c) h)
 may_take_shape f g refused c h = sym (ap (λ c. is_taken c) h)

@@ -36,11 +36,11 @@ to_sentence {R = R} {src = src} s = record { tokens = s.tokens; spelled = s.spel
 of_sentence : {T : Type 0} {R : Rule T} {src : List ℕ} {ks : List TokenKind} → Sentence (IsNodeOf R src) ks → Sentence (R src) ks
 of_sentence s = record { tokens = s.tokens; spelled = s.spelled; tree = s.reads.tree; reads = s.reads.reads }
 
-to_allowed : {T : Type 0} (R : Rule T) (src : List ℕ) (ks : List TokenKind) (after : Option TokenKind) → Allowed (R src) ks after → Allowed (IsNodeOf R src) ks after
+pub to_allowed : {T : Type 0} (R : Rule T) (src : List ℕ) (ks : List TokenKind) (after : Option TokenKind) → Allowed (R src) ks after → Allowed (IsNodeOf R src) ks after
 to_allowed R src ks (Some k) a = (a.0, to_sentence a.1)
 to_allowed R src ks None a = to_sentence a
 
-of_allowed : {T : Type 0} (R : Rule T) (src : List ℕ) (ks : List TokenKind) (after : Option TokenKind) → Allowed (IsNodeOf R src) ks after → Allowed (R src) ks after
+pub of_allowed : {T : Type 0} (R : Rule T) (src : List ℕ) (ks : List TokenKind) (after : Option TokenKind) → Allowed (IsNodeOf R src) ks after → Allowed (R src) ks after
 of_allowed R src ks (Some k) a = (a.0, of_sentence a.1)
 of_allowed R src ks None a = of_sentence a
 

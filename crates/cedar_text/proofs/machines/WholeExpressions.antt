@@ -8,8 +8,8 @@ use Rattle.cedar_text.specs.LooseExpressions.{ReadsExpr, ReadsPrimary}
 use Rattle.cedar_text.specs.Place.{extent, placed, placed_or_start}
 use Rattle.cedar_text.specs.Trees.{Cell}
 use Rattle.cedar_text.specs.machines.Closing.{node_of}
-use Rattle.cedar_text.specs.machines.Door.{Door}
-use Rattle.cedar_text.specs.machines.ExpressionShapes.{shape_of}
+use Rattle.cedar_text.specs.machines.Door.{Door, Shapes}
+use Rattle.cedar_text.specs.machines.ExpressionShapes.{expression_shapes, shape_of}
 use Rattle.cedar_text.specs.machines.Expressions.{expressions}
 use Rattle.cedar_text.specs.machines.Judged.{ReadsBy}
 use Rattle.cedar_text.specs.machines.Named.{named_words}
@@ -43,15 +43,16 @@ expr_node {src = src} {ts = ts} {y = y} k = go k.reads k.is
     go : {x : _} → Reading (ReadsExpr src) ts x → Some (node_of src x) ≡ Some y → IsNodeOf ReadsExpr src ts y
     go (reads {x = x} r) e = record { tree = x; reads = r; is = sym (some_is e) ∙ sym (start_is src ts x (expr_some r)) }
 
-whole_expressions_door : (src : List ℕ) → Door (whole_expressions src) (IsNodeOf ReadsExpr src)
+pub whole_expressions_door : (src : List ℕ) → Door (whole_expressions src) (IsNodeOf ReadsExpr src)
 whole_expressions_door src =
     door_as (λ ts y h. expr_image h) (λ ts y k. expr_node k)
     (image_door (expressions src (named_words src)) (Reading (ReadsExpr src)) (λ x. node_of src x) (expressions_door src (named_words src) (named_door src) (named_are_words src)))
 
+pub whole_expressions_shaped : (src : List ℕ) → Shapes (whole_expressions src) (expression_shapes named_shapes) (λ s. shape_of words_shape s) no_tree
+whole_expressions_shaped src = image_shapes (λ s. shape_of words_shape s) no_tree (λ x. node_of src x) no_tree (λ x. refl) (expressions_shaped words_shape named_kind src (named_words src) named_shapes (named_alike src))
+
 pub expressions_read : (src : List ℕ) → ReadsBy (whole_expressions src) (IsNodeOf ReadsExpr src) expression_allows
-expressions_read src =
-    reads_by (λ s. shape_of words_shape s) no_tree (whole_expressions_door src)
-    (image_shapes (λ s. shape_of words_shape s) no_tree (λ x. node_of src x) no_tree (λ x. refl) (expressions_shaped words_shape named_kind src (named_words src) named_shapes (named_alike src)))
+expressions_read src = reads_by (λ s. shape_of words_shape s) no_tree (whole_expressions_door src) (whole_expressions_shaped src)
 
 -- ---- primaries
 

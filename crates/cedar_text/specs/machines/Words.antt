@@ -94,9 +94,12 @@ named src p = node_at src (Some (path_extent p)) (name_of p.before (word_node sr
 abbrev pub entity_of : List ℕ → Ref → Extent → Entity
 entity_of src x e = record { node = node_at src (Some e) x; extent = e }
 
--- a string as a node
+-- a tree of one token, and a string, as a node
+abbrev pub token_node : {T : Type 0} → List ℕ → Lexeme → T → Cell T
+token_node src t x = node_at src (Some (extent_of t)) x
+
 abbrev pub string_node : List ℕ → Lexeme → Cell Str
-string_node src t = node_at src (Some (extent_of t)) (str.String (between_quotes t.text))
+string_node src t = token_node src t (str.String (between_quotes t.text))
 
 -- a path and a string
 abbrev pub uid_of : List ℕ → Path → Lexeme → Entity

@@ -71,7 +71,7 @@ pub fn failure(alloc: Global, source: &Source, raw: RawFault) -> Failure
 }
 
 /// No sentence goes on with this token.
-fn unexpected<E: Entry>(
+pub fn unexpected<E: Entry>(
     alloc: Global,
     state: &E,
     narrowing: Narrowing,
@@ -86,6 +86,23 @@ fn unexpected<E: Entry>(
         start: token.start,
         end: token.end,
         token: Text::from_str(alloc, token.text)?,
+        expected,
+    })
+}
+
+/// No sentence ends at the end of the text, which stands at this place.
+pub fn early<E: Entry>(
+    alloc: Global,
+    state: &E,
+    narrowing: Narrowing,
+    end: usize,
+) -> Result<RawFault, AllocError>
+    ensures { IfOk result
+        (λ raw. raw ≡ early_at end (expected_by (E.allowed state.now) narrowing None)) }
+{
+    let expected = expected(alloc, state, narrowing, None)?;
+    Ok(RawFault::UnrecognizedEof {
+        location: end,
         expected,
     })
 }
@@ -160,11 +177,7 @@ fn conclude<E: Entry>(
         (λ f. StopsAtEnd (E.machine source.now) E.allowed narrowing source.now state end f) }
 {
     if !state.allows(None) {
-        let expected = expected(alloc, &state, narrowing, None)?;
-        let raw = RawFault::UnrecognizedEof {
-            location: end,
-            expected,
-        };
+        let raw = early(alloc, &state, narrowing, end)?;
         return Err(failure(alloc, source, raw));
     }
     Ok(state.finish(source)?)

@@ -9,6 +9,7 @@ pub mod conditional;
 pub mod entries;
 pub mod finish;
 pub mod have;
+pub mod held;
 pub mod lists;
 pub mod literal;
 pub mod operators;

@@ -6,14 +6,20 @@ ghost use Rattle.std.specs.Str.{IsUtf8};
 ghost use Rattle.cedar_lexer.specs.declared.token.TokenKind.{TokenKind};
 ghost use Rattle.cedar_lexer.specs.declared.token.TokenKind.TheVariants as kind;
 ghost use Rattle.cedar_syntax.specs.declared.cst.Expr.{Expr};
+ghost use Rattle.cedar_syntax.specs.declared.cst.Policies.{Policies};
+ghost use Rattle.cedar_syntax.specs.declared.cst.Policy.{Policy};
 ghost use Rattle.cedar_syntax.specs.declared.cst.Primary.{Primary};
+ghost use Rattle.cedar_syntax.specs.declared.err.faults.ParseError.{ParseError};
 ghost use Rattle.cedar_text.specs.Expected.{by_name, IsIn, stand_by_name};
 ghost use Rattle.cedar_text.specs.FirstFault.{HasOneTree, HasTreeOrFault, HasOneFault, HasNotBoth};
 ghost use Rattle.cedar_text.specs.Grammar.{IsTreeOf};
+ghost use Rattle.cedar_text.specs.Leftmost.{StandsLeftmost};
 ghost use Rattle.cedar_text.specs.LooseExpressions.{ReadsExpr, ReadsPrimary};
+ghost use Rattle.cedar_text.specs.LoosePolicies.{ReadsPolicies, ReadsPolicy};
 ghost use Rattle.cedar_text.specs.LooseWords.{ReadsIdent, ReadsName, ReadsRef};
+ghost use Rattle.cedar_text.specs.MendedFaults.{HasFaultList, HasOneFaultList, NothingBefore, PoliciesBefore};
 ghost use Rattle.cedar_text.specs.Tokens.{any_of};
-ghost use Rattle.cedar_text.specs.TreePlaces.{IsPlace, node_places, expr_places, primary_places};
+ghost use Rattle.cedar_text.specs.TreePlaces.{IsPlace, node_places, expr_places, policies_places, policy_places, primary_places};
 ghost use Rattle.cedar_text.specs.Trees.{Cell};
 ghost use Rattle.cedar_text.specs.machines.Door.{Door, IsOutside, Shapes};
 ghost use Rattle.cedar_text.specs.machines.Words.{paths, words_machine};
@@ -63,12 +69,46 @@ pub fn primaries()
     ensures not_both { HasNotBoth ReadsPrimary Narrowing.TokensAndEnd }
 {}
 
+/// The same of policies. And mending comes to an end: tokens have a list of faults, and just one.
+pub fn policies()
+    ensures one_tree { HasOneTree ReadsPolicies }
+    ensures tree_or_fault { HasTreeOrFault ReadsPolicies Narrowing.Tokens }
+    ensures one_fault { HasOneFault ReadsPolicies Narrowing.Tokens }
+    ensures not_both { HasNotBoth ReadsPolicies Narrowing.Tokens }
+    ensures fault_list { HasFaultList ReadsPolicies PoliciesBefore }
+    ensures one_list { HasOneFaultList ReadsPolicies PoliciesBefore }
+{}
+
+/// The same of single policies.
+pub fn single_policies()
+    ensures one_tree { HasOneTree ReadsPolicy }
+    ensures tree_or_fault { HasTreeOrFault ReadsPolicy Narrowing.Tokens }
+    ensures one_fault { HasOneFault ReadsPolicy Narrowing.Tokens }
+    ensures not_both { HasNotBoth ReadsPolicy Narrowing.Tokens }
+    ensures fault_list { HasFaultList ReadsPolicy NothingBefore }
+    ensures one_list { HasOneFaultList ReadsPolicy NothingBefore }
+{}
+
+/// At most one fault of a list starts before all others there.
+pub fn leftmost_faults()
+    ensures one_leftmost { (xs : List ParseError) (x y : ParseError) → StandsLeftmost x xs
+        → StandsLeftmost y xs → x ≡ y }
+{}
+
 /// Each place in the tree of a text is a range of the text, on boundaries of characters.
 pub fn expressions_stand_in_texts()
     ensures expressions { (text : List ℕ) (x : Cell Expr) → IsUtf8 text
         → IsTreeOf ReadsExpr text x → All (IsPlace text) (node_places expr_places x) }
     ensures primaries { (text : List ℕ) (x : Cell Primary) → IsUtf8 text
         → IsTreeOf ReadsPrimary text x → All (IsPlace text) (node_places primary_places x) }
+{}
+
+/// The same of policies.
+pub fn policies_stand_in_texts()
+    ensures policies { (text : List ℕ) (x : Cell Policies) → IsUtf8 text
+        → IsTreeOf ReadsPolicies text x → All (IsPlace text) (node_places policies_places x) }
+    ensures single_policies { (text : List ℕ) (x : Cell Policy) → IsUtf8 text
+        → IsTreeOf ReadsPolicy text x → All (IsPlace text) (node_places policy_places x) }
 {}
 
 /// The table of kinds stands in byte order of their names, and each kind is in it.

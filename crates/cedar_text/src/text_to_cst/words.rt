@@ -3,13 +3,13 @@ ghost use Rattle.std.specs.Prelude.{◌≡◌, [], IfOk};
 ghost use Rattle.cedar_lexer.specs.Token.{lexeme_of};
 ghost use Rattle.cedar_text.specs.Tokens.{any_of};
 ghost use Rattle.cedar_text.specs.machines.Door.{is_some};
-ghost use Rattle.cedar_text.specs.machines.Words.{word_of, word_node};
+ghost use Rattle.cedar_text.specs.machines.Words.{token_node, word_of, word_node};
 
 use crate::extent::Extent;
-use crate::place::node_at;
+use crate::place::{node_at, token_extent};
 use crate::text_to_cst::state::Word;
 use cedar_expressions::{Source, Text};
-use cedar_lexer::token::TokenKind;
+use cedar_lexer::token::{Token, TokenKind};
 use cedar_syntax::cst::Ident;
 use cedar_syntax::node::Node;
 use std::alloc::{AllocError, Global};
@@ -74,4 +74,15 @@ pub fn word_node(source: &Source, word: Word) -> Result<Node<Option<Ident>>, All
 {
     let Word { ident, extent } = word;
     node_at(source, Some(extent), ident)
+}
+
+/// A tree of one token as a node, at its bytes.
+pub fn token_node<T: Drop>(
+    source: &Source,
+    token: Token<'_>,
+    tree: T,
+) -> Result<Node<Option<T>>, AllocError>
+    ensures { IfOk result (λ node. node ≡ token_node source.now (lexeme_of token.entry) tree) }
+{
+    node_at(source, Some(token_extent(token)), tree)
 }

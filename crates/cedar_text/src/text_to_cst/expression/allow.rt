@@ -1,5 +1,6 @@
 //! What may come next, by the shape of the state alone: nothing is built.
-ghost use Rattle.std.specs.Prelude.{◌≡◌, [], ◌∷◌, List, Bool};
+ghost use Rattle.std.specs.Prelude.{◌≡◌, [], ◌∷◌, List, Bool, None};
+ghost use Rattle.cedar_text.specs.declared.text_to_cst.expression.state.Place.TheVariants as place;
 ghost use Rattle.cedar_text.specs.machines.Door.{Answer, is_some, is_taken};
 ghost use Rattle.cedar_text.specs.machines.ExpressionStates.{operator_of};
 ghost use Rattle.cedar_text.specs.machines.NamedShapes.{named_shapes};
@@ -164,9 +165,12 @@ fn may_sign_behind(op: Option<NegOp>, sign: Sign) -> bool
     }
 }
 
-/// Whether an expression may begin with a token of this kind.
-fn begins_expr(kind: TokenKind) -> bool
-    ensures { (st : List FrameShape) → result ≡ is_some (guard_begins named_shapes st kind) }
+/// Whether an operand may begin with a token of this kind, where no list can end.
+pub fn begins_operand(kind: TokenKind) -> bool
+    ensures expr { (st : List FrameShape) (l : LeftShape) → result
+        ≡ is_some (wanting_shape named_shapes st l place.Expr None kind) }
+    ensures operand { (st : List FrameShape) (l : LeftShape) → result
+        ≡ is_some (wanting_shape named_shapes st l place.Operand None kind) }
 {
     match kind_class(kind) {
         Beginning::Word => begins_words(kind),
@@ -180,6 +184,13 @@ fn begins_expr(kind: TokenKind) -> bool
         | Beginning::Brace => true,
         Beginning::Ends(_) | Beginning::Other => false,
     }
+}
+
+/// Whether an expression may begin with a token of this kind.
+fn begins_expr(kind: TokenKind) -> bool
+    ensures { (st : List FrameShape) → result ≡ is_some (guard_begins named_shapes st kind) }
+{
+    begins_operand(kind)
 }
 
 impl Frame {

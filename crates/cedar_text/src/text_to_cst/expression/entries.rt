@@ -30,7 +30,7 @@ impl Model for PrimaryState {
 /// An expression that is being read.
 #[derive(Drop)]
 pub struct ExprState {
-    state: State,
+    pub state: State,
 }
 
 impl Model for ExprState {

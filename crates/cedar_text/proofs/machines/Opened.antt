@@ -1,0 +1,259 @@
+-- In a condition's braces: the states of one policy there, and the tokens that lead to them.
+use Rattle.std.proofs.Common.{◌≡◌, ℕ, List, [], ◌∷◌, ◌++◌, Option, Some, None, refl, sym, ◌∙◌, ap, subst, append_assoc}
+use Rattle.std.proofs.lemmas.List.{append-nil}
+use Rattle.cedar_lexer.specs.Token.{Lexeme}
+use Rattle.cedar_lexer.specs.declared.token.TokenKind.{TokenKind}
+use Rattle.cedar_lexer.specs.declared.token.TokenKind.TheVariants as kind
+use Rattle.cedar_syntax.specs.declared.cst.Expr.{Expr}
+use Rattle.cedar_syntax.specs.declared.cst.Ident.{Ident}
+use Rattle.cedar_syntax.specs.declared.cst.Annotation.{Annotation}
+use Rattle.cedar_syntax.specs.declared.cst.VariableDef.{VariableDef}
+use Rattle.cedar_syntax.specs.declared.cst.Cond.{Cond}
+use Rattle.cedar_syntax.specs.declared.cst.Policy.{Policy}
+use Rattle.cedar_text.specs.declared.extent.Extent.{Extent}
+use Rattle.cedar_text.specs.declared.text_to_cst.condition.ConditionState.{ConditionState}
+use Rattle.cedar_text.specs.declared.text_to_cst.condition.ConditionState.TheVariants as condition
+use Rattle.cedar_text.specs.declared.text_to_cst.policy.PolicyState.{PolicyState}
+use Rattle.cedar_text.specs.declared.text_to_cst.policy.PolicyState.TheVariants as policy
+use Rattle.cedar_text.specs.declared.text_to_cst.recovery.Way.{Way}
+use Rattle.cedar_text.specs.declared.text_to_cst.recovery.Way.TheVariants as way
+use Rattle.cedar_text.specs.declared.text_to_cst.sequence.Spanned.{Spanned}
+use Rattle.cedar_text.specs.declared.text_to_cst.sequence.Sequence.{Sequence}
+use Rattle.cedar_text.specs.Tokens.{Spot, one}
+use Rattle.cedar_text.specs.Place.{join, extent, placed}
+use Rattle.cedar_text.specs.Trees.{Cell, policy_of}
+use Rattle.cedar_text.specs.LooseWords.{ReadsAny, any, ReadsList}
+use Rattle.cedar_text.specs.LooseExpressions.{ReadsExpr}
+use Rattle.cedar_text.specs.LoosePolicies.{ReadsMany, ReadsAnnotation, ReadsVariableDef, ReadsBody, no_body, body, ReadsCond, ReadsPolicy}
+use Rattle.cedar_text.specs.LoosePolicies as loose
+use Rattle.cedar_text.specs.Sentences.{HasTree, Starts}
+use Rattle.cedar_text.specs.machines.Door.{Machine, Answer, next, taken, steps, Comes, Door, IsOutside}
+use Rattle.cedar_text.specs.machines.Marks.{mark_of}
+use Rattle.cedar_text.specs.machines.Placing.{AsNode, as_node, spanned, placing}
+use Rattle.cedar_text.specs.machines.Sequences.{sequence_end, many}
+use Rattle.cedar_text.specs.machines.Scope.{Parts}
+use Rattle.cedar_text.specs.machines.Condition.{at_body, conditions}
+use Rattle.cedar_text.specs.machines.Policy.{policies}
+use Rattle.cedar_text.specs.machines.Policies.{ConditionsState, OnePolicy, sections, policy_machine, condition_way, begun_condition_way, policy_way}
+use Rattle.cedar_text.proofs.machines.Laws.{some_is, then_steps, starts_from, comes}
+use Rattle.cedar_text.proofs.machines.Holding.{Holds, held, entered}
+use Rattle.cedar_text.proofs.machines.Ending.{EndsAt, Begins, placed_ends, token_at}
+use Rattle.cedar_text.proofs.machines.Placing.{forth, back}
+use Rattle.cedar_text.proofs.machines.Sequences.{item_at, many_holds, many_next, ManyRead, is_between, is_begun, many_read}
+use Rattle.cedar_text.proofs.machines.Condition.{holds_body, BodyAt, body_runs, opened, ConditionRead, is_start, is_word, is_opened, is_body, is_closed, condition_read, condition_door, condition_ends}
+use Rattle.cedar_text.proofs.machines.Placing.{node_door}
+use Rattle.cedar_text.proofs.machines.Policy.{SectionDoors, holds_conditions, head_runs, PolicyRead, is_annotated, is_effect, is_scope, is_conditions, policy_read}
+use Rattle.cedar_text.proofs.machines.Policy as read
+use Rattle.cedar_text.proofs.machines.Policies.{Grounds, section_doors}
+
+-- a policy up to where a condition may stand, or its semicolon
+pub data OpenPolicy (src : List ℕ) : List Lexeme → Type 0 where
+  open_policy : {ts us vs ws : List Lexeme} {xs : List (Cell Annotation)} {i : Ident} {ys : List (Cell VariableDef)} {zs : List (Cell Cond)} (l m : Spot) →
+      ReadsMany src (ReadsAnnotation src) ts xs → ReadsAny us i → ReadsList src (ReadsVariableDef src) vs ys → ReadsMany src (ReadsCond src) ws zs → OpenPolicy src (ts ++ us ++ one kind.OpenParen l ++ vs ++ one kind.CloseParen m ++ ws)
+
+pub whole_policy_of : {src : List ℕ} {ts : List Lexeme} (e : Spot) → OpenPolicy src ts → HasTree (ReadsPolicy src) (ts ++ one kind.Semicolon e)
+whole_policy_of e (open_policy l m r w v c) = (_, loose.policy l m e r w v c)
+
+pub record Opening (src : List ℕ) (ts : List Lexeme) : Type 0 where
+  pub tokens : List Lexeme
+  pub stands : OpenPolicy src tokens
+  pub end : Spot
+  pub is : tokens ++ one kind.Semicolon end ≡ ts
+
+pub opening_of : {src : List ℕ} {ts : List Lexeme} {p : Policy} → ReadsPolicy src ts p → Opening src ts
+opening_of (loose.policy l m e r w v c) = record { tokens = _; stands = open_policy l m r w v c; end = e; is = refl }
+
+-- the machines of conditions
+
+abbrev pub one_condition : {E : Type 0} → List ℕ → Machine Lexeme E (Cell Expr) → Machine Lexeme (Spanned (ConditionState E)) (Cell Cond)
+one_condition src m = placing src (conditions src m)
+
+-- in braces: where a condition may stand, its word and brace have been read
+record Braces {E : Type 0} (src : List ℕ) (m : Machine Lexeme E (Cell Expr)) (last : ConditionsState E) (zs : List (Cell Cond)) (ws : List Lexeme) (l : Spot) (i : Cell Ident) : Type 0 where
+  span : Option Extent
+  goes : steps (many (one_condition src m)) (Some last) (ws ++ one kind.OpenBrace l) ≡ Some (item_at zs (spanned span (condition.Opened i)))
+
+braces_run : {E : Type 0} (src : List ℕ) (m : Machine Lexeme E (Cell Expr)) (last : ConditionsState E) (zs : List (Cell Cond)) → sequence_end (one_condition src m).finish last.done last.begun ≡ Some zs → {ws : List Lexeme} {i : Ident} (l : Spot) → ReadsAny ws i →
+    Braces src m last zs ws l (placed src ws i)
+braces_run src m last zs e l (any {k = k} {i = i} q w) =
+    let n = one_condition src m in
+    let t = token_at k q in
+    record {
+      span = extent (one k q ++ one kind.OpenBrace l);
+      goes = entered n (many n) (λ s. item_at zs s) (many_holds n zs) last t
+          (λ s h. many_next n (placed_ends src (conditions src m) (Begins n) (condition_ends src m (Begins n))) last.done last.begun zs e t s h)
+          (one kind.OpenBrace l) (spanned (extent (one k q ++ one kind.OpenBrace l)) (condition.Opened (placed src (one k q) i)))
+          (forth src (conditions src m) None condition.Start (condition.Opened (placed src (one k q) i)) (one k q ++ one kind.OpenBrace l) (opened src m l (any q w)));
+    }
+
+-- what stands in them
+record BodyBegun {E : Type 0} (src : List ℕ) (m : Machine Lexeme E (Cell Expr)) (i : Cell Ident) (vs : List Lexeme) : Type 0 where
+  state : ConditionState E
+  goes : steps (conditions src m) (Some (condition.Opened i)) vs ≡ Some state
+  is : condition_way state ≡ way.ToBrace
+
+expression_starts : {src : List ℕ} (t : Lexeme) (ts more us : List Lexeme) {x : Option (Cell Expr)} → ReadsBody src us x → us ≡ (t ∷ ts) ++ more → Starts (AsNode src (ReadsExpr src)) (t ∷ ts)
+expression_starts t ts more us no_body e = absurd (nothing e)
+  where
+    nothing : {t : Lexeme} {ts : List Lexeme} → [] ≡ t ∷ ts → ⊥
+    nothing e = cc
+expression_starts {src = src} t ts more us (body {x = x} r) e = (more, (placed src ((t ∷ ts) ++ more) x, as_node (subst (λ us. ReadsExpr src us x) e r)))
+
+body_begun : {E : Type 0} {src : List ℕ} {m : Machine Lexeme E (Cell Expr)} → Door m (AsNode src (ReadsExpr src)) → (i : Cell Ident) (vs : List Lexeme) → Starts (ReadsBody src) vs → BodyBegun src m i vs
+body_begun d i [] h = record { state = condition.Opened i; goes = refl; is = refl }
+body_begun {src = src} {m = m} d i (t ∷ ts) h =
+    let c = comes d (t ∷ ts) (expression_starts t ts h.0 ((t ∷ ts) ++ h.0) h.1.1 refl) in
+    record { state = condition.Body i c.0; goes = entered m (conditions src m) (λ q. condition.Body i q) (holds_body src m i) (condition.Opened i) t (λ q w. ap (λ a. at_body i (mark_of t.kind) a) w) ts c.0 c.1; is = refl }
+
+-- one policy
+
+-- a state of one policy that holds the state of a condition
+abbrev pub with_condition : {N S E : Type 0} → List (Cell Annotation) → Cell Ident → List (Cell VariableDef) → List (Cell Cond) → Option Extent → ConditionState E → OnePolicy N S E
+with_condition xs i ys zs e c = policy.Conditions xs i ys (item_at zs (spanned e c))
+
+-- behind an open policy, a word and a brace
+record PolicyBraces {N S E : Type 0} (src : List ℕ) (m : Parts N S E) (ts : List Lexeme) (w : Cell Ident) : Type 0 where
+  xs : List (Cell Annotation)
+  effect : Cell Ident
+  ys : List (Cell VariableDef)
+  zs : List (Cell Cond)
+  span : Option Extent
+  goes : Comes (policies src (sections src m)) ts (with_condition xs effect ys zs span (condition.Opened w))
+
+policy_braces : {N S E : Type 0} {src : List ℕ} {m : Parts N S E} → Grounds src m → {ts us : List Lexeme} {i : Ident} (l : Spot) → OpenPolicy src ts → ReadsAny us i → PolicyBraces src m (ts ++ us ++ one kind.OpenBrace l) (placed src us i)
+policy_braces {src = src} {m = m} g {us = es} {i = j} l (open_policy {ts = ts} {us = us} {vs = vs} {ws = ws} {xs = xs} {i = i} {ys = ys} {zs = zs} p q r w v c) a =
+    let d = section_doors g in
+    let n = policies src (sections src m) in
+    let h = d.conditions.complete ws zs c in
+    let b = braces_run src m.expression h.last zs h.ends l a in
+    let before = ts ++ us ++ one kind.OpenParen p ++ vs ++ one kind.CloseParen q in
+    record {
+      xs = xs;
+      effect = placed src us i;
+      ys = ys;
+      zs = zs;
+      span = b.span;
+      goes = subst (λ ts. Comes n ts (with_condition xs (placed src us i) ys zs b.span (condition.Opened (placed src es j)))) (assoc (before ++ ws) es (one kind.OpenBrace l))
+          (then_steps n (Some n.start) (Some (policy.Conditions xs (placed src us i) ys h.last)) _ (before ++ ws) (es ++ one kind.OpenBrace l)
+          (then_steps n (Some n.start) _ _ before ws (head_runs d p q r w v)
+          (held (sections src m).conditions n (λ q. policy.Conditions xs (placed src us i) ys q) (holds_conditions src (sections src m) xs (placed src us i) ys) ws (sections src m).conditions.start h.last h.goes))
+          (held (sections src m).conditions n (λ q. policy.Conditions xs (placed src us i) ys q) (holds_conditions src (sections src m) xs (placed src us i) ys) (es ++ one kind.OpenBrace l) h.last (item_at zs (spanned b.span (condition.Opened (placed src es j)))) b.goes));
+    }
+  where
+    assoc : (ts us vs : List Lexeme) → ts ++ (us ++ vs) ≡ ts ++ us ++ vs
+    assoc ts us vs = sym (append_assoc ts us vs)
+
+-- what the condition takes there, the policy takes
+lifted : {N S E : Type 0} (src : List ℕ) (m : Parts N S E) (xs : List (Cell Annotation)) (i : Cell Ident) (ys : List (Cell VariableDef)) (zs : List (Cell Cond)) (e : Option Extent) (ts : List Lexeme) (s q : ConditionState E) →
+    steps (conditions src m.expression) (Some s) ts ≡ Some q → steps (policies src (sections src m)) (Some (with_condition xs i ys zs e s)) ts ≡ Some (with_condition xs i ys zs (join e (extent ts)) q)
+lifted src m xs i ys zs e ts s q h =
+    let n = one_condition src m.expression in
+    held (sections src m).conditions (policies src (sections src m)) (λ q. policy.Conditions xs i ys q) (holds_conditions src (sections src m) xs i ys) ts (item_at zs (spanned e s)) (item_at zs (spanned (join e (extent ts)) q))
+    (held n (many n) (λ s. item_at zs s) (many_holds n zs) ts (spanned e s) (spanned (join e (extent ts)) q) (forth src (conditions src m.expression) e s q ts h))
+
+-- the state of one policy, as a node
+pub record At {N S E : Type 0} (src : List ℕ) (m : Parts N S E) (ts : List Lexeme) (P : OnePolicy N S E → Type 0) : Type 0 where
+  pub state : Spanned (OnePolicy N S E)
+  pub comes : Comes (policy_machine src m) ts state
+  pub is : P state.state
+
+placed_at : {N S E : Type 0} (src : List ℕ) (m : Parts N S E) (ts : List Lexeme) (s : OnePolicy N S E) (P : OnePolicy N S E → Type 0) → Comes (policies src (sections src m)) ts s → P s → At src m ts P
+placed_at src m ts s P c p = record { state = spanned (extent ts) s; comes = forth src (policies src (sections src m)) None (policies src (sections src m)).start s ts c; is = p }
+
+-- with a beginning of a body in braces
+pub in_body : {N S E : Type 0} {src : List ℕ} {m : Parts N S E} → Grounds src m → {ts us : List Lexeme} {i : Ident} (vs : List Lexeme) (l : Spot) → OpenPolicy src ts → ReadsAny us i → Starts (ReadsBody src) vs →
+    At src m (ts ++ us ++ one kind.OpenBrace l ++ vs) (λ s. (w : Way) → policy_way w s ≡ way.ToBrace)
+in_body {src = src} {m = m} g {ts = ts} {us = us} {i = i} vs l o a h =
+    let b = policy_braces g l o a in
+    let c = body_begun g.parts.expression (placed src us i) vs h in
+    let n = policies src (sections src m) in
+    placed_at src m (ts ++ us ++ one kind.OpenBrace l ++ vs) (with_condition b.xs b.effect b.ys b.zs (join b.span (extent vs)) c.state) (λ s. (w : Way) → policy_way w s ≡ way.ToBrace)
+    (then_steps n (Some n.start) _ _ (ts ++ us ++ one kind.OpenBrace l) vs b.goes (lifted src m b.xs b.effect b.ys b.zs b.span vs (condition.Opened (placed src us i)) c.state c.goes)) (λ w. c.is)
+
+-- what follows the closing brace
+pub data IsClosed {N S E : Type 0} : OnePolicy N S E → Type 0 where
+  closed : (xs : List (Cell Annotation)) (i : Cell Ident) (ys : List (Cell VariableDef)) (zs : List (Cell Cond)) (e : Option Extent) (w : Cell Ident) (x : Option (Cell Expr)) → IsClosed (with_condition xs i ys zs e (condition.Closed w x))
+
+-- with an empty body
+pub behind_brace : {N S E : Type 0} {src : List ℕ} {m : Parts N S E} → Grounds src m → {ts us : List Lexeme} {i : Ident} (l e : Spot) → OpenPolicy src ts → ReadsAny us i → At src m (ts ++ us ++ one kind.OpenBrace l ++ one kind.CloseBrace e) (λ s. IsClosed s)
+behind_brace {src = src} {m = m} g {ts = ts} {us = us} {i = i} l e o a =
+    let b = policy_braces g l o a in
+    let c = body_runs g.parts.expression g.behind_body (placed src us i) no_body in
+    let n = policies src (sections src m) in
+    let vs = one kind.CloseBrace e in
+    placed_at src m (ts ++ us ++ one kind.OpenBrace l ++ vs) (with_condition b.xs b.effect b.ys b.zs (join b.span (extent vs)) (condition.Closed (placed src us i) None)) (λ s. IsClosed s)
+    (then_steps n (Some n.start) _ _ (ts ++ us ++ one kind.OpenBrace l) vs b.goes
+    (lifted src m b.xs b.effect b.ys b.zs b.span vs (condition.Opened (placed src us i)) (condition.Closed (placed src us i) None) (then_steps (conditions src m.expression) (Some (condition.Opened (placed src us i))) _ _ [] vs c.goes (ap (λ a. taken a) (c.closes e)))))
+    (closed b.xs b.effect b.ys b.zs (join b.span (extent vs)) (placed src us i) None)
+
+-- and back: the tokens that end in braces
+
+pub record OpenTokens (src : List ℕ) (ts : List Lexeme) : Type 0 where
+  pub before : List Lexeme
+  pub word : List Lexeme
+  pub ident : Ident
+  pub brace : Spot
+  pub body : List Lexeme
+  pub stands : OpenPolicy src before
+  pub reads : ReadsAny word ident
+  pub starts : Starts (ReadsBody src) body
+  pub is : before ++ word ++ one kind.OpenBrace brace ++ body ≡ ts
+
+body_of : {E : Type 0} {src : List ℕ} {m : Machine Lexeme E (Cell Expr)} → Door m (AsNode src (ReadsExpr src)) → (ts : List Lexeme) (s : E) → Comes m ts s → Starts (ReadsBody src) ts
+body_of {src = src} d ts s c = let h = starts_from d ts s c in (h.0, some (ts ++ h.0) h.1.0 h.1.1)
+  where
+    some : (us : List Lexeme) (x : Cell Expr) → AsNode src (ReadsExpr src) us x → HasTree (ReadsBody src) us
+    some us x (as_node {x = y} r) = (_, body r)
+
+-- the tokens of a condition that is open
+record OpenCondition (src : List ℕ) (ts : List Lexeme) : Type 0 where
+  word : List Lexeme
+  ident : Ident
+  brace : Spot
+  body : List Lexeme
+  reads : ReadsAny word ident
+  starts : Starts (ReadsBody src) body
+  is : word ++ one kind.OpenBrace brace ++ body ≡ ts
+
+condition_open : {E : Type 0} {src : List ℕ} {m : Machine Lexeme E (Cell Expr)} → Door m (AsNode src (ReadsExpr src)) → {ts : List Lexeme} {s : ConditionState E} → ConditionRead src m ts s → condition_way s ≡ way.ToBrace → OpenCondition src ts
+condition_open d is_start e = absurd (cc)
+condition_open d (is_word a) e = absurd (cc)
+condition_open {src = src} d (is_opened {ts = ts} {i = i} l a) e = record { word = ts; ident = i; brace = l; body = []; reads = a; starts = ([], (None, no_body)); is = append-nil (ts ++ one kind.OpenBrace l) }
+condition_open d (is_body {ts = ts} {i = i} {s = s} l us a c) e = record { word = ts; ident = i; brace = l; body = us; reads = a; starts = body_of d us s c; is = refl }
+condition_open d (is_closed l m us a r) e = absurd (cc)
+
+open_tokens : {N S E : Type 0} {src : List ℕ} {m : Parts N S E} → Grounds src m → (w : Way) → (w ≡ way.ToBrace → ⊥) → {ts : List Lexeme} {s : OnePolicy N S E} → PolicyRead src (sections src m) ts s → policy_way w s ≡ way.ToBrace → OpenTokens src ts
+open_tokens g w h (is_annotated c) e = absurd (cc)
+open_tokens g w h (is_effect r a) e = absurd (cc)
+open_tokens g w h (is_scope l vs r a c) e = absurd (cc)
+open_tokens {E = E} {src = src} {m = m} g w h (is_conditions {ts = ts} {us = us} {vs = vs} {s = s} l p ws r a v c) e =
+    from_read (many_read (node_door src (conditions src m.expression) (ReadsCond src) (condition_door src m.expression g.parts.expression g.behind_body)) ws s c) e
+  where
+    before : List Lexeme
+    before = ts ++ us ++ one kind.OpenParen l ++ vs ++ one kind.CloseParen p
+
+    assoc : (ts us vs ws as_body : List Lexeme) → ts ++ us ++ vs ++ ws ++ as_body ≡ ts ++ (us ++ (vs ++ ws ++ as_body))
+    assoc ts us vs ws as_body = simp append_assoc
+
+    from_read : {ws : List Lexeme} {s : ConditionsState E} → ManyRead src (one_condition src m.expression) (ReadsCond src) ws s → begun_condition_way s.begun ≡ way.ToBrace → OpenTokens src (before ++ ws)
+    from_read (is_between z) e = absurd (cc)
+    from_read (is_begun {ts = cs} us {s = q} z c) e =
+        let b = back src (conditions src m.expression) None condition.Start us q c in
+        let o = condition_open g.parts.expression (condition_read g.parts.expression us q.state b.goes) e in
+        record {
+          before = before ++ cs;
+          word = o.word;
+          ident = o.ident;
+          brace = o.brace;
+          body = o.body;
+          stands = open_policy l p r a v z;
+          reads = o.reads;
+          starts = o.starts;
+          is = assoc before cs o.word (one kind.OpenBrace o.brace) o.body ∙ ap (λ us. before ++ (cs ++ us)) o.is;
+        }
+open_tokens g w h (read.is_closed r) e = absurd (h e)
+
+pub opened_by : {N S E : Type 0} {src : List ℕ} {m : Parts N S E} → Grounds src m → (w : Way) → (w ≡ way.ToBrace → ⊥) → (ts : List Lexeme) (s : Spanned (OnePolicy N S E)) → Comes (policy_machine src m) ts s → policy_way w s.state ≡ way.ToBrace → OpenTokens src ts
+opened_by {src = src} {m = m} g w h ts s c e =
+    let b = back src (policies src (sections src m)) None (policies src (sections src m)).start ts s c in
+    open_tokens g w h (policy_read (section_doors g) ts s.state b.goes) e

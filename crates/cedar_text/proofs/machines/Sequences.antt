@@ -1,0 +1,282 @@
+-- The doors of the machines that read one item after the other, from the door of the machine of one item.
+use Rattle.std.proofs.Common.{◌≡◌, ℕ, List, [], ◌∷◌, ◌++◌, Option, Some, None, true, refl, sym, ◌∙◌, ap, subst, append_assoc, IfSome}
+use Rattle.std.proofs.lemmas.List.{append-nil}
+use Rattle.cedar_lexer.specs.Token.{Lexeme}
+use Rattle.cedar_lexer.specs.declared.token.TokenKind.{TokenKind}
+use Rattle.cedar_lexer.specs.declared.token.TokenKind.TheVariants as kind
+use Rattle.cedar_text.specs.declared.text_to_cst.mark.Mark.{Mark}
+use Rattle.cedar_text.specs.declared.text_to_cst.mark.Mark.TheVariants as mark
+use Rattle.cedar_text.specs.declared.text_to_cst.sequence.Sequence.{Sequence}
+use Rattle.cedar_text.specs.Tokens.{Spot, one, fits}
+use Rattle.cedar_text.specs.Place.{placed}
+use Rattle.cedar_text.specs.Trees.{Cell}
+use Rattle.cedar_text.specs.LooseWords.{ReadsItems, one_item, more_items, ReadsList, no_item, items, items_comma}
+use Rattle.cedar_text.specs.LoosePolicies.{ReadsMany, none, more}
+use Rattle.cedar_text.specs.machines.Door.{Machine, Answer, next, ended, refused, too_large, taken, steps, Comes, RunsTo, Completed, AnswersRightly, Door, is_taken}
+use Rattle.cedar_text.specs.machines.Marks.{mark_of}
+use Rattle.cedar_text.specs.machines.Placing.{AsNode, as_node}
+use Rattle.cedar_text.specs.machines.Sequences.{sequence, beginning, with_last, sequence_end, many_answer, many_step, many, behind_item, listed_answer, listed_step, listed}
+use Rattle.cedar_text.proofs.machines.Laws.{some_is, none_some, then_steps}
+use Rattle.cedar_text.proofs.machines.Holding.{Holds, held, entered, one_more, kept}
+use Rattle.cedar_text.proofs.machines.Ending.{NotEmpty, EndsAt, Refuses, Begins, IsKind}
+use Rattle.cedar_text.proofs.machines.Marked.{IsMarked, comma, other, marked}
+
+abbrev pub item_at : {S T : Type 0} → List T → S → Sequence S T
+item_at xs s = sequence xs (Some s)
+
+-- one item from a state in which one may begin
+pub item_runs : {S T : Type 0} (m : Machine Lexeme S T) (n : Machine Lexeme (Sequence S T) (List T)) (xs : List T) → NotEmpty m → Holds m n (λ q. item_at xs q) → (u : Sequence S T) → ((t : Lexeme) (q : S) → m.step m.start t ≡ next q → n.step u t ≡ next (item_at xs q)) →
+    (ts : List Lexeme) (s : S) (x : T) → Comes m ts s → m.finish s ≡ Some x → steps n (Some u) ts ≡ Some (item_at xs s)
+item_runs m n xs z h u i [] s x f e = absurd (none_some (ap (λ s. m.finish s) (sym (some_is f)) ∙ z) e)
+item_runs m n xs z h u i (t ∷ ts) s x f e = entered m n (λ q. item_at xs q) h u t (λ q w. i t q w) ts s f
+
+begin_answers : {S T : Type 0} (t : Lexeme) (xs : List T) (a : Answer S T) (o : Option T) → AnswersRightly t a o → AnswersRightly t (beginning xs a) (Some xs)
+begin_answers t xs (next s) o h = h
+begin_answers t xs (ended x) o h = refl
+begin_answers t xs refused o h = refl
+begin_answers t xs too_large o h = h
+
+finished : {T : Type 0} (xs : List T) (o : Option T) (ys : List T) → with_last xs o ≡ Some ys → (x : T) × (o ≡ Some x) × (xs ++ x ∷ [] ≡ ys)
+finished xs None ys e = absurd (cc)
+finished xs (Some x) ys e = (x, refl, some_is e)
+
+-- items that stand one behind the other
+
+pub many_holds : {S T : Type 0} (m : Machine Lexeme S T) (xs : List T) → Holds m (many m) (λ q. item_at xs q)
+many_holds m xs s q t e = ap (λ a. many_answer m xs t a) e
+
+pub many_next : {S T : Type 0} (m : Machine Lexeme S T) → EndsAt m (Begins m) → (done : List T) (b : Option S) (xs : List T) → sequence_end m.finish done b ≡ Some xs → (t : Lexeme) (q : S) → m.step m.start t ≡ next q →
+    many_step m done b t ≡ next (item_at xs q)
+many_next m h done None xs e t q w = ap (λ a. beginning done a) w ∙ ap (λ xs. next (item_at xs q)) (some_is e)
+many_next m h done (Some s) xs e t q w =
+    let f = finished done (m.finish s) xs e in
+    ap (λ a. many_answer m done t a) (h s f.0 t (ap (λ a. is_taken a) w) f.1) ∙ ap (λ a. beginning (done ++ f.0 ∷ []) a) w ∙ ap (λ xs. next (item_at xs q)) f.2
+
+many_one_more : {S T : Type 0} {src : List ℕ} {m : Machine Lexeme S (Cell T)} {R : List Lexeme → T → Type 0} → Door m (AsNode src R) → NotEmpty m → EndsAt m (Begins m) →
+    (ts us : List Lexeme) (xs : List (Cell T)) (y : Cell T) → RunsTo (many m) ts xs → AsNode src R us y → RunsTo (many m) (ts ++ us) (xs ++ y ∷ [])
+many_one_more {m = m} d z h ts us xs y g r =
+    let c = d.complete us y r in
+    record {
+      last = item_at xs c.last;
+      goes = then_steps (many m) (Some (many m).start) (Some g.last) _ ts us g.goes
+          (item_runs m (many m) xs z (many_holds m xs) g.last (λ t q w. many_next m h g.last.done g.last.begun xs g.ends t q w) us c.last y c.goes c.ends);
+      ends = ap (λ o. with_last xs o) c.ends;
+    }
+
+many_complete : {S T : Type 0} {src : List ℕ} {m : Machine Lexeme S (Cell T)} {R : List Lexeme → T → Type 0} → Door m (AsNode src R) → NotEmpty m → EndsAt m (Begins m) →
+    {ts : List Lexeme} {xs : List (Cell T)} → ReadsMany src R ts xs → RunsTo (many m) ts xs
+many_complete {m = m} d z h none = record { last = sequence [] None; goes = refl; ends = refl }
+many_complete {src = src} d z h (more {ts = ts} {us = us} {xs = xs} {y = y} r i) = many_one_more d z h ts us xs (placed src us y) (many_complete d z h r) (as_node i)
+
+pub data ManyRead {S T : Type 0} (src : List ℕ) (m : Machine Lexeme S (Cell T)) (R : List Lexeme → T → Type 0) : List Lexeme → Sequence S (Cell T) → Type 0 where
+  is_between : {ts : List Lexeme} {xs : List (Cell T)} → ReadsMany src R ts xs → ManyRead src m R ts (sequence xs None)
+  is_begun : {ts : List Lexeme} (us : List Lexeme) {xs : List (Cell T)} {s : S} → ReadsMany src R ts xs → Comes m us s → ManyRead src m R (ts ++ us) (item_at xs s)
+
+pub many_more : {T : Type 0} {src : List ℕ} {R : List Lexeme → T → Type 0} {ts us : List Lexeme} {xs : List (Cell T)} {y : Cell T} → ReadsMany src R ts xs → AsNode src R us y → ReadsMany src R (ts ++ us) (xs ++ y ∷ [])
+many_more r (as_node i) = more r i
+
+many_begins : {S T : Type 0} {src : List ℕ} (m : Machine Lexeme S (Cell T)) (R : List Lexeme → T → Type 0) {ts : List Lexeme} {xs : List (Cell T)} → ReadsMany src R ts xs → (t : Lexeme) (a : Answer S (Cell T)) → m.step m.start t ≡ a →
+    IfSome (taken (beginning xs a)) (λ q. ManyRead src m R (ts ++ t ∷ []) q)
+many_begins m R r t (next q) e = is_begun (t ∷ []) r (ap (λ a. taken a) e)
+many_begins m R r t (ended x) e = tt
+many_begins m R r t refused e = tt
+many_begins m R r t too_large e = tt
+
+many_goes : {S T : Type 0} {src : List ℕ} {m : Machine Lexeme S (Cell T)} {R : List Lexeme → T → Type 0} → Door m (AsNode src R) → {ts : List Lexeme} (us : List Lexeme) {xs : List (Cell T)} {s : S} → ReadsMany src R ts xs → Comes m us s →
+    (t : Lexeme) (a : Answer S (Cell T)) → m.step s t ≡ a → AnswersRightly t a (m.finish s) → IfSome (taken (many_answer m xs t a)) (λ q. ManyRead src m R ((ts ++ us) ++ t ∷ []) q)
+many_goes {src = src} {m = m} {R = R} d {ts = ts} us {xs = xs} {s = s} r c t (next q) e i = subst (λ w. ManyRead src m R w (item_at xs q)) (assoc ts us t) (is_begun (us ++ t ∷ []) r (one_more m us s q t c e))
+  where
+    assoc : (ts us : List Lexeme) (t : Lexeme) → ts ++ (us ++ t ∷ []) ≡ (ts ++ us) ++ t ∷ []
+    assoc ts us t = simp append_assoc
+many_goes {m = m} {R = R} d us {s = s} r c t (ended x) e i = many_begins m R (many_more r (d.sound us s x c i)) t (m.step m.start t) refl
+many_goes d us r c t refused e i = tt
+many_goes d us r c t too_large e i = tt
+
+many_keeps : {S T : Type 0} {src : List ℕ} {m : Machine Lexeme S (Cell T)} {R : List Lexeme → T → Type 0} → Door m (AsNode src R) → (ts : List Lexeme) (s : Sequence S (Cell T)) (t : Lexeme) → ManyRead src m R ts s →
+    IfSome (taken ((many m).step s t)) (λ q. ManyRead src m R (ts ++ t ∷ []) q)
+many_keeps {m = m} {R = R} d ts s t (is_between r) = many_begins m R r t (m.step m.start t) refl
+many_keeps {m = m} d ts s t (is_begun us {s = q} r c) = many_goes d us r c t (m.step q t) refl (d.answers q t)
+
+pub many_read : {S T : Type 0} {src : List ℕ} {m : Machine Lexeme S (Cell T)} {R : List Lexeme → T → Type 0} → Door m (AsNode src R) → (ts : List Lexeme) (s : Sequence S (Cell T)) → Comes (many m) ts s → ManyRead src m R ts s
+many_read {src = src} {m = m} {R = R} d ts s f = kept (many m) (λ ts s. ManyRead src m R ts s) (is_between none) (λ ts s t h. many_keeps d ts s t h) ts s f
+
+many_sound : {S T : Type 0} {src : List ℕ} {m : Machine Lexeme S (Cell T)} {R : List Lexeme → T → Type 0} → Door m (AsNode src R) → {ts : List Lexeme} {s : Sequence S (Cell T)} (xs : List (Cell T)) → ManyRead src m R ts s →
+    sequence_end m.finish s.done s.begun ≡ Some xs → ReadsMany src R ts xs
+many_sound {src = src} {R = R} d {ts = ts} ys (is_between r) e = subst (λ xs. ReadsMany src R ts xs) (some_is e) r
+many_sound {src = src} {m = m} {R = R} d ys (is_begun {ts = ts} us {xs = xs} {s = s} r c) e =
+    let f = finished xs (m.finish s) ys e in subst (λ xs. ReadsMany src R (ts ++ us) xs) f.2 (many_more r (d.sound us s f.0 c f.1))
+
+many_viable : {S T : Type 0} {m : Machine Lexeme S T} {R : List Lexeme → T → Type 0} → Door m R → (xs : List T) (b : Option S) → Completed (many m) (sequence xs b)
+many_viable d xs None = record { more = []; last = sequence xs None; tree = xs; goes = refl; ends = refl }
+many_viable {m = m} d xs (Some s) =
+    let c = d.viable s in
+    record { more = c.more; last = item_at xs c.last; tree = xs ++ c.tree ∷ []; goes = held m (many m) (λ q. item_at xs q) (many_holds m xs) c.more s c.last c.goes; ends = ap (λ o. with_last xs o) c.ends }
+
+many_item_answers : {S T : Type 0} {m : Machine Lexeme S T} {R : List Lexeme → T → Type 0} → Door m R → (t : Lexeme) (xs : List T) (a : Answer S T) (o : Option T) → AnswersRightly t a o →
+    AnswersRightly t (many_answer m xs t a) (with_last xs o)
+many_item_answers d t xs (next s) o h = h
+many_item_answers {m = m} d t xs (ended x) o h =
+    subst (λ o. AnswersRightly t (beginning (xs ++ x ∷ []) (m.step m.start t)) (with_last xs o)) (sym h) (begin_answers t (xs ++ x ∷ []) (m.step m.start t) (m.finish m.start) (d.answers m.start t))
+many_item_answers d t xs refused o h = ap (λ o. with_last xs o) h
+many_item_answers d t xs too_large o h = h
+
+many_answers : {S T : Type 0} {m : Machine Lexeme S T} {R : List Lexeme → T → Type 0} → Door m R → (xs : List T) (b : Option S) (t : Lexeme) → AnswersRightly t (many_step m xs b t) (sequence_end m.finish xs b)
+many_answers {m = m} d xs None t = begin_answers t xs (m.step m.start t) (m.finish m.start) (d.answers m.start t)
+many_answers {m = m} d xs (Some s) t = many_item_answers d t xs (m.step s t) (m.finish s) (d.answers s t)
+
+pub many_door : {S T : Type 0} (src : List ℕ) (m : Machine Lexeme S (Cell T)) (R : List Lexeme → T → Type 0) → Door m (AsNode src R) → NotEmpty m → EndsAt m (Begins m) → Door (many m) (ReadsMany src R)
+many_door src m R d z h = record {
+  complete = λ ts xs r. many_complete d z h r;
+  sound = λ ts s xs f e. many_sound d xs (many_read d ts s f) e;
+  viable = λ s. many_viable d s.done s.begun;
+  answers = λ s t. many_answers d s.done s.begun t;
+}
+
+-- items separated by commas
+
+listed_holds : {S T : Type 0} (m : Machine Lexeme S T) (xs : List T) → Holds m (listed m) (λ q. item_at xs q)
+listed_holds m xs s q t e = ap (λ a. listed_answer xs (mark_of t.kind) a) e
+
+-- items, of which the last is held
+record ItemsAt {S T : Type 0} (m : Machine Lexeme S T) (ts : List Lexeme) (xs : List T) : Type 0 where
+  before : List T
+  last : S
+  item : T
+  goes : Comes (listed m) ts (item_at before last)
+  ends : m.finish last ≡ Some item
+  is : before ++ item ∷ [] ≡ xs
+
+comma_taken : {S T : Type 0} {m : Machine Lexeme S T} → EndsAt m (IsKind kind.Comma) → {ts : List Lexeme} {xs : List T} (p : Spot) → ItemsAt m ts xs → Comes (listed m) (ts ++ one kind.Comma p) (sequence xs None)
+comma_taken {m = m} h {ts = ts} p g =
+    then_steps (listed m) (Some (listed m).start) (Some (item_at g.before g.last)) _ ts (one kind.Comma p) g.goes
+    (ap (λ a. taken (listed_answer g.before mark.Comma a)) (h g.last g.item record { kind = kind.Comma; start = p.start; end = p.end; text = p.text } refl g.ends) ∙ ap (λ xs. Some (sequence xs None)) g.is)
+
+listed_item : {S T : Type 0} {src : List ℕ} {m : Machine Lexeme S (Cell T)} {R : List Lexeme → T → Type 0} → Door m (AsNode src R) → NotEmpty m → (ts us : List Lexeme) (xs : List (Cell T)) (y : Cell T) →
+    Comes (listed m) ts (sequence xs None) → AsNode src R us y → ItemsAt m (ts ++ us) (xs ++ y ∷ [])
+listed_item {m = m} d z ts us xs y g r =
+    let c = d.complete us y r in
+    record {
+      before = xs;
+      last = c.last;
+      item = y;
+      goes = then_steps (listed m) (Some (listed m).start) (Some (sequence xs None)) _ ts us g
+          (item_runs m (listed m) xs z (listed_holds m xs) (sequence xs None) (λ t q w. ap (λ a. beginning xs a) w) us c.last y c.goes c.ends);
+      ends = c.ends;
+      is = refl;
+    }
+
+items_run : {S T : Type 0} {src : List ℕ} {m : Machine Lexeme S (Cell T)} {R : List Lexeme → T → Type 0} → Door m (AsNode src R) → NotEmpty m → EndsAt m (IsKind kind.Comma) → {ts : List Lexeme} {xs : List (Cell T)} → ReadsItems src R ts xs →
+    ItemsAt m ts xs
+items_run {src = src} d z h (one_item {ts = ts} {x = x} r) = listed_item d z [] ts [] (placed src ts x) refl (as_node r)
+items_run {src = src} d z h (more_items {ts = ts} {us = us} {xs = xs} {y = y} p r i) = listed_item d z (ts ++ one kind.Comma p) us xs (placed src us y) (comma_taken h p (items_run d z h r)) (as_node i)
+
+listed_complete : {S T : Type 0} {src : List ℕ} {m : Machine Lexeme S (Cell T)} {R : List Lexeme → T → Type 0} → Door m (AsNode src R) → NotEmpty m → EndsAt m (IsKind kind.Comma) → {ts : List Lexeme} {xs : List (Cell T)} → ReadsList src R ts xs →
+    RunsTo (listed m) ts xs
+listed_complete {m = m} d z h no_item = record { last = sequence [] None; goes = refl; ends = refl }
+listed_complete d z h (items r) = let g = items_run d z h r in record { last = item_at g.before g.last; goes = g.goes; ends = ap (λ o. with_last g.before o) g.ends ∙ ap (λ xs. Some xs) g.is }
+listed_complete d z h (items_comma {xs = xs} p r) = record { last = sequence xs None; goes = comma_taken h p (items_run d z h r); ends = refl }
+
+-- what stands before an item
+data Before {T : Type 0} (src : List ℕ) (R : List Lexeme → T → Type 0) : List Lexeme → List (Cell T) → Type 0 where
+  nothing : Before src R [] []
+  a_comma : {ts : List Lexeme} {xs : List (Cell T)} (p : Spot) → ReadsItems src R ts xs → Before src R (ts ++ one kind.Comma p) xs
+
+data ListRead {S T : Type 0} (src : List ℕ) (m : Machine Lexeme S (Cell T)) (R : List Lexeme → T → Type 0) : List Lexeme → Sequence S (Cell T) → Type 0 where
+  wants_item : {ts : List Lexeme} {xs : List (Cell T)} → Before src R ts xs → ListRead src m R ts (sequence xs None)
+  has_item : {ts : List Lexeme} (us : List Lexeme) {xs : List (Cell T)} {s : S} → Before src R ts xs → Comes m us s → ListRead src m R (ts ++ us) (item_at xs s)
+
+items_with : {T : Type 0} {src : List ℕ} {R : List Lexeme → T → Type 0} {ts us : List Lexeme} {xs : List (Cell T)} {y : Cell T} → Before src R ts xs → AsNode src R us y → ReadsItems src R (ts ++ us) (xs ++ y ∷ [])
+items_with nothing (as_node i) = one_item i
+items_with (a_comma p r) (as_node i) = more_items p r i
+
+list_before : {T : Type 0} {src : List ℕ} {R : List Lexeme → T → Type 0} {ts : List Lexeme} {xs : List (Cell T)} → Before src R ts xs → ReadsList src R ts xs
+list_before nothing = no_item
+list_before (a_comma p r) = items_comma p r
+
+list_begins : {S T : Type 0} {src : List ℕ} (m : Machine Lexeme S (Cell T)) (R : List Lexeme → T → Type 0) {ts : List Lexeme} {xs : List (Cell T)} → Before src R ts xs → (t : Lexeme) (a : Answer S (Cell T)) → m.step m.start t ≡ a →
+    IfSome (taken (beginning xs a)) (λ q. ListRead src m R (ts ++ t ∷ []) q)
+list_begins m R r t (next q) e = has_item (t ∷ []) r (ap (λ a. taken a) e)
+list_begins m R r t (ended x) e = tt
+list_begins m R r t refused e = tt
+list_begins m R r t too_large e = tt
+
+list_behind : {S T : Type 0} {src : List ℕ} (m : Machine Lexeme S (Cell T)) (R : List Lexeme → T → Type 0) {ts : List Lexeme} {xs : List (Cell T)} → ReadsItems src R ts xs → (c : Mark) (k : TokenKind) (p : Spot) → IsMarked c k →
+    IfSome (taken (behind_item {S = S} xs c)) (λ q. ListRead src m R (ts ++ one k p) q)
+list_behind m R r mark.Comma k p comma = wants_item (a_comma p r)
+list_behind m R r _ k p i = tt
+
+list_goes : {S T : Type 0} {src : List ℕ} {m : Machine Lexeme S (Cell T)} {R : List Lexeme → T → Type 0} → Door m (AsNode src R) → {ts : List Lexeme} (us : List Lexeme) {xs : List (Cell T)} {s : S} → Before src R ts xs → Comes m us s →
+    (t : Lexeme) (a : Answer S (Cell T)) → m.step s t ≡ a → AnswersRightly t a (m.finish s) → IfSome (taken (listed_answer xs (mark_of t.kind) a)) (λ q. ListRead src m R ((ts ++ us) ++ t ∷ []) q)
+list_goes {src = src} {m = m} {R = R} d {ts = ts} us {xs = xs} {s = s} r c t (next q) e i = subst (λ w. ListRead src m R w (item_at xs q)) (assoc ts us t) (has_item (us ++ t ∷ []) r (one_more m us s q t c e))
+  where
+    assoc : (ts us : List Lexeme) (t : Lexeme) → ts ++ (us ++ t ∷ []) ≡ (ts ++ us) ++ t ∷ []
+    assoc ts us t = simp append_assoc
+list_goes {m = m} {R = R} d us {s = s} r c t (ended x) e i = list_behind m R (items_with r (d.sound us s x c i)) (mark_of t.kind) t.kind record { start = t.start; end = t.end; text = t.text } (marked t.kind)
+list_goes d us r c t refused e i = tt
+list_goes d us r c t too_large e i = tt
+
+list_keeps : {S T : Type 0} {src : List ℕ} {m : Machine Lexeme S (Cell T)} {R : List Lexeme → T → Type 0} → Door m (AsNode src R) → (ts : List Lexeme) (s : Sequence S (Cell T)) (t : Lexeme) → ListRead src m R ts s →
+    IfSome (taken ((listed m).step s t)) (λ q. ListRead src m R (ts ++ t ∷ []) q)
+list_keeps {m = m} {R = R} d ts s t (wants_item r) = list_begins m R r t (m.step m.start t) refl
+list_keeps {m = m} d ts s t (has_item us {s = q} r c) = list_goes d us r c t (m.step q t) refl (d.answers q t)
+
+list_sound : {S T : Type 0} {src : List ℕ} {m : Machine Lexeme S (Cell T)} {R : List Lexeme → T → Type 0} → Door m (AsNode src R) → {ts : List Lexeme} {s : Sequence S (Cell T)} (xs : List (Cell T)) → ListRead src m R ts s →
+    sequence_end m.finish s.done s.begun ≡ Some xs → ReadsList src R ts xs
+list_sound {src = src} {R = R} d {ts = ts} ys (wants_item r) e = subst (λ xs. ReadsList src R ts xs) (some_is e) (list_before r)
+list_sound {src = src} {m = m} {R = R} d ys (has_item {ts = ts} us {xs = xs} {s = s} r c) e =
+    let f = finished xs (m.finish s) ys e in subst (λ xs. ReadsList src R (ts ++ us) xs) f.2 (items (items_with r (d.sound us s f.0 c f.1)))
+
+listed_viable : {S T : Type 0} {m : Machine Lexeme S T} {R : List Lexeme → T → Type 0} → Door m R → (xs : List T) (b : Option S) → Completed (listed m) (sequence xs b)
+listed_viable d xs None = record { more = []; last = sequence xs None; tree = xs; goes = refl; ends = refl }
+listed_viable {m = m} d xs (Some s) =
+    let c = d.viable s in
+    record { more = c.more; last = item_at xs c.last; tree = xs ++ c.tree ∷ []; goes = held m (listed m) (λ q. item_at xs q) (listed_holds m xs) c.more s c.last c.goes; ends = ap (λ o. with_last xs o) c.ends }
+
+comma_answers : (S : Type 0) {T : Type 0} (xs : List T) (c : Mark) (t : Lexeme) → IsMarked c t.kind → AnswersRightly t (behind_item {S = S} xs c) (Some xs)
+comma_answers S xs mark.Comma t i = not_number i
+  where
+    not_number : {k : TokenKind} → IsMarked mark.Comma k → (k ≡ kind.Number) → fits t.text ≡ true
+    not_number comma e = absurd (cc)
+comma_answers S xs _ t i = refl
+
+listed_item_answers : {S T : Type 0} (t : Lexeme) (xs : List T) (a : Answer S T) (o : Option T) → AnswersRightly t a o → AnswersRightly t (listed_answer xs (mark_of t.kind) a) (with_last xs o)
+listed_item_answers t xs (next s) o h = h
+listed_item_answers {S = S} t xs (ended x) o h = subst (λ o. AnswersRightly t (behind_item {S = S} (xs ++ x ∷ []) (mark_of t.kind)) (with_last xs o)) (sym h) (comma_answers S (xs ++ x ∷ []) (mark_of t.kind) t (marked t.kind))
+listed_item_answers t xs refused o h = ap (λ o. with_last xs o) h
+listed_item_answers t xs too_large o h = h
+
+listed_answers : {S T : Type 0} {m : Machine Lexeme S T} {R : List Lexeme → T → Type 0} → Door m R → (xs : List T) (b : Option S) (t : Lexeme) → AnswersRightly t (listed_step m xs b t) (sequence_end m.finish xs b)
+listed_answers {m = m} d xs None t = begin_answers t xs (m.step m.start t) (m.finish m.start) (d.answers m.start t)
+listed_answers {m = m} d xs (Some s) t = listed_item_answers t xs (m.step s t) (m.finish s) (d.answers s t)
+
+pub listed_door : {S T : Type 0} (src : List ℕ) (m : Machine Lexeme S (Cell T)) (R : List Lexeme → T → Type 0) → Door m (AsNode src R) → NotEmpty m → EndsAt m (IsKind kind.Comma) → Door (listed m) (ReadsList src R)
+listed_door src m R d z h = record {
+  complete = λ ts xs r. listed_complete d z h r;
+  sound = λ ts s xs f e. list_sound d xs (kept (listed m) (λ ts s. ListRead src m R ts s) (wants_item nothing) (λ ts s t h. list_keeps d ts s t h) ts s f) e;
+  viable = λ s. listed_viable d s.done s.begun;
+  answers = λ s t. listed_answers d s.done s.begun t;
+}
+
+-- where sequences end
+
+beginning_ends : {S T : Type 0} (xs : List T) (a : Answer S T) → a ≡ refused → beginning xs a ≡ ended xs
+beginning_ends xs a e = ap (λ a. beginning xs a) e
+
+many_ends_by : {S T : Type 0} (m : Machine Lexeme S T) {P : Lexeme → Type 0} → EndsAt m P → Refuses m P → (done : List T) (b : Option S) (xs : List T) (t : Lexeme) → P t → sequence_end m.finish done b ≡ Some xs → many_step m done b t ≡ ended xs
+many_ends_by m h r done None xs t p e = beginning_ends done (m.step m.start t) (r t p) ∙ ap (λ xs. ended xs) (some_is e)
+many_ends_by m h r done (Some s) xs t p e =
+    let f = finished done (m.finish s) xs e in
+    ap (λ a. many_answer m done t a) (h s f.0 t p f.1) ∙ beginning_ends (done ++ f.0 ∷ []) (m.step m.start t) (r t p) ∙ ap (λ xs. ended xs) f.2
+
+pub many_ends : {S T : Type 0} (m : Machine Lexeme S T) {P : Lexeme → Type 0} → EndsAt m P → Refuses m P → EndsAt (many m) P
+many_ends m h r s xs t p e = many_ends_by m h r s.done s.begun xs t p e
+
+listed_ends_by : {S T : Type 0} (m : Machine Lexeme S T) {P : Lexeme → Type 0} → EndsAt m P → Refuses m P → ((t : Lexeme) → P t → (xs : List T) → behind_item {S = S} xs (mark_of t.kind) ≡ ended xs) →
+    (done : List T) (b : Option S) (xs : List T) (t : Lexeme) → P t → sequence_end m.finish done b ≡ Some xs → listed_step m done b t ≡ ended xs
+listed_ends_by m h r g done None xs t p e = beginning_ends done (m.step m.start t) (r t p) ∙ ap (λ xs. ended xs) (some_is e)
+listed_ends_by m h r g done (Some s) xs t p e =
+    let f = finished done (m.finish s) xs e in
+    ap (λ a. listed_answer done (mark_of t.kind) a) (h s f.0 t p f.1) ∙ g t p (done ++ f.0 ∷ []) ∙ ap (λ xs. ended xs) f.2
+
+pub listed_ends : {S T : Type 0} (m : Machine Lexeme S T) {P : Lexeme → Type 0} → EndsAt m P → Refuses m P → ((t : Lexeme) → P t → (xs : List T) → behind_item {S = S} xs (mark_of t.kind) ≡ ended xs) → EndsAt (listed m) P
+listed_ends m h r g s xs t p e = listed_ends_by m h r g s.done s.begun xs t p e

@@ -1,0 +1,127 @@
+-- What a run tells of a text is the list of its faults.
+use Rattle.std.specs.Prelude.{◌↔◌, IsTrue, cond}
+use Rattle.std.proofs.Common.{◌≡◌, ◌⊎◌, ℕ, List, [], ◌∷◌, ◌++◌, Option, Some, None, Bool, true, false, refl, sym, ◌∙◌, ap, subst, inl, inr}
+use Rattle.cedar_lexer.specs.Token.{Lexeme}
+use Rattle.cedar_lexer.specs.LexerState.{IsCutOrStop}
+use Rattle.cedar_lexer.specs.declared.token.TokenKind.{TokenKind}
+use Rattle.cedar_syntax.specs.declared.err.faults.Failure.{Failure}
+use Rattle.cedar_syntax.specs.declared.err.faults.Failure.TheVariants.{Memory, Errors}
+use Rattle.cedar_syntax.specs.declared.err.faults.ParseError.{ParseError}
+use Rattle.cedar_text.specs.declared.text_to_cst.expected.Narrowing.TheVariants as narrowing
+use Rattle.cedar_text.specs.declared.text_to_cst.recovery.Way.{Way}
+use Rattle.cedar_text.specs.Expected.{IsExpected}
+use Rattle.cedar_text.specs.FirstFault.{end_at, end_of, unexpected_at, early_at}
+use Rattle.cedar_syntax.specs.ParseErrors.{faults_of}
+use Rattle.cedar_text.specs.Grammar.{Rule, IsNodeOf}
+use Rattle.cedar_text.specs.Trees.{Cell}
+use Rattle.cedar_text.specs.MendedFaults.{fault_of, Unallowed, a_token, the_end, IsLarge, listed, IsListed, IsFaultList, IsMendedRefusal}
+use Rattle.cedar_text.specs.declared.extent.Extent.{Extent}
+use Rattle.cedar_text.specs.Place.{join, extent_of, extent}
+use Rattle.cedar_text.specs.Sentences.{kinds}
+use Rattle.cedar_text.specs.machines.Door.{Machine, Answer, next, ended, refused, too_large, Comes, is_taken, is_some, allows, IsShape, Shapes, Door}
+use Rattle.cedar_text.specs.machines.Judged.{may_take, ReadsBy, expected_by}
+use Rattle.cedar_text.specs.machines.Marks.{mark_of}
+use Rattle.cedar_text.specs.machines.Mending.{refused_fault, bad_fault, judged_by, recover_by, recover_all_by, last_of, told_at, TellsAll, IsTold}
+use Rattle.cedar_text.specs.machines.Recovery.{Recovers, Recovery, reading, skipping, stopped, judged, recover, recover_all, Told, told, told_reading, told_end}
+use Rattle.cedar_text.specs.machines.WordShapes.{no_tree}
+use Rattle.cedar_text.proofs.machines.Entries.{may_take_shape}
+use Rattle.cedar_text.proofs.machines.Expected.{expected_is, one_list}
+use Rattle.cedar_text.proofs.machines.Faults.{HasFaults, has_faults, faults_exactly}
+use Rattle.cedar_text.proofs.machines.Laws.{exactly, ends_alike}
+use Rattle.cedar_text.proofs.machines.Recovery.{end_from, Recoverable}
+use Rattle.cedar_text.proofs.machines.Skipping.{as_skipped}
+
+-- ---- what states allow is what the machine takes
+
+judged_same : {S T F : Type 0} (b : Bool) (r : Recovers S F) (xs : List F) (l : ℕ) (s : S) (t : Lexeme) (a : Answer S T) → may_take a ≡ b → judged_by b r xs l s t a ≡ judged r xs l s t a
+judged_same true r xs l s t (next q) e = refl
+judged_same true r xs l s t (ended x) e = absurd (cc)
+judged_same true r xs l s t refused e = absurd (cc)
+judged_same true r xs l s t too_large e = refl
+judged_same false r xs l s t (next q) e = absurd (cc)
+judged_same false r xs l s t (ended x) e = as_skipped r xs (r.way s) s (r.tell s l (Some t)) t (mark_of t.kind)
+judged_same false r xs l s t refused e = as_skipped r xs (r.way s) s (r.tell s l (Some t)) t (mark_of t.kind)
+judged_same false r xs l s t too_large e = absurd (cc)
+
+recover_same : {S T V F : Type 0} (m : Machine Lexeme S T) (n : Machine TokenKind V (Unit {0})) (f : S → V) (r : Recovers S F) → Shapes m n f no_tree → (q : Recovery S F) (t : Lexeme) →
+    recover_by m (λ s after. allows n (f s) after) r q t ≡ recover m r q t
+recover_same m n f r i (reading xs l s) t = judged_same (is_taken (n.step (f s) t.kind)) r xs l s t (m.step s t) (may_take_shape f no_tree (m.step s t) (n.step (f s) t.kind) (i.steps s t))
+recover_same m n f r i (skipping xs w s x) t = as_skipped r xs w s x t (mark_of t.kind)
+recover_same m n f r i (stopped xs x) t = refl
+
+all_same : {S T V F : Type 0} (m : Machine Lexeme S T) (n : Machine TokenKind V (Unit {0})) (f : S → V) (r : Recovers S F) → Shapes m n f no_tree → (q : Recovery S F) (ts : List Lexeme) →
+    recover_all_by m (λ s after. allows n (f s) after) r q ts ≡ recover_all m r q ts
+all_same m n f r i q [] = refl
+all_same m n f r i q (t ∷ ts) = ap (λ q. recover_all_by m (λ s after. allows n (f s) after) r q ts) (recover_same m n f r i q t) ∙ all_same m n f r i (recover m r q t) ts
+
+-- ---- what is told at last
+
+end_list : {T F : Type 0} (xs : List F) (y : F) (o : Option T) (b : Bool) → is_some o ≡ b → listed (cond b None (Some y)) xs ≡ listed (told_reading xs y o).last (told_reading xs y o).mended
+end_list xs y None true e = absurd (cc)
+end_list xs y None false e = refl
+end_list xs y (Some x) true e = refl
+end_list xs y (Some x) false e = absurd (cc)
+
+reading_list : {T : Type 0} (src : List ℕ) (place : ℕ) (xs : List ParseError) (y : ParseError) (o : Option T) → IsListed src (Some place) (told_reading xs y o).mended (told_reading xs y o).last (bad_fault fault_of src place ∷ xs)
+reading_list src place xs y None = inl refl
+reading_list src place xs y (Some x) = inl refl
+
+told_list : {S T V : Type 0} (src : List ℕ) (m : Machine Lexeme S T) (n : Machine TokenKind V (Unit {0})) (f : S → V) (r : Recovers S ParseError) → Shapes m n f no_tree → (q : Recovery S ParseError) (bad : Option ℕ) →
+    IsListed src bad (told_end m r q).mended (told_end m r q).last (told_at (λ s after. allows n (f s) after) r (bad_fault fault_of src) q bad)
+told_list src m n f r i (reading xs l s) None = end_list xs (r.tell s l None) (m.finish s) (is_some (n.finish (f s))) (sym (ends_alike f no_tree i s))
+told_list src m n f r i (reading xs l s) (Some place) = reading_list src place xs (r.tell s l None) (m.finish s)
+told_list src m n f r i (skipping xs w s x) None = refl
+told_list src m n f r i (skipping xs w s x) (Some place) = inl refl
+told_list src m n f r i (stopped xs x) None = refl
+told_list src m n f r i (stopped xs x) (Some place) = inr (x, refl, refl)
+
+tells_list : {S T V : Type 0} {R : Rule T} {W : List ℕ → List Lexeme → Type 0} {r : Recovers S ParseError} {m : Machine Lexeme S (Cell T)} {n : Machine TokenKind V (Unit {0})} {f : S → V} (text : List ℕ) →
+    Recoverable text m (IsNodeOf R text) (W text) (Unallowed (IsNodeOf R text) narrowing.Tokens text) (IsLarge text) r n f → (xs : List ParseError) → TellsAll m (λ s after. allows n (f s) after) r (bad_fault fault_of text) text xs → IsFaultList R W text xs
+tells_list {r = r} {m = m} {n = n} {f = f} text d xs h =
+    let a = has_faults d h.tokens in
+    let q = recover_all m r (reading [] 0 m.start) h.tokens in
+    let e = (faults_exactly d h.tokens a.mended a.last).0 a.stands in
+    let same : xs ≡ told_at (λ s after. allows n (f s) after) r (bad_fault fault_of text) q h.bad = h.is ∙ ap (λ q. told_at (λ s after. allows n (f s) after) r (bad_fault fault_of text) q h.bad) (all_same m n f r d.shaped (reading [] 0 m.start) h.tokens) in
+    record {
+      tokens = h.tokens;
+      bad = h.bad;
+      cut = h.cut;
+      mended = a.mended;
+      last = a.last;
+      stands = a.stands;
+      is = subst (λ a. IsListed text h.bad a.mended a.last xs) e (subst (λ xs. IsListed text h.bad (told_end m r q).mended (told_end m r q).last xs) (sym same) (told_list text m n f r d.shaped q h.bad));
+    }
+
+pub refused_list : {S T V : Type 0} {R : Rule T} {r : Recovers S ParseError} {m : Machine Lexeme S (Cell T)} {n : Machine TokenKind V (Unit {0})} {f : S → V} (W : List ℕ → List Lexeme → Type 0) (text : List ℕ) →
+    Recoverable text m (IsNodeOf R text) (W text) (Unallowed (IsNodeOf R text) narrowing.Tokens text) (IsLarge text) r n f → (e : Failure) → IsTold m (λ s after. allows n (f s) after) r text e → IsMendedRefusal R W text e
+refused_list W text d (Memory e) h = tt
+refused_list W text d (Errors errors) h = tells_list text d (faults_of errors) h
+
+-- ---- a fault is told as it is recorded
+
+end_on : (a b : Extent) (o : Option Extent) → end_at (join (Some a) (join (Some b) o)) ≡ end_at (join (Some b) o)
+end_on a b None = refl
+end_on a b (Some c) = refl
+
+last_end : (t : Lexeme) (ts : List Lexeme) → end_of (t ∷ ts) ≡ end_from t.end ts
+last_end t [] = refl
+last_end t (u ∷ us) = end_on (extent_of t) (extent_of u) (extent us) ∙ last_end u us
+
+pub end_is : (ts : List Lexeme) → end_of ts ≡ end_from 0 ts
+end_is [] = refl
+end_is (t ∷ ts) = last_end t ts
+
+pub tells_exactly : {S T V : Type 0} {m : Machine Lexeme S T} {n : Machine TokenKind V (Unit {0})} {R : List Lexeme → T → Type 0} (f : S → V) → Door m R → Shapes m n f no_tree → (src : List ℕ) (ts : List Lexeme) (s : S) (o : Option Lexeme) (x : ParseError) → Comes m ts s →
+    Unallowed R narrowing.Tokens src ts o x ↔ (refused_fault fault_of (λ after. allows n (f s) after) src (end_from 0 ts) o ≡ x)
+tells_exactly {m = m} {n = n} {R = R} f d i src ts s o x c = (λ h. there o x h, λ e. subst (λ x. Unallowed R narrowing.Tokens src ts o x) e (back o))
+  where
+    expects : (after : Option TokenKind) → IsExpected R narrowing.Tokens (kinds ts) after (expected_by (λ after. allows n (f s) after) narrowing.Tokens after)
+    expects after = expected_is R (kinds ts) (λ after. allows n (f s) after) narrowing.Tokens after (λ k. exactly f no_tree d i ts s (Some k) c)
+
+    there : (o : Option Lexeme) (x : ParseError) → Unallowed R narrowing.Tokens src ts o x → refused_fault fault_of (λ after. allows n (f s) after) src (end_from 0 ts) o ≡ x
+    there (Some t) x (a_token h) = ap (λ ks. fault_of src (unexpected_at t ks)) (one_list (expects (Some t.kind)) h)
+    there None x (the_end {ks = ks} h) = ap (λ ks. fault_of src (early_at (end_from 0 ts) ks)) (one_list (expects None) h) ∙ ap (λ l. fault_of src (early_at l ks)) (sym (end_is ts))
+
+    back : (o : Option Lexeme) → Unallowed R narrowing.Tokens src ts o (refused_fault fault_of (λ after. allows n (f s) after) src (end_from 0 ts) o)
+    back (Some t) = a_token (expects (Some t.kind))
+    back None = subst (λ l. Unallowed R narrowing.Tokens src ts None (fault_of src (early_at l (expected_by (λ after. allows n (f s) after) narrowing.Tokens None)))) (end_is ts) (the_end (expects None))

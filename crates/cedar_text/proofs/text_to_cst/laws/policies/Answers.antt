@@ -1,0 +1,23 @@
+use Rattle.cedar_text.specs.MendedFaults.{PoliciesBefore}
+use Rattle.cedar_text.proofs.machines.MendedClauses.{has_list, one_fault_list}
+use Rattle.cedar_text.proofs.machines.PolicyParts.{all_policies_read, policies_mend}
+use Rattle.cedar_text.proofs.machines.Told.{follows, one_tree, tree_or_fault, one_fault, not_both_of}
+use Rattle.cedar_text.proofs.text_to_cst.laws.policies.Goals as goal
+
+pub returns-clause-one_tree : goal.returns-clause-one_tree
+returns-clause-one_tree c = λ src ts x y r s. one_tree (follows _ _ src _ (all_policies_read src)) ts x y r s
+
+pub returns-clause-tree_or_fault : goal.returns-clause-tree_or_fault
+returns-clause-tree_or_fault c = λ src ts bad. tree_or_fault (follows _ _ src _ (all_policies_read src)) _ ts bad
+
+pub returns-clause-one_fault : goal.returns-clause-one_fault
+returns-clause-one_fault c = λ src ts bad f g a b. one_fault (follows _ _ src _ (all_policies_read src)) _ ts bad f g a b
+
+pub returns-clause-not_both : goal.returns-clause-not_both
+returns-clause-not_both c = λ src ts raw t h. not_both_of (follows _ _ src _ (all_policies_read src)) _ ts raw t h
+
+pub returns-clause-fault_list : goal.returns-clause-fault_list
+returns-clause-fault_list c = λ src ts. has_list PoliciesBefore (policies_mend src) ts
+
+pub returns-clause-one_list : goal.returns-clause-one_list
+returns-clause-one_list c = λ src ts xs ys x y h g. one_fault_list PoliciesBefore (policies_mend src) ts xs ys x y h g

@@ -1,0 +1,21 @@
+use Rattle.cedar_text.specs.MendedFaults.{PoliciesBefore}
+use Rattle.cedar_text.proofs.machines.MendedClauses.{found_clause, only_clause, refused_clause, leftmost_clause}
+use Rattle.cedar_text.proofs.machines.PolicyParts.{policies_mend}
+use Rattle.cedar_text.proofs.machines.Told.{places_clause}
+use Rattle.cedar_text.proofs.PolicyPlaces.{policies_places_lie}
+use Rattle.cedar_text.proofs.text_to_cst.parse_policies.Goals as goal
+
+pub returns-clause-found : goal.returns-clause-found
+returns-clause-found c = found_clause PoliciesBefore (policies_mend c.args.text.now) _ c.parse_on.ensures
+
+pub returns-clause-only : goal.returns-clause-only
+returns-clause-only c = only_clause PoliciesBefore (policies_mend c.args.text.now) _ c.parse_on.ensures
+
+pub returns-clause-refused : goal.returns-clause-refused
+returns-clause-refused c = refused_clause PoliciesBefore (policies_mend c.args.text.now) _ c.parse_on.ensures
+
+pub returns-clause-places : goal.returns-clause-places
+returns-clause-places c = places_clause _ (λ x g. policies_places_lie c.args.text.now x c.utf8.text g) (found_clause PoliciesBefore (policies_mend c.args.text.now) _ c.parse_on.ensures)
+
+pub returns-clause-leftmost : goal.returns-clause-leftmost
+returns-clause-leftmost c = λ ts k g. leftmost_clause PoliciesBefore (policies_mend c.args.text.now) _ c.parse_on.ensures c.utf8.text ts k g
