@@ -8,7 +8,7 @@ ghost use Rattle.cedar_text.specs.machines.Condition.{at_word, behind_word, behi
 ghost use Rattle.cedar_text.specs.machines.Judged.{answer_of};
 
 use crate::text_to_cst::mark::{Mark, as_mark};
-use crate::text_to_cst::reader::Reader;
+use crate::text_to_cst::reader::{Reader, put};
 use crate::text_to_cst::state::Taken;
 use crate::text_to_cst::words::{as_ident, token_node};
 use cedar_expressions::Source;
@@ -44,7 +44,10 @@ impl<E: Reader<Node<Option<Expr>>>> ConditionState<E> {
     {
         match as_ident(alloc, token.kind, token.text)? {
             Some(ident) => {
-                *self = ConditionState::Word(token_node(source, token, ident)?);
+                put(
+                    self,
+                    ConditionState::Word(token_node(source, token, ident)?),
+                );
                 Ok(Taken::Next)
             }
             None => Ok(Taken::Refused),
@@ -57,7 +60,7 @@ impl<E: Reader<Node<Option<Expr>>>> ConditionState<E> {
     {
         match mark {
             Mark::OpenBrace => {
-                *self = ConditionState::Opened(word);
+                put(self, ConditionState::Opened(word));
                 Taken::Next
             }
             _ => Taken::Refused,
@@ -75,7 +78,7 @@ impl<E: Reader<Node<Option<Expr>>>> ConditionState<E> {
     {
         match mark {
             Mark::CloseBrace => {
-                *self = ConditionState::Closed(word, body);
+                put(self, ConditionState::Closed(word, body));
                 Taken::Next
             }
             _ => Taken::Refused,
@@ -98,7 +101,7 @@ impl<E: Reader<Node<Option<Expr>>>> ConditionState<E> {
         let mut held = E::begin(alloc);
         match held.step(alloc, source, token)? {
             Taken::Next => {
-                *self = ConditionState::Body(word, held);
+                put(self, ConditionState::Body(word, held));
                 Ok(Taken::Next)
             }
             Taken::Ended(body) => Ok(self.close(word, Some(body), as_mark(token.kind))),

@@ -4,7 +4,7 @@ ghost use Rattle.cedar_text.specs.machines.Policies.{condition_way, begun_condit
 
 use crate::text_to_cst::condition::ConditionState;
 use crate::text_to_cst::policy::{Annotations, Begun, Conditions, PolicyState, Scope};
-use crate::text_to_cst::reader::Reader;
+use crate::text_to_cst::reader::{Reader, put};
 use crate::text_to_cst::recovery::{Recovering, Way};
 use crate::text_to_cst::sequence::{Sequence, Spanned};
 use crate::text_to_cst::state::Taken;
@@ -49,10 +49,10 @@ impl<E: Reader<Node<Option<Expr>>>> ConditionState<E> {
     {
         match mem::replace(self, ConditionState::Start) {
             ConditionState::Start => {}
-            ConditionState::Word(word) => *self = ConditionState::Word(word),
-            ConditionState::Opened(word) => *self = ConditionState::Closed(word, None),
-            ConditionState::Body(word, _) => *self = ConditionState::Closed(word, None),
-            ConditionState::Closed(word, body) => *self = ConditionState::Closed(word, body),
+            ConditionState::Word(word) => put(self, ConditionState::Word(word)),
+            ConditionState::Opened(word) => put(self, ConditionState::Closed(word, None)),
+            ConditionState::Body(word, _) => put(self, ConditionState::Closed(word, None)),
+            ConditionState::Closed(word, body) => put(self, ConditionState::Closed(word, body)),
         }
     }
 }

@@ -10,7 +10,7 @@ ghost use Rattle.cedar_text.specs.machines.Judged.{answer_of};
 use crate::text_to_cst::annotation::AnnotationState;
 use crate::text_to_cst::condition::ConditionState;
 use crate::text_to_cst::mark::{Mark, as_mark};
-use crate::text_to_cst::reader::Reader;
+use crate::text_to_cst::reader::{Reader, put};
 use crate::text_to_cst::scope::ElementState;
 use crate::text_to_cst::sequence::{Sequence, Spanned};
 use crate::text_to_cst::state::Taken;
@@ -93,7 +93,7 @@ where
         match as_ident(alloc, token.kind, token.text)? {
             Some(ident) => {
                 let effect = token_node(source, token, ident)?;
-                *self = PolicyState::Effect(annotations, effect);
+                put(self, PolicyState::Effect(annotations, effect));
                 Ok(Taken::Next)
             }
             None => Ok(Taken::Refused),
@@ -113,7 +113,10 @@ where
     {
         match mark {
             Mark::OpenParen => {
-                *self = PolicyState::Scope(annotations, effect, Sequence::new(alloc));
+                put(
+                    self,
+                    PolicyState::Scope(annotations, effect, Sequence::new(alloc)),
+                );
                 Taken::Next
             }
             _ => Taken::Refused,
@@ -152,7 +155,7 @@ where
     {
         match mark {
             Mark::Semicolon => {
-                *self = PolicyState::Closed(policy);
+                put(self, PolicyState::Closed(policy));
                 Taken::Next
             }
             _ => Taken::Refused,

@@ -1,4 +1,6 @@
 //! What reads a form of the grammar, token after token.
+ghost use Rattle.std.specs.Prelude.{◌≡◌};
+
 use crate::text_to_cst::state::Taken;
 use cedar_expressions::Source;
 use cedar_lexer::token::Token;
@@ -29,4 +31,11 @@ pub trait Reader<T: Drop>: Drop {
         requires { IsWritten (lexeme_of token) }
         ensures { IfOk result (λ taken. answer_of taken self.new
             ≡ (machine source.now).step self.old (lexeme_of token.entry)) };
+}
+
+/// Puts a value in the place of another, which is let go here. What letting go of a large state takes is so proved of no caller.
+pub(crate) fn put<T: Drop>(place: &mut T, value: T)
+    ensures { place.new ≡ value }
+{
+    *place = value;
 }

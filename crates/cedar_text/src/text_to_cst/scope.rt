@@ -8,7 +8,7 @@ ghost use Rattle.cedar_text.specs.machines.Scope.{at_variable, at_constraint, at
 ghost use Rattle.cedar_text.specs.machines.Judged.{answer_of};
 
 use crate::text_to_cst::mark::{Mark, as_mark, as_relation};
-use crate::text_to_cst::reader::Reader;
+use crate::text_to_cst::reader::{Reader, put};
 use crate::text_to_cst::state::Taken;
 use crate::text_to_cst::words::{as_ident, token_node};
 use cedar_expressions::Source;
@@ -56,7 +56,10 @@ where
     {
         match as_ident(alloc, token.kind, token.text)? {
             Some(ident) => {
-                *self = ElementState::Variable(token_node(source, token, ident)?);
+                put(
+                    self,
+                    ElementState::Variable(token_node(source, token, ident)?),
+                );
                 Ok(Taken::Next)
             }
             None => Ok(Taken::Refused),
@@ -77,13 +80,14 @@ where
     {
         match operator {
             Some(operator) => {
-                *self = ElementState::Constraint(
+                let next = ElementState::Constraint(
                     variable,
                     unused_type_name,
                     entity_type,
                     operator,
                     E::begin(alloc),
                 );
+                put(self, next);
                 Taken::Next
             }
             None => Taken::Ended(VariableDef {
@@ -109,7 +113,10 @@ where
     {
         match as_mark(token.kind) {
             Mark::Is => {
-                *self = ElementState::EntityType(variable, unused_type_name, S::begin(alloc));
+                put(
+                    self,
+                    ElementState::EntityType(variable, unused_type_name, S::begin(alloc)),
+                );
                 Taken::Next
             }
             _ => self.compare(
@@ -137,7 +144,7 @@ where
     {
         match mark {
             Mark::Colon => {
-                *self = ElementState::TypeName(variable, N::begin(alloc));
+                put(self, ElementState::TypeName(variable, N::begin(alloc)));
                 Taken::Next
             }
             _ => self.narrow(alloc, variable, None, token),
