@@ -9,7 +9,7 @@ ghost use Rattle.cedar_text.specs.machines.Judged.{answer_of};
 
 use crate::text_to_cst::literal::string_node;
 use crate::text_to_cst::mark::{Mark, as_mark};
-use crate::text_to_cst::reader::Reader;
+use crate::text_to_cst::reader::{Reader, put};
 use crate::text_to_cst::state::Taken;
 use crate::text_to_cst::words::{as_ident, token_node};
 use cedar_expressions::Source;
@@ -40,7 +40,7 @@ impl AnnotationState {
     {
         match mark {
             Mark::At => {
-                *self = AnnotationState::At;
+                put(self, AnnotationState::At);
                 Taken::Next
             }
             _ => Taken::Refused,
@@ -60,7 +60,8 @@ impl AnnotationState {
     {
         match as_ident(alloc, token.kind, token.text)? {
             Some(ident) => {
-                *self = AnnotationState::Key(token_node(source, token, ident)?);
+                let key = token_node(source, token, ident)?;
+                put(self, AnnotationState::Key(key));
                 Ok(Taken::Next)
             }
             None => Ok(Taken::Refused),
@@ -73,7 +74,7 @@ impl AnnotationState {
     {
         match mark {
             Mark::OpenParen => {
-                *self = AnnotationState::Open(key);
+                put(self, AnnotationState::Open(key));
                 Taken::Next
             }
             _ => Taken::Ended(Annotation { key, value: None }),
@@ -112,7 +113,7 @@ impl AnnotationState {
     {
         match mark {
             Mark::CloseParen => {
-                *self = AnnotationState::Closed(key, value);
+                put(self, AnnotationState::Closed(key, value));
                 Taken::Next
             }
             _ => Taken::Refused,

@@ -216,7 +216,8 @@ fn last_fault<E: Entry + Recovering, F: Telling>(
     bad: Option<usize>,
 ) -> Result<Option<F>, AllocError>
     ensures last { IfOk result
-        (λ last. last ≡ last_of E.allowed (recovers_of E.allowed E.left E.closed E.over F.told source.now)
+        (λ last. last ≡ last_of E.allowed
+        (recovers_of E.allowed E.left E.closed E.over F.told source.now)
         (bad_fault F.told source.now) (stage_of run.old) bad) }
     ensures state { run.new.state ≡ run.old.state }
     ensures mended { run.new.mended ≡ run.old.mended }

@@ -127,7 +127,7 @@ where
     }
 
     fn end(&mut self, alloc: Global) {
-        self.state = PolicyState::Closed(faulty(alloc));
+        put(&mut self.state, PolicyState::Closed(faulty(alloc)));
     }
 }
 
@@ -191,10 +191,11 @@ where
     }
 
     fn end(&mut self, alloc: Global) {
-        self.begun = Some(Spanned {
+        let over = Spanned {
             extent: None,
             state: PolicyState::Closed(faulty(alloc)),
-        });
+        };
+        put(&mut self.begun, Some(over));
     }
 }
 

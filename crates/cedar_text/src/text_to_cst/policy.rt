@@ -172,14 +172,12 @@ where
         ensures { answer_of result self.new ≡ conditions_ended self.old conds mark }
     {
         match mem::replace(self, PolicyState::Annotated(Sequence::new(alloc))) {
-            PolicyState::Conditions(annotations, effect, variables, _) => {
+            PolicyState::Conditions(annotations, effect, variables, held) => {
+                drop(held);
                 let policy = whole(annotations, effect, variables, conds);
                 self.shut(policy, mark)
             }
-            PolicyState::Annotated(_)
-            | PolicyState::Effect(_, _)
-            | PolicyState::Scope(_, _, _)
-            | PolicyState::Closed(_) => Taken::Refused,
+            other => Taken::refuse((other, conds)),
         }
     }
 

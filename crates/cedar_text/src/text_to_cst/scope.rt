@@ -163,13 +163,11 @@ where
             (lexeme_of token.entry) }
     {
         match mem::replace(self, ElementState::Start) {
-            ElementState::TypeName(variable, _) => {
+            ElementState::TypeName(variable, held) => {
+                drop(held);
                 self.narrow(alloc, variable, Some(name), token)
             }
-            ElementState::Start
-            | ElementState::Variable(_)
-            | ElementState::EntityType(_, _, _)
-            | ElementState::Constraint(_, _, _, _, _) => Taken::Refused,
+            other => Taken::refuse((other, name)),
         }
     }
 
@@ -184,13 +182,11 @@ where
             ≡ sum_ended (E.machine src).start self.old sum kind }
     {
         match mem::replace(self, ElementState::Start) {
-            ElementState::EntityType(variable, name, _) => {
+            ElementState::EntityType(variable, name, held) => {
+                drop(held);
                 self.compare(alloc, variable, name, Some(sum), as_relation(kind))
             }
-            ElementState::Start
-            | ElementState::Variable(_)
-            | ElementState::TypeName(_, _)
-            | ElementState::Constraint(_, _, _, _, _) => Taken::Refused,
+            other => Taken::refuse((other, sum)),
         }
     }
 
@@ -199,7 +195,8 @@ where
         ensures { answer_of result self.new ≡ expression_ended self.old expression }
     {
         match mem::replace(self, ElementState::Start) {
-            ElementState::Constraint(variable, unused_type_name, entity_type, operator, _) => {
+            ElementState::Constraint(variable, unused_type_name, entity_type, operator, held) => {
+                drop(held);
                 Taken::Ended(VariableDef {
                     variable,
                     unused_type_name,
@@ -207,10 +204,7 @@ where
                     ineq: Some((operator, expression)),
                 })
             }
-            ElementState::Start
-            | ElementState::Variable(_)
-            | ElementState::TypeName(_, _)
-            | ElementState::EntityType(_, _, _) => Taken::Refused,
+            other => Taken::refuse((other, expression)),
         }
     }
 

@@ -1,5 +1,7 @@
 //! What the parser has begun to read. Places are bytes here: a `Loc` is made only where a node is
 //! closed.
+ghost use Rattle.std.specs.Prelude.{◌≡◌};
+ghost use Rattle.cedar_text.specs.declared.text_to_cst.state.Taken.TheVariants as taken;
 
 use crate::extent::Extent;
 use cedar_expressions::{Boxed, Items};
@@ -17,6 +19,16 @@ pub enum Taken<T> {
     Refused,
     /// It is a number that doesn't fit, where a number may stand.
     TooLarge,
+}
+
+impl<T: Drop> Taken<T> {
+    /// No sentence has the token there, and what was held before it is let go here: what that takes is so proved of no caller.
+    pub fn refuse<H: Drop>(held: H) -> Taken<T>
+        ensures { result ≡ taken.Refused }
+    {
+        drop(held);
+        Taken::Refused
+    }
 }
 
 /// An identifier, and its bytes.

@@ -10,6 +10,7 @@ use crate::text_to_cst::expression::state::{
     Branch, Frame, Levels, Mode, Operand, Place, Ranged, Signs, State, Taken,
 };
 use crate::text_to_cst::ground::Ground;
+use crate::text_to_cst::reader::put;
 use cedar_expressions::Items;
 use cedar_syntax::cst::Primary;
 use std::alloc::{AllocError, Global};
@@ -71,8 +72,8 @@ impl State {
     pub fn begin(&mut self, branches: Stack<Branch>, place: Place)
         ensures { self.new ≡ opening self.old.stack branches place }
     {
-        self.levels = fresh_levels(branches);
-        self.mode = want_at(place);
+        put(&mut self.levels, fresh_levels(branches));
+        put(&mut self.mode, want_at(place));
     }
 
     /// An expression begins, inside of this bracket.
@@ -90,8 +91,8 @@ impl State {
         ensures { outcome_of result self.new ≡ outcome.next
             (has_operand self.old.stack levels operand) }
     {
-        self.levels = levels;
-        self.mode = Mode::Have(operand);
+        put(&mut self.levels, levels);
+        put(&mut self.mode, Mode::Have(operand));
         Taken::Next
     }
 
@@ -106,7 +107,8 @@ impl State {
             ≡ outcome.next (has_primary ground.entry.source.now self.old.stack self.old.levels
             signs item)) }
     {
-        self.mode = Mode::Have(operand_of(ground, signs, item)?);
+        let operand = operand_of(ground, signs, item)?;
+        put(&mut self.mode, Mode::Have(operand));
         Ok(Taken::Next)
     }
 }

@@ -21,6 +21,7 @@ use crate::text_to_cst::expression::state::{
     Call, Frame, Index, Mark, Mode, Operand, Place, Ranged, Reach, State, Taken,
 };
 use crate::text_to_cst::ground::Ground;
+use crate::text_to_cst::reader::put;
 use crate::text_to_cst::words::as_ident;
 use cedar_expressions::Items;
 use cedar_lexer::token::Token;
@@ -108,7 +109,7 @@ impl State {
         match mark.op {
             Access::Dot => {
                 let dot = mark.extent;
-                self.mode = Mode::Field { operand, dot };
+                put(&mut self.mode, Mode::Field { operand, dot });
                 Ok(Taken::Next)
             }
             Access::Paren => self.open_call(alloc, operand, mark.extent),
@@ -128,7 +129,7 @@ impl State {
             ≡ access_had self.old.stack self.old.levels operand reach mark.op mark.extent) }
     {
         match reach {
-            Reach::Primary => Ok(Taken::NotTaken),
+            Reach::Primary => Ok(Taken::refuse(operand)),
             Reach::Sum | Reach::If | Reach::Whole => self.access(alloc, operand, mark),
         }
     }
@@ -176,7 +177,7 @@ impl State {
                 self.close_call(ground, frame, mark.extent)
             }
             Closing::Bracket | Closing::Brace | Closing::Colon | Closing::Then | Closing::Else =>
-                Ok(Taken::NotTaken),
+                Ok(Taken::refuse((frame, item))),
         }
     }
 
@@ -220,7 +221,7 @@ impl State {
             | Closing::Comma
             | Closing::Colon
             | Closing::Then
-            | Closing::Else => Ok(Taken::NotTaken),
+            | Closing::Else => Ok(Taken::refuse((frame, item))),
         }
     }
 
@@ -239,7 +240,7 @@ impl State {
         let extent = around(dot, field.extent);
         let tree = MemAccess::Field(ground.node_at(Some(field.extent), field.op)?);
         let operand = operand.with(ground, Ranged { tree, extent })?;
-        self.mode = Mode::Have(operand);
+        put(&mut self.mode, Mode::Have(operand));
         Ok(Taken::Next)
     }
 
@@ -260,7 +261,7 @@ impl State {
                 let extent = token_extent(token);
                 self.close_field(ground, operand, dot, Mark { op, extent })
             }
-            None => Ok(Taken::NotTaken),
+            None => Ok(Taken::refuse(operand)),
         }
     }
 }

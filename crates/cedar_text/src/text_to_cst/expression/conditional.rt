@@ -53,7 +53,7 @@ impl State {
             | Closing::Brace
             | Closing::Comma
             | Closing::Colon
-            | Closing::Else => Ok(Taken::NotTaken),
+            | Closing::Else => Ok(Taken::refuse((frame, item))),
         }
     }
 
@@ -98,7 +98,7 @@ impl State {
             | Closing::Brace
             | Closing::Comma
             | Closing::Colon
-            | Closing::Then => Ok(Taken::NotTaken),
+            | Closing::Then => Ok(Taken::refuse((frame, item))),
         }
     }
 }

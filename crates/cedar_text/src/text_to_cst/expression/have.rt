@@ -60,7 +60,7 @@ impl State {
             ≡ ended_by ground.entry.source.now self.old.stack item mark.op mark.extent) }
     {
         match self.stack.pop() {
-            None => Ok(Taken::NotTaken),
+            None => Ok(Taken::refuse(item)),
             Some(Frame::Paren(frame)) => self.end_paren(ground, frame, item, mark),
             Some(Frame::Set(frame)) => self.end_set(ground, frame, item, mark),
             Some(Frame::Call(frame)) => self.end_call(ground, frame, item, mark),
@@ -116,7 +116,7 @@ impl State {
             Operator::And => self.and_had(ground, operand, reach, extent),
             Operator::Or => self.or_had(ground, operand, reach, extent),
             Operator::Ends(op) => self.end(ground, operand, Mark { op, extent }),
-            Operator::Other => Ok(Taken::NotTaken),
+            Operator::Other => Ok(Taken::refuse(operand)),
         }
     }
 

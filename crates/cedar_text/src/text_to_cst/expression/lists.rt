@@ -17,14 +17,7 @@ impl State {
     {
         match self.stack.pop() {
             Some(Frame::Set(frame)) => self.close_set(ground, frame, end),
-            Some(Frame::Paren(_))
-            | Some(Frame::Call(_))
-            | Some(Frame::Index(_))
-            | Some(Frame::Key(_))
-            | Some(Frame::Value(_))
-            | Some(Frame::Guard(_))
-            | Some(Frame::Yes(_))
-            | None => Ok(Taken::NotTaken),
+            other => Ok(Taken::refuse(other)),
         }
     }
 
@@ -35,14 +28,7 @@ impl State {
     {
         match self.stack.pop() {
             Some(Frame::Call(frame)) => self.close_call(ground, frame, end),
-            Some(Frame::Paren(_))
-            | Some(Frame::Set(_))
-            | Some(Frame::Index(_))
-            | Some(Frame::Key(_))
-            | Some(Frame::Value(_))
-            | Some(Frame::Guard(_))
-            | Some(Frame::Yes(_))
-            | None => Ok(Taken::NotTaken),
+            other => Ok(Taken::refuse(other)),
         }
     }
 
@@ -53,14 +39,7 @@ impl State {
     {
         match self.stack.pop() {
             Some(Frame::Key(frame)) => self.close_record(ground, frame, end),
-            Some(Frame::Paren(_))
-            | Some(Frame::Set(_))
-            | Some(Frame::Call(_))
-            | Some(Frame::Index(_))
-            | Some(Frame::Value(_))
-            | Some(Frame::Guard(_))
-            | Some(Frame::Yes(_))
-            | None => Ok(Taken::NotTaken),
+            other => Ok(Taken::refuse(other)),
         }
     }
 

@@ -12,6 +12,7 @@ use crate::text_to_cst::expression::chain::{push_pending, push_plain};
 use crate::text_to_cst::expression::close::close_unary;
 use crate::text_to_cst::expression::state::{Mark, Operand, Place, Reach, State, Taken};
 use crate::text_to_cst::ground::Ground;
+use crate::text_to_cst::reader::put;
 use cedar_syntax::cst::{AddOp, MultOp};
 use std::alloc::AllocError;
 
@@ -29,7 +30,7 @@ impl State {
     {
         let unary = close_unary(ground, operand)?;
         push_pending(ground, &mut self.levels.mult, unary, mark)?;
-        self.mode = want_at(Place::Operand);
+        put(&mut self.mode, want_at(Place::Operand));
         Ok(Taken::Next)
     }
 
@@ -46,7 +47,7 @@ impl State {
     {
         let mult = self.levels.close_mult(ground, operand)?;
         push_pending(ground, &mut self.levels.add, mult, mark)?;
-        self.mode = want_at(Place::Operand);
+        put(&mut self.mode, want_at(Place::Operand));
         Ok(Taken::Next)
     }
 
@@ -63,7 +64,7 @@ impl State {
     {
         let relation = self.levels.close_relation(ground, operand)?;
         push_plain(ground, &mut self.levels.and, relation, operator)?;
-        self.mode = want_at(Place::Operand);
+        put(&mut self.mode, want_at(Place::Operand));
         Ok(Taken::Next)
     }
 
@@ -80,7 +81,7 @@ impl State {
     {
         let and = self.levels.close_and(ground, operand)?;
         push_plain(ground, &mut self.levels.or, and, operator)?;
-        self.mode = want_at(Place::Operand);
+        put(&mut self.mode, want_at(Place::Operand));
         Ok(Taken::Next)
     }
 
@@ -97,7 +98,7 @@ impl State {
             mark.op mark.extent) }
     {
         match reach {
-            Reach::Primary | Reach::If => Ok(Taken::NotTaken),
+            Reach::Primary | Reach::If => Ok(Taken::refuse(operand)),
             Reach::Sum | Reach::Whole => self.multiply(ground, operand, mark),
         }
     }
@@ -115,7 +116,7 @@ impl State {
             mark.extent) }
     {
         match reach {
-            Reach::Primary | Reach::If => Ok(Taken::NotTaken),
+            Reach::Primary | Reach::If => Ok(Taken::refuse(operand)),
             Reach::Sum | Reach::Whole => self.sum(ground, operand, mark),
         }
     }
@@ -133,7 +134,7 @@ impl State {
             operator) }
     {
         match reach {
-            Reach::Primary | Reach::Sum => Ok(Taken::NotTaken),
+            Reach::Primary | Reach::Sum => Ok(Taken::refuse(operand)),
             Reach::If | Reach::Whole => self.and_then(ground, operand, operator),
         }
     }
@@ -151,7 +152,7 @@ impl State {
             operator) }
     {
         match reach {
-            Reach::Primary | Reach::Sum => Ok(Taken::NotTaken),
+            Reach::Primary | Reach::Sum => Ok(Taken::refuse(operand)),
             Reach::If | Reach::Whole => self.or_else(ground, operand, operator),
         }
     }

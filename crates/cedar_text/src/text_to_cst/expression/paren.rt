@@ -16,6 +16,7 @@ use crate::text_to_cst::expression::state::{
     Frame, Mark, Paren, Place, Ranged, Signs, State, Taken,
 };
 use crate::text_to_cst::ground::Ground;
+use crate::text_to_cst::reader::put;
 use cedar_syntax::cst::{Expr, Primary};
 use std::alloc::{AllocError, Global};
 use std::mem;
@@ -65,7 +66,7 @@ impl State {
         } = frame;
         let tree = Primary::Expr(ground.node_of(item)?);
         let extent = around(opened, end);
-        self.levels = outer;
+        put(&mut self.levels, outer);
         self.have_primary(ground, signs, Ranged { tree, extent })
     }
 
@@ -87,7 +88,7 @@ impl State {
             | Closing::Comma
             | Closing::Colon
             | Closing::Then
-            | Closing::Else => Ok(Taken::NotTaken),
+            | Closing::Else => Ok(Taken::refuse((frame, item))),
         }
     }
 }

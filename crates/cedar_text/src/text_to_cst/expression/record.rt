@@ -15,6 +15,7 @@ use crate::text_to_cst::expression::state::{
     Frame, Mark, Place, Ranged, Record, Signs, State, Taken, Value,
 };
 use crate::text_to_cst::ground::Ground;
+use crate::text_to_cst::reader::put;
 use cedar_expressions::Items;
 use cedar_syntax::cst::{Expr, Primary, RecInit};
 use cedar_syntax::node::Node;
@@ -77,7 +78,7 @@ impl State {
         } = frame;
         let tree = Primary::RInits(items);
         let extent = around(opened, end);
-        self.levels = outer;
+        put(&mut self.levels, outer);
         self.have_primary(ground, signs, Ranged { tree, extent })
     }
 
@@ -135,7 +136,7 @@ impl State {
             | Closing::Brace
             | Closing::Comma
             | Closing::Then
-            | Closing::Else => Ok(Taken::NotTaken),
+            | Closing::Else => Ok(Taken::refuse((frame, item))),
         }
     }
 
@@ -160,7 +161,7 @@ impl State {
                 self.close_record(ground, pairs, mark.extent)
             }
             Closing::Paren | Closing::Bracket | Closing::Colon | Closing::Then | Closing::Else =>
-                Ok(Taken::NotTaken),
+                Ok(Taken::refuse((frame, item))),
         }
     }
 }

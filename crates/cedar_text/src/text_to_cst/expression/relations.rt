@@ -15,6 +15,7 @@ use crate::text_to_cst::expression::state::{
     Left, Mark, Operand, Pending, Place, Ranged, Reach, State, Taken,
 };
 use crate::text_to_cst::ground::Ground;
+use crate::text_to_cst::reader::put;
 use cedar_expressions::Boxed;
 use cedar_syntax::cst::{Add, RelOp};
 use cedar_syntax::node::Node;
@@ -63,10 +64,11 @@ impl State {
         ensures { IfOk result (λ taken. outcome_of taken self.new
             ≡ outcome.next (left_begun self.old.stack self.old.levels left place)) }
     {
-        self.levels.relation = Some(Boxed::new(alloc, left)?);
-        self.levels.add = None;
-        self.levels.mult = None;
-        self.mode = want_at(place);
+        let left = Boxed::new(alloc, left)?;
+        put(&mut self.levels.relation, Some(left));
+        put(&mut self.levels.add, None);
+        put(&mut self.levels.mult, None);
+        put(&mut self.mode, want_at(place));
         Ok(Taken::Next)
     }
 
@@ -148,7 +150,7 @@ impl State {
             | RelOp::Greater
             | RelOp::NotEq
             | RelOp::Eq
-            | RelOp::InvalidSingleEq => Ok(Taken::NotTaken),
+            | RelOp::InvalidSingleEq => Ok(Taken::refuse((left, item))),
         }
     }
 
@@ -167,7 +169,7 @@ impl State {
         match begun {
             Left::Common(begun) => self.compare_on(ground, begun, item, mark),
             Left::Is(left) => self.compare_type(ground, left, item, mark),
-            Left::Has(_) | Left::Like(_) | Left::IsIn { .. } => Ok(Taken::NotTaken),
+            Left::Has(_) | Left::Like(_) | Left::IsIn { .. } => Ok(Taken::refuse((begun, item))),
         }
     }
 
@@ -204,7 +206,7 @@ impl State {
     {
         match &self.levels.relation {
             None => self.side_first(ground, operand, mark),
-            Some(_) => Ok(Taken::NotTaken),
+            Some(_) => Ok(Taken::refuse(operand)),
         }
     }
 
@@ -237,7 +239,7 @@ impl State {
             mark.op mark.extent) }
     {
         match reach {
-            Reach::Primary | Reach::Sum | Reach::If => Ok(Taken::NotTaken),
+            Reach::Primary | Reach::Sum | Reach::If => Ok(Taken::refuse(operand)),
             Reach::Whole => self.compare(ground, operand, mark),
         }
     }
@@ -255,7 +257,7 @@ impl State {
             mark.op mark.extent) }
     {
         match reach {
-            Reach::Primary | Reach::Sum | Reach::If => Ok(Taken::NotTaken),
+            Reach::Primary | Reach::Sum | Reach::If => Ok(Taken::refuse(operand)),
             Reach::Whole => self.side(ground, operand, mark),
         }
     }

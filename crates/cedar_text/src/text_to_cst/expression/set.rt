@@ -13,6 +13,7 @@ use crate::text_to_cst::expression::class::Closing;
 use crate::text_to_cst::expression::paren::around;
 use crate::text_to_cst::expression::state::{Frame, Mark, Place, Ranged, Set, Signs, State, Taken};
 use crate::text_to_cst::ground::Ground;
+use crate::text_to_cst::reader::put;
 use cedar_expressions::Items;
 use cedar_syntax::cst::{Expr, Primary};
 use std::alloc::{AllocError, Global};
@@ -68,7 +69,7 @@ impl State {
         } = frame;
         let tree = Primary::EList(items);
         let extent = around(opened, end);
-        self.levels = outer;
+        put(&mut self.levels, outer);
         self.have_primary(ground, signs, Ranged { tree, extent })
     }
 
@@ -93,7 +94,7 @@ impl State {
                 self.close_set(ground, frame, mark.extent)
             }
             Closing::Paren | Closing::Brace | Closing::Colon | Closing::Then | Closing::Else => Ok(
-                Taken::NotTaken,
+                Taken::refuse((frame, item)),
             ),
         }
     }

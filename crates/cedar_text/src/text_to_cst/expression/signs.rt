@@ -6,6 +6,7 @@ ghost use Rattle.cedar_text.specs.machines.Stepped.{outcome_of};
 use crate::extent::{Extent, joined};
 use crate::text_to_cst::expression::class::{Sign, signed};
 use crate::text_to_cst::expression::state::{Gap, Mode, Place, Signs, State, Taken};
+use crate::text_to_cst::reader::put;
 use cedar_syntax::cst::NegOp;
 
 impl State {
@@ -19,10 +20,11 @@ impl State {
             Some(op) => {
                 let extent = joined(before, Some(extent));
                 let op = Some(op);
-                self.mode = Mode::Want {
+                let mode = Mode::Want {
                     place: Place::Operand,
                     signs: Signs { op, extent },
                 };
+                put(&mut self.mode, mode);
                 Taken::Next
             }
         }

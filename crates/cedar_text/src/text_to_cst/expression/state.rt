@@ -1,5 +1,8 @@
 //! What the parser of expressions has begun to read. Places are extents here: a `Loc` is made only where a node is closed.
 
+ghost use Rattle.std.specs.Prelude.{◌≡◌};
+ghost use Rattle.cedar_text.specs.declared.text_to_cst.expression.state.Taken.TheVariants as taken;
+
 use crate::extent::Extent;
 use crate::stack::Stack;
 use crate::text_to_cst::state::WordsState;
@@ -263,4 +266,14 @@ pub enum Taken {
     NotTaken,
     /// A number stands where one may, and is past `u64`.
     TooLarge,
+}
+
+impl Taken {
+    /// The token isn't taken, and what was held before it is let go here: what that takes is so proved of no caller.
+    pub fn refuse<T: Drop>(held: T) -> Taken
+        ensures { result ≡ taken.NotTaken }
+    {
+        drop(held);
+        Taken::NotTaken
+    }
 }

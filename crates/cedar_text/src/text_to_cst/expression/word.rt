@@ -24,6 +24,7 @@ use crate::text_to_cst::expression::state::{
 };
 use crate::text_to_cst::expression::words::{self, alone_of, path_name};
 use crate::text_to_cst::ground::Ground;
+use crate::text_to_cst::reader::put;
 use crate::text_to_cst::state::{Entity, Taken as Given, Words, WordsState};
 use cedar_expressions::Items;
 use cedar_lexer::token::Token;
@@ -125,7 +126,7 @@ impl State {
     {
         let branches = mem::replace(&mut self.levels.branches, Stack::new(ground.alloc));
         self.stack.push(Frame::Guard(Guard { branches, opened }))?;
-        self.levels = fresh_levels(Stack::new(ground.alloc));
+        put(&mut self.levels, fresh_levels(Stack::new(ground.alloc)));
         let gap = Gap {
             place: Place::Expr,
             signs: no_signs(),
@@ -148,14 +149,7 @@ impl State {
                 let tree = if_key(ground, extent)?;
                 self.begin_value(ground.alloc, pairs, Ranged { tree, extent }, colon)
             }
-            Some(Frame::Paren(_))
-            | Some(Frame::Set(_))
-            | Some(Frame::Call(_))
-            | Some(Frame::Index(_))
-            | Some(Frame::Value(_))
-            | Some(Frame::Guard(_))
-            | Some(Frame::Yes(_))
-            | None => Ok(Taken::NotTaken),
+            other => Ok(Taken::refuse(other)),
         }
     }
 
@@ -354,11 +348,12 @@ impl State {
         match words::step(ground, &mut words, ahead.token)? {
             Given::Next => {
                 let Gap { place, signs } = gap;
-                self.mode = Mode::Word {
+                let mode = Mode::Word {
                     place,
                     signs,
                     words,
                 };
+                put(&mut self.mode, mode);
                 Ok(Taken::Next)
             }
             Given::Ended(named) => self.read_named(ground, gap, named, ahead),
