@@ -14,10 +14,17 @@ use std::fmt;
 use std::hash::{Hash, Hasher};
 
 /// A value and its place. Comparisons and hashes look at the value alone.
-#[derive(Debug, Drop)]
+#[derive(Debug)]
 pub struct Node<T> {
     pub node: T,
     pub loc: Option<Loc>,
+}
+
+/// What holds a node drops it by one call, and has no case for each form of what is in it.
+impl<T: Drop> Drop for Node<T> {
+    fn drop(self) {
+        let Node { node: _, loc: _ } = self;
+    }
 }
 
 impl<T> Node<T> {

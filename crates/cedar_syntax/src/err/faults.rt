@@ -94,9 +94,16 @@ impl fmt::Display for ParseError {
 impl Error for ParseError {}
 
 /// The faults of a text, in order: one or more.
-#[derive(Debug, Drop, PartialEq, Eq)]
+#[derive(Debug, PartialEq, Eq)]
 pub struct ParseErrors {
     pub faults: NonEmpty<ParseError>,
+}
+
+/// What holds faults drops them by one call.
+impl Drop for ParseErrors {
+    fn drop(self) {
+        let ParseErrors { faults: _ } = self;
+    }
 }
 
 impl ParseErrors {
@@ -174,7 +181,8 @@ impl ParseErrors {
         ensures ok { OnOk result (faults_of self.new ≡ faults_of self.old ++ faults_of more) }
         ensures err { OnErr result (self.new ≡ self.old) }
     {
-        self.faults.append(more.faults)
+        let ParseErrors { faults } = more;
+        self.faults.append(faults)
     }
 
     /// The bytes at which the first fault stands, or `None` where it has no place.
@@ -239,8 +247,9 @@ impl IntoIterator for ParseErrors {
     ghost into_iter_gives = { λ errors items. faults_left items ≡ faults_of errors };
 
     fn into_iter(self) -> IntoIter {
+        let ParseErrors { faults } = self;
         IntoIter {
-            faults: self.faults.into_iter(),
+            faults: faults.into_iter(),
         }
     }
 }

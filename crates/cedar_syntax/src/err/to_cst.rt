@@ -231,10 +231,17 @@ impl Clone for RawFault {
 }
 
 /// What stopped a parse, and the whole text.
-#[derive(Debug, Drop, PartialEq, Eq)]
+#[derive(Debug, PartialEq, Eq)]
 pub struct ToCSTError {
     pub raw: RawFault,
     pub src: Source,
+}
+
+/// What holds a fault drops it by one call, and has no case for each kind.
+impl Drop for ToCSTError {
+    fn drop(self) {
+        let ToCSTError { raw: _, src: _ } = self;
+    }
 }
 
 impl ToCSTError {
