@@ -4,6 +4,8 @@ use Rattle.std.specs.Coded.{Coded, code_by, coded×, coded_list, coded_ℕ}
 use Rattle.std.specs.FinMap as map
 use Rattle.std.specs.FinMap.{FinMap, contains_key}
 use Rattle.cedar_policy_store.specs.declared.template.Template.{Template}
+use Rattle.cedar_policy_store.specs.declared.policy_set.PolicySetError.{PolicySetError}
+use Rattle.cedar_policy_store.specs.declared.policy_set.PolicySetError.TheVariants.{Memory, Occupied}
 use Rattle.std.specs.Cmp.{IsEquivalence, on_equiv, and_equiv}
 use Rattle.cedar_policy_store.specs.TextMap.{text_order, same_map_by, same_map_by_equiv}
 
@@ -28,6 +30,11 @@ maps_code template =
 -- whether a static policy or a template has this name
 abbrev pub holds_id : PolicyMaps → List ℕ → Bool
 holds_id maps id = contains_key maps.policies id || contains_key maps.templates id
+
+-- what can refuse a policy of this name: want of memory, or that the name is there
+abbrev pub IsRefusalOf : List ℕ → PolicySetError → Type 0
+IsRefusalOf id (Memory _) = Unit {0}
+IsRefusalOf id (Occupied other) = other ≡ id
 
 -- each stands under its own name
 abbrev pub IsNamed : List (List ℕ × Template) → Type 0

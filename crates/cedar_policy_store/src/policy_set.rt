@@ -1,10 +1,10 @@
 //! Sets of static policies and templates by name.
-ghost use Rattle.std.specs.Prelude.{◌≡◌, ◌↔◌, IsTrue, OnOk, OnErr, IfSome, IsOkAnd, Err, false};
+ghost use Rattle.std.specs.Prelude.{◌≡◌, ◌↔◌, IsTrue, OnOk, OnErr, IfErr, IfSome, IsOkAnd, Err, false};
 ghost use Rattle.std.specs.BTreeMap.{IsOrdered, IsUnchanged, insert_entry};
 ghost use Rattle.std.specs.Option.{option_copied};
 ghost use Rattle.std.specs.FinMap as map;
 ghost use Rattle.cedar_policy_store.specs.declared.policy_set.PolicySetError.TheVariants.{Memory, Occupied};
-ghost use Rattle.cedar_policy_store.specs.PolicyMaps.{PolicyMaps, holds_id};
+ghost use Rattle.cedar_policy_store.specs.PolicyMaps.{PolicyMaps, IsRefusalOf, holds_id};
 ghost use Rattle.cedar_policy_store.specs.TextMap.{text_order};
 
 use crate::held::beside;
@@ -65,6 +65,7 @@ impl PolicySet {
         ensures free { OnOk result (holds_id self.old policy.id ≡ false) }
         ensures occupied { (result ≡ Err (Occupied policy.id))
             ↔ IsTrue (holds_id self.old policy.id) }
+        ensures refused { IfErr result (λ error. IsRefusalOf policy.id error) }
         ensures unchanged { OnErr result (self.new ≡ self.old) }
     {
         if self.holds(policy.id()) {
@@ -85,6 +86,7 @@ impl PolicySet {
         ensures free { OnOk result (holds_id self.old template.id ≡ false) }
         ensures occupied { (result ≡ Err (Occupied template.id))
             ↔ IsTrue (holds_id self.old template.id) }
+        ensures refused { IfErr result (λ error. IsRefusalOf template.id error) }
         ensures unchanged { OnErr result (self.new ≡ self.old) }
     {
         if self.holds(template.id()) {
