@@ -87,7 +87,7 @@ fn copy_boxed(part: &Boxed<Node<Option<Add>>>) -> Result<Boxed<Node<Option<Add>>
 }
 
 /// What is held beside what was made. Where making can be refused, a caller then drops nothing on its way out.
-fn beside<A: Drop, B>(held: A, made: Result<B, AllocError>) -> Result<(A, B), AllocError>
+pub(crate) fn beside<A: Drop, B>(held: A, made: Result<B, AllocError>) -> Result<(A, B), AllocError>
     ensures { IfOk result (λ both. IsOkAnd made (λ one. both ≡ (held, one))) }
 {
     let made = made?;

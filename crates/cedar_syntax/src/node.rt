@@ -4,6 +4,7 @@ ghost use Rattle.std.specs.Option.{option_copied};
 ghost use Rattle.std.specs.Ordering.{on};
 ghost use Rattle.std.specs.Cmp.{on_per, on_equiv, on_po, on_total};
 
+use crate::copy::beside;
 use crate::err::{Failure, ParseErrors, ToASTError, ToASTErrorKind};
 use crate::loc::Loc;
 use cedar_expressions::TryClone;
@@ -92,7 +93,8 @@ impl<T> Node<T> {
     pub fn to_ast_err(&self, kind: ToASTErrorKind) -> Result<ToASTError, AllocError>
         ensures { IfOk result (λ fault. fault ≡ record { kind = kind; loc = self.now.loc }) }
     {
-        Ok(ToASTError::new(kind, self.loc.try_clone()?))
+        let (kind, loc) = beside(kind, self.loc.try_clone())?;
+        Ok(ToASTError::new(kind, loc))
     }
 
     /// The place.

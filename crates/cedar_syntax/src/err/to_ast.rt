@@ -3,6 +3,7 @@ ghost use Rattle.std.specs.Prelude.{◌≡◌, IfOk, string_bytes};
 ghost use Rattle.std.specs.Option.{option_map};
 ghost use Rattle.std.proofs.Common.{Some};
 
+use crate::copy::beside;
 use crate::cst::{Ident, RelOp, VariableDef};
 use crate::err::UnescapeError;
 use crate::err::parse_errors::{
@@ -381,10 +382,8 @@ impl ToASTError {
         ensures { IfOk result (λ copy. copy ≡ self.now) }
     {
         let kind = self.kind.try_clone()?;
-        Ok(ToASTError {
-            kind,
-            loc: self.loc.try_clone()?,
-        })
+        let (kind, loc) = beside(kind, self.loc.try_clone())?;
+        Ok(ToASTError { kind, loc })
     }
 }
 
