@@ -134,18 +134,17 @@ where
             ≡ scope_ended record { done = []; begun = None } self.old variables mark }
     {
         match mem::replace(self, PolicyState::Annotated(Sequence::new(alloc))) {
-            PolicyState::Scope(annotations, effect, _) => match mark {
+            PolicyState::Scope(annotations, effect, held) => match mark {
                 Mark::CloseParen => {
+                    drop(held);
                     let conditions = Sequence::new(alloc);
-                    *self = PolicyState::Conditions(annotations, effect, variables, conditions);
+                    let next = PolicyState::Conditions(annotations, effect, variables, conditions);
+                    put(self, next);
                     Taken::Next
                 }
-                _ => Taken::Refused,
+                _ => Taken::refuse((annotations, effect, held, variables)),
             },
-            PolicyState::Annotated(_)
-            | PolicyState::Effect(_, _)
-            | PolicyState::Conditions(_, _, _, _)
-            | PolicyState::Closed(_) => Taken::Refused,
+            other => Taken::refuse((other, variables)),
         }
     }
 

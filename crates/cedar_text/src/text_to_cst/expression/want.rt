@@ -18,6 +18,7 @@ use crate::text_to_cst::expression::literal::{literal_at, slot_at, string_at};
 use crate::text_to_cst::expression::state::{Gap, Mark, Mode, Signs, State, Taken};
 use crate::text_to_cst::expression::words;
 use crate::text_to_cst::ground::Ground;
+use crate::text_to_cst::reader::put;
 use crate::text_to_cst::state::Taken as Given;
 use cedar_lexer::token::Token;
 use cedar_syntax::cst::Literal;
@@ -41,15 +42,20 @@ impl State {
         match words::step(ground, &mut words, token)? {
             Given::Next => {
                 let Gap { place, signs } = gap;
-                self.mode = Mode::Word {
+                let mode = Mode::Word {
                     place,
                     signs,
                     words,
                 };
+                put(&mut self.mode, mode);
                 Ok(Taken::Next)
             }
-            Given::Ended(_) | Given::Refused => Ok(Taken::NotTaken),
-            Given::TooLarge => Ok(Taken::TooLarge),
+            Given::Ended(named) => Ok(Taken::refuse((words, named))),
+            Given::Refused => Ok(Taken::refuse(words)),
+            Given::TooLarge => {
+                drop(words);
+                Ok(Taken::TooLarge)
+            }
         }
     }
 

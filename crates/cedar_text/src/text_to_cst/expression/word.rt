@@ -356,9 +356,15 @@ impl State {
                 put(&mut self.mode, mode);
                 Ok(Taken::Next)
             }
-            Given::Ended(named) => self.read_named(ground, gap, named, ahead),
-            Given::Refused => Ok(Taken::NotTaken),
-            Given::TooLarge => Ok(Taken::TooLarge),
+            Given::Ended(named) => {
+                drop(words);
+                self.read_named(ground, gap, named, ahead)
+            }
+            Given::Refused => Ok(Taken::refuse(words)),
+            Given::TooLarge => {
+                drop(words);
+                Ok(Taken::TooLarge)
+            }
         }
     }
 }
