@@ -31,7 +31,8 @@ maps_code template =
 abbrev pub holds_id : PolicyMaps → List ℕ → Bool
 holds_id maps id = contains_key maps.policies id || contains_key maps.templates id
 
--- what can refuse a policy of this name: want of memory, or that the name is there
+-- what can refuse a policy of this name, since a set has each name once: want of memory, or that
+-- the name is there
 abbrev pub IsRefusalOf : List ℕ → PolicySetError → Type 0
 IsRefusalOf id (Memory _) = Unit {0}
 IsRefusalOf id (Occupied other) = other ≡ id
