@@ -1,4 +1,4 @@
-ghost use Rattle.std.specs.Prelude.{◌≡◌, IfOk};
+ghost use Rattle.std.specs.Prelude.{◌≡◌, IfOk, IsOkAnd};
 
 use crate::{AddOp, Boxed, Expr, ExprKind, Items, Text, TryClone};
 use std::alloc::AllocError;
@@ -55,7 +55,7 @@ fn copy_two(parts: &(Expr, Expr)) -> Result<(Expr, Expr), AllocError>
     ensures { IfOk result (λ copies. copies ≡ parts.now) }
 {
     let first = parts.0.try_clone()?;
-    Ok((first, parts.1.try_clone()?))
+    beside(first, parts.1.try_clone())
 }
 
 #[cycle(copy)]
@@ -63,8 +63,9 @@ fn copy_three(parts: &(Expr, Expr, Expr)) -> Result<(Expr, Expr, Expr), AllocErr
     ensures { IfOk result (λ copies. copies ≡ parts.now) }
 {
     let first = parts.0.try_clone()?;
-    let second = parts.1.try_clone()?;
-    Ok((first, second, parts.2.try_clone()?))
+    let two = beside(first, parts.1.try_clone())?;
+    let ((first, second), third) = beside(two, parts.2.try_clone())?;
+    Ok((first, second, third))
 }
 
 #[cycle(copy)]
@@ -99,6 +100,14 @@ fn copy_pairs(pairs: &Items<(Text, Expr)>) -> Result<Items<(Text, Expr)>, AllocE
         copies.push((key, item.try_clone()?))?;
     }
     Ok(copies)
+}
+
+/// What is held, beside what was copied. (A call that doesn't see what it drops is cheaper to prove.)
+fn beside<A: Drop, B>(held: A, copied: Result<B, AllocError>) -> Result<(A, B), AllocError>
+    ensures { IfOk result (λ both. IsOkAnd copied (λ copy. both ≡ (held, copy))) }
+{
+    let copy = copied?;
+    Ok((held, copy))
 }
 
 impl TryClone for Expr {

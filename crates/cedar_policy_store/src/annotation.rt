@@ -84,9 +84,15 @@ impl fmt::Display for Annotation {
 }
 
 /// The annotations of a policy, which contracts see as a finite map by key.
-#[derive(Debug, Drop)]
+#[derive(Debug)]
 pub struct Annotations {
     by_key: BTreeMap<AnyId, Annotation>,
+}
+
+impl Drop for Annotations {
+    fn drop(self) {
+        let Annotations { by_key: _ } = self;
+    }
 }
 
 impl Model for Annotations {

@@ -33,15 +33,29 @@ pub enum PrincipalOrResourceConstraint {
 }
 
 /// What is asked of the principal.
-#[derive(Debug, Drop, PartialEq, Eq)]
+#[derive(Debug, PartialEq, Eq)]
 pub struct PrincipalConstraint {
     constraint: PrincipalOrResourceConstraint,
 }
 
+impl Drop for PrincipalConstraint {
+    fn drop(self) {
+        let PrincipalConstraint { constraint: asked } = self;
+        drop(asked);
+    }
+}
+
 /// What is asked of the resource.
-#[derive(Debug, Drop, PartialEq, Eq)]
+#[derive(Debug, PartialEq, Eq)]
 pub struct ResourceConstraint {
     constraint: PrincipalOrResourceConstraint,
+}
+
+impl Drop for ResourceConstraint {
+    fn drop(self) {
+        let ResourceConstraint { constraint: asked } = self;
+        drop(asked);
+    }
 }
 
 /// What is asked of the action.

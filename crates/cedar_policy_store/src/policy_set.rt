@@ -19,10 +19,19 @@ use std::marker::Model;
 
 /// Static policies and templates, each under its own name, which contracts see as two finite maps
 /// by name. Equality looks at no place.
-#[derive(Debug, Drop)]
+#[derive(Debug)]
 pub struct PolicySet {
     policies: BTreeMap<PolicyID, StaticPolicy>,
     templates: BTreeMap<PolicyID, Template>,
+}
+
+impl Drop for PolicySet {
+    fn drop(self) {
+        let PolicySet {
+            policies: _,
+            templates: _,
+        } = self;
+    }
 }
 
 impl Model for PolicySet {

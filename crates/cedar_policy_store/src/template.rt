@@ -14,7 +14,7 @@ use std::alloc::{AllocError, Global};
 use std::fmt;
 
 /// A policy in which the slots `?principal` and `?resource` may stand. Equality looks at no place.
-#[derive(Debug, Drop, PartialEq, Eq)]
+#[derive(Debug, PartialEq, Eq)]
 pub struct Template {
     id: PolicyID,
     place: NodePlace,
@@ -24,6 +24,25 @@ pub struct Template {
     action: ActionConstraint,
     resource: ResourceConstraint,
     condition: Option<Expr>,
+}
+
+/// In a call of its own, so that what drops a template doesn't show each of its parts.
+impl Drop for Template {
+    fn drop(self) {
+        let Template {
+            id,
+            place: _,
+            annotations,
+            effect: _,
+            principal,
+            action,
+            resource,
+            condition,
+        } = self;
+        drop((id, annotations));
+        drop((principal, action, resource));
+        drop(condition);
+    }
 }
 
 impl Template {
