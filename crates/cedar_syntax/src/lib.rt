@@ -13,7 +13,10 @@ pub mod loc;
 pub mod node;
 mod print;
 mod print_policies;
+pub mod reading;
 mod slots;
 mod tokens;
+pub mod unescape;
+pub mod util;
 
 pub use cedar_expressions::{Boxed, Items, Source, Text, TryClone};

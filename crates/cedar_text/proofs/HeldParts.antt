@@ -2,12 +2,12 @@
 -- texts.
 use Rattle.std.proofs.Common.{◌≡◌, ◌⊎◌, inl, inr, Option, Some, None, Bool, true, false, Result, Ok, Err, IfOk, refl, ap, sym, ◌∙◌}
 use Rattle.cedar_text.specs.declared.text_to_cst.outlook.Outlook.{Outlook}
-use Rattle.cedar_text.specs.declared.text_to_cst.state.Taken.{Taken}
-use Rattle.cedar_text.specs.declared.text_to_cst.state.Taken.TheVariants as taking
-use Rattle.cedar_text.specs.machines.Door.{Answer, next, ended, refused, too_large, is_some}
+use Rattle.cedar_syntax.specs.declared.reading.taken.Taken.{Taken}
+use Rattle.cedar_syntax.specs.declared.reading.taken.Taken.TheVariants as taking
+use Rattle.cedar_syntax.specs.machines.Door.{Answer, next, ended, refused, too_large, is_some}
 use Rattle.cedar_text.specs.machines.ExpressionShapes.{Shape, told}
-use Rattle.cedar_text.specs.machines.Judged.{answer_of, may_take}
-use Rattle.cedar_text.specs.machines.Mapping.{mapped_answer}
+use Rattle.cedar_syntax.specs.machines.Judged.{answer_of, may_take}
+use Rattle.cedar_syntax.specs.machines.Mapping.{mapped_answer}
 use Rattle.cedar_text.specs.machines.Outlooks.{foreseen, outcome, outlook_of}
 use Rattle.cedar_text.specs.machines.Words.{ended_with}
 

@@ -10,7 +10,7 @@ use Rattle.cedar_text.specs.declared.text_to_cst.expression.state.Taken.TheVaria
 use Rattle.cedar_text.specs.declared.text_to_cst.expression.state.Wanted.{Wanted}
 use Rattle.cedar_text.specs.declared.text_to_cst.expression.state.Wanted.TheVariants as form
 use Rattle.cedar_text.specs.declared.text_to_cst.state.WordsState.{WordsState}
-use Rattle.cedar_text.specs.machines.Door.{is_some, is_taken, allows}
+use Rattle.cedar_syntax.specs.machines.Door.{is_some, is_taken, allows}
 use Rattle.cedar_text.specs.machines.Expressions.{step_of, expr_at_end, sum_at_end, primary_at_end}
 use Rattle.cedar_text.specs.machines.Named.{named_words}
 use Rattle.cedar_text.specs.machines.NamedShapes.{named_shapes}
@@ -18,7 +18,7 @@ use Rattle.cedar_text.specs.machines.WordShapes.{words_shape}
 use Rattle.cedar_text.specs.machines.ExpressionShapes.{Shape, step_shape, stack_shape, left_shape, mode_shape, shape_of, told, ends, ends_with}
 use Rattle.cedar_text.specs.machines.Stepped.{outcome_of}
 use Rattle.cedar_text.specs.machines.Whole.{shapes_by}
-use Rattle.cedar_text.proofs.machines.Laws.{ends_alike}
+use Rattle.cedar_syntax.proofs.machines.Laws.{ends_alike}
 use Rattle.cedar_text.proofs.machines.Named.{named_kind, named_alike}
 use Rattle.cedar_text.specs.machines.WordShapes.{no_tree}
 use Rattle.cedar_text.proofs.expressions.shapes.Operators.{Alike}

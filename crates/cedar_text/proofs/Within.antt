@@ -4,7 +4,7 @@ use Rattle.std.proofs.Common.{◌≡◌, ℕ, List, inl, inr, sym, ap, ◌∙◌
 use Rattle.cedar_syntax.specs.declared.cst.Add.{Add}
 use Rattle.cedar_syntax.specs.declared.cst.RelOp.{RelOp}
 use Rattle.cedar_syntax.specs.declared.cst.RelOp.TheVariants as rel
-use Rattle.cedar_text.specs.declared.extent.Extent.{Extent}
+use Rattle.cedar_syntax.specs.declared.reading.extent.Extent.{Extent}
 use Rattle.cedar_text.specs.declared.text_to_cst.expression.state.Frame.{Frame}
 use Rattle.cedar_text.specs.declared.text_to_cst.expression.state.Levels.{Levels}
 use Rattle.cedar_text.specs.machines.Outcome.{Outcome}
@@ -13,12 +13,12 @@ use Rattle.cedar_text.specs.declared.text_to_cst.expression.state.Mode.TheVarian
 use Rattle.cedar_text.specs.declared.text_to_cst.expression.state.Place.{Place}
 use Rattle.cedar_text.specs.declared.text_to_cst.expression.state.Ranged.{Ranged}
 use Rattle.cedar_text.specs.declared.text_to_cst.expression.state.Signs.{Signs}
-use Rattle.cedar_text.specs.declared.text_to_cst.state.Taken.{Taken}
-use Rattle.cedar_text.specs.declared.text_to_cst.state.Taken.TheVariants as given
+use Rattle.cedar_syntax.specs.declared.reading.taken.Taken.{Taken}
+use Rattle.cedar_syntax.specs.declared.reading.taken.Taken.TheVariants as given
 use Rattle.cedar_text.specs.machines.Named.{Named}
 use Rattle.cedar_text.specs.declared.text_to_cst.state.WordsState.{WordsState}
-use Rattle.cedar_text.specs.Trees.{Cell}
-use Rattle.cedar_text.specs.machines.Door.{Answer}
+use Rattle.cedar_syntax.specs.Trees.{Cell}
+use Rattle.cedar_syntax.specs.machines.Door.{Answer}
 use Rattle.cedar_text.specs.machines.ExpressionStates.{state}
 use Rattle.cedar_text.specs.machines.Wanting.{word_begun}
 use Rattle.cedar_text.specs.machines.Having.{is_within}

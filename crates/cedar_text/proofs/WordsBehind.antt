@@ -8,13 +8,13 @@ use Rattle.cedar_text.specs.declared.text_to_cst.expression.state.Place.{Place}
 use Rattle.cedar_text.specs.declared.text_to_cst.expression.state.Wanted.{Wanted}
 use Rattle.cedar_text.specs.declared.text_to_cst.expression.words.Goes.{Goes}
 use Rattle.cedar_text.specs.declared.text_to_cst.expression.words.Goes.TheVariants as goes
-use Rattle.cedar_text.specs.declared.text_to_cst.state.Taken.{Taken}
+use Rattle.cedar_syntax.specs.declared.reading.taken.Taken.{Taken}
 use Rattle.cedar_text.specs.declared.text_to_cst.state.Words.{Words}
 use Rattle.cedar_text.specs.declared.text_to_cst.state.WordsState.{WordsState}
-use Rattle.cedar_text.specs.machines.Door.{Answer, next, ended, refused, too_large, is_some, is_taken, option_image, AnswersRightly, IsShape}
+use Rattle.cedar_syntax.specs.machines.Door.{Answer, next, ended, refused, too_large, is_some, is_taken, option_image, AnswersRightly, IsShape}
 use Rattle.cedar_text.specs.machines.Expressions.{answered}
 use Rattle.cedar_text.specs.machines.ExpressionShapes.{WordShapes, FrameShape, LeftShape, after_words, word_shape}
-use Rattle.cedar_text.specs.machines.Judged.{answer_of, taken_as}
+use Rattle.cedar_syntax.specs.machines.Judged.{answer_of, taken_as}
 use Rattle.cedar_text.specs.machines.Named.{named_of}
 use Rattle.cedar_text.specs.machines.Outcome.{Outcome}
 use Rattle.cedar_text.specs.machines.Whole.{outcome_as}

@@ -1,9 +1,7 @@
-//! What stands in a text of Cedar: its strings' escapes, and its loose syntax tree.
+//! The loose syntax tree of a text of Cedar, and the first fault, or all, of a text that has none.
 #![tactic(auto)]
 
-mod extent;
-mod place;
 mod stack;
 pub mod text_to_cst;
-pub mod unescape;
-pub mod util;
+
+pub use cedar_syntax::{unescape, util};

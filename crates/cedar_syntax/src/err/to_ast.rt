@@ -340,7 +340,8 @@ pub struct ToASTError {
 impl Drop for ToASTError {
     #[inline(never)]
     fn drop(self) {
-        let ToASTError { kind: _, loc: _ } = self;
+        let ToASTError { kind, loc: _ } = self;
+        drop(kind);
     }
 }
 

@@ -1,11 +1,11 @@
 -- What a step answers is right beside the tree that could end there, and of numbers.
 use Rattle.std.specs.Prelude.{cond}
 use Rattle.std.proofs.Common.{◌≡◌, ℕ, List, [], ◌∷◌, Option, Some, None, Bool, true, false, refl, sym, ◌∙◌, ap}
-use Rattle.cedar_text.specs.Place.{extent_of, extent}
-use Rattle.cedar_text.specs.Tokens.{fits, number_of, any_of}
-use Rattle.cedar_text.specs.Trees.{Cell}
+use Rattle.cedar_syntax.specs.Place.{extent_of, extent}
+use Rattle.cedar_syntax.specs.Tokens.{fits, number_of, any_of}
+use Rattle.cedar_syntax.specs.Trees.{Cell}
 use Rattle.cedar_text.specs.machines.Closing.{ranged, node_of, fresh, no_signs, operand_of, if_operand}
-use Rattle.cedar_text.specs.machines.Door.{Machine, Answer, next, ended, refused, too_large, AnswersRightly}
+use Rattle.cedar_syntax.specs.machines.Door.{Machine, Answer, next, ended, refused, too_large, AnswersRightly}
 use Rattle.cedar_text.specs.machines.ExpressionStates.{number_class, class_of, operator_of, reach_of}
 use Rattle.cedar_text.specs.machines.Wanting.{literal_at, signed, after_signs, sign_read, list_ended, set_ends, call_ends, record_ends, word_begun, wanted_as, wanting}
 use Rattle.cedar_text.specs.machines.Having.{is_within, compared, sided, field_read, ended_by, had}
@@ -65,7 +65,7 @@ use Rattle.cedar_text.specs.declared.text_to_cst.expression.state.Reach.{Reach}
 use Rattle.cedar_text.specs.declared.text_to_cst.expression.state.Reach.TheVariants as reach
 use Rattle.cedar_text.specs.machines.Outcome.{Outcome}
 use Rattle.cedar_text.specs.machines.Outcome as outcome
-use Rattle.cedar_text.specs.declared.extent.Extent.{Extent}
+use Rattle.cedar_syntax.specs.declared.reading.extent.Extent.{Extent}
 
 abbrev pub Names : Type 0
 Names = Machine Lexeme WordsState Named

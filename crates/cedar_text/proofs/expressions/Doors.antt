@@ -7,9 +7,9 @@ use Rattle.cedar_syntax.specs.declared.cst.Primary.{Primary}
 use Rattle.cedar_text.specs.machines.Named.{Named}
 use Rattle.cedar_text.specs.declared.text_to_cst.state.WordsState.{WordsState}
 use Rattle.cedar_text.specs.declared.text_to_cst.expression.state.Ranged.{Ranged}
-use Rattle.cedar_text.specs.Trees.{Cell}
-use Rattle.cedar_text.specs.LooseExpressions.{ReadsExpr, ReadsAdd}
-use Rattle.cedar_text.specs.machines.Door.{Machine, Door, RunsTo}
+use Rattle.cedar_syntax.specs.Trees.{Cell}
+use Rattle.cedar_syntax.specs.LooseExpressions.{ReadsExpr, ReadsAdd}
+use Rattle.cedar_syntax.specs.machines.Door.{Machine, Door, RunsTo}
 use Rattle.cedar_text.specs.machines.Named.{ReadsNamed, IsWords}
 use Rattle.cedar_text.specs.machines.Expressions.{expressions, sums, primaries}
 use Rattle.cedar_text.proofs.expressions.complete.Complete.{expressions_complete, sums_complete, primaries_complete}

@@ -3,16 +3,16 @@ use Rattle.std.proofs.Common.{◌≡◌, ℕ, List, [], ◌∷◌, ◌++◌, Opt
 use Rattle.cedar_lexer.specs.Token.{Lexeme}
 use Rattle.cedar_lexer.specs.declared.token.TokenKind.{TokenKind}
 use Rattle.cedar_lexer.specs.declared.token.TokenKind.TheVariants as kind
-use Rattle.cedar_text.specs.declared.text_to_cst.mark.Mark.{Mark}
-use Rattle.cedar_text.specs.declared.text_to_cst.mark.Mark.TheVariants as mark
-use Rattle.cedar_text.specs.declared.text_to_cst.recovery.Way.{Way}
-use Rattle.cedar_text.specs.declared.text_to_cst.recovery.Way.TheVariants as way
-use Rattle.cedar_text.specs.Tokens.{fits}
-use Rattle.cedar_text.specs.machines.Door.{Machine, Answer, next, ended, refused, too_large, AnswersRightly, Door, is_some, is_taken, Shapes}
-use Rattle.cedar_text.specs.machines.Marks.{mark_of}
+use Rattle.cedar_syntax.specs.declared.reading.mark.Mark.{Mark}
+use Rattle.cedar_syntax.specs.declared.reading.mark.Mark.TheVariants as mark
+use Rattle.cedar_syntax.specs.declared.reading.recovery.Way.{Way}
+use Rattle.cedar_syntax.specs.declared.reading.recovery.Way.TheVariants as way
+use Rattle.cedar_syntax.specs.Tokens.{fits}
+use Rattle.cedar_syntax.specs.machines.Door.{Machine, Answer, next, ended, refused, too_large, AnswersRightly, Door, is_some, is_taken, Shapes}
+use Rattle.cedar_syntax.specs.machines.Marks.{mark_of}
 use Rattle.cedar_text.specs.machines.WordShapes.{no_tree}
-use Rattle.cedar_text.specs.machines.Recovery.{Recovers, Recovery, reading, skipping, stopped, skipped, judged, recover, recover_all, Told, told, told_reading, told_end, told_all}
-use Rattle.cedar_text.proofs.machines.Laws.{false_true, ends_alike}
+use Rattle.cedar_syntax.specs.machines.Recovery.{Recovers, Recovery, reading, skipping, stopped, skipped, judged, recover, recover_all, Told, told, told_reading, told_end, told_all}
+use Rattle.cedar_syntax.proofs.machines.Laws.{false_true, ends_alike}
 use Rattle.cedar_text.proofs.machines.SequenceShapes.{IsShapeBy}
 
 -- what recovery does with a state hangs on its shape alone

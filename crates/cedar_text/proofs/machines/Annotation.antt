@@ -6,23 +6,23 @@ use Rattle.cedar_lexer.specs.declared.token.TokenKind.TheVariants as kind
 use Rattle.cedar_syntax.specs.declared.cst.Ident.{Ident}
 use Rattle.cedar_syntax.specs.declared.cst.Str.{Str}
 use Rattle.cedar_syntax.specs.declared.cst.Annotation.{Annotation}
-use Rattle.cedar_text.specs.declared.text_to_cst.mark.Mark.{Mark}
-use Rattle.cedar_text.specs.declared.text_to_cst.mark.Mark.TheVariants as mark
+use Rattle.cedar_syntax.specs.declared.reading.mark.Mark.{Mark}
+use Rattle.cedar_syntax.specs.declared.reading.mark.Mark.TheVariants as mark
 use Rattle.cedar_text.specs.declared.text_to_cst.annotation.AnnotationState.{AnnotationState}
 use Rattle.cedar_text.specs.declared.text_to_cst.annotation.AnnotationState.TheVariants as annotation
-use Rattle.cedar_text.specs.Tokens.{Spot, one, any_of, fits}
-use Rattle.cedar_text.specs.Place.{placed}
-use Rattle.cedar_text.specs.Trees.{Cell, annotation_of}
-use Rattle.cedar_text.specs.LooseWords.{ReadsAny, any}
-use Rattle.cedar_text.specs.LoosePolicies.{ReadsAnnotation, key_alone, with_value}
-use Rattle.cedar_text.specs.machines.Door.{Machine, Answer, next, ended, refused, too_large, taken, steps, Comes, RunsTo, Completed, AnswersRightly, Door, is_taken}
-use Rattle.cedar_text.specs.machines.Marks.{mark_of}
+use Rattle.cedar_syntax.specs.Tokens.{Spot, one, any_of, fits}
+use Rattle.cedar_syntax.specs.Place.{placed}
+use Rattle.cedar_syntax.specs.Trees.{Cell, annotation_of}
+use Rattle.cedar_syntax.specs.LooseWords.{ReadsAny, any}
+use Rattle.cedar_syntax.specs.LoosePolicies.{ReadsAnnotation, key_alone, with_value}
+use Rattle.cedar_syntax.specs.machines.Door.{Machine, Answer, next, ended, refused, too_large, taken, steps, Comes, RunsTo, Completed, AnswersRightly, Door, is_taken}
+use Rattle.cedar_syntax.specs.machines.Marks.{mark_of}
 use Rattle.cedar_text.specs.machines.Words.{string_node}
 use Rattle.cedar_text.specs.machines.Annotation.{at_start, at_key, behind_key, at_value, behind_value, annotation_step, annotation_end, annotations}
-use Rattle.cedar_text.proofs.machines.Laws.{some_is, some_token}
-use Rattle.cedar_text.proofs.machines.Holding.{kept}
+use Rattle.cedar_syntax.proofs.machines.Laws.{some_is, some_token}
+use Rattle.cedar_syntax.proofs.machines.Holding.{kept}
 use Rattle.cedar_text.proofs.machines.Ending.{EndsAt, Refuses, Begins, IsWord, spot_of}
-use Rattle.cedar_text.proofs.machines.Marked.{IsMarked, at, open_paren, close_paren, a_string, marked, marked_fits, word_fits, is_word_mark, words_mark}
+use Rattle.cedar_syntax.proofs.machines.Marked.{IsMarked, at, open_paren, close_paren, a_string, marked, marked_fits, word_fits, is_word_mark, words_mark}
 
 annotation_complete : (src : List ℕ) {ts : List Lexeme} {x : Annotation} → ReadsAnnotation src ts x → RunsTo (annotations src) ts x
 annotation_complete src (key_alone p (any {k = k} {i = i} q e)) = record {

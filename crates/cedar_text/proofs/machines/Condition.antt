@@ -8,25 +8,25 @@ use Rattle.cedar_syntax.specs.declared.cst.Expr.{Expr}
 use Rattle.cedar_syntax.specs.declared.cst.Ident.{Ident}
 use Rattle.cedar_syntax.specs.declared.cst.Ident.TheVariants as ident
 use Rattle.cedar_syntax.specs.declared.cst.Cond.{Cond}
-use Rattle.cedar_text.specs.declared.text_to_cst.mark.Mark.{Mark}
-use Rattle.cedar_text.specs.declared.text_to_cst.mark.Mark.TheVariants as mark
+use Rattle.cedar_syntax.specs.declared.reading.mark.Mark.{Mark}
+use Rattle.cedar_syntax.specs.declared.reading.mark.Mark.TheVariants as mark
 use Rattle.cedar_text.specs.declared.text_to_cst.condition.ConditionState.{ConditionState}
 use Rattle.cedar_text.specs.declared.text_to_cst.condition.ConditionState.TheVariants as condition
-use Rattle.cedar_text.specs.Tokens.{Spot, one, any_of}
-use Rattle.cedar_text.specs.Place.{placed}
-use Rattle.cedar_text.specs.Trees.{Cell, cond_of}
-use Rattle.cedar_text.specs.LooseWords.{ReadsAny, any}
-use Rattle.cedar_text.specs.LooseExpressions.{ReadsExpr}
-use Rattle.cedar_text.specs.LoosePolicies.{ReadsBody, no_body, body, ReadsCond, cond}
-use Rattle.cedar_text.specs.machines.Door.{Machine, Answer, next, ended, refused, too_large, taken, steps, Comes, RunsTo, Completed, AnswersRightly, Door, IsOutside}
-use Rattle.cedar_text.specs.machines.Marks.{mark_of}
+use Rattle.cedar_syntax.specs.Tokens.{Spot, one, any_of}
+use Rattle.cedar_syntax.specs.Place.{placed}
+use Rattle.cedar_syntax.specs.Trees.{Cell, cond_of}
+use Rattle.cedar_syntax.specs.LooseWords.{ReadsAny, any}
+use Rattle.cedar_syntax.specs.LooseExpressions.{ReadsExpr}
+use Rattle.cedar_syntax.specs.LoosePolicies.{ReadsBody, no_body, body, ReadsCond, cond}
+use Rattle.cedar_syntax.specs.machines.Door.{Machine, Answer, next, ended, refused, too_large, taken, steps, Comes, RunsTo, Completed, AnswersRightly, Door, IsOutside}
+use Rattle.cedar_syntax.specs.machines.Marks.{mark_of}
 use Rattle.cedar_text.specs.machines.Placing.{AsNode, as_node}
 use Rattle.cedar_text.specs.machines.Words.{token_node}
 use Rattle.cedar_text.specs.machines.Condition.{at_word, behind_word, behind_body, at_body, in_body, condition_step, condition_end, conditions}
-use Rattle.cedar_text.proofs.machines.Laws.{some_is, then_steps, some_token}
-use Rattle.cedar_text.proofs.machines.Holding.{Holds, held, entered, one_more, kept}
+use Rattle.cedar_syntax.proofs.machines.Laws.{some_is, then_steps, some_token}
+use Rattle.cedar_syntax.proofs.machines.Holding.{Holds, held, entered, one_more, kept}
 use Rattle.cedar_text.proofs.machines.Ending.{NotEmpty, EndsAt, Refuses, IsKind, spot_of, token_at}
-use Rattle.cedar_text.proofs.machines.Marked.{IsMarked, open_brace, close_brace, marked, marked_fits, word_fits}
+use Rattle.cedar_syntax.proofs.machines.Marked.{IsMarked, open_brace, close_brace, marked, marked_fits, word_fits}
 
 -- complete
 

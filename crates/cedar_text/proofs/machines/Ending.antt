@@ -3,13 +3,13 @@ use Rattle.std.proofs.Common.{◌≡◌, ℕ, List, Option, Some, None, true, re
 use Rattle.cedar_lexer.specs.Token.{Lexeme}
 use Rattle.cedar_lexer.specs.declared.token.TokenKind.{TokenKind}
 use Rattle.cedar_syntax.specs.declared.cst.Ident.{Ident}
-use Rattle.cedar_text.specs.declared.extent.Extent.{Extent}
-use Rattle.cedar_text.specs.Tokens.{Spot, any_of}
-use Rattle.cedar_text.specs.Place.{node_at}
-use Rattle.cedar_text.specs.Trees.{Cell}
-use Rattle.cedar_text.specs.machines.Door.{Machine, Answer, next, ended, refused, too_large, is_taken}
+use Rattle.cedar_syntax.specs.declared.reading.extent.Extent.{Extent}
+use Rattle.cedar_syntax.specs.Tokens.{Spot, any_of}
+use Rattle.cedar_syntax.specs.Place.{node_at}
+use Rattle.cedar_syntax.specs.Trees.{Cell}
+use Rattle.cedar_syntax.specs.machines.Door.{Machine, Answer, next, ended, refused, too_large, is_taken}
 use Rattle.cedar_text.specs.machines.Placing.{spanned_answer, node_if, placing}
-use Rattle.cedar_text.proofs.machines.Laws.{some_is}
+use Rattle.cedar_syntax.proofs.machines.Laws.{some_is}
 
 -- the tree of no tokens
 abbrev pub NotEmpty : {S T : Type 0} → Machine Lexeme S T → Type 0

@@ -3,15 +3,15 @@ use Rattle.std.specs.Prelude.{◌⊎◌}
 use Rattle.std.proofs.Common.{◌≡◌, ℕ, List, Option, Some, None, Bool, true, inl, inr, sym, ◌∙◌, ap}
 use Rattle.cedar_lexer.specs.Token.{Lexeme}
 use Rattle.cedar_lexer.specs.declared.token.TokenKind.{TokenKind}
-use Rattle.cedar_text.specs.Grammar.{IsNodeOf}
-use Rattle.cedar_text.specs.LooseWords.{ReadsIdent, ReadsName, ReadsRef}
-use Rattle.cedar_text.specs.machines.Door.{Answer, next, ended, refused, too_large, Machine, Door, is_taken, allows, IsShape, Shapes}
-use Rattle.cedar_text.specs.declared.text_to_cst.state.Taken.{Taken}
-use Rattle.cedar_text.specs.declared.text_to_cst.state.Taken.TheVariants as taking
-use Rattle.cedar_text.specs.machines.Judged.{answer_of, may_take, ReadsBy}
+use Rattle.cedar_syntax.specs.Grammar.{IsNodeOf}
+use Rattle.cedar_syntax.specs.LooseWords.{ReadsIdent, ReadsName, ReadsRef}
+use Rattle.cedar_syntax.specs.machines.Door.{Answer, next, ended, refused, too_large, Machine, Door, is_taken, allows, IsShape, Shapes}
+use Rattle.cedar_syntax.specs.declared.reading.taken.Taken.{Taken}
+use Rattle.cedar_syntax.specs.declared.reading.taken.Taken.TheVariants as taking
+use Rattle.cedar_syntax.specs.machines.Judged.{answer_of, may_take, ReadsBy}
 use Rattle.cedar_text.specs.machines.Words.{ended_with, kept, names, refs, idents}
 use Rattle.cedar_text.specs.machines.WordShapes.{no_tree, path_shape, words_shape, name_shapes, ref_shapes, ident_shapes, ident_shape}
-use Rattle.cedar_text.proofs.machines.Laws.{exactly, ends_alike}
+use Rattle.cedar_syntax.proofs.machines.Laws.{exactly, ends_alike}
 use Rattle.cedar_text.proofs.machines.Names.{names_door, refs_door, idents_door}
 use Rattle.cedar_text.proofs.machines.WordShapes.{names_shaped, refs_shaped, idents_shaped}
 

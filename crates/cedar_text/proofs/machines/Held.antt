@@ -2,7 +2,7 @@
 use Rattle.std.proofs.Common.{◌≡◌, Bool, true, false, Option, Some, None, refl, sym, ◌∙◌, ap, subst}
 use Rattle.cedar_lexer.specs.Token.{Lexeme}
 use Rattle.cedar_lexer.specs.declared.token.TokenKind.{TokenKind}
-use Rattle.cedar_text.specs.machines.Door.{Machine, Answer, next, ended, refused, too_large, is_some, is_taken, option_image, AnswersRightly, Door, IsShape, Shapes}
+use Rattle.cedar_syntax.specs.machines.Door.{Machine, Answer, next, ended, refused, too_large, is_some, is_taken, option_image, AnswersRightly, Door, IsShape, Shapes}
 use Rattle.cedar_text.specs.machines.Words.{ended_with}
 use Rattle.cedar_text.proofs.machines.Ending.{EndsAt, IsKind}
 

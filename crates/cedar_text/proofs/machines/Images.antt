@@ -2,7 +2,7 @@
 use Rattle.std.proofs.Common.{◌≡◌, List, Option, Some, None, refl, sym, ◌∙◌, ap}
 use Rattle.cedar_lexer.specs.Token.{Lexeme}
 use Rattle.cedar_lexer.specs.declared.token.TokenKind.{TokenKind}
-use Rattle.cedar_text.specs.machines.Door.{Answer, next, ended, refused, too_large, Machine, Completed, Door, IsShape, option_image, Shapes}
+use Rattle.cedar_syntax.specs.machines.Door.{Answer, next, ended, refused, too_large, Machine, Completed, Door, IsShape, option_image, Shapes}
 use Rattle.cedar_text.specs.machines.Words.{kept, kept_end, keeping}
 use Rattle.cedar_text.proofs.machines.Keeping.{Kept, kept_door, steps_alike}
 

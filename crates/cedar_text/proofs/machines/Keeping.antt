@@ -1,9 +1,9 @@
 -- A machine whose trees are some of another's, from the other's door.
 use Rattle.std.proofs.Common.{◌≡◌, List, [], ◌∷◌, Option, Some, None, refl, sym, ◌∙◌, ap}
 use Rattle.cedar_lexer.specs.Token.{Lexeme}
-use Rattle.cedar_text.specs.machines.Door.{Answer, next, ended, refused, too_large, Machine, taken, step_from, steps, Completed, AnswersRightly, Door}
+use Rattle.cedar_syntax.specs.machines.Door.{Answer, next, ended, refused, too_large, Machine, taken, step_from, steps, Completed, AnswersRightly, Door}
 use Rattle.cedar_text.specs.machines.Words.{ended_with, kept, kept_end, keeping}
-use Rattle.cedar_text.proofs.machines.Laws.{none_some}
+use Rattle.cedar_syntax.proofs.machines.Laws.{none_some}
 
 -- tokens that have a tree which is one of these
 pub record Kept {T U : Type 0} (R : List Lexeme → T → Type 0) (h : T → Option U) (ts : List Lexeme) (y : U) : Type 0 where

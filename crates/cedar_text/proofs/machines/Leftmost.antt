@@ -16,20 +16,20 @@ use Rattle.cedar_syntax.specs.declared.err.faults.Failure.{Failure}
 use Rattle.cedar_syntax.specs.declared.err.faults.Failure.TheVariants.{Memory, Errors}
 use Rattle.cedar_syntax.specs.declared.err.faults.ParseError.{ParseError}
 use Rattle.cedar_syntax.specs.declared.err.to_cst.RawFault.{RawFault}
-use Rattle.cedar_text.specs.declared.text_to_cst.expected.Narrowing.{Narrowing}
-use Rattle.cedar_text.specs.declared.text_to_cst.expected.Narrowing.TheVariants as narrowing
-use Rattle.cedar_text.specs.Expected.{is_closer, IsNarrowed, Picks, no_kind, picked, passed, IsExpected, all_allowed, closers}
-use Rattle.cedar_text.specs.FirstFault.{end_of, FirstFault, unexpected, early_end, large_number, bad_place, IsFaultIn}
-use Rattle.cedar_text.specs.Grammar.{Rule, IsNodeOf}
-use Rattle.cedar_text.specs.Leftmost.{IsFitting, NumbersFit, start_of, IsBefore, StartsBefore, StandsLeftmost, HasLeftmost}
-use Rattle.cedar_text.specs.Mended.{Mended, to_brace, to_end, Faults, no_fault, too_large, last_fault, more_faults, put, head}
-use Rattle.cedar_text.specs.MendedFaults.{fault_of, Unallowed, a_token, the_end, IsLarge, listed, FaultsOf, IsListed, IsFaultList, IsMendedRefusal}
-use Rattle.cedar_text.specs.Sentences.{kinds, HasTree, Starts, Allowed, IsFirstRefused, first}
-use Rattle.cedar_text.specs.Tokens.{Spot, one, fits}
-use Rattle.cedar_text.proofs.machines.Laws.{some_is, false_true, kinds-append}
+use Rattle.cedar_syntax.specs.declared.reading.expected.Narrowing.{Narrowing}
+use Rattle.cedar_syntax.specs.declared.reading.expected.Narrowing.TheVariants as narrowing
+use Rattle.cedar_syntax.specs.Expected.{is_closer, IsNarrowed, Picks, no_kind, picked, passed, IsExpected, all_allowed, closers}
+use Rattle.cedar_syntax.specs.FirstFault.{end_of, FirstFault, unexpected, early_end, large_number, bad_place, IsFaultIn}
+use Rattle.cedar_syntax.specs.Grammar.{Rule, IsNodeOf}
+use Rattle.cedar_syntax.specs.Leftmost.{IsFitting, NumbersFit, start_of, IsBefore, StartsBefore, StandsLeftmost, HasLeftmost}
+use Rattle.cedar_syntax.specs.Mended.{Mended, to_brace, to_end, Faults, no_fault, too_large, last_fault, more_faults, put, head}
+use Rattle.cedar_syntax.specs.MendedFaults.{fault_of, Unallowed, a_token, the_end, IsLarge, listed, FaultsOf, IsListed, IsFaultList, IsMendedRefusal}
+use Rattle.cedar_syntax.specs.Sentences.{kinds, HasTree, Starts, Allowed, IsFirstRefused, first}
+use Rattle.cedar_syntax.specs.Tokens.{Spot, one, fits}
+use Rattle.cedar_syntax.proofs.machines.Laws.{some_is, false_true, kinds-append}
 use Rattle.cedar_text.proofs.machines.Recovery.{end_from, end_from-append}
 use Rattle.cedar_text.proofs.machines.Telling.{end_is}
-use Rattle.cedar_text.proofs.machines.Told.{to_allowed, of_allowed}
+use Rattle.cedar_syntax.proofs.machines.Told.{to_allowed, of_allowed}
 
 -- ---- lists
 

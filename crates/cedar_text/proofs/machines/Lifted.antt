@@ -4,12 +4,12 @@ use Rattle.std.proofs.Common.{◌≡◌, ℕ, List, [], ◌∷◌, ◌++◌, Opt
 use Rattle.cedar_lexer.specs.Token.{Lexeme}
 use Rattle.cedar_lexer.specs.declared.token.TokenKind.{TokenKind}
 use Rattle.cedar_lexer.specs.declared.token.TokenKind.TheVariants as kind
-use Rattle.cedar_text.specs.declared.text_to_cst.recovery.Way.TheVariants as way
-use Rattle.cedar_text.specs.Tokens.{Spot, one}
-use Rattle.cedar_text.specs.Sentences.{HasTree}
-use Rattle.cedar_text.specs.Mended.{InBraces, in_braces}
-use Rattle.cedar_text.specs.machines.Door.{Machine, Comes, Door, Shapes}
-use Rattle.cedar_text.specs.machines.Recovery.{Recovers}
+use Rattle.cedar_syntax.specs.declared.reading.recovery.Way.TheVariants as way
+use Rattle.cedar_syntax.specs.Tokens.{Spot, one}
+use Rattle.cedar_syntax.specs.Sentences.{HasTree}
+use Rattle.cedar_syntax.specs.Mended.{InBraces, in_braces}
+use Rattle.cedar_syntax.specs.machines.Door.{Machine, Comes, Door, Shapes}
+use Rattle.cedar_syntax.specs.machines.Recovery.{Recovers}
 use Rattle.cedar_text.specs.machines.WordShapes.{no_tree}
 use Rattle.cedar_text.proofs.machines.Alike.{IsByShape}
 use Rattle.cedar_text.proofs.machines.Recovery.{end_from, Inside, Split, Comparable, Recoverable}

@@ -4,18 +4,18 @@ use Rattle.cedar_lexer.specs.Token.{Lexeme}
 use Rattle.cedar_lexer.specs.declared.token.TokenKind.{TokenKind}
 use Rattle.cedar_syntax.specs.declared.cst.Policy.{Policy}
 use Rattle.cedar_syntax.specs.declared.cst.Policies.{Policies}
-use Rattle.cedar_text.specs.declared.extent.Extent.{Extent}
+use Rattle.cedar_syntax.specs.declared.reading.extent.Extent.{Extent}
 use Rattle.cedar_text.specs.declared.text_to_cst.sequence.Spanned.{Spanned}
-use Rattle.cedar_text.specs.Grammar.{IsNodeOf}
-use Rattle.cedar_text.specs.LoosePolicies.{ReadsMany, ReadsPolicy, ReadsPolicies}
-use Rattle.cedar_text.specs.LoosePolicies as loose
-use Rattle.cedar_text.specs.Place.{join, extent_of, extent, loc_at, node_at, placed, placed_or_start}
-use Rattle.cedar_text.specs.Trees.{Cell, policies_of}
-use Rattle.cedar_text.specs.machines.Door.{Machine, Answer, next, ended, refused, too_large, taken, step_from, steps, Comes, RunsTo, AnswersRightly, Door, IsShape, option_image, Shapes}
-use Rattle.cedar_text.specs.machines.Mapping.{mapped_answer, mapped, loc_or_start, policies_node}
+use Rattle.cedar_syntax.specs.Grammar.{IsNodeOf}
+use Rattle.cedar_syntax.specs.LoosePolicies.{ReadsMany, ReadsPolicy, ReadsPolicies}
+use Rattle.cedar_syntax.specs.LoosePolicies as loose
+use Rattle.cedar_syntax.specs.Place.{join, extent_of, extent, loc_at, node_at, placed, placed_or_start}
+use Rattle.cedar_syntax.specs.Trees.{Cell, policies_of}
+use Rattle.cedar_syntax.specs.machines.Door.{Machine, Answer, next, ended, refused, too_large, taken, step_from, steps, Comes, RunsTo, AnswersRightly, Door, IsShape, option_image, Shapes}
+use Rattle.cedar_syntax.specs.machines.Mapping.{mapped_answer, mapped, loc_or_start, policies_node}
 use Rattle.cedar_text.specs.machines.Placing.{AsNode, as_node, spanned, placing}
 use Rattle.cedar_text.specs.machines.WordShapes.{no_tree}
-use Rattle.cedar_text.proofs.machines.Laws.{some_is}
+use Rattle.cedar_syntax.proofs.machines.Laws.{some_is}
 use Rattle.cedar_text.proofs.machines.Lifted.{Holds}
 use Rattle.cedar_text.proofs.machines.Placing.{forth, back}
 

@@ -12,20 +12,20 @@ use Rattle.cedar_syntax.specs.ParseErrors.{faults_of}
 use Rattle.cedar_syntax.specs.declared.err.faults.Failure.{Failure}
 use Rattle.cedar_syntax.specs.declared.err.faults.Failure.TheVariants.{Memory, Errors}
 use Rattle.cedar_syntax.specs.declared.err.faults.ParseError.{ParseError}
-use Rattle.cedar_text.specs.declared.text_to_cst.expected.Narrowing.TheVariants as narrowing
-use Rattle.cedar_text.specs.FirstFault.{IsMemory}
-use Rattle.cedar_text.specs.Grammar.{Rule, IsNodeOf, IsTreeOf}
-use Rattle.cedar_text.specs.Leftmost.{NumbersFit, HasLeftmost}
-use Rattle.cedar_text.specs.Mended.{no_fault}
-use Rattle.cedar_text.specs.MendedFaults.{Unallowed, IsLarge, FaultsOf, listed, IsListed, IsFaultList, IsMendedRefusal}
-use Rattle.cedar_text.specs.Sentences.{HasTree}
-use Rattle.cedar_text.specs.Trees.{Cell}
-use Rattle.cedar_text.specs.machines.Door.{Machine, allows}
-use Rattle.cedar_text.specs.machines.Judged.{IsRead}
-use Rattle.cedar_text.specs.machines.Mending.{IsTold}
-use Rattle.cedar_text.specs.machines.Recovery.{Recovers, reading, told, told_all}
+use Rattle.cedar_syntax.specs.declared.reading.expected.Narrowing.TheVariants as narrowing
+use Rattle.cedar_syntax.specs.FirstFault.{IsMemory}
+use Rattle.cedar_syntax.specs.Grammar.{Rule, IsNodeOf, IsTreeOf}
+use Rattle.cedar_syntax.specs.Leftmost.{NumbersFit, HasLeftmost}
+use Rattle.cedar_syntax.specs.Mended.{no_fault}
+use Rattle.cedar_syntax.specs.MendedFaults.{Unallowed, IsLarge, FaultsOf, listed, IsListed, IsFaultList, IsMendedRefusal}
+use Rattle.cedar_syntax.specs.Sentences.{HasTree}
+use Rattle.cedar_syntax.specs.Trees.{Cell}
+use Rattle.cedar_syntax.specs.machines.Door.{Machine, allows}
+use Rattle.cedar_syntax.specs.machines.Judged.{IsRead}
+use Rattle.cedar_syntax.specs.machines.Mending.{IsTold}
+use Rattle.cedar_syntax.specs.machines.Recovery.{Recovers, reading, told, told_all}
 use Rattle.cedar_text.proofs.machines.Faults.{has_faults, faults_exactly}
-use Rattle.cedar_text.proofs.machines.Laws.{at_most_one, comes, starts_from}
+use Rattle.cedar_syntax.proofs.machines.Laws.{at_most_one, comes, starts_from}
 use Rattle.cedar_text.proofs.machines.Leftmost.{Resumes, leftmost}
 use Rattle.cedar_text.proofs.machines.Recovery.{Recoverable, resumed}
 use Rattle.cedar_text.proofs.machines.Telling.{refused_list}

@@ -7,7 +7,7 @@ use Rattle.cedar_syntax.specs.declared.cst.Ident.{Ident}
 use Rattle.cedar_syntax.specs.declared.cst.Ident.TheVariants as ident
 use Rattle.cedar_syntax.specs.declared.cst.Name.{Name}
 use Rattle.cedar_syntax.specs.declared.cst.Ref.{Ref}
-use Rattle.cedar_text.specs.declared.extent.Extent.{Extent}
+use Rattle.cedar_syntax.specs.declared.reading.extent.Extent.{Extent}
 use Rattle.cedar_text.specs.declared.text_to_cst.expression.state.Alone.{Alone}
 use Rattle.cedar_text.specs.declared.text_to_cst.expression.state.Alone.TheVariants as alone
 use Rattle.cedar_text.specs.declared.text_to_cst.expression.state.Ranged.{Ranged}
@@ -18,12 +18,12 @@ use Rattle.cedar_text.specs.declared.text_to_cst.state.Words.{Words}
 use Rattle.cedar_text.specs.declared.text_to_cst.state.Words.TheVariants as words
 use Rattle.cedar_text.specs.declared.text_to_cst.state.WordsState.{WordsState}
 use Rattle.cedar_text.specs.declared.text_to_cst.state.WordsState.TheVariants as state
-use Rattle.cedar_text.specs.LooseWords.{ReadsRef}
-use Rattle.cedar_text.specs.Place.{extent, node_at, placed}
-use Rattle.cedar_text.specs.Tokens.{Spot, one}
-use Rattle.cedar_text.specs.Trees.{Cell, name_of}
+use Rattle.cedar_syntax.specs.LooseWords.{ReadsRef}
+use Rattle.cedar_syntax.specs.Place.{extent, node_at, placed}
+use Rattle.cedar_syntax.specs.Tokens.{Spot, one}
+use Rattle.cedar_syntax.specs.Trees.{Cell, name_of}
 use Rattle.cedar_text.specs.machines.Closing.{ranged}
-use Rattle.cedar_text.specs.machines.Door.{Answer, next, ended, Door}
+use Rattle.cedar_syntax.specs.machines.Door.{Answer, next, ended, Door}
 use Rattle.cedar_text.specs.machines.Expressions.{alone_of}
 use Rattle.cedar_text.specs.machines.Named.{Named, ReadsNamed, named_of, named_words, joins_words, IsLonger, IsWords}
 use Rattle.cedar_text.specs.machines.Named as named
@@ -32,8 +32,8 @@ use Rattle.cedar_text.specs.machines.Words.{word_of, word_node, with_word, path_
 use Rattle.cedar_text.specs.machines.WordsRead.{ReadsWholePath, ReadsWords, a_path, an_entity}
 use Rattle.cedar_text.specs.machines.WordShapes.{PathKind, truth, condition, a_name, ident_kind, kind_among, WordsShape, WordsKind, words_shape, words_kind, path_kind}
 use Rattle.cedar_text.specs.machines.WordShapes as shaped
-use Rattle.cedar_text.proofs.machines.Laws.{some_is, none_some}
-use Rattle.cedar_text.proofs.machines.Extents.{at}
+use Rattle.cedar_syntax.proofs.machines.Laws.{some_is, none_some}
+use Rattle.cedar_syntax.proofs.machines.Extents.{at}
 use Rattle.cedar_text.proofs.machines.Images.{image_door, image_shapes}
 use Rattle.cedar_text.proofs.machines.Keeping.{Kept, door_as}
 use Rattle.cedar_text.proofs.machines.WordShapes.{words_shaped}

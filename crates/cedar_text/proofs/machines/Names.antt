@@ -7,7 +7,7 @@ use Rattle.cedar_syntax.specs.declared.cst.Ident.{Ident}
 use Rattle.cedar_syntax.specs.declared.cst.Name.{Name}
 use Rattle.cedar_syntax.specs.declared.cst.Ref.{Ref}
 use Rattle.cedar_syntax.specs.declared.cst.RefInit.{RefInit}
-use Rattle.cedar_text.specs.declared.extent.Extent.{Extent}
+use Rattle.cedar_syntax.specs.declared.reading.extent.Extent.{Extent}
 use Rattle.cedar_text.specs.declared.text_to_cst.state.Path.{Path}
 use Rattle.cedar_text.specs.declared.text_to_cst.state.PathState.{PathState}
 use Rattle.cedar_text.specs.declared.text_to_cst.state.PathState.TheVariants as path
@@ -19,16 +19,16 @@ use Rattle.cedar_text.specs.declared.text_to_cst.state.Words.{Words}
 use Rattle.cedar_text.specs.declared.text_to_cst.state.Words.TheVariants as words
 use Rattle.cedar_text.specs.declared.text_to_cst.state.IdentState.{IdentState}
 use Rattle.cedar_text.specs.declared.text_to_cst.state.IdentState.TheVariants as one_ident
-use Rattle.cedar_text.specs.Grammar.{IsNodeOf}
-use Rattle.cedar_text.specs.Place.{extent, extent_of, node_at, placed, placed_or_start}
-use Rattle.cedar_text.specs.Tokens.{Spot, one, any_of}
-use Rattle.cedar_text.specs.Trees.{Cell, name_of}
-use Rattle.cedar_text.specs.LooseWords.{ReadsAny, any, is_common, ReadsName, common, qualified, ReadsRef, ReadsIdent}
-use Rattle.cedar_text.specs.machines.Door.{taken, steps, Comes, RunsTo, Completed, AnswersRightly, Door}
+use Rattle.cedar_syntax.specs.Grammar.{IsNodeOf}
+use Rattle.cedar_syntax.specs.Place.{extent, extent_of, node_at, placed, placed_or_start}
+use Rattle.cedar_syntax.specs.Tokens.{Spot, one, any_of}
+use Rattle.cedar_syntax.specs.Trees.{Cell, name_of}
+use Rattle.cedar_syntax.specs.LooseWords.{ReadsAny, any, is_common, ReadsName, common, qualified, ReadsRef, ReadsIdent}
+use Rattle.cedar_syntax.specs.machines.Door.{taken, steps, Comes, RunsTo, Completed, AnswersRightly, Door}
 use Rattle.cedar_text.specs.machines.Words.{word_node, first_word, with_word, path_extent, paths, named, entity_of, inits_of, words_machine, name_alone, name_among, name_in, ref_in, names, refs, ident_begun, ident_step, ident_end, idents}
 use Rattle.cedar_text.specs.machines.WordsRead.{word_at, ReadsWholePath, first, further, ReadsWords, a_path, an_entity}
-use Rattle.cedar_text.proofs.machines.Laws.{some_is, none_some, some_token, steps-none}
-use Rattle.cedar_text.proofs.machines.Extents.{at}
+use Rattle.cedar_syntax.proofs.machines.Laws.{some_is, none_some, some_token, steps-none}
+use Rattle.cedar_syntax.proofs.machines.Extents.{at}
 use Rattle.cedar_text.proofs.machines.Words.{entity_runs, PathAs, path_as, as_path, spanned, before_more}
 use Rattle.cedar_text.proofs.machines.WordsDoor.{words_door, paths_door, no_number, nameless}
 use Rattle.cedar_text.proofs.machines.Keeping.{Kept, kept_door, door_as}

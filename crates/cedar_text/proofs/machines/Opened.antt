@@ -10,33 +10,33 @@ use Rattle.cedar_syntax.specs.declared.cst.Annotation.{Annotation}
 use Rattle.cedar_syntax.specs.declared.cst.VariableDef.{VariableDef}
 use Rattle.cedar_syntax.specs.declared.cst.Cond.{Cond}
 use Rattle.cedar_syntax.specs.declared.cst.Policy.{Policy}
-use Rattle.cedar_text.specs.declared.extent.Extent.{Extent}
+use Rattle.cedar_syntax.specs.declared.reading.extent.Extent.{Extent}
 use Rattle.cedar_text.specs.declared.text_to_cst.condition.ConditionState.{ConditionState}
 use Rattle.cedar_text.specs.declared.text_to_cst.condition.ConditionState.TheVariants as condition
 use Rattle.cedar_text.specs.declared.text_to_cst.policy.PolicyState.{PolicyState}
 use Rattle.cedar_text.specs.declared.text_to_cst.policy.PolicyState.TheVariants as policy
-use Rattle.cedar_text.specs.declared.text_to_cst.recovery.Way.{Way}
-use Rattle.cedar_text.specs.declared.text_to_cst.recovery.Way.TheVariants as way
+use Rattle.cedar_syntax.specs.declared.reading.recovery.Way.{Way}
+use Rattle.cedar_syntax.specs.declared.reading.recovery.Way.TheVariants as way
 use Rattle.cedar_text.specs.declared.text_to_cst.sequence.Spanned.{Spanned}
 use Rattle.cedar_text.specs.declared.text_to_cst.sequence.Sequence.{Sequence}
-use Rattle.cedar_text.specs.Tokens.{Spot, one}
-use Rattle.cedar_text.specs.Place.{join, extent, placed}
-use Rattle.cedar_text.specs.Trees.{Cell, policy_of}
-use Rattle.cedar_text.specs.LooseWords.{ReadsAny, any, ReadsList}
-use Rattle.cedar_text.specs.LooseExpressions.{ReadsExpr}
-use Rattle.cedar_text.specs.LoosePolicies.{ReadsMany, ReadsAnnotation, ReadsVariableDef, ReadsBody, no_body, body, ReadsCond, ReadsPolicy}
-use Rattle.cedar_text.specs.LoosePolicies as loose
-use Rattle.cedar_text.specs.Sentences.{HasTree, Starts}
-use Rattle.cedar_text.specs.machines.Door.{Machine, Answer, next, taken, steps, Comes, Door, IsOutside}
-use Rattle.cedar_text.specs.machines.Marks.{mark_of}
+use Rattle.cedar_syntax.specs.Tokens.{Spot, one}
+use Rattle.cedar_syntax.specs.Place.{join, extent, placed}
+use Rattle.cedar_syntax.specs.Trees.{Cell, policy_of}
+use Rattle.cedar_syntax.specs.LooseWords.{ReadsAny, any, ReadsList}
+use Rattle.cedar_syntax.specs.LooseExpressions.{ReadsExpr}
+use Rattle.cedar_syntax.specs.LoosePolicies.{ReadsMany, ReadsAnnotation, ReadsVariableDef, ReadsBody, no_body, body, ReadsCond, ReadsPolicy}
+use Rattle.cedar_syntax.specs.LoosePolicies as loose
+use Rattle.cedar_syntax.specs.Sentences.{HasTree, Starts}
+use Rattle.cedar_syntax.specs.machines.Door.{Machine, Answer, next, taken, steps, Comes, Door, IsOutside}
+use Rattle.cedar_syntax.specs.machines.Marks.{mark_of}
 use Rattle.cedar_text.specs.machines.Placing.{AsNode, as_node, spanned, placing}
 use Rattle.cedar_text.specs.machines.Sequences.{sequence_end, many}
 use Rattle.cedar_text.specs.machines.Scope.{Parts}
 use Rattle.cedar_text.specs.machines.Condition.{at_body, conditions}
 use Rattle.cedar_text.specs.machines.Policy.{policies}
 use Rattle.cedar_text.specs.machines.Policies.{ConditionsState, OnePolicy, sections, policy_machine, condition_way, begun_condition_way, policy_way}
-use Rattle.cedar_text.proofs.machines.Laws.{some_is, then_steps, starts_from, comes}
-use Rattle.cedar_text.proofs.machines.Holding.{Holds, held, entered}
+use Rattle.cedar_syntax.proofs.machines.Laws.{some_is, then_steps, starts_from, comes}
+use Rattle.cedar_syntax.proofs.machines.Holding.{Holds, held, entered}
 use Rattle.cedar_text.proofs.machines.Ending.{EndsAt, Begins, placed_ends, token_at}
 use Rattle.cedar_text.proofs.machines.Placing.{forth, back}
 use Rattle.cedar_text.proofs.machines.Sequences.{item_at, many_holds, many_next, ManyRead, is_between, is_begun, many_read}

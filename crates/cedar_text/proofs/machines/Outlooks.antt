@@ -4,7 +4,7 @@ use Rattle.std.proofs.Common.{◌≡◌, Bool, true, false, Option, Some, None, 
 use Rattle.cedar_lexer.specs.declared.token.TokenKind.{TokenKind}
 use Rattle.cedar_text.specs.declared.text_to_cst.outlook.Outlook.{Outlook}
 use Rattle.cedar_text.specs.declared.text_to_cst.outlook.Outlook.TheVariants as outlook
-use Rattle.cedar_text.specs.machines.Door.{Machine, Answer, next, ended, refused, too_large, is_taken, allows}
+use Rattle.cedar_syntax.specs.machines.Door.{Machine, Answer, next, ended, refused, too_large, is_taken, allows}
 use Rattle.cedar_text.specs.machines.Outlooks.{foreseen, outcome}
 
 taken_alike : {U : Type 0} (a : Answer U (Unit {0})) → is_taken (outcome a) ≡ is_taken a

@@ -3,13 +3,13 @@ use Rattle.std.proofs.Common.{◌≡◌, ℕ, List, Option, refl, sym, ap, subst
 use Rattle.cedar_lexer.specs.Token.{Lexeme}
 use Rattle.cedar_lexer.specs.declared.token.TokenKind.{TokenKind}
 use Rattle.cedar_lexer.specs.declared.token.TokenKind.TheVariants as kind
-use Rattle.cedar_text.specs.declared.text_to_cst.mark.Mark.TheVariants as mark
-use Rattle.cedar_text.specs.LoosePolicies.{ReadsMany, ReadsAnnotation, ReadsVariableDef, ReadsCond, ReadsPolicy}
-use Rattle.cedar_text.specs.machines.Door.{Machine, Answer, ended, Door, IsOutside, Shapes}
-use Rattle.cedar_text.specs.machines.Marks.{mark_of}
+use Rattle.cedar_syntax.specs.declared.reading.mark.Mark.TheVariants as mark
+use Rattle.cedar_syntax.specs.LoosePolicies.{ReadsMany, ReadsAnnotation, ReadsVariableDef, ReadsCond, ReadsPolicy}
+use Rattle.cedar_syntax.specs.machines.Door.{Machine, Answer, ended, Door, IsOutside, Shapes}
+use Rattle.cedar_syntax.specs.machines.Marks.{mark_of}
 use Rattle.cedar_text.specs.machines.Placing.{AsNode, placing}
 use Rattle.cedar_text.specs.machines.Sequences.{behind_item}
-use Rattle.cedar_text.specs.machines.Following.{IsParting, comma, close_paren}
+use Rattle.cedar_syntax.specs.machines.Following.{IsParting, comma, close_paren}
 use Rattle.cedar_text.specs.machines.Annotation.{annotations}
 use Rattle.cedar_text.specs.machines.Scope.{Parts, elements}
 use Rattle.cedar_text.specs.machines.Condition.{conditions}

@@ -10,24 +10,24 @@ use Rattle.cedar_syntax.specs.declared.cst.Annotation.{Annotation}
 use Rattle.cedar_syntax.specs.declared.cst.VariableDef.{VariableDef}
 use Rattle.cedar_syntax.specs.declared.cst.Cond.{Cond}
 use Rattle.cedar_syntax.specs.declared.cst.Policy.{Policy}
-use Rattle.cedar_text.specs.declared.text_to_cst.mark.Mark.{Mark}
-use Rattle.cedar_text.specs.declared.text_to_cst.mark.Mark.TheVariants as mark
+use Rattle.cedar_syntax.specs.declared.reading.mark.Mark.{Mark}
+use Rattle.cedar_syntax.specs.declared.reading.mark.Mark.TheVariants as mark
 use Rattle.cedar_text.specs.declared.text_to_cst.policy.PolicyState.{PolicyState}
 use Rattle.cedar_text.specs.declared.text_to_cst.policy.PolicyState.TheVariants as policy
-use Rattle.cedar_text.specs.Tokens.{Spot, one, any_of}
-use Rattle.cedar_text.specs.Place.{placed}
-use Rattle.cedar_text.specs.Trees.{Cell, policy_of}
-use Rattle.cedar_text.specs.LooseWords.{ReadsAny, any, ReadsList}
-use Rattle.cedar_text.specs.LoosePolicies.{ReadsMany, ReadsAnnotation, ReadsVariableDef, ReadsCond, ReadsPolicy}
-use Rattle.cedar_text.specs.LoosePolicies as loose
-use Rattle.cedar_text.specs.machines.Door.{Machine, Answer, next, ended, refused, too_large, taken, steps, Comes, RunsTo, Completed, AnswersRightly, Door, IsOutside}
-use Rattle.cedar_text.specs.machines.Marks.{mark_of}
+use Rattle.cedar_syntax.specs.Tokens.{Spot, one, any_of}
+use Rattle.cedar_syntax.specs.Place.{placed}
+use Rattle.cedar_syntax.specs.Trees.{Cell, policy_of}
+use Rattle.cedar_syntax.specs.LooseWords.{ReadsAny, any, ReadsList}
+use Rattle.cedar_syntax.specs.LoosePolicies.{ReadsMany, ReadsAnnotation, ReadsVariableDef, ReadsCond, ReadsPolicy}
+use Rattle.cedar_syntax.specs.LoosePolicies as loose
+use Rattle.cedar_syntax.specs.machines.Door.{Machine, Answer, next, ended, refused, too_large, taken, steps, Comes, RunsTo, Completed, AnswersRightly, Door, IsOutside}
+use Rattle.cedar_syntax.specs.machines.Marks.{mark_of}
 use Rattle.cedar_text.specs.machines.Words.{token_node}
 use Rattle.cedar_text.specs.machines.Policy.{Sections, at_effect, in_annotations, behind_effect, behind_scope, in_scope, behind_conditions, in_conditions, policy_step, policy_end, policies}
-use Rattle.cedar_text.proofs.machines.Laws.{some_is, then_steps, some_token}
-use Rattle.cedar_text.proofs.machines.Holding.{Holds, held, one_more, kept}
+use Rattle.cedar_syntax.proofs.machines.Laws.{some_is, then_steps, some_token}
+use Rattle.cedar_syntax.proofs.machines.Holding.{Holds, held, one_more, kept}
 use Rattle.cedar_text.proofs.machines.Ending.{EndsAt, IsWord, IsKind, spot_of, token_at}
-use Rattle.cedar_text.proofs.machines.Marked.{IsMarked, open_paren, close_paren, semicolon, marked, marked_fits, word_fits}
+use Rattle.cedar_syntax.proofs.machines.Marked.{IsMarked, open_paren, close_paren, semicolon, marked, marked_fits, word_fits}
 
 -- the doors of the parts, and where they end
 pub record SectionDoors {A V C : Type 0} (src : List ℕ) (m : Sections A V C) : Type 0 where

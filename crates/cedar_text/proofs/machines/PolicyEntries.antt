@@ -7,32 +7,32 @@ use Rattle.cedar_syntax.specs.declared.cst.Policy.{Policy}
 use Rattle.cedar_syntax.specs.declared.cst.Policies.{Policies}
 use Rattle.cedar_syntax.specs.declared.err.faults.Failure.{Failure}
 use Rattle.cedar_syntax.specs.declared.err.faults.ParseError.{ParseError}
-use Rattle.cedar_text.specs.declared.text_to_cst.expected.Narrowing.TheVariants as narrowing
+use Rattle.cedar_syntax.specs.declared.reading.expected.Narrowing.TheVariants as narrowing
 use Rattle.cedar_text.specs.declared.text_to_cst.policy.PolicyState.TheVariants as policy
-use Rattle.cedar_text.specs.declared.text_to_cst.recovery.Way.{Way}
-use Rattle.cedar_text.specs.declared.text_to_cst.recovery.Way.TheVariants as way
+use Rattle.cedar_syntax.specs.declared.reading.recovery.Way.{Way}
+use Rattle.cedar_syntax.specs.declared.reading.recovery.Way.TheVariants as way
 use Rattle.cedar_text.specs.declared.text_to_cst.sequence.Spanned.{Spanned}
 use Rattle.cedar_text.specs.declared.text_to_cst.sequence.Sequence.{Sequence}
-use Rattle.cedar_text.specs.FirstFault.{large_at}
-use Rattle.cedar_text.specs.Grammar.{IsNodeOf}
-use Rattle.cedar_text.specs.LoosePolicies.{ReadsMany, ReadsPolicy, ReadsPolicies}
-use Rattle.cedar_text.specs.MendedFaults.{fault_of, Unallowed, IsLarge, PoliciesBefore, NothingBefore, IsMendedRefusal}
-use Rattle.cedar_text.specs.Place.{placed}
-use Rattle.cedar_text.specs.Sentences.{HasTree}
-use Rattle.cedar_text.specs.Trees.{Cell}
-use Rattle.cedar_text.specs.machines.Door.{Machine, Comes, Door, allows, Shapes}
-use Rattle.cedar_text.specs.machines.Mapping.{mapped, policies_node}
-use Rattle.cedar_text.specs.machines.Judged.{ReadsBy}
-use Rattle.cedar_text.specs.machines.Mending.{refused_fault, recovers_of, IsTold}
+use Rattle.cedar_syntax.specs.FirstFault.{large_at}
+use Rattle.cedar_syntax.specs.Grammar.{IsNodeOf}
+use Rattle.cedar_syntax.specs.LoosePolicies.{ReadsMany, ReadsPolicy, ReadsPolicies}
+use Rattle.cedar_syntax.specs.MendedFaults.{fault_of, Unallowed, IsLarge, PoliciesBefore, NothingBefore, IsMendedRefusal}
+use Rattle.cedar_syntax.specs.Place.{placed}
+use Rattle.cedar_syntax.specs.Sentences.{HasTree}
+use Rattle.cedar_syntax.specs.Trees.{Cell}
+use Rattle.cedar_syntax.specs.machines.Door.{Machine, Comes, Door, allows, Shapes}
+use Rattle.cedar_syntax.specs.machines.Mapping.{mapped, policies_node}
+use Rattle.cedar_syntax.specs.machines.Judged.{ReadsBy}
+use Rattle.cedar_syntax.specs.machines.Mending.{refused_fault, recovers_of, IsTold}
 use Rattle.cedar_text.specs.machines.Placing.{AsNode, as_node, spanned, placing}
 use Rattle.cedar_text.specs.machines.Policies.{OnePolicy, OnePolicyShape, policy_machine, policies_machine, one_policy_shapes, one_policy_shape, all_policies_shapes, all_policies_shape, policy_way, begun_policy_way, one_closed, one_ended, all_closed, faulty}
 use Rattle.cedar_text.specs.machines.PolicyShapes.{PartShapes}
-use Rattle.cedar_text.specs.machines.Recovery.{Recovers}
+use Rattle.cedar_syntax.specs.machines.Recovery.{Recovers}
 use Rattle.cedar_text.specs.machines.Scope.{Parts}
 use Rattle.cedar_text.specs.machines.WordShapes.{no_tree}
 use Rattle.cedar_text.specs.machines.Sequences.{sequence}
 use Rattle.cedar_text.proofs.machines.Entries.{reads_by}
-use Rattle.cedar_text.proofs.machines.Laws.{some_is, none_some}
+use Rattle.cedar_syntax.proofs.machines.Laws.{some_is, none_some}
 use Rattle.cedar_text.proofs.machines.Lifted.{lifted}
 use Rattle.cedar_text.proofs.machines.Mapped.{mapped_door, mapped_shaped, placed_holds, policies_nodes, nodes_policies}
 use Rattle.cedar_text.proofs.machines.Placing.{node_door}

@@ -12,32 +12,32 @@ use Rattle.cedar_text.specs.declared.text_to_cst.expression.state.Place.TheVaria
 use Rattle.cedar_text.specs.declared.text_to_cst.expression.state.State.{State}
 use Rattle.cedar_text.specs.declared.text_to_cst.expression.state.Wanted.{Wanted}
 use Rattle.cedar_text.specs.declared.text_to_cst.expression.state.Wanted.TheVariants as form
-use Rattle.cedar_text.specs.Grammar.{Rule, IsNodeOf}
-use Rattle.cedar_text.specs.LooseExpressions.{ReadsRelOp, less, less_eq, greater_eq, greater, not_eq, equal, within, single_eq, ReadsExpr, ReadsAdd}
-use Rattle.cedar_text.specs.LoosePolicies.{ReadsPolicy, ReadsPolicies}
-use Rattle.cedar_text.specs.LooseWords.{ReadsName}
-use Rattle.cedar_text.specs.MendedFaults.{PoliciesBefore, NothingBefore}
-use Rattle.cedar_text.specs.Trees.{Cell}
+use Rattle.cedar_syntax.specs.Grammar.{Rule, IsNodeOf}
+use Rattle.cedar_syntax.specs.LooseExpressions.{ReadsRelOp, less, less_eq, greater_eq, greater, not_eq, equal, within, single_eq, ReadsExpr, ReadsAdd}
+use Rattle.cedar_syntax.specs.LoosePolicies.{ReadsPolicy, ReadsPolicies}
+use Rattle.cedar_syntax.specs.LooseWords.{ReadsName}
+use Rattle.cedar_syntax.specs.MendedFaults.{PoliciesBefore, NothingBefore}
+use Rattle.cedar_syntax.specs.Trees.{Cell}
 use Rattle.cedar_text.specs.machines.Closing.{node_of}
-use Rattle.cedar_text.specs.machines.Door.{ended, refused, is_some, is_taken, Door, Shapes}
+use Rattle.cedar_syntax.specs.machines.Door.{ended, refused, is_some, is_taken, Door, Shapes}
 use Rattle.cedar_text.specs.machines.ExpressionShapes as shaped
 use Rattle.cedar_text.specs.machines.ExpressionShapes.{LeftShape, ModeShape, FrameShape, having_shape, after_words, word_shape, step_shape, ends, told, ends_with, sum_shapes, expression_shapes}
 use Rattle.cedar_text.specs.machines.Expressions.{sums}
-use Rattle.cedar_text.specs.machines.Following.{IsParting, comma, close_paren, FollowsSum, operator, parting, FollowsName, is_word, as_sum}
-use Rattle.cedar_text.specs.machines.Judged.{ReadsBy}
+use Rattle.cedar_syntax.specs.machines.Following.{IsParting, comma, close_paren, FollowsSum, operator, parting, FollowsName, is_word, as_sum}
+use Rattle.cedar_syntax.specs.machines.Judged.{ReadsBy}
 use Rattle.cedar_text.specs.machines.Named.{named_words}
 use Rattle.cedar_text.specs.machines.NamedShapes.{is_condition, named_shapes}
 use Rattle.cedar_text.specs.machines.Placing.{AsNode, as_node}
 use Rattle.cedar_text.specs.machines.Policies.{one_policy_shapes, one_policy_shape, all_policies_shapes, all_policies_shape}
 use Rattle.cedar_text.specs.machines.PolicyParts.{policy_parts, policy_part_shapes, OneState, AllState, whole_policy, policy_allows, whole_policies, policies_allow}
-use Rattle.cedar_text.specs.machines.Recovery.{Recovers}
+use Rattle.cedar_syntax.specs.machines.Recovery.{Recovers}
 use Rattle.cedar_text.specs.machines.WholeExpressions.{StateShape, state_shape, whole_expressions, whole_sums, expression_allows, sum_allows}
 use Rattle.cedar_text.specs.machines.Words.{names, kept, ended_with}
 use Rattle.cedar_text.specs.machines.WordShapes as worded
 use Rattle.cedar_text.specs.machines.WordShapes.{PathKind, PathShape, WordsShape, as_words_shape, path_shape, name_shapes, name_kind, no_tree, words_shape}
-use Rattle.cedar_text.proofs.WordPlaces.{start_is, name_path, path_some}
-use Rattle.cedar_text.proofs.Lying.{Some_of}
-use Rattle.cedar_text.proofs.ExpressionTokens.{expr_some}
+use Rattle.cedar_syntax.proofs.WordPlaces.{start_is, name_path, path_some}
+use Rattle.cedar_syntax.proofs.Lying.{Some_of}
+use Rattle.cedar_syntax.proofs.ExpressionTokens.{expr_some}
 use Rattle.cedar_text.proofs.expressions.Doors.{sums_door}
 use Rattle.cedar_text.proofs.expressions.shapes.Shaped.{sums_shaped}
 use Rattle.cedar_text.proofs.expressions.sound.Begun.{Reading, reads}
@@ -46,7 +46,7 @@ use Rattle.cedar_text.proofs.machines.Entries.{reads_by}
 use Rattle.cedar_text.proofs.machines.Held.{not_taken, ends_at}
 use Rattle.cedar_text.proofs.machines.Images.{image_door, image_shapes}
 use Rattle.cedar_text.proofs.machines.Keeping.{Kept, door_as}
-use Rattle.cedar_text.proofs.machines.Laws.{some_is}
+use Rattle.cedar_syntax.proofs.machines.Laws.{some_is}
 use Rattle.cedar_text.proofs.machines.MendedClauses.{Mends}
 use Rattle.cedar_text.proofs.machines.Named.{named_door, named_are_words, named_alike, named_kind}
 use Rattle.cedar_text.proofs.machines.Names.{names_door}

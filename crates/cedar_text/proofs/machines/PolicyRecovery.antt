@@ -9,24 +9,24 @@ use Rattle.cedar_syntax.specs.declared.cst.Ident.{Ident}
 use Rattle.cedar_syntax.specs.declared.cst.Ident.TheVariants as ident
 use Rattle.cedar_syntax.specs.declared.cst.Cond.{Cond}
 use Rattle.cedar_syntax.specs.declared.cst.Policy.{Policy}
-use Rattle.cedar_text.specs.declared.extent.Extent.{Extent}
+use Rattle.cedar_syntax.specs.declared.reading.extent.Extent.{Extent}
 use Rattle.cedar_text.specs.declared.text_to_cst.condition.ConditionState.{ConditionState}
 use Rattle.cedar_text.specs.declared.text_to_cst.condition.ConditionState.TheVariants as condition
 use Rattle.cedar_text.specs.declared.text_to_cst.policy.PolicyState.{PolicyState}
 use Rattle.cedar_text.specs.declared.text_to_cst.policy.PolicyState.TheVariants as policy
-use Rattle.cedar_text.specs.declared.text_to_cst.recovery.Way.{Way}
-use Rattle.cedar_text.specs.declared.text_to_cst.recovery.Way.TheVariants as way
+use Rattle.cedar_syntax.specs.declared.reading.recovery.Way.{Way}
+use Rattle.cedar_syntax.specs.declared.reading.recovery.Way.TheVariants as way
 use Rattle.cedar_text.specs.declared.text_to_cst.sequence.Spanned.{Spanned}
 use Rattle.cedar_text.specs.declared.text_to_cst.sequence.Sequence.{Sequence}
-use Rattle.cedar_text.specs.Tokens.{Spot, one}
-use Rattle.cedar_text.specs.Place.{placed}
-use Rattle.cedar_text.specs.Trees.{Cell}
-use Rattle.cedar_text.specs.LooseWords.{ReadsAny, any, no_item}
-use Rattle.cedar_text.specs.LoosePolicies.{ReadsMany, none, more, ReadsPolicy}
-use Rattle.cedar_text.specs.LoosePolicies as loose
-use Rattle.cedar_text.specs.Sentences.{HasTree, Starts}
-use Rattle.cedar_text.specs.Mended.{InBraces, in_braces, IsBegun, put}
-use Rattle.cedar_text.specs.machines.Door.{Machine, Answer, next, ended, refused, too_large, taken, steps, Comes, RunsTo, Door, Shapes, option_image}
+use Rattle.cedar_syntax.specs.Tokens.{Spot, one}
+use Rattle.cedar_syntax.specs.Place.{placed}
+use Rattle.cedar_syntax.specs.Trees.{Cell}
+use Rattle.cedar_syntax.specs.LooseWords.{ReadsAny, any, no_item}
+use Rattle.cedar_syntax.specs.LoosePolicies.{ReadsMany, none, more, ReadsPolicy}
+use Rattle.cedar_syntax.specs.LoosePolicies as loose
+use Rattle.cedar_syntax.specs.Sentences.{HasTree, Starts}
+use Rattle.cedar_syntax.specs.Mended.{InBraces, in_braces, IsBegun, put}
+use Rattle.cedar_syntax.specs.machines.Door.{Machine, Answer, next, ended, refused, too_large, taken, steps, Comes, RunsTo, Door, Shapes, option_image}
 use Rattle.cedar_text.specs.machines.Placing.{AsNode, as_node, spanned, spanned_answer, node_if, placing}
 use Rattle.cedar_text.specs.machines.Sequences.{sequence, many}
 use Rattle.cedar_text.specs.machines.Scope.{Parts}
@@ -34,11 +34,11 @@ use Rattle.cedar_text.specs.machines.Policy.{policy_step, policy_end, policies}
 use Rattle.cedar_text.specs.machines.SequenceShapes.{spanned_shape, sequence_shape}
 use Rattle.cedar_text.specs.machines.WordShapes.{no_tree}
 use Rattle.cedar_text.specs.machines.PolicyShapes.{annotation_shape, element_shape, PartShapes, ConditionShape, no_condition, has_word, has_opened, has_body, whole_condition, condition_shape, PolicyShape, in_head, has_effect, in_parens, behind_parens, whole_policy, policy_shape}
-use Rattle.cedar_text.specs.machines.Recovery.{Recovers}
+use Rattle.cedar_syntax.specs.machines.Recovery.{Recovers}
 use Rattle.cedar_text.specs.machines.Policies.{ConditionsState, OnePolicy, sections, policy_machine, policies_machine, OnePolicyShape, one_policy_shapes, all_policies_shapes, one_policy_shape, all_policies_shape, condition_way, begun_condition_way, policy_way, begun_policy_way}
 use Rattle.cedar_text.specs.machines.Policies.{closed_condition, closed_begun, closed_policy, one_closed, one_ended, all_closed, policy_recovers, policies_recover}
-use Rattle.cedar_text.proofs.machines.Laws.{some_is, none_some, false_true, then_steps, rest_of_run, comes}
-use Rattle.cedar_text.proofs.machines.Holding.{snoc_assoc, entered}
+use Rattle.cedar_syntax.proofs.machines.Laws.{some_is, none_some, false_true, then_steps, rest_of_run, comes}
+use Rattle.cedar_syntax.proofs.machines.Holding.{snoc_assoc, entered}
 use Rattle.cedar_text.proofs.machines.Ending.{Begins, placed_ends}
 use Rattle.cedar_text.proofs.machines.Sequences.{item_at, many_holds, many_next, many_more, ManyRead, is_between, is_begun, many_read}
 use Rattle.cedar_text.proofs.machines.Policy.{policy_ends}

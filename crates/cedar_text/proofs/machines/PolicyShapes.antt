@@ -12,8 +12,8 @@ use Rattle.cedar_syntax.specs.declared.cst.Str.{Str}
 use Rattle.cedar_syntax.specs.declared.cst.Annotation.{Annotation}
 use Rattle.cedar_syntax.specs.declared.cst.VariableDef.{VariableDef}
 use Rattle.cedar_syntax.specs.declared.cst.Cond.{Cond}
-use Rattle.cedar_text.specs.declared.text_to_cst.mark.Mark.{Mark}
-use Rattle.cedar_text.specs.declared.text_to_cst.mark.Mark.TheVariants as mark
+use Rattle.cedar_syntax.specs.declared.reading.mark.Mark.{Mark}
+use Rattle.cedar_syntax.specs.declared.reading.mark.Mark.TheVariants as mark
 use Rattle.cedar_text.specs.declared.text_to_cst.annotation.AnnotationState.{AnnotationState}
 use Rattle.cedar_text.specs.declared.text_to_cst.annotation.AnnotationState.TheVariants as annotation
 use Rattle.cedar_text.specs.declared.text_to_cst.scope.ElementState.{ElementState}
@@ -22,10 +22,10 @@ use Rattle.cedar_text.specs.declared.text_to_cst.condition.ConditionState.{Condi
 use Rattle.cedar_text.specs.declared.text_to_cst.condition.ConditionState.TheVariants as condition
 use Rattle.cedar_text.specs.declared.text_to_cst.policy.PolicyState.{PolicyState}
 use Rattle.cedar_text.specs.declared.text_to_cst.policy.PolicyState.TheVariants as policy
-use Rattle.cedar_text.specs.Tokens.{any_of}
-use Rattle.cedar_text.specs.Trees.{Cell}
-use Rattle.cedar_text.specs.machines.Door.{Machine, Answer, next, ended, refused, too_large, is_taken, is_some, option_image, Shapes}
-use Rattle.cedar_text.specs.machines.Marks.{mark_of, relation_of}
+use Rattle.cedar_syntax.specs.Tokens.{any_of}
+use Rattle.cedar_syntax.specs.Trees.{Cell}
+use Rattle.cedar_syntax.specs.machines.Door.{Machine, Answer, next, ended, refused, too_large, is_taken, is_some, option_image, Shapes}
+use Rattle.cedar_syntax.specs.machines.Marks.{mark_of, relation_of}
 use Rattle.cedar_text.specs.machines.Annotation.{at_start, at_key, behind_key, at_value, behind_value, annotation_step, annotation_end, annotations}
 use Rattle.cedar_text.specs.machines.Scope.{at_variable, at_constraint, at_entity_type, at_type_name, in_type_name, in_entity_type, in_constraint, Parts, element_step, end_type_name, end_entity_type, end_constraint, element_end, elements}
 use Rattle.cedar_text.specs.machines.Condition.{at_word, behind_word, behind_body, at_body, in_body, condition_step, condition_end, conditions}

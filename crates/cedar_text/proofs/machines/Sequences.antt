@@ -4,22 +4,22 @@ use Rattle.std.proofs.lemmas.List.{append-nil}
 use Rattle.cedar_lexer.specs.Token.{Lexeme}
 use Rattle.cedar_lexer.specs.declared.token.TokenKind.{TokenKind}
 use Rattle.cedar_lexer.specs.declared.token.TokenKind.TheVariants as kind
-use Rattle.cedar_text.specs.declared.text_to_cst.mark.Mark.{Mark}
-use Rattle.cedar_text.specs.declared.text_to_cst.mark.Mark.TheVariants as mark
+use Rattle.cedar_syntax.specs.declared.reading.mark.Mark.{Mark}
+use Rattle.cedar_syntax.specs.declared.reading.mark.Mark.TheVariants as mark
 use Rattle.cedar_text.specs.declared.text_to_cst.sequence.Sequence.{Sequence}
-use Rattle.cedar_text.specs.Tokens.{Spot, one, fits}
-use Rattle.cedar_text.specs.Place.{placed}
-use Rattle.cedar_text.specs.Trees.{Cell}
-use Rattle.cedar_text.specs.LooseWords.{ReadsItems, one_item, more_items, ReadsList, no_item, items, items_comma}
-use Rattle.cedar_text.specs.LoosePolicies.{ReadsMany, none, more}
-use Rattle.cedar_text.specs.machines.Door.{Machine, Answer, next, ended, refused, too_large, taken, steps, Comes, RunsTo, Completed, AnswersRightly, Door, is_taken}
-use Rattle.cedar_text.specs.machines.Marks.{mark_of}
+use Rattle.cedar_syntax.specs.Tokens.{Spot, one, fits}
+use Rattle.cedar_syntax.specs.Place.{placed}
+use Rattle.cedar_syntax.specs.Trees.{Cell}
+use Rattle.cedar_syntax.specs.LooseWords.{ReadsItems, one_item, more_items, ReadsList, no_item, items, items_comma}
+use Rattle.cedar_syntax.specs.LoosePolicies.{ReadsMany, none, more}
+use Rattle.cedar_syntax.specs.machines.Door.{Machine, Answer, next, ended, refused, too_large, taken, steps, Comes, RunsTo, Completed, AnswersRightly, Door, is_taken}
+use Rattle.cedar_syntax.specs.machines.Marks.{mark_of}
 use Rattle.cedar_text.specs.machines.Placing.{AsNode, as_node}
 use Rattle.cedar_text.specs.machines.Sequences.{sequence, beginning, with_last, sequence_end, many_answer, many_step, many, behind_item, listed_answer, listed_step, listed}
-use Rattle.cedar_text.proofs.machines.Laws.{some_is, none_some, then_steps}
-use Rattle.cedar_text.proofs.machines.Holding.{Holds, held, entered, one_more, kept}
+use Rattle.cedar_syntax.proofs.machines.Laws.{some_is, none_some, then_steps}
+use Rattle.cedar_syntax.proofs.machines.Holding.{Holds, held, entered, one_more, kept}
 use Rattle.cedar_text.proofs.machines.Ending.{NotEmpty, EndsAt, Refuses, Begins, IsKind}
-use Rattle.cedar_text.proofs.machines.Marked.{IsMarked, comma, other, marked}
+use Rattle.cedar_syntax.proofs.machines.Marked.{IsMarked, comma, other, marked}
 
 abbrev pub item_at : {S T : Type 0} → List T → S → Sequence S T
 item_at xs s = sequence xs (Some s)

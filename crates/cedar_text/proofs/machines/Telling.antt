@@ -7,29 +7,29 @@ use Rattle.cedar_lexer.specs.declared.token.TokenKind.{TokenKind}
 use Rattle.cedar_syntax.specs.declared.err.faults.Failure.{Failure}
 use Rattle.cedar_syntax.specs.declared.err.faults.Failure.TheVariants.{Memory, Errors}
 use Rattle.cedar_syntax.specs.declared.err.faults.ParseError.{ParseError}
-use Rattle.cedar_text.specs.declared.text_to_cst.expected.Narrowing.TheVariants as narrowing
-use Rattle.cedar_text.specs.declared.text_to_cst.recovery.Way.{Way}
-use Rattle.cedar_text.specs.Expected.{IsExpected}
-use Rattle.cedar_text.specs.FirstFault.{end_at, end_of, unexpected_at, early_at}
+use Rattle.cedar_syntax.specs.declared.reading.expected.Narrowing.TheVariants as narrowing
+use Rattle.cedar_syntax.specs.declared.reading.recovery.Way.{Way}
+use Rattle.cedar_syntax.specs.Expected.{IsExpected}
+use Rattle.cedar_syntax.specs.FirstFault.{end_at, end_of, unexpected_at, early_at}
 use Rattle.cedar_syntax.specs.ParseErrors.{faults_of}
-use Rattle.cedar_text.specs.Grammar.{Rule, IsNodeOf}
-use Rattle.cedar_text.specs.Trees.{Cell}
-use Rattle.cedar_text.specs.MendedFaults.{fault_of, Unallowed, a_token, the_end, IsLarge, listed, IsListed, IsFaultList, IsMendedRefusal}
-use Rattle.cedar_text.specs.declared.extent.Extent.{Extent}
-use Rattle.cedar_text.specs.Place.{join, extent_of, extent}
-use Rattle.cedar_text.specs.Sentences.{kinds}
-use Rattle.cedar_text.specs.machines.Door.{Machine, Answer, next, ended, refused, too_large, Comes, is_taken, is_some, allows, IsShape, Shapes, Door}
-use Rattle.cedar_text.specs.machines.Judged.{may_take, ReadsBy, expected_by}
-use Rattle.cedar_text.specs.machines.Marks.{mark_of}
-use Rattle.cedar_text.specs.machines.Mending.{refused_fault, bad_fault, judged_by, recover_by, recover_all_by, last_of, told_at, TellsAll, IsTold}
-use Rattle.cedar_text.specs.machines.Recovery.{Recovers, Recovery, reading, skipping, stopped, judged, recover, recover_all, Told, told, told_reading, told_end}
+use Rattle.cedar_syntax.specs.Grammar.{Rule, IsNodeOf}
+use Rattle.cedar_syntax.specs.Trees.{Cell}
+use Rattle.cedar_syntax.specs.MendedFaults.{fault_of, Unallowed, a_token, the_end, IsLarge, listed, IsListed, IsFaultList, IsMendedRefusal}
+use Rattle.cedar_syntax.specs.declared.reading.extent.Extent.{Extent}
+use Rattle.cedar_syntax.specs.Place.{join, extent_of, extent}
+use Rattle.cedar_syntax.specs.Sentences.{kinds}
+use Rattle.cedar_syntax.specs.machines.Door.{Machine, Answer, next, ended, refused, too_large, Comes, is_taken, is_some, allows, IsShape, Shapes, Door}
+use Rattle.cedar_syntax.specs.machines.Judged.{may_take, ReadsBy, expected_by}
+use Rattle.cedar_syntax.specs.machines.Marks.{mark_of}
+use Rattle.cedar_syntax.specs.machines.Mending.{refused_fault, bad_fault, judged_by, recover_by, recover_all_by, last_of, told_at, TellsAll, IsTold}
+use Rattle.cedar_syntax.specs.machines.Recovery.{Recovers, Recovery, reading, skipping, stopped, judged, recover, recover_all, Told, told, told_reading, told_end}
 use Rattle.cedar_text.specs.machines.WordShapes.{no_tree}
 use Rattle.cedar_text.proofs.machines.Entries.{may_take_shape}
-use Rattle.cedar_text.proofs.machines.Expected.{expected_is, one_list}
+use Rattle.cedar_syntax.proofs.machines.Expected.{expected_is, one_list}
 use Rattle.cedar_text.proofs.machines.Faults.{HasFaults, has_faults, faults_exactly}
-use Rattle.cedar_text.proofs.machines.Laws.{exactly, ends_alike}
+use Rattle.cedar_syntax.proofs.machines.Laws.{exactly, ends_alike}
 use Rattle.cedar_text.proofs.machines.Recovery.{end_from, Recoverable}
-use Rattle.cedar_text.proofs.machines.Skipping.{as_skipped}
+use Rattle.cedar_syntax.proofs.machines.Skipping.{as_skipped}
 
 -- ---- what states allow is what the machine takes
 

@@ -3,22 +3,22 @@ use Rattle.std.proofs.Common.{◌≡◌, ℕ, List, [], ◌∷◌, ◌++◌, Opt
 use Rattle.cedar_lexer.specs.Token.{Lexeme}
 use Rattle.cedar_syntax.specs.declared.cst.Expr.{Expr}
 use Rattle.cedar_syntax.specs.declared.cst.Primary.{Primary}
-use Rattle.cedar_text.specs.Grammar.{IsNodeOf}
-use Rattle.cedar_text.specs.LooseExpressions.{ReadsExpr, ReadsPrimary}
-use Rattle.cedar_text.specs.Place.{extent, placed, placed_or_start}
-use Rattle.cedar_text.specs.Trees.{Cell}
+use Rattle.cedar_syntax.specs.Grammar.{IsNodeOf}
+use Rattle.cedar_syntax.specs.LooseExpressions.{ReadsExpr, ReadsPrimary}
+use Rattle.cedar_syntax.specs.Place.{extent, placed, placed_or_start}
+use Rattle.cedar_syntax.specs.Trees.{Cell}
 use Rattle.cedar_text.specs.machines.Closing.{node_of}
-use Rattle.cedar_text.specs.machines.Door.{Door, Shapes}
+use Rattle.cedar_syntax.specs.machines.Door.{Door, Shapes}
 use Rattle.cedar_text.specs.machines.ExpressionShapes.{expression_shapes, shape_of}
 use Rattle.cedar_text.specs.machines.Expressions.{expressions}
-use Rattle.cedar_text.specs.machines.Judged.{ReadsBy}
+use Rattle.cedar_syntax.specs.machines.Judged.{ReadsBy}
 use Rattle.cedar_text.specs.machines.Named.{named_words}
 use Rattle.cedar_text.specs.machines.NamedShapes.{named_shapes}
 use Rattle.cedar_text.specs.machines.WholeExpressions.{whole_expressions, expression_allows, whole_primaries, primary_allows}
 use Rattle.cedar_text.specs.machines.WordShapes.{no_tree, words_shape}
-use Rattle.cedar_text.proofs.Lying.{Some_of}
-use Rattle.cedar_text.proofs.WordPlaces.{start_is}
-use Rattle.cedar_text.proofs.ExpressionTokens.{expr_some, primary_some}
+use Rattle.cedar_syntax.proofs.Lying.{Some_of}
+use Rattle.cedar_syntax.proofs.WordPlaces.{start_is}
+use Rattle.cedar_syntax.proofs.ExpressionTokens.{expr_some, primary_some}
 use Rattle.cedar_text.proofs.expressions.Doors.{expressions_door, primaries_door}
 use Rattle.cedar_text.proofs.expressions.shapes.Shaped.{expressions_shaped, primaries_shaped}
 use Rattle.cedar_text.proofs.expressions.sound.Begun.{Reading, reads}
@@ -26,7 +26,7 @@ use Rattle.cedar_text.proofs.expressions.sound.Whole.{AloneAt, alone_reads}
 use Rattle.cedar_text.proofs.machines.Entries.{reads_by}
 use Rattle.cedar_text.proofs.machines.Images.{image_door, image_shapes}
 use Rattle.cedar_text.proofs.machines.Keeping.{Kept, door_as}
-use Rattle.cedar_text.proofs.machines.Laws.{some_is}
+use Rattle.cedar_syntax.proofs.machines.Laws.{some_is}
 use Rattle.cedar_text.proofs.machines.Named.{named_door, named_are_words, named_alike, named_kind}
 
 -- ---- expressions

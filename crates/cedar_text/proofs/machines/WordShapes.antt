@@ -7,7 +7,7 @@ use Rattle.cedar_syntax.specs.declared.cst.Ident.{Ident}
 use Rattle.cedar_syntax.specs.declared.cst.Ident.TheVariants as ident
 use Rattle.cedar_syntax.specs.declared.cst.Name.{Name}
 use Rattle.cedar_syntax.specs.declared.cst.RefInit.{RefInit}
-use Rattle.cedar_text.specs.declared.extent.Extent.{Extent}
+use Rattle.cedar_syntax.specs.declared.reading.extent.Extent.{Extent}
 use Rattle.cedar_text.specs.declared.text_to_cst.state.Word.{Word}
 use Rattle.cedar_text.specs.declared.text_to_cst.state.Path.{Path}
 use Rattle.cedar_text.specs.declared.text_to_cst.state.PathState.{PathState}
@@ -20,11 +20,11 @@ use Rattle.cedar_text.specs.declared.text_to_cst.state.Words.{Words}
 use Rattle.cedar_text.specs.declared.text_to_cst.state.Words.TheVariants as words
 use Rattle.cedar_text.specs.declared.text_to_cst.state.IdentState.{IdentState}
 use Rattle.cedar_text.specs.declared.text_to_cst.state.IdentState.TheVariants as one_ident
-use Rattle.cedar_text.specs.Place.{extent_of}
-use Rattle.cedar_text.specs.Tokens.{fits, any_of}
-use Rattle.cedar_text.specs.Trees.{Cell}
-use Rattle.cedar_text.specs.LooseWords.{is_common}
-use Rattle.cedar_text.specs.machines.Door.{Answer, next, ended, refused, too_large, Machine, IsShape, option_image, Shapes}
+use Rattle.cedar_syntax.specs.Place.{extent_of}
+use Rattle.cedar_syntax.specs.Tokens.{fits, any_of}
+use Rattle.cedar_syntax.specs.Trees.{Cell}
+use Rattle.cedar_syntax.specs.LooseWords.{is_common}
+use Rattle.cedar_syntax.specs.machines.Door.{Answer, next, ended, refused, too_large, Machine, IsShape, option_image, Shapes}
 use Rattle.cedar_text.specs.machines.Words.{path_begun, path_more, path_had, path_step, path_end, paths, item_wanted, key_had, number_value, value_wanted, item_had, as_words, words_more, path_words, inits_step, words_step, words_end, path_end_words, words_machine, name_alone, name_among, name_in, ref_in, ended_with, kept, kept_end, keeping, names, refs, ident_begun, ident_step, ident_end, idents}
 use Rattle.cedar_text.specs.machines.WordShapes.{no_tree, PathShape, at_start, have, WordsShape, in_path, WordsKind, PathKind, a_name, ident_kind, kind_among, path_kind, any_kind, path_shape, begun_shape, had_shape, further_shape, path_shape_step, path_shape_end, path_shapes, init_shape, words_shape, words_kind, as_words_shape, more_shape, path_words_shape, item_shape, key_shape, value_shape, item_had_shape, init_shape_step, words_shape_step, words_shape_end, path_words_shape_end, words_shapes, name_kind, name_shapes, entity_kind, ref_shapes, ident_shape, ident_begun_shape, ident_shape_step, ident_shape_end, ident_shapes}
 

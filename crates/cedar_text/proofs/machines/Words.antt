@@ -11,7 +11,7 @@ use Rattle.cedar_syntax.specs.declared.cst.RefInit.{RefInit}
 use Rattle.cedar_syntax.specs.declared.cst.Literal.{Literal}
 use Rattle.cedar_syntax.specs.declared.cst.Str.{Str}
 use Rattle.cedar_syntax.specs.declared.cst.Str.TheVariants as str
-use Rattle.cedar_text.specs.declared.extent.Extent.{Extent}
+use Rattle.cedar_syntax.specs.declared.reading.extent.Extent.{Extent}
 use Rattle.cedar_text.specs.declared.text_to_cst.state.Path.{Path}
 use Rattle.cedar_text.specs.declared.text_to_cst.state.PathState.TheVariants as path
 use Rattle.cedar_text.specs.declared.text_to_cst.state.Entity.{Entity}
@@ -21,15 +21,15 @@ use Rattle.cedar_text.specs.declared.text_to_cst.state.WordsState.{WordsState}
 use Rattle.cedar_text.specs.declared.text_to_cst.state.WordsState.TheVariants as state
 use Rattle.cedar_text.specs.declared.text_to_cst.state.Words.{Words}
 use Rattle.cedar_text.specs.declared.text_to_cst.state.Words.TheVariants as words
-use Rattle.cedar_text.specs.Place.{extent, node_at, placed}
-use Rattle.cedar_text.specs.Tokens.{Spot, one, between_quotes, any_of}
-use Rattle.cedar_text.specs.Trees.{Cell, name_of, ref_init_of}
-use Rattle.cedar_text.specs.LooseWords.{ReadsItems, one_item, more_items, ReadsList, no_item, items, items_comma, ReadsLiteral, truth, falsity, number, string, any, ReadsPath, one_word, more_words, ReadsRefInit, ref_init, ReadsRef, uid, with_inits}
-use Rattle.cedar_text.specs.machines.Door.{taken, steps, Comes, RunsTo}
+use Rattle.cedar_syntax.specs.Place.{extent, node_at, placed}
+use Rattle.cedar_syntax.specs.Tokens.{Spot, one, between_quotes, any_of}
+use Rattle.cedar_syntax.specs.Trees.{Cell, name_of, ref_init_of}
+use Rattle.cedar_syntax.specs.LooseWords.{ReadsItems, one_item, more_items, ReadsList, no_item, items, items_comma, ReadsLiteral, truth, falsity, number, string, any, ReadsPath, one_word, more_words, ReadsRefInit, ref_init, ReadsRef, uid, with_inits}
+use Rattle.cedar_syntax.specs.machines.Door.{taken, steps, Comes, RunsTo}
 use Rattle.cedar_text.specs.machines.Words.{word_node, first_word, with_word, path_extent, path_begun, path_more, paths, named, entity_of, inits_of, item_wanted, number_value, as_words, words_more, words_machine}
 use Rattle.cedar_text.specs.machines.WordsRead.{word_at, ReadsWholePath, first, further, ReadsWords, a_path, an_entity}
-use Rattle.cedar_text.proofs.machines.Laws.{some_is, then_steps}
-use Rattle.cedar_text.proofs.machines.Extents.{at, spans, from_to}
+use Rattle.cedar_syntax.proofs.machines.Laws.{some_is, then_steps}
+use Rattle.cedar_syntax.proofs.machines.Extents.{at, spans, from_to}
 
 -- ---- a path of the grammar, and a path as it is read
 

@@ -7,7 +7,7 @@ use Rattle.cedar_syntax.specs.declared.cst.Ident.{Ident}
 use Rattle.cedar_syntax.specs.declared.cst.Ident.TheVariants as ident
 use Rattle.cedar_syntax.specs.declared.cst.Name.{Name}
 use Rattle.cedar_syntax.specs.declared.cst.RefInit.{RefInit}
-use Rattle.cedar_text.specs.declared.extent.Extent.{Extent}
+use Rattle.cedar_syntax.specs.declared.reading.extent.Extent.{Extent}
 use Rattle.cedar_text.specs.declared.text_to_cst.state.Word.{Word}
 use Rattle.cedar_text.specs.declared.text_to_cst.state.Path.{Path}
 use Rattle.cedar_text.specs.declared.text_to_cst.state.PathState.{PathState}
@@ -18,14 +18,14 @@ use Rattle.cedar_text.specs.declared.text_to_cst.state.WordsState.{WordsState}
 use Rattle.cedar_text.specs.declared.text_to_cst.state.WordsState.TheVariants as state
 use Rattle.cedar_text.specs.declared.text_to_cst.state.Words.{Words}
 use Rattle.cedar_text.specs.declared.text_to_cst.state.Words.TheVariants as words
-use Rattle.cedar_text.specs.Place.{extent_of}
-use Rattle.cedar_text.specs.Tokens.{Spot, fits, any_of}
-use Rattle.cedar_text.specs.Trees.{Cell}
-use Rattle.cedar_text.specs.machines.Door.{Answer, next, ended, refused, too_large, Completed, AnswersRightly, Door, IsOutside}
+use Rattle.cedar_syntax.specs.Place.{extent_of}
+use Rattle.cedar_syntax.specs.Tokens.{Spot, fits, any_of}
+use Rattle.cedar_syntax.specs.Trees.{Cell}
+use Rattle.cedar_syntax.specs.machines.Door.{Answer, next, ended, refused, too_large, Completed, AnswersRightly, Door, IsOutside}
 use Rattle.cedar_text.specs.machines.Words.{word_of, first_word, with_word, path_begun, path_more, path_had, path_step, path_end, paths, inits_of, item_wanted, key_had, number_value, value_wanted, item_had, inits_step, as_words, words_more, path_words, words_step, path_end_words, words_end, words_machine}
 use Rattle.cedar_text.specs.machines.WordsRead.{ReadsWholePath, ReadsWords}
-use Rattle.cedar_text.proofs.machines.Laws.{some_is, none_some, some_token}
-use Rattle.cedar_text.proofs.machines.Extents.{at}
+use Rattle.cedar_syntax.proofs.machines.Laws.{some_is, none_some, some_token}
+use Rattle.cedar_syntax.proofs.machines.Extents.{at}
 use Rattle.cedar_text.proofs.machines.Words.{complete, path_complete}
 use Rattle.cedar_text.proofs.machines.WordsSound.{sound, path_sound}
 

@@ -10,7 +10,7 @@ use Rattle.cedar_syntax.specs.declared.cst.Ref.TheVariants as ref
 use Rattle.cedar_syntax.specs.declared.cst.RefInit.{RefInit}
 use Rattle.cedar_syntax.specs.declared.cst.Literal.{Literal}
 use Rattle.cedar_syntax.specs.declared.cst.Str.TheVariants as str
-use Rattle.cedar_text.specs.declared.extent.Extent.{Extent}
+use Rattle.cedar_syntax.specs.declared.reading.extent.Extent.{Extent}
 use Rattle.cedar_text.specs.declared.text_to_cst.state.Path.{Path}
 use Rattle.cedar_text.specs.declared.text_to_cst.state.PathState.{PathState}
 use Rattle.cedar_text.specs.declared.text_to_cst.state.PathState.TheVariants as path
@@ -19,15 +19,15 @@ use Rattle.cedar_text.specs.declared.text_to_cst.state.InitPlace.TheVariants as 
 use Rattle.cedar_text.specs.declared.text_to_cst.state.WordsState.{WordsState}
 use Rattle.cedar_text.specs.declared.text_to_cst.state.WordsState.TheVariants as state
 use Rattle.cedar_text.specs.declared.text_to_cst.state.Words.{Words}
-use Rattle.cedar_text.specs.Place.{extent, node_at, placed}
-use Rattle.cedar_text.specs.Tokens.{Spot, one, fits, between_quotes, any_of}
-use Rattle.cedar_text.specs.Trees.{Cell, ref_init_of}
-use Rattle.cedar_text.specs.LooseWords.{ReadsItems, one_item, more_items, ReadsList, no_item, items, items_comma, ReadsLiteral, truth, falsity, number, string, any, ReadsRefInit, ref_init, ReadsRef, uid, with_inits}
-use Rattle.cedar_text.specs.machines.Door.{Answer, taken, steps, Comes}
+use Rattle.cedar_syntax.specs.Place.{extent, node_at, placed}
+use Rattle.cedar_syntax.specs.Tokens.{Spot, one, fits, between_quotes, any_of}
+use Rattle.cedar_syntax.specs.Trees.{Cell, ref_init_of}
+use Rattle.cedar_syntax.specs.LooseWords.{ReadsItems, one_item, more_items, ReadsList, no_item, items, items_comma, ReadsLiteral, truth, falsity, number, string, any, ReadsRefInit, ref_init, ReadsRef, uid, with_inits}
+use Rattle.cedar_syntax.specs.machines.Door.{Answer, taken, steps, Comes}
 use Rattle.cedar_text.specs.machines.Words.{path_extent, path_begun, path_more, path_had, path_step, path_end, paths, named, entity_of, uid_of, inits_of, item_wanted, key_had, number_value, value_wanted, item_had, as_words, words_more, words_step, words_end, words_machine}
 use Rattle.cedar_text.specs.machines.WordsRead.{word_at, ReadsWholePath, first, further, ReadsWords, a_path, an_entity}
-use Rattle.cedar_text.proofs.machines.Laws.{some_is, none_some, steps-none, if_some}
-use Rattle.cedar_text.proofs.machines.Extents.{at, spans, from_to}
+use Rattle.cedar_syntax.proofs.machines.Laws.{some_is, none_some, steps-none, if_some}
+use Rattle.cedar_syntax.proofs.machines.Extents.{at, spans, from_to}
 use Rattle.cedar_text.proofs.machines.Words.{spanned, as_path, named_is, closed_entity}
 
 -- the tokens behind an entity literal's open brace

@@ -5,15 +5,15 @@ use Rattle.cedar_syntax.specs.declared.cst.Ident.{Ident}
 use Rattle.cedar_syntax.specs.declared.cst.Str.{Str}
 use Rattle.cedar_syntax.specs.declared.cst.Str.TheVariants as str
 use Rattle.cedar_syntax.specs.declared.cst.Annotation.{Annotation}
-use Rattle.cedar_text.specs.declared.text_to_cst.mark.Mark.{Mark}
-use Rattle.cedar_text.specs.declared.text_to_cst.mark.Mark.TheVariants as mark
+use Rattle.cedar_syntax.specs.declared.reading.mark.Mark.{Mark}
+use Rattle.cedar_syntax.specs.declared.reading.mark.Mark.TheVariants as mark
 use Rattle.cedar_text.specs.declared.text_to_cst.annotation.AnnotationState.{AnnotationState}
 use Rattle.cedar_text.specs.declared.text_to_cst.annotation.AnnotationState.TheVariants as annotation
-use Rattle.cedar_text.specs.Tokens.{any_of, between_quotes}
-use Rattle.cedar_text.specs.Place.{extent_of, node_at}
-use Rattle.cedar_text.specs.Trees.{Cell, annotation_of}
-use Rattle.cedar_text.specs.machines.Door.{Machine, Answer, next, ended, refused}
-use Rattle.cedar_text.specs.machines.Marks.{mark_of}
+use Rattle.cedar_syntax.specs.Tokens.{any_of, between_quotes}
+use Rattle.cedar_syntax.specs.Place.{extent_of, node_at}
+use Rattle.cedar_syntax.specs.Trees.{Cell, annotation_of}
+use Rattle.cedar_syntax.specs.machines.Door.{Machine, Answer, next, ended, refused}
+use Rattle.cedar_syntax.specs.machines.Marks.{mark_of}
 use Rattle.cedar_text.specs.machines.Words.{token_node, string_node}
 
 abbrev pub AnnotationAnswer : Type 0

@@ -45,8 +45,8 @@ use Rattle.cedar_text.specs.declared.text_to_cst.expression.state.Wanted.{Wanted
 use Rattle.cedar_text.specs.declared.text_to_cst.expression.state.Wanted.TheVariants as form
 use Rattle.cedar_text.specs.declared.text_to_cst.expression.state.Reach.{Reach}
 use Rattle.cedar_text.specs.declared.text_to_cst.expression.state.Reach.TheVariants as reach
-use Rattle.cedar_text.specs.Tokens.{any_of}
-use Rattle.cedar_text.specs.machines.Door.{Machine, Answer, next, ended, refused, too_large}
+use Rattle.cedar_syntax.specs.Tokens.{any_of}
+use Rattle.cedar_syntax.specs.machines.Door.{Machine, Answer, next, ended, refused, too_large}
 use Rattle.cedar_text.specs.machines.ExpressionStates.{class_of, operator_of}
 use Rattle.cedar_text.specs.machines.Having.{side_place}
 

@@ -39,9 +39,9 @@ use Rattle.cedar_text.specs.declared.text_to_cst.expression.state.Wanted.{Wanted
 use Rattle.cedar_text.specs.declared.text_to_cst.expression.state.Wanted.TheVariants as form
 use Rattle.cedar_text.specs.declared.text_to_cst.expression.state.Reach.{Reach}
 use Rattle.cedar_text.specs.declared.text_to_cst.expression.state.Reach.TheVariants as reach
-use Rattle.cedar_text.specs.declared.extent.Extent.{Extent}
-use Rattle.cedar_text.specs.Place.{join}
-use Rattle.cedar_text.specs.Tokens.{number_of, fits, any_of}
+use Rattle.cedar_syntax.specs.declared.reading.extent.Extent.{Extent}
+use Rattle.cedar_syntax.specs.Place.{join}
+use Rattle.cedar_syntax.specs.Tokens.{number_of, fits, any_of}
 use Rattle.cedar_text.specs.machines.Closing.{fresh, no_signs, operand_of}
 
 -- states

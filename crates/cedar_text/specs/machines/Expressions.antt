@@ -35,11 +35,11 @@ use Rattle.cedar_text.specs.declared.text_to_cst.expression.state.Alone.{Alone}
 use Rattle.cedar_text.specs.declared.text_to_cst.expression.state.Alone.TheVariants as alone
 use Rattle.cedar_text.specs.machines.Outcome.{Outcome}
 use Rattle.cedar_text.specs.machines.Outcome as outcome
-use Rattle.cedar_text.specs.declared.extent.Extent.{Extent}
-use Rattle.cedar_text.specs.Place.{extent_of}
-use Rattle.cedar_text.specs.Tokens.{any_of}
-use Rattle.cedar_text.specs.Trees.{Cell}
-use Rattle.cedar_text.specs.machines.Door.{Machine, Answer, next, ended, refused, too_large, option_image}
+use Rattle.cedar_syntax.specs.declared.reading.extent.Extent.{Extent}
+use Rattle.cedar_syntax.specs.Place.{extent_of}
+use Rattle.cedar_syntax.specs.Tokens.{any_of}
+use Rattle.cedar_syntax.specs.Trees.{Cell}
+use Rattle.cedar_syntax.specs.machines.Door.{Machine, Answer, next, ended, refused, too_large, option_image}
 use Rattle.cedar_text.specs.machines.Closing.{ranged, node_of, add_at, whole, fresh, no_signs, operand_of, if_operand, if_key}
 use Rattle.cedar_text.specs.machines.ExpressionStates.{state, opening, operator_of}
 use Rattle.cedar_text.specs.machines.Wanting.{literal_at, wanting}

@@ -47,10 +47,10 @@ use Rattle.cedar_text.specs.declared.text_to_cst.expression.state.Reach.{Reach}
 use Rattle.cedar_text.specs.declared.text_to_cst.expression.state.Reach.TheVariants as reach
 use Rattle.cedar_text.specs.machines.Outcome.{Outcome}
 use Rattle.cedar_text.specs.machines.Outcome as outcome
-use Rattle.cedar_text.specs.declared.extent.Extent.{Extent}
-use Rattle.cedar_text.specs.Place.{join, extent_of, node_at}
-use Rattle.cedar_text.specs.Trees.{Cell, rec_init_of}
-use Rattle.cedar_text.specs.machines.Door.{next}
+use Rattle.cedar_syntax.specs.declared.reading.extent.Extent.{Extent}
+use Rattle.cedar_syntax.specs.Place.{join, extent_of, node_at}
+use Rattle.cedar_syntax.specs.Trees.{Cell, rec_init_of}
+use Rattle.cedar_syntax.specs.machines.Door.{next}
 use Rattle.cedar_text.specs.machines.Closing.{ranged, node_of, linked, marked, onward, pending, unary_at, mult_at, add_at, relation_at, and_at, whole, levels_of, accessed}
 use Rattle.cedar_text.specs.machines.ExpressionStates.{state, wants, opening, going_on, has_operand, has_primary, around, operator_of, reach_of}
 use Rattle.cedar_text.specs.machines.Wanting.{set_with, record_with, set_closed, record_closed, call_closed}

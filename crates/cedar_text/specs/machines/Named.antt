@@ -11,12 +11,12 @@ use Rattle.cedar_text.specs.declared.text_to_cst.expression.state.Ranged.{Ranged
 use Rattle.cedar_text.specs.declared.text_to_cst.state.Words.{Words}
 use Rattle.cedar_text.specs.declared.text_to_cst.state.Words.TheVariants as words
 use Rattle.cedar_text.specs.declared.text_to_cst.state.WordsState.{WordsState}
-use Rattle.cedar_text.specs.Place.{extent, placed}
-use Rattle.cedar_text.specs.Tokens.{Spot, one}
-use Rattle.cedar_text.specs.Trees.{Cell, name_of}
-use Rattle.cedar_text.specs.LooseWords.{ReadsPath, ReadsRef}
+use Rattle.cedar_syntax.specs.Place.{extent, placed}
+use Rattle.cedar_syntax.specs.Tokens.{Spot, one}
+use Rattle.cedar_syntax.specs.Trees.{Cell, name_of}
+use Rattle.cedar_syntax.specs.LooseWords.{ReadsPath, ReadsRef}
 use Rattle.cedar_text.specs.machines.Closing.{ranged}
-use Rattle.cedar_text.specs.machines.Door.{Machine, ended, steps}
+use Rattle.cedar_syntax.specs.machines.Door.{Machine, ended, steps}
 use Rattle.cedar_text.specs.machines.Words.{word_node, path_extent, keeping, words_machine}
 
 pub data Named : Type 0 where

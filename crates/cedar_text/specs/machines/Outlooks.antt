@@ -2,7 +2,7 @@
 use Rattle.std.specs.Prelude.{Bool, true, false}
 use Rattle.cedar_text.specs.declared.text_to_cst.outlook.Outlook.{Outlook}
 use Rattle.cedar_text.specs.declared.text_to_cst.outlook.Outlook.TheVariants as outlook
-use Rattle.cedar_text.specs.machines.Door.{Answer, next, ended, refused, too_large}
+use Rattle.cedar_syntax.specs.machines.Door.{Answer, next, ended, refused, too_large}
 
 -- what an outlook says of an answer
 abbrev pub foreseen : Outlook → Answer (Unit {0}) (Unit {0})

@@ -1,11 +1,11 @@
 -- A machine whose tree is put as a node, at the place of the tokens that it has read.
 use Rattle.std.specs.Prelude.{ℕ, List, Option, Some, None}
 use Rattle.cedar_lexer.specs.Token.{Lexeme}
-use Rattle.cedar_text.specs.declared.extent.Extent.{Extent}
+use Rattle.cedar_syntax.specs.declared.reading.extent.Extent.{Extent}
 use Rattle.cedar_text.specs.declared.text_to_cst.sequence.Spanned.{Spanned}
-use Rattle.cedar_text.specs.Place.{join, extent_of, node_at, placed}
-use Rattle.cedar_text.specs.Trees.{Cell}
-use Rattle.cedar_text.specs.machines.Door.{Machine, Answer, next, ended, refused, too_large}
+use Rattle.cedar_syntax.specs.Place.{join, extent_of, node_at, placed}
+use Rattle.cedar_syntax.specs.Trees.{Cell}
+use Rattle.cedar_syntax.specs.machines.Door.{Machine, Answer, next, ended, refused, too_large}
 
 -- the tree that the relation gives, as a node at the place of the tokens
 pub data AsNode {T : Type 0} (src : List ℕ) (R : List Lexeme → T → Type 0) : List Lexeme → Cell T →

@@ -14,12 +14,12 @@ use Rattle.cedar_text.specs.declared.text_to_cst.condition.ConditionState.{Condi
 use Rattle.cedar_text.specs.declared.text_to_cst.condition.ConditionState.TheVariants as condition
 use Rattle.cedar_text.specs.declared.text_to_cst.policy.PolicyState.{PolicyState}
 use Rattle.cedar_text.specs.declared.text_to_cst.policy.PolicyState.TheVariants as policy
-use Rattle.cedar_text.specs.declared.text_to_cst.recovery.Way.{Way}
-use Rattle.cedar_text.specs.declared.text_to_cst.recovery.Way.TheVariants as way
+use Rattle.cedar_syntax.specs.declared.reading.recovery.Way.{Way}
+use Rattle.cedar_syntax.specs.declared.reading.recovery.Way.TheVariants as way
 use Rattle.cedar_text.specs.declared.text_to_cst.sequence.Spanned.{Spanned}
 use Rattle.cedar_text.specs.declared.text_to_cst.sequence.Sequence.{Sequence}
-use Rattle.cedar_text.specs.Trees.{Cell, policy_of}
-use Rattle.cedar_text.specs.machines.Door.{Machine}
+use Rattle.cedar_syntax.specs.Trees.{Cell, policy_of}
+use Rattle.cedar_syntax.specs.machines.Door.{Machine}
 use Rattle.cedar_text.specs.machines.Placing.{spanned, placing}
 use Rattle.cedar_text.specs.machines.Sequences.{sequence, many, listed}
 use Rattle.cedar_text.specs.machines.Annotation.{annotations}
@@ -28,7 +28,7 @@ use Rattle.cedar_text.specs.machines.Condition.{conditions}
 use Rattle.cedar_text.specs.machines.Policy.{Sections, policies}
 use Rattle.cedar_text.specs.machines.SequenceShapes.{spanned_shape, sequence_shape, many_shapes, listed_shapes}
 use Rattle.cedar_text.specs.machines.PolicyShapes.{AnnotationShape, annotation_shape, annotation_shapes, ElementShape, element_shape, PartShapes, element_shapes, ConditionShape, condition_shape, condition_shapes, PolicyShape, policy_shape, SectionShapes, policy_shapes}
-use Rattle.cedar_text.specs.machines.Recovery.{Recovers}
+use Rattle.cedar_syntax.specs.machines.Recovery.{Recovers}
 
 abbrev pub AnnotationsState : Type 0
 AnnotationsState = Sequence (Spanned AnnotationState) (Cell Annotation)

@@ -6,14 +6,14 @@ use Rattle.cedar_syntax.specs.declared.cst.Annotation.{Annotation}
 use Rattle.cedar_syntax.specs.declared.cst.VariableDef.{VariableDef}
 use Rattle.cedar_syntax.specs.declared.cst.Cond.{Cond}
 use Rattle.cedar_syntax.specs.declared.cst.Policy.{Policy}
-use Rattle.cedar_text.specs.declared.text_to_cst.mark.Mark.{Mark}
-use Rattle.cedar_text.specs.declared.text_to_cst.mark.Mark.TheVariants as mark
+use Rattle.cedar_syntax.specs.declared.reading.mark.Mark.{Mark}
+use Rattle.cedar_syntax.specs.declared.reading.mark.Mark.TheVariants as mark
 use Rattle.cedar_text.specs.declared.text_to_cst.policy.PolicyState.{PolicyState}
 use Rattle.cedar_text.specs.declared.text_to_cst.policy.PolicyState.TheVariants as policy
-use Rattle.cedar_text.specs.Tokens.{any_of}
-use Rattle.cedar_text.specs.Trees.{Cell, policy_of}
-use Rattle.cedar_text.specs.machines.Door.{Machine, Answer, next, ended, refused, too_large}
-use Rattle.cedar_text.specs.machines.Marks.{mark_of}
+use Rattle.cedar_syntax.specs.Tokens.{any_of}
+use Rattle.cedar_syntax.specs.Trees.{Cell, policy_of}
+use Rattle.cedar_syntax.specs.machines.Door.{Machine, Answer, next, ended, refused, too_large}
+use Rattle.cedar_syntax.specs.machines.Marks.{mark_of}
 use Rattle.cedar_text.specs.machines.Words.{token_node}
 
 abbrev pub PolicyAnswer : Type 0 → Type 0 → Type 0 → Type 0

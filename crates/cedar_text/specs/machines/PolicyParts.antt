@@ -8,10 +8,10 @@ use Rattle.cedar_text.specs.declared.text_to_cst.expression.state.State.{State}
 use Rattle.cedar_text.specs.declared.text_to_cst.sequence.Sequence.{Sequence}
 use Rattle.cedar_text.specs.declared.text_to_cst.sequence.Spanned.{Spanned}
 use Rattle.cedar_text.specs.declared.text_to_cst.state.PathState.{PathState}
-use Rattle.cedar_text.specs.Trees.{Cell}
-use Rattle.cedar_text.specs.machines.Door.{Machine, allows}
+use Rattle.cedar_syntax.specs.Trees.{Cell}
+use Rattle.cedar_syntax.specs.machines.Door.{Machine, allows}
 use Rattle.cedar_text.specs.machines.ExpressionShapes.{expression_shapes, sum_shapes}
-use Rattle.cedar_text.specs.machines.Mapping.{mapped, policies_node}
+use Rattle.cedar_syntax.specs.machines.Mapping.{mapped, policies_node}
 use Rattle.cedar_text.specs.machines.NamedShapes.{named_shapes}
 use Rattle.cedar_text.specs.machines.Placing.{placing}
 use Rattle.cedar_text.specs.machines.Policies.{OnePolicy, policy_machine, policies_machine, one_policy_shapes, one_policy_shape, all_policies_shapes, all_policies_shape}

@@ -1,8 +1,8 @@
 -- What of the states of a policy's parts decides which kinds may come next.
 use Rattle.std.specs.Prelude.{Bool, true, false, [], Option, Some, None}
 use Rattle.cedar_lexer.specs.declared.token.TokenKind.{TokenKind}
-use Rattle.cedar_text.specs.declared.text_to_cst.mark.Mark.{Mark}
-use Rattle.cedar_text.specs.declared.text_to_cst.mark.Mark.TheVariants as mark
+use Rattle.cedar_syntax.specs.declared.reading.mark.Mark.{Mark}
+use Rattle.cedar_syntax.specs.declared.reading.mark.Mark.TheVariants as mark
 use Rattle.cedar_text.specs.declared.text_to_cst.annotation.AnnotationState.{AnnotationState}
 use Rattle.cedar_text.specs.declared.text_to_cst.annotation.AnnotationState.TheVariants as annotation
 use Rattle.cedar_text.specs.declared.text_to_cst.scope.ElementState.{ElementState}
@@ -11,9 +11,9 @@ use Rattle.cedar_text.specs.declared.text_to_cst.condition.ConditionState.{Condi
 use Rattle.cedar_text.specs.declared.text_to_cst.condition.ConditionState.TheVariants as condition
 use Rattle.cedar_text.specs.declared.text_to_cst.policy.PolicyState.{PolicyState}
 use Rattle.cedar_text.specs.declared.text_to_cst.policy.PolicyState.TheVariants as policy
-use Rattle.cedar_text.specs.Tokens.{any_of}
-use Rattle.cedar_text.specs.machines.Door.{Machine, Answer, next, ended, refused, too_large, is_some}
-use Rattle.cedar_text.specs.machines.Marks.{mark_of, relation_of}
+use Rattle.cedar_syntax.specs.Tokens.{any_of}
+use Rattle.cedar_syntax.specs.machines.Door.{Machine, Answer, next, ended, refused, too_large, is_some}
+use Rattle.cedar_syntax.specs.machines.Marks.{mark_of, relation_of}
 
 -- one of the words, or an identifier, whatever its text
 abbrev pub is_word : TokenKind → Bool

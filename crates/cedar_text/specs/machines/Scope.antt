@@ -8,14 +8,14 @@ use Rattle.cedar_syntax.specs.declared.cst.Add.{Add}
 use Rattle.cedar_syntax.specs.declared.cst.Ident.{Ident}
 use Rattle.cedar_syntax.specs.declared.cst.Name.{Name}
 use Rattle.cedar_syntax.specs.declared.cst.VariableDef.{VariableDef}
-use Rattle.cedar_text.specs.declared.text_to_cst.mark.Mark.{Mark}
-use Rattle.cedar_text.specs.declared.text_to_cst.mark.Mark.TheVariants as mark
+use Rattle.cedar_syntax.specs.declared.reading.mark.Mark.{Mark}
+use Rattle.cedar_syntax.specs.declared.reading.mark.Mark.TheVariants as mark
 use Rattle.cedar_text.specs.declared.text_to_cst.scope.ElementState.{ElementState}
 use Rattle.cedar_text.specs.declared.text_to_cst.scope.ElementState.TheVariants as element
-use Rattle.cedar_text.specs.Tokens.{any_of}
-use Rattle.cedar_text.specs.Trees.{Cell, variable_def_of}
-use Rattle.cedar_text.specs.machines.Door.{Machine, Answer, next, ended, refused, too_large}
-use Rattle.cedar_text.specs.machines.Marks.{mark_of, relation_of}
+use Rattle.cedar_syntax.specs.Tokens.{any_of}
+use Rattle.cedar_syntax.specs.Trees.{Cell, variable_def_of}
+use Rattle.cedar_syntax.specs.machines.Door.{Machine, Answer, next, ended, refused, too_large}
+use Rattle.cedar_syntax.specs.machines.Marks.{mark_of, relation_of}
 use Rattle.cedar_text.specs.machines.Words.{token_node}
 
 abbrev pub ElementAnswer : Type 0 → Type 0 → Type 0 → Type 0

@@ -40,11 +40,11 @@ use Rattle.cedar_text.specs.declared.text_to_cst.expression.state.Mode.TheVarian
 use Rattle.cedar_text.specs.declared.text_to_cst.expression.state.State.{State}
 use Rattle.cedar_text.specs.machines.Outcome.{Outcome}
 use Rattle.cedar_text.specs.machines.Outcome as outcome
-use Rattle.cedar_text.specs.declared.extent.Extent.{Extent}
-use Rattle.cedar_text.specs.Place.{join, extent_of, node_at}
-use Rattle.cedar_text.specs.Tokens.{between_quotes}
-use Rattle.cedar_text.specs.Trees.{Cell, sign_limit}
-use Rattle.cedar_text.specs.machines.Door.{Machine, Answer, next, ended, refused, too_large}
+use Rattle.cedar_syntax.specs.declared.reading.extent.Extent.{Extent}
+use Rattle.cedar_syntax.specs.Place.{join, extent_of, node_at}
+use Rattle.cedar_syntax.specs.Tokens.{between_quotes}
+use Rattle.cedar_syntax.specs.Trees.{Cell, sign_limit}
+use Rattle.cedar_syntax.specs.machines.Door.{Machine, Answer, next, ended, refused, too_large}
 use Rattle.cedar_text.specs.machines.Closing.{ranged, signs_of, accessed}
 use Rattle.cedar_text.specs.machines.ExpressionStates.{state, opening, has_operand, has_primary, around, class_of}
 

@@ -8,7 +8,7 @@ use Rattle.cedar_text.specs.declared.text_to_cst.expression.state.Wanted.{Wanted
 use Rattle.cedar_text.specs.declared.text_to_cst.expression.state.Wanted.TheVariants as form
 use Rattle.cedar_text.specs.machines.Outcome.{Outcome}
 use Rattle.cedar_text.specs.machines.Outcome as outcome
-use Rattle.cedar_text.specs.machines.Door.{Machine}
+use Rattle.cedar_syntax.specs.machines.Door.{Machine}
 use Rattle.cedar_text.specs.machines.ExpressionShapes.{Shape, WordShapes, shapes_from}
 
 abbrev pub start_place : Wanted → Place

@@ -7,9 +7,9 @@ use Rattle.cedar_syntax.specs.declared.cst.Add.{Add}
 use Rattle.cedar_syntax.specs.declared.cst.Expr.{Expr}
 use Rattle.cedar_syntax.specs.declared.cst.Primary.{Primary}
 use Rattle.cedar_text.specs.declared.text_to_cst.expression.state.State.{State}
-use Rattle.cedar_text.specs.Trees.{Cell}
+use Rattle.cedar_syntax.specs.Trees.{Cell}
 use Rattle.cedar_text.specs.machines.Closing.{node_of}
-use Rattle.cedar_text.specs.machines.Door.{Machine, allows}
+use Rattle.cedar_syntax.specs.machines.Door.{Machine, allows}
 use Rattle.cedar_text.specs.machines.Expressions.{expressions, sums, primaries}
 use Rattle.cedar_text.specs.machines.ExpressionShapes.{Shape, expression_shapes, sum_shapes, primary_shapes, shape_of}
 use Rattle.cedar_text.specs.machines.Named.{named_words}

@@ -16,9 +16,9 @@ use Rattle.cedar_text.specs.declared.text_to_cst.state.Words.{Words}
 use Rattle.cedar_text.specs.declared.text_to_cst.state.Words.TheVariants as words
 use Rattle.cedar_text.specs.declared.text_to_cst.state.IdentState.{IdentState}
 use Rattle.cedar_text.specs.declared.text_to_cst.state.IdentState.TheVariants as one_ident
-use Rattle.cedar_text.specs.Tokens.{any_of}
-use Rattle.cedar_text.specs.Trees.{Cell}
-use Rattle.cedar_text.specs.machines.Door.{Answer, next, ended, refused, too_large, Machine, option_image}
+use Rattle.cedar_syntax.specs.Tokens.{any_of}
+use Rattle.cedar_syntax.specs.Trees.{Cell}
+use Rattle.cedar_syntax.specs.machines.Door.{Answer, next, ended, refused, too_large, Machine, option_image}
 use Rattle.cedar_text.specs.machines.Words.{keeping}
 
 abbrev pub no_tree : {T : Type 0} → T → Unit {0}

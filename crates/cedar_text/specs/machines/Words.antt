@@ -13,7 +13,7 @@ use Rattle.cedar_syntax.specs.declared.cst.Literal.{Literal}
 use Rattle.cedar_syntax.specs.declared.cst.Literal.TheVariants as literal
 use Rattle.cedar_syntax.specs.declared.cst.Str.{Str}
 use Rattle.cedar_syntax.specs.declared.cst.Str.TheVariants as str
-use Rattle.cedar_text.specs.declared.extent.Extent.{Extent}
+use Rattle.cedar_syntax.specs.declared.reading.extent.Extent.{Extent}
 use Rattle.cedar_text.specs.declared.text_to_cst.state.Word.{Word}
 use Rattle.cedar_text.specs.declared.text_to_cst.state.Path.{Path}
 use Rattle.cedar_text.specs.declared.text_to_cst.state.PathState.{PathState}
@@ -28,11 +28,11 @@ use Rattle.cedar_text.specs.declared.text_to_cst.state.Words.{Words}
 use Rattle.cedar_text.specs.declared.text_to_cst.state.Words.TheVariants as words
 use Rattle.cedar_text.specs.declared.text_to_cst.state.IdentState.{IdentState}
 use Rattle.cedar_text.specs.declared.text_to_cst.state.IdentState.TheVariants as one_ident
-use Rattle.cedar_text.specs.Place.{extent_of, node_at}
-use Rattle.cedar_text.specs.Tokens.{number_of, fits, between_quotes, any_of}
-use Rattle.cedar_text.specs.Trees.{Cell, name_of, ref_init_of}
-use Rattle.cedar_text.specs.LooseWords.{is_common}
-use Rattle.cedar_text.specs.machines.Door.{Answer, next, ended, refused, too_large, Machine}
+use Rattle.cedar_syntax.specs.Place.{extent_of, node_at}
+use Rattle.cedar_syntax.specs.Tokens.{number_of, fits, between_quotes, any_of}
+use Rattle.cedar_syntax.specs.Trees.{Cell, name_of, ref_init_of}
+use Rattle.cedar_syntax.specs.LooseWords.{is_common}
+use Rattle.cedar_syntax.specs.machines.Door.{Answer, next, ended, refused, too_large, Machine}
 
 -- ---- words and paths
 

@@ -3,11 +3,11 @@
 use Rattle.std.specs.Prelude.{ℕ, List, Bool, true, false, Option, Some, None}
 use Rattle.cedar_text.specs.declared.text_to_cst.expression.words.Goes.{Goes}
 use Rattle.cedar_text.specs.declared.text_to_cst.expression.words.Goes.TheVariants as goes
-use Rattle.cedar_text.specs.declared.text_to_cst.state.Taken.{Taken}
+use Rattle.cedar_syntax.specs.declared.reading.taken.Taken.{Taken}
 use Rattle.cedar_text.specs.declared.text_to_cst.state.Words.{Words}
 use Rattle.cedar_text.specs.declared.text_to_cst.state.WordsState.{WordsState}
-use Rattle.cedar_text.specs.machines.Door.{Answer, next, ended, refused, too_large}
-use Rattle.cedar_text.specs.machines.Judged.{answer_of}
+use Rattle.cedar_syntax.specs.machines.Door.{Answer, next, ended, refused, too_large}
+use Rattle.cedar_syntax.specs.machines.Judged.{answer_of}
 use Rattle.cedar_text.specs.machines.Named.{Named, named_of}
 use Rattle.cedar_text.specs.machines.Words.{kept, kept_end}
 

@@ -1,21 +1,21 @@
 //! An annotation: `@`, a key, and possibly a string in parentheses.
 ghost use Rattle.std.specs.Prelude.{◌≡◌, IfOk};
 ghost use Rattle.cedar_lexer.specs.Token.{lexeme_of};
-ghost use Rattle.cedar_text.specs.Tokens.{any_of};
-ghost use Rattle.cedar_text.specs.Written.{IsWritten};
-ghost use Rattle.cedar_text.specs.machines.Marks.{mark_of};
+ghost use Rattle.cedar_syntax.specs.Tokens.{any_of};
+ghost use Rattle.cedar_syntax.specs.Written.{IsWritten};
+ghost use Rattle.cedar_syntax.specs.machines.Marks.{mark_of};
 ghost use Rattle.cedar_text.specs.machines.Annotation.{at_start, at_key, behind_key, at_value, behind_value};
-ghost use Rattle.cedar_text.specs.machines.Judged.{answer_of};
+ghost use Rattle.cedar_syntax.specs.machines.Judged.{answer_of};
 
 use crate::text_to_cst::literal::string_node;
-use crate::text_to_cst::mark::{Mark, as_mark};
 use crate::text_to_cst::reader::{Reader, put};
-use crate::text_to_cst::state::Taken;
 use crate::text_to_cst::words::{as_ident, token_node};
 use cedar_expressions::Source;
 use cedar_lexer::token::{Token, TokenKind};
 use cedar_syntax::cst::{Annotation, Ident, Str};
 use cedar_syntax::node::Node;
+use cedar_syntax::reading::mark::{Mark, as_mark};
+use cedar_syntax::reading::taken::Taken;
 use std::alloc::{AllocError, Global};
 use std::mem;
 

@@ -1,20 +1,20 @@
 //! A condition: a word, and an expression in braces, or none.
 ghost use Rattle.std.specs.Prelude.{◌≡◌, Some, None, IfOk};
 ghost use Rattle.cedar_lexer.specs.Token.{lexeme_of};
-ghost use Rattle.cedar_text.specs.Tokens.{any_of};
-ghost use Rattle.cedar_text.specs.Written.{IsWritten};
-ghost use Rattle.cedar_text.specs.machines.Marks.{mark_of};
+ghost use Rattle.cedar_syntax.specs.Tokens.{any_of};
+ghost use Rattle.cedar_syntax.specs.Written.{IsWritten};
+ghost use Rattle.cedar_syntax.specs.machines.Marks.{mark_of};
 ghost use Rattle.cedar_text.specs.machines.Condition.{at_word, behind_word, behind_body, at_body, body_ended, condition_step, IsOutsideBody};
-ghost use Rattle.cedar_text.specs.machines.Judged.{answer_of};
+ghost use Rattle.cedar_syntax.specs.machines.Judged.{answer_of};
 
-use crate::text_to_cst::mark::{Mark, as_mark};
 use crate::text_to_cst::reader::{Reader, put};
-use crate::text_to_cst::state::Taken;
 use crate::text_to_cst::words::{as_ident, token_node};
 use cedar_expressions::Source;
 use cedar_lexer::token::Token;
 use cedar_syntax::cst::{Cond, Expr, Ident};
 use cedar_syntax::node::Node;
+use cedar_syntax::reading::mark::{Mark, as_mark};
+use cedar_syntax::reading::taken::Taken;
 use std::alloc::{AllocError, Global};
 use std::mem;
 

@@ -3,27 +3,28 @@
 ghost use Rattle.std.specs.Prelude.{◌≡◌, [], Some, None, IfOk, OnOk};
 ghost use Rattle.cedar_lexer.specs.Token.{lexeme_of};
 ghost use Rattle.cedar_lexer.specs.declared.token.TokenKind.TheVariants as kind;
-ghost use Rattle.cedar_text.specs.Place.{extent_of};
-ghost use Rattle.cedar_text.specs.Tokens.{any_of};
-ghost use Rattle.cedar_text.specs.Written.{IsWritten, Written};
-ghost use Rattle.cedar_text.specs.machines.Door.{allows, is_taken};
-ghost use Rattle.cedar_text.specs.machines.Judged.{answer_of};
+ghost use Rattle.cedar_syntax.specs.Place.{extent_of};
+ghost use Rattle.cedar_syntax.specs.Tokens.{any_of};
+ghost use Rattle.cedar_syntax.specs.Written.{IsWritten, Written};
+ghost use Rattle.cedar_syntax.specs.machines.Door.{allows, is_taken};
+ghost use Rattle.cedar_syntax.specs.machines.Judged.{answer_of};
 ghost use Rattle.cedar_text.specs.machines.Words.{as_words, path_begun, path_words, words_more, words_step, entity_of, uid_of, at_inits, inits_closed, item_wanted, key_had, with_value, string_literal, value_wanted, item_had, inits_step, named};
 ghost use Rattle.cedar_text.specs.machines.WordShapes.{any_kind, more_shape, item_shape, init_shape, init_shape_step, words_shapes, words_shape};
 
-use crate::extent::Extent;
-use crate::place::{node_at, token_extent};
-use crate::text_to_cst::driver::Entry;
 use crate::text_to_cst::literal::{as_number, string_node};
 use crate::text_to_cst::path::{first_word, with_word};
 use crate::text_to_cst::state::{
-    Entity, InitPlace, Inits, OpenEntity, Path, PathState, Taken, Word, Words, WordsState,
+    Entity, InitPlace, Inits, OpenEntity, Path, PathState, Word, Words, WordsState,
 };
 use crate::text_to_cst::words::{as_ident, is_any, word_node};
 use cedar_expressions::{Boxed, Items, Source};
 use cedar_lexer::token::{Token, TokenKind};
 use cedar_syntax::cst::{Literal, Ref, RefInit};
 use cedar_syntax::node::Node;
+use cedar_syntax::reading::driver::Entry;
+use cedar_syntax::reading::extent::Extent;
+use cedar_syntax::reading::place::{node_at, token_extent};
+use cedar_syntax::reading::taken::Taken;
 use std::alloc::{AllocError, Global};
 use std::mem;
 
@@ -426,7 +427,7 @@ impl WordsState {
 
 /// An entity literal as a whole text.
 impl Entry for WordsState {
-    ghost use Rattle.cedar_text.specs.machines.Door.{allows};
+    ghost use Rattle.cedar_syntax.specs.machines.Door.{allows};
     ghost use Rattle.cedar_text.specs.machines.Words.{refs};
     ghost use Rattle.cedar_text.specs.machines.WordShapes.{ref_shapes, words_shape};
 

@@ -1,13 +1,13 @@
 //! What nodes are made with.
 ghost use Rattle.std.specs.Prelude.{◌≡◌, IfOk};
-ghost use Rattle.cedar_text.specs.Place.{node_at};
+ghost use Rattle.cedar_syntax.specs.Place.{node_at};
 ghost use Rattle.cedar_text.specs.machines.Closing.{node_of};
 
-use crate::extent::Extent;
-use crate::place;
 use crate::text_to_cst::expression::state::Ranged;
 use cedar_expressions::Source;
 use cedar_syntax::node::Node;
+use cedar_syntax::reading::extent::Extent;
+use cedar_syntax::reading::place;
 use std::alloc::{AllocError, Global};
 
 /// Where memory comes from, and the source that each place carries.

@@ -1,18 +1,18 @@
 //! One identifier as a whole text.
 ghost use Rattle.std.specs.Prelude.{◌≡◌, Some, IfOk};
 
-use crate::place::token_extent;
-use crate::text_to_cst::driver::Entry;
 use crate::text_to_cst::state::{IdentState, Word};
 use crate::text_to_cst::words::{as_ident, is_any, word_node};
 use cedar_expressions::Source;
 use cedar_lexer::token::{Token, TokenKind};
 use cedar_syntax::cst::Ident;
 use cedar_syntax::node::Node;
+use cedar_syntax::reading::driver::Entry;
+use cedar_syntax::reading::place::token_extent;
 use std::alloc::{AllocError, Global};
 
 impl Entry for IdentState {
-    ghost use Rattle.cedar_text.specs.machines.Door.{allows};
+    ghost use Rattle.cedar_syntax.specs.machines.Door.{allows};
     ghost use Rattle.cedar_text.specs.machines.Words.{idents};
     ghost use Rattle.cedar_text.specs.machines.WordShapes.{ident_shapes, ident_shape};
 

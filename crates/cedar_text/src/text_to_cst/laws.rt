@@ -10,23 +10,23 @@ ghost use Rattle.cedar_syntax.specs.declared.cst.Policies.{Policies};
 ghost use Rattle.cedar_syntax.specs.declared.cst.Policy.{Policy};
 ghost use Rattle.cedar_syntax.specs.declared.cst.Primary.{Primary};
 ghost use Rattle.cedar_syntax.specs.declared.err.faults.ParseError.{ParseError};
-ghost use Rattle.cedar_text.specs.Expected.{by_name, IsIn, stand_by_name};
-ghost use Rattle.cedar_text.specs.FirstFault.{HasOneTree, HasTreeOrFault, HasOneFault, HasNotBoth};
-ghost use Rattle.cedar_text.specs.Grammar.{IsTreeOf};
-ghost use Rattle.cedar_text.specs.Leftmost.{StandsLeftmost};
-ghost use Rattle.cedar_text.specs.LooseExpressions.{ReadsExpr, ReadsPrimary};
-ghost use Rattle.cedar_text.specs.LoosePolicies.{ReadsPolicies, ReadsPolicy};
-ghost use Rattle.cedar_text.specs.LooseWords.{ReadsIdent, ReadsName, ReadsRef};
-ghost use Rattle.cedar_text.specs.MendedFaults.{HasFaultList, HasOneFaultList, NothingBefore, PoliciesBefore};
-ghost use Rattle.cedar_text.specs.Tokens.{any_of};
-ghost use Rattle.cedar_text.specs.TreePlaces.{IsPlace, node_places, expr_places, policies_places, policy_places, primary_places};
-ghost use Rattle.cedar_text.specs.Trees.{Cell};
-ghost use Rattle.cedar_text.specs.machines.Door.{Door, IsOutside, Shapes};
+ghost use Rattle.cedar_syntax.specs.Expected.{by_name, IsIn, stand_by_name};
+ghost use Rattle.cedar_syntax.specs.FirstFault.{HasOneTree, HasTreeOrFault, HasOneFault, HasNotBoth};
+ghost use Rattle.cedar_syntax.specs.Grammar.{IsTreeOf};
+ghost use Rattle.cedar_syntax.specs.Leftmost.{StandsLeftmost};
+ghost use Rattle.cedar_syntax.specs.LooseExpressions.{ReadsExpr, ReadsPrimary};
+ghost use Rattle.cedar_syntax.specs.LoosePolicies.{ReadsPolicies, ReadsPolicy};
+ghost use Rattle.cedar_syntax.specs.LooseWords.{ReadsIdent, ReadsName, ReadsRef};
+ghost use Rattle.cedar_syntax.specs.MendedFaults.{HasFaultList, HasOneFaultList, NothingBefore, PoliciesBefore};
+ghost use Rattle.cedar_syntax.specs.Tokens.{any_of};
+ghost use Rattle.cedar_syntax.specs.TreePlaces.{IsPlace, node_places, expr_places, policies_places, policy_places, primary_places};
+ghost use Rattle.cedar_syntax.specs.Trees.{Cell};
+ghost use Rattle.cedar_syntax.specs.machines.Door.{Door, IsOutside, Shapes};
 ghost use Rattle.cedar_text.specs.machines.Words.{paths, words_machine};
 ghost use Rattle.cedar_text.specs.machines.WordsRead.{ReadsWholePath, ReadsWords};
 ghost use Rattle.cedar_text.specs.machines.WordShapes.{path_shapes, path_shape, path_kind, words_shapes, words_shape, words_kind};
 
-use crate::text_to_cst::expected::Narrowing;
+use cedar_syntax::reading::expected::Narrowing;
 
 /// Tokens have at most one entity literal. They have one, or a first fault and then just one,
 /// never both.

@@ -3,15 +3,15 @@ ghost use Rattle.std.specs.Prelude.{◌≡◌, ◌∷◌, [], ◌++◌, ℕ, Lis
 ghost use Rattle.std.specs.Str.Parse.{IsNumeral};
 ghost use Rattle.cedar_lexer.specs.Token.{lexeme_of};
 ghost use Rattle.cedar_lexer.specs.declared.token.TokenKind.TheVariants as kind;
-ghost use Rattle.cedar_text.specs.Tokens.{between_quotes, fits, number_of};
-ghost use Rattle.cedar_text.specs.Written.{Written};
+ghost use Rattle.cedar_syntax.specs.Tokens.{between_quotes, fits, number_of};
+ghost use Rattle.cedar_syntax.specs.Written.{Written};
 ghost use Rattle.cedar_text.specs.machines.Words.{string_node};
 
-use crate::place::{node_at, token_extent};
 use cedar_expressions::{Source, Text};
 use cedar_lexer::token::Token;
 use cedar_syntax::cst::Str;
 use cedar_syntax::node::Node;
+use cedar_syntax::reading::place::{node_at, token_extent};
 use std::alloc::{AllocError, Global};
 
 /// The number that these digits write, if 64 bits hold it.

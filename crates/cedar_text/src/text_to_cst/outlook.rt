@@ -18,7 +18,7 @@ pub enum Outlook {
 pub trait Foresees: Drop {
     ghost use Rattle.std.specs.Prelude.{◌≡◌};
     ghost use Rattle.cedar_lexer.specs.declared.token.TokenKind.{TokenKind};
-    ghost use Rattle.cedar_text.specs.machines.Door.{Machine};
+    ghost use Rattle.cedar_syntax.specs.machines.Door.{Machine};
     ghost use Rattle.cedar_text.specs.machines.Outlooks.{foreseen, outcome};
 
     // what of a state decides it, and the machine that goes over kinds

@@ -1,17 +1,17 @@
 //! What is foreseen of the parts of a policy.
 ghost use Rattle.std.specs.Prelude.{◌≡◌};
-ghost use Rattle.cedar_text.specs.machines.Marks.{mark_of};
+ghost use Rattle.cedar_syntax.specs.machines.Marks.{mark_of};
 ghost use Rattle.cedar_text.specs.machines.Outlooks.{foreseen, outcome};
 ghost use Rattle.cedar_text.specs.machines.PolicyShapes.{is_relation, constraint_shape, entity_shape, behind_body_shape};
 
 use crate::text_to_cst::annotation::AnnotationState;
 use crate::text_to_cst::condition::ConditionState;
-use crate::text_to_cst::mark::{Mark, as_mark, as_relation};
 use crate::text_to_cst::outlook::{Foresees, Outlook};
 use crate::text_to_cst::scope::ElementState;
 use crate::text_to_cst::sequence::Spanned;
 use crate::text_to_cst::words::is_any;
 use cedar_lexer::token::TokenKind;
+use cedar_syntax::reading::mark::{Mark, as_mark, as_relation};
 
 impl Foresees for AnnotationState {
     ghost use Rattle.cedar_text.specs.machines.PolicyShapes.{AnnotationShape, annotation_shape, annotation_shapes};

@@ -2,19 +2,20 @@
 ghost use Rattle.std.specs.Prelude.{◌≡◌, IfOk};
 ghost use Rattle.cedar_text.specs.declared.text_to_cst.state.PathState.{PathState};
 ghost use Rattle.cedar_text.specs.declared.text_to_cst.state.PathState.TheVariants as begun;
-ghost use Rattle.cedar_text.specs.machines.Judged.{answer_of};
+ghost use Rattle.cedar_syntax.specs.machines.Judged.{answer_of};
 ghost use Rattle.cedar_text.specs.machines.Outlooks.{foreseen, outcome};
 ghost use Rattle.cedar_text.specs.machines.Words.{ended_with, name_in};
 ghost use Rattle.cedar_text.specs.machines.WordShapes.{name_shapes, path_shape};
 
 use crate::text_to_cst::outlook::{Foresees, Outlook};
 use crate::text_to_cst::reader::Reader;
-use crate::text_to_cst::state::{Path, PathState, Taken};
+use crate::text_to_cst::state::{Path, PathState};
 use crate::text_to_cst::words::is_any;
 use cedar_expressions::Source;
 use cedar_lexer::token::{Token, TokenKind};
 use cedar_syntax::cst::Name;
 use cedar_syntax::node::Node;
+use cedar_syntax::reading::taken::Taken;
 use std::alloc::{AllocError, Global};
 
 impl Path {

@@ -1,23 +1,24 @@
 //! Paths: identifiers with `::` between them. A path alone is a name.
 ghost use Rattle.std.specs.Prelude.{◌≡◌, Some, IfOk};
 ghost use Rattle.cedar_lexer.specs.Token.{lexeme_of};
-ghost use Rattle.cedar_text.specs.Place.{extent_of};
-ghost use Rattle.cedar_text.specs.Tokens.{any_of};
-ghost use Rattle.cedar_text.specs.LooseWords.{is_common};
-ghost use Rattle.cedar_text.specs.machines.Door.{allows, is_some};
-ghost use Rattle.cedar_text.specs.machines.Judged.{answer_of};
+ghost use Rattle.cedar_syntax.specs.Place.{extent_of};
+ghost use Rattle.cedar_syntax.specs.Tokens.{any_of};
+ghost use Rattle.cedar_syntax.specs.LooseWords.{is_common};
+ghost use Rattle.cedar_syntax.specs.machines.Door.{allows, is_some};
+ghost use Rattle.cedar_syntax.specs.machines.Judged.{answer_of};
 ghost use Rattle.cedar_text.specs.machines.Words.{first_word, with_word, path_extent, path_begun, path_more, path_step, named};
 ghost use Rattle.cedar_text.specs.machines.WordShapes.{path_kind, name_kind, path_shapes, path_shape};
 
-use crate::extent::Extent;
-use crate::place::{node_at, token_extent};
-use crate::text_to_cst::driver::Entry;
-use crate::text_to_cst::state::{Path, PathState, Taken, Word};
+use crate::text_to_cst::state::{Path, PathState, Word};
 use crate::text_to_cst::words::{as_ident, is_any, word_node};
 use cedar_expressions::{Items, Source};
 use cedar_lexer::token::{Token, TokenKind};
 use cedar_syntax::cst::{Ident, Name};
 use cedar_syntax::node::Node;
+use cedar_syntax::reading::driver::Entry;
+use cedar_syntax::reading::extent::Extent;
+use cedar_syntax::reading::place::{node_at, token_extent};
+use cedar_syntax::reading::taken::Taken;
 use std::alloc::{AllocError, Global};
 use std::mem;
 
@@ -159,7 +160,7 @@ impl PathState {
 
 /// A name as a whole text.
 impl Entry for PathState {
-    ghost use Rattle.cedar_text.specs.machines.Door.{allows};
+    ghost use Rattle.cedar_syntax.specs.machines.Door.{allows};
     ghost use Rattle.cedar_text.specs.machines.Words.{names};
     ghost use Rattle.cedar_text.specs.machines.WordShapes.{name_shapes, path_shape};
 

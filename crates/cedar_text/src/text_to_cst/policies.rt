@@ -5,13 +5,13 @@ ghost use Rattle.cedar_text.specs.machines.Policies.{condition_way, begun_condit
 use crate::text_to_cst::condition::ConditionState;
 use crate::text_to_cst::policy::{Annotations, Begun, Conditions, PolicyState, Scope};
 use crate::text_to_cst::reader::{Reader, put};
-use crate::text_to_cst::recovery::{Recovering, Way};
 use crate::text_to_cst::sequence::{Sequence, Spanned};
-use crate::text_to_cst::state::Taken;
 use cedar_expressions::{Items, Source};
 use cedar_lexer::token::Token;
 use cedar_syntax::cst::{Add, Expr, Name, Policy, PolicyImpl};
 use cedar_syntax::node::Node;
+use cedar_syntax::reading::recovery::{Recovering, Way};
+use cedar_syntax::reading::taken::Taken;
 use std::alloc::{AllocError, Global};
 use std::mem;
 
@@ -109,7 +109,7 @@ where
     S: Reader<Node<Option<Add>>>,
     E: Reader<Node<Option<Expr>>>,
 {
-    ghost use Rattle.cedar_text.specs.declared.text_to_cst.recovery.Way.TheVariants as way;
+    ghost use Rattle.cedar_syntax.specs.declared.reading.recovery.Way.TheVariants as way;
     ghost use Rattle.cedar_text.specs.machines.Policies.{policy_way, one_closed, one_ended};
 
     ghost left = { λ s. policy_way way.Stop s.state };

@@ -1,19 +1,17 @@
 //! A policy: annotations, an effect, a scope in parentheses, conditions, and `;`.
 ghost use Rattle.std.specs.Prelude.{◌≡◌, [], None, IfOk};
 ghost use Rattle.cedar_lexer.specs.Token.{lexeme_of};
-ghost use Rattle.cedar_text.specs.Tokens.{any_of};
-ghost use Rattle.cedar_text.specs.Trees.{policy_of};
-ghost use Rattle.cedar_text.specs.Written.{IsWritten};
+ghost use Rattle.cedar_syntax.specs.Tokens.{any_of};
+ghost use Rattle.cedar_syntax.specs.Trees.{policy_of};
+ghost use Rattle.cedar_syntax.specs.Written.{IsWritten};
 ghost use Rattle.cedar_text.specs.machines.Policy.{at_effect, behind_effect, behind_parts, scope_ended, conditions_ended, outside_sections, IsOutsideSections};
-ghost use Rattle.cedar_text.specs.machines.Judged.{answer_of};
+ghost use Rattle.cedar_syntax.specs.machines.Judged.{answer_of};
 
 use crate::text_to_cst::annotation::AnnotationState;
 use crate::text_to_cst::condition::ConditionState;
-use crate::text_to_cst::mark::{Mark, as_mark};
 use crate::text_to_cst::reader::{Reader, put};
 use crate::text_to_cst::scope::ElementState;
 use crate::text_to_cst::sequence::{Sequence, Spanned};
-use crate::text_to_cst::state::Taken;
 use crate::text_to_cst::words::{as_ident, token_node};
 use cedar_expressions::{Items, Source};
 use cedar_lexer::token::Token;
@@ -21,6 +19,8 @@ use cedar_syntax::cst::{
     Add, Annotation, Cond, Expr, Ident, Name, Policy, PolicyImpl, VariableDef,
 };
 use cedar_syntax::node::Node;
+use cedar_syntax::reading::mark::{Mark, as_mark};
+use cedar_syntax::reading::taken::Taken;
 use std::alloc::{AllocError, Global};
 use std::mem;
 

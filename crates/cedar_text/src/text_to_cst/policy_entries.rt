@@ -1,16 +1,17 @@
 //! One policy and policies as whole texts.
-use crate::text_to_cst::driver::Entry;
 use crate::text_to_cst::expression::entries::ExprState;
 use crate::text_to_cst::expression::held::SumState;
 use crate::text_to_cst::policies::Text;
 use crate::text_to_cst::policy::{Begun, PolicyState};
 use crate::text_to_cst::reader::Reader;
 use crate::text_to_cst::sequence::{Sequence, Spanned};
-use crate::text_to_cst::state::{PathState, Taken};
+use crate::text_to_cst::state::PathState;
 use cedar_expressions::Source;
 use cedar_lexer::token::{Token, TokenKind};
 use cedar_syntax::cst::{Policies, Policy};
 use cedar_syntax::node::Node;
+use cedar_syntax::reading::driver::Entry;
+use cedar_syntax::reading::taken::Taken;
 use std::alloc::{AllocError, Global};
 
 /// One policy that is read as a whole text.

@@ -1,8 +1,8 @@
 //! What is foreseen of a policy, and of policies.
 ghost use Rattle.std.specs.Prelude.{◌≡◌, Option, None, IfOk};
-ghost use Rattle.cedar_text.specs.machines.Door.{is_some, allows, option_image};
-ghost use Rattle.cedar_text.specs.machines.Mapping.{policies_node};
-ghost use Rattle.cedar_text.specs.machines.Marks.{mark_of};
+ghost use Rattle.cedar_syntax.specs.machines.Door.{is_some, allows, option_image};
+ghost use Rattle.cedar_syntax.specs.machines.Mapping.{policies_node};
+ghost use Rattle.cedar_syntax.specs.machines.Marks.{mark_of};
 ghost use Rattle.cedar_text.specs.machines.Outlooks.{foreseen, outcome};
 ghost use Rattle.cedar_text.specs.machines.Placing.{node_if};
 ghost use Rattle.cedar_text.specs.machines.Policies.{one_policy_shapes, one_policy_shape, all_policies_shapes, all_policies_shape};
@@ -11,9 +11,6 @@ ghost use Rattle.cedar_text.specs.machines.PolicyShapes.{is_word, AnnotationShap
 ghost use Rattle.cedar_text.specs.machines.Sequences.{sequence_end};
 ghost use Rattle.cedar_text.specs.machines.SequenceShapes.{spanned_shape, sequence_shape, beginning_shape, many_shape_step, listed_shape_step};
 
-use crate::extent::Extent;
-use crate::place::node_at;
-use crate::text_to_cst::mark::{Mark, as_mark};
 use crate::text_to_cst::outlook::{Foresees, Outlook};
 use crate::text_to_cst::policies::Whole;
 use crate::text_to_cst::policy::{Annotations, Begun, Conditions, PolicyState, Scope};
@@ -23,6 +20,9 @@ use cedar_expressions::{Items, Source};
 use cedar_lexer::token::TokenKind;
 use cedar_syntax::cst::{Policies, Policy};
 use cedar_syntax::node::Node;
+use cedar_syntax::reading::extent::Extent;
+use cedar_syntax::reading::mark::{Mark, as_mark};
+use cedar_syntax::reading::place::node_at;
 use std::alloc::AllocError;
 
 impl<S: Foresees, T: Drop> Sequence<S, T> {

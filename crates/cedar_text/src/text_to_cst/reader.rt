@@ -1,18 +1,18 @@
 //! What reads a form of the grammar, token after token.
 ghost use Rattle.std.specs.Prelude.{◌≡◌};
 
-use crate::text_to_cst::state::Taken;
 use cedar_expressions::Source;
 use cedar_lexer::token::Token;
+use cedar_syntax::reading::taken::Taken;
 use std::alloc::{AllocError, Global};
 
 /// The state of a form that is being read, whose tree is a `T`.
 pub trait Reader<T: Drop>: Drop {
     ghost use Rattle.std.specs.Prelude.{◌≡◌, ℕ, List, IfOk};
     ghost use Rattle.cedar_lexer.specs.Token.{Lexeme, lexeme_of};
-    ghost use Rattle.cedar_text.specs.Written.{IsWritten};
-    ghost use Rattle.cedar_text.specs.machines.Door.{Machine};
-    ghost use Rattle.cedar_text.specs.machines.Judged.{answer_of};
+    ghost use Rattle.cedar_syntax.specs.Written.{IsWritten};
+    ghost use Rattle.cedar_syntax.specs.machines.Door.{Machine};
+    ghost use Rattle.cedar_syntax.specs.machines.Judged.{answer_of};
 
     // the machine that reads the form, over the source
     ghost machine: { List ℕ → Machine Lexeme Self T };

@@ -1,20 +1,20 @@
 //! An element of the scope: a variable, and possibly a type name, an entity type and a constraint.
 ghost use Rattle.std.specs.Prelude.{◌≡◌, ℕ, List, None, Some, IfOk};
 ghost use Rattle.cedar_lexer.specs.Token.{lexeme_of};
-ghost use Rattle.cedar_text.specs.Tokens.{any_of};
-ghost use Rattle.cedar_text.specs.Written.{IsWritten};
-ghost use Rattle.cedar_text.specs.machines.Marks.{mark_of, relation_of};
+ghost use Rattle.cedar_syntax.specs.Tokens.{any_of};
+ghost use Rattle.cedar_syntax.specs.Written.{IsWritten};
+ghost use Rattle.cedar_syntax.specs.machines.Marks.{mark_of, relation_of};
 ghost use Rattle.cedar_text.specs.machines.Scope.{at_variable, at_constraint, at_entity_type, at_type_name, name_ended, sum_ended, expression_ended, element_step, IsOutsideParts};
-ghost use Rattle.cedar_text.specs.machines.Judged.{answer_of};
+ghost use Rattle.cedar_syntax.specs.machines.Judged.{answer_of};
 
-use crate::text_to_cst::mark::{Mark, as_mark, as_relation};
 use crate::text_to_cst::reader::{Reader, put};
-use crate::text_to_cst::state::Taken;
 use crate::text_to_cst::words::{as_ident, token_node};
 use cedar_expressions::Source;
 use cedar_lexer::token::{Token, TokenKind};
 use cedar_syntax::cst::{Add, Expr, Ident, Name, RelOp, VariableDef};
 use cedar_syntax::node::Node;
+use cedar_syntax::reading::mark::{Mark, as_mark, as_relation};
+use cedar_syntax::reading::taken::Taken;
 use std::alloc::{AllocError, Global};
 use std::mem;
 

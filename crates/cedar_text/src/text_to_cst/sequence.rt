@@ -1,19 +1,19 @@
 //! Forms that are begun, and what stands before them.
 ghost use Rattle.std.specs.Prelude.{◌≡◌, [], None, IfOk};
 ghost use Rattle.cedar_lexer.specs.Token.{lexeme_of};
-ghost use Rattle.cedar_text.specs.Written.{IsWritten};
-ghost use Rattle.cedar_text.specs.machines.Door.{ended};
+ghost use Rattle.cedar_syntax.specs.Written.{IsWritten};
+ghost use Rattle.cedar_syntax.specs.machines.Door.{ended};
 ghost use Rattle.cedar_text.specs.machines.Sequences.{sequence, beginning, many_step, behind_item, listed_step};
-ghost use Rattle.cedar_text.specs.machines.Judged.{answer_of};
+ghost use Rattle.cedar_syntax.specs.machines.Judged.{answer_of};
 
-use crate::extent::{Extent, joined};
-use crate::place::{node_at, token_extent};
-use crate::text_to_cst::mark::{Mark, as_mark};
 use crate::text_to_cst::reader::Reader;
-use crate::text_to_cst::state::Taken;
 use cedar_expressions::{Items, Source};
 use cedar_lexer::token::Token;
 use cedar_syntax::node::Node;
+use cedar_syntax::reading::extent::{Extent, joined};
+use cedar_syntax::reading::mark::{Mark, as_mark};
+use cedar_syntax::reading::place::{node_at, token_extent};
+use cedar_syntax::reading::taken::Taken;
 use std::alloc::{AllocError, Global};
 use std::mem;
 

@@ -1,35 +1,9 @@
 //! What the parser has begun to read. Places are bytes here: a `Loc` is made only where a node is
 //! closed.
-ghost use Rattle.std.specs.Prelude.{◌≡◌};
-ghost use Rattle.cedar_text.specs.declared.text_to_cst.state.Taken.TheVariants as taken;
-
-use crate::extent::Extent;
 use cedar_expressions::{Boxed, Items};
 use cedar_syntax::cst::{Ident, Name, Ref, RefInit};
 use cedar_syntax::node::Node;
-
-/// Whether a token was taken.
-#[derive(Drop)]
-pub enum Taken<T> {
-    /// It was.
-    Next,
-    /// The tree ended before it.
-    Ended(T),
-    /// No sentence has it there.
-    Refused,
-    /// It is a number that doesn't fit, where a number may stand.
-    TooLarge,
-}
-
-impl<T: Drop> Taken<T> {
-    /// No sentence has the token there, and what was held before it is let go here: what that takes is so proved of no caller.
-    pub fn refuse<H: Drop>(held: H) -> Taken<T>
-        ensures { result ≡ taken.Refused }
-    {
-        drop(held);
-        Taken::Refused
-    }
-}
+use cedar_syntax::reading::extent::Extent;
 
 /// An identifier, and its bytes.
 #[derive(Drop)]

@@ -1,17 +1,17 @@
 //! Words: what may be an identifier.
 ghost use Rattle.std.specs.Prelude.{◌≡◌, [], IfOk};
 ghost use Rattle.cedar_lexer.specs.Token.{lexeme_of};
-ghost use Rattle.cedar_text.specs.Tokens.{any_of};
-ghost use Rattle.cedar_text.specs.machines.Door.{is_some};
+ghost use Rattle.cedar_syntax.specs.Tokens.{any_of};
+ghost use Rattle.cedar_syntax.specs.machines.Door.{is_some};
 ghost use Rattle.cedar_text.specs.machines.Words.{token_node, word_of, word_node};
 
-use crate::extent::Extent;
-use crate::place::{node_at, token_extent};
 use crate::text_to_cst::state::Word;
 use cedar_expressions::{Source, Text};
 use cedar_lexer::token::{Token, TokenKind};
 use cedar_syntax::cst::Ident;
 use cedar_syntax::node::Node;
+use cedar_syntax::reading::extent::Extent;
+use cedar_syntax::reading::place::{node_at, token_extent};
 use std::alloc::{AllocError, Global};
 
 /// What a token of this kind and text is as an identifier.

@@ -22,11 +22,11 @@ use Rattle.cedar_text.specs.declared.text_to_cst.expression.state.Place.TheVaria
 use Rattle.cedar_text.specs.declared.text_to_cst.expression.state.Mode.{Mode}
 use Rattle.cedar_text.specs.declared.text_to_cst.expression.state.Mode.TheVariants as mode
 use Rattle.cedar_text.specs.declared.text_to_cst.expression.state.State.{State}
-use Rattle.cedar_text.specs.declared.extent.Extent.{Extent}
-use Rattle.cedar_text.specs.Place.{join, extent, node_at, placed}
-use Rattle.cedar_text.specs.Tokens.{Spot, one}
-use Rattle.cedar_text.specs.Trees.{Cell, member_of, rec_init_of}
-use Rattle.cedar_text.specs.LooseExpressions.{if_name, lone_expr}
+use Rattle.cedar_syntax.specs.declared.reading.extent.Extent.{Extent}
+use Rattle.cedar_syntax.specs.Place.{join, extent, node_at, placed}
+use Rattle.cedar_syntax.specs.Tokens.{Spot, one}
+use Rattle.cedar_syntax.specs.Trees.{Cell, member_of, rec_init_of}
+use Rattle.cedar_syntax.specs.LooseExpressions.{if_name, lone_expr}
 use Rattle.cedar_text.specs.machines.Named.{joins_words}
 use Rattle.cedar_text.specs.machines.Closing.{ranged, node_of, whole, fresh, accessed}
 use Rattle.cedar_text.specs.machines.ExpressionStates.{state, opening, has_operand, has_primary}

@@ -20,12 +20,12 @@ use Rattle.cedar_text.specs.declared.text_to_cst.expression.state.Place.TheVaria
 use Rattle.cedar_text.specs.declared.text_to_cst.expression.state.Mode.{Mode}
 use Rattle.cedar_text.specs.declared.text_to_cst.expression.state.Mode.TheVariants as mode
 use Rattle.cedar_text.specs.declared.text_to_cst.expression.state.State.{State}
-use Rattle.cedar_text.specs.declared.extent.Extent.{Extent}
-use Rattle.cedar_text.specs.Place.{placed}
-use Rattle.cedar_text.specs.Tokens.{Spot, one}
-use Rattle.cedar_text.specs.Trees.{name_of}
-use Rattle.cedar_text.specs.LooseWords.{any, one_word}
-use Rattle.cedar_text.specs.machines.Door.{Machine}
+use Rattle.cedar_syntax.specs.declared.reading.extent.Extent.{Extent}
+use Rattle.cedar_syntax.specs.Place.{placed}
+use Rattle.cedar_syntax.specs.Tokens.{Spot, one}
+use Rattle.cedar_syntax.specs.Trees.{name_of}
+use Rattle.cedar_syntax.specs.LooseWords.{any, one_word}
+use Rattle.cedar_syntax.specs.machines.Door.{Machine}
 use Rattle.cedar_text.specs.machines.Named.{a_path, joins_words}
 use Rattle.cedar_text.specs.machines.Closing.{no_signs, if_operand, if_key}
 use Rattle.cedar_text.specs.machines.ExpressionStates.{state, opening, operator_of}

@@ -22,10 +22,10 @@ use Rattle.cedar_text.specs.declared.text_to_cst.expression.state.Place.{Place}
 use Rattle.cedar_text.specs.declared.text_to_cst.expression.state.Place.TheVariants as place
 use Rattle.cedar_text.specs.declared.text_to_cst.expression.state.Mode.{Mode}
 use Rattle.cedar_text.specs.declared.text_to_cst.expression.state.Reach.{Reach}
-use Rattle.cedar_text.specs.declared.extent.Extent.{Extent}
-use Rattle.cedar_text.specs.Place.{join, extent, placed}
-use Rattle.cedar_text.specs.Tokens.{Spot, one}
-use Rattle.cedar_text.specs.Trees.{Cell, expr_of, if_of, or_of, and_of}
+use Rattle.cedar_syntax.specs.declared.reading.extent.Extent.{Extent}
+use Rattle.cedar_syntax.specs.Place.{join, extent, placed}
+use Rattle.cedar_syntax.specs.Tokens.{Spot, one}
+use Rattle.cedar_syntax.specs.Trees.{Cell, expr_of, if_of, or_of, and_of}
 use Rattle.cedar_text.specs.machines.Closing.{ranged, Plain, linked, onward, unary_at, made_mult, made_add, made_and, made_or, made_expr, marked, related, branched, whole, levels_of, fresh}
 use Rattle.cedar_text.specs.machines.ExpressionStates.{state, opening, reach_of}
 use Rattle.cedar_text.specs.machines.Having.{conjoined, disjoined, and_had, or_had, branch_of, ended_by}

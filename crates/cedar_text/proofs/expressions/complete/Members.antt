@@ -25,12 +25,12 @@ use Rattle.cedar_text.specs.declared.text_to_cst.expression.state.Mode.{Mode}
 use Rattle.cedar_text.specs.declared.text_to_cst.expression.state.Mode.TheVariants as mode
 use Rattle.cedar_text.specs.declared.text_to_cst.expression.state.Reach.{Reach}
 use Rattle.cedar_text.specs.declared.text_to_cst.expression.state.Reach.TheVariants as reach
-use Rattle.cedar_text.specs.declared.extent.Extent.{Extent}
-use Rattle.cedar_text.specs.Place.{join, extent, node_at, placed}
-use Rattle.cedar_text.specs.Tokens.{Spot, one}
-use Rattle.cedar_text.specs.Trees.{Cell, unary_of, member_of, bangs_of, dashes_of}
-use Rattle.cedar_text.specs.LooseWords.{ReadsAny, any}
-use Rattle.cedar_text.specs.LooseExpressions.{ReadsSigns, one_sign, more_signs}
+use Rattle.cedar_syntax.specs.declared.reading.extent.Extent.{Extent}
+use Rattle.cedar_syntax.specs.Place.{join, extent, node_at, placed}
+use Rattle.cedar_syntax.specs.Tokens.{Spot, one}
+use Rattle.cedar_syntax.specs.Trees.{Cell, unary_of, member_of, bangs_of, dashes_of}
+use Rattle.cedar_syntax.specs.LooseWords.{ReadsAny, any}
+use Rattle.cedar_syntax.specs.LooseExpressions.{ReadsSigns, one_sign, more_signs}
 use Rattle.cedar_text.specs.machines.Closing.{ranged, unary_at, signs_of, no_signs, operand_with, accessed}
 use Rattle.cedar_text.specs.machines.ExpressionStates.{state, wants, has_operand, around, edge, reach_of}
 use Rattle.cedar_text.specs.machines.Wanting.{signed, after_signs, sign_read}

@@ -27,11 +27,11 @@ use Rattle.cedar_text.specs.declared.text_to_cst.expression.state.Place.TheVaria
 use Rattle.cedar_text.specs.declared.text_to_cst.expression.state.Mode.{Mode}
 use Rattle.cedar_text.specs.declared.text_to_cst.expression.state.Mode.TheVariants as mode
 use Rattle.cedar_text.specs.declared.text_to_cst.expression.state.Reach.TheVariants as reach
-use Rattle.cedar_text.specs.declared.extent.Extent.{Extent}
-use Rattle.cedar_text.specs.Place.{join, extent, node_at, placed}
-use Rattle.cedar_text.specs.Tokens.{Spot, one}
-use Rattle.cedar_text.specs.Trees.{Cell, common_of, has_of, like_of, is_of, add_of, mult_of, unary_of, member_of}
-use Rattle.cedar_text.specs.LooseExpressions.{ReadsRelOp, less, less_eq, greater_eq, greater, not_eq, equal, within, single_eq, if_name, lone_add}
+use Rattle.cedar_syntax.specs.declared.reading.extent.Extent.{Extent}
+use Rattle.cedar_syntax.specs.Place.{join, extent, node_at, placed}
+use Rattle.cedar_syntax.specs.Tokens.{Spot, one}
+use Rattle.cedar_syntax.specs.Trees.{Cell, common_of, has_of, like_of, is_of, add_of, mult_of, unary_of, member_of}
+use Rattle.cedar_syntax.specs.LooseExpressions.{ReadsRelOp, less, less_eq, greater_eq, greater, not_eq, equal, within, single_eq, if_name, lone_add}
 use Rattle.cedar_text.specs.machines.Closing.{ranged, Marked, marked, pending, unary_at, made_mult, made_add, made_common, related, add_at, levels_of, no_signs, operand_with, if_operand}
 use Rattle.cedar_text.specs.machines.ExpressionStates.{state, edge, reach_of}
 use Rattle.cedar_text.specs.machines.Having.{compared, compare_had, left_begun, before, side_of, side_place, sided, side_had}

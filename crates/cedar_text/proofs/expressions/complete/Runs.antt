@@ -6,8 +6,8 @@ use Rattle.cedar_lexer.specs.Token.{Lexeme}
 use Rattle.cedar_lexer.specs.declared.token.TokenKind.{TokenKind}
 use Rattle.cedar_syntax.specs.declared.cst.NegOp.TheVariants as neg
 use Rattle.cedar_text.specs.declared.text_to_cst.expression.class.Sign.TheVariants as sign
-pub use Rattle.cedar_text.proofs.machines.Laws.{some_is, none_some}
-pub use Rattle.cedar_text.proofs.machines.Extents.{join-assoc, extent-append, at}
+pub use Rattle.cedar_syntax.proofs.machines.Laws.{some_is, none_some}
+pub use Rattle.cedar_syntax.proofs.machines.Extents.{join-assoc, extent-append, at}
 pub use Rattle.cedar_text.proofs.expressions.Basics.{chain_extent, bang_more, dash_more}
 use Rattle.cedar_text.specs.machines.Named.{Named}
 use Rattle.cedar_text.specs.declared.text_to_cst.state.WordsState.{WordsState}
@@ -24,11 +24,11 @@ use Rattle.cedar_text.specs.declared.text_to_cst.expression.state.Reach.{Reach}
 use Rattle.cedar_text.specs.declared.text_to_cst.expression.state.Reach.TheVariants as reach
 use Rattle.cedar_text.specs.machines.Outcome.{Outcome}
 use Rattle.cedar_text.specs.machines.Outcome as outcome
-use Rattle.cedar_text.specs.declared.extent.Extent.{Extent}
-use Rattle.cedar_text.specs.Place.{join, extent_of, extent}
-use Rattle.cedar_text.specs.Tokens.{Spot, one}
-use Rattle.cedar_text.specs.Trees.{bangs_of, dashes_of}
-use Rattle.cedar_text.specs.machines.Door.{Machine, taken, Door}
+use Rattle.cedar_syntax.specs.declared.reading.extent.Extent.{Extent}
+use Rattle.cedar_syntax.specs.Place.{join, extent_of, extent}
+use Rattle.cedar_syntax.specs.Tokens.{Spot, one}
+use Rattle.cedar_syntax.specs.Trees.{bangs_of, dashes_of}
+use Rattle.cedar_syntax.specs.machines.Door.{Machine, taken, Door}
 use Rattle.cedar_text.specs.machines.Named.{ReadsNamed, joins_words, IsWords}
 use Rattle.cedar_text.specs.machines.ExpressionStates.{state, edge, reach_of}
 use Rattle.cedar_text.specs.machines.Wanting.{signed}

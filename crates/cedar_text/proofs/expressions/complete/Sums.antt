@@ -19,11 +19,11 @@ use Rattle.cedar_text.specs.declared.text_to_cst.expression.state.Place.TheVaria
 use Rattle.cedar_text.specs.declared.text_to_cst.expression.state.Mode.{Mode}
 use Rattle.cedar_text.specs.declared.text_to_cst.expression.state.State.{State}
 use Rattle.cedar_text.specs.declared.text_to_cst.expression.state.Reach.{Reach}
-use Rattle.cedar_text.specs.declared.extent.Extent.{Extent}
-use Rattle.cedar_text.specs.Place.{extent, placed}
-use Rattle.cedar_text.specs.Tokens.{Spot, one}
-use Rattle.cedar_text.specs.Trees.{Cell, add_of, mult_of}
-use Rattle.cedar_text.specs.LooseExpressions.{ReadsAddOp, plus, minus, ReadsMultOp, times, divide, modulo}
+use Rattle.cedar_syntax.specs.declared.reading.extent.Extent.{Extent}
+use Rattle.cedar_syntax.specs.Place.{extent, placed}
+use Rattle.cedar_syntax.specs.Tokens.{Spot, one}
+use Rattle.cedar_syntax.specs.Trees.{Cell, add_of, mult_of}
+use Rattle.cedar_syntax.specs.LooseExpressions.{ReadsAddOp, plus, minus, ReadsMultOp, times, divide, modulo}
 use Rattle.cedar_text.specs.machines.Closing.{Marked, linked, marked, onward, pending, unary_at, made_mult, made_add, levels_of}
 use Rattle.cedar_text.specs.machines.ExpressionStates.{state, wants, edge, reach_of}
 use Rattle.cedar_text.specs.machines.Having.{multiplied, summed, multiply_had, sum_had}

@@ -18,8 +18,8 @@ use Rattle.cedar_text.specs.declared.text_to_cst.expression.state.Mode.TheVarian
 use Rattle.cedar_text.specs.declared.text_to_cst.expression.state.State.{State}
 use Rattle.cedar_text.specs.declared.text_to_cst.expression.state.Wanted.TheVariants as form
 use Rattle.cedar_text.specs.declared.text_to_cst.expression.state.Alone.TheVariants as alone
-use Rattle.cedar_text.specs.Tokens.{Spot, one}
-use Rattle.cedar_text.specs.machines.Door.{Machine, Completed, Door, option_image}
+use Rattle.cedar_syntax.specs.Tokens.{Spot, one}
+use Rattle.cedar_syntax.specs.machines.Door.{Machine, Completed, Door, option_image}
 use Rattle.cedar_text.specs.machines.Named.{ReadsNamed, joins_words, IsWords}
 use Rattle.cedar_text.specs.machines.Closing.{ranged, node_of, operand_of, whole, add_at}
 use Rattle.cedar_text.specs.machines.ExpressionStates.{state}

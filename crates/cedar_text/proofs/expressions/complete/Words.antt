@@ -27,12 +27,12 @@ use Rattle.cedar_text.specs.declared.text_to_cst.expression.state.Mode.{Mode}
 use Rattle.cedar_text.specs.declared.text_to_cst.expression.state.Mode.TheVariants as mode
 use Rattle.cedar_text.specs.declared.text_to_cst.expression.state.State.{State}
 use Rattle.cedar_text.specs.declared.text_to_cst.expression.state.Alone.TheVariants as alone
-use Rattle.cedar_text.specs.Place.{extent, extent_of, placed}
-use Rattle.cedar_text.specs.Tokens.{Spot, one, number_of, fits, any_of}
-use Rattle.cedar_text.specs.Trees.{Cell, name_of}
-use Rattle.cedar_text.specs.LooseWords.{ReadsLiteral, truth, falsity, number, string, any, ReadsPath, one_word, more_words, is_common, ReadsName, common, qualified, ReadsRef, uid, with_inits}
-use Rattle.cedar_text.specs.LooseExpressions.{ReadsSlot, principal_slot, resource_slot, other_slot}
-use Rattle.cedar_text.specs.machines.Door.{Answer, next, ended, refused, too_large, taken, steps}
+use Rattle.cedar_syntax.specs.Place.{extent, extent_of, placed}
+use Rattle.cedar_syntax.specs.Tokens.{Spot, one, number_of, fits, any_of}
+use Rattle.cedar_syntax.specs.Trees.{Cell, name_of}
+use Rattle.cedar_syntax.specs.LooseWords.{ReadsLiteral, truth, falsity, number, string, any, ReadsPath, one_word, more_words, is_common, ReadsName, common, qualified, ReadsRef, uid, with_inits}
+use Rattle.cedar_syntax.specs.LooseExpressions.{ReadsSlot, principal_slot, resource_slot, other_slot}
+use Rattle.cedar_syntax.specs.machines.Door.{Answer, next, ended, refused, too_large, taken, steps}
 use Rattle.cedar_text.specs.machines.Named.{ReadsNamed, a_path, a_ref}
 use Rattle.cedar_text.specs.machines.Closing.{ranged, operand_of}
 use Rattle.cedar_text.specs.machines.ExpressionStates.{state, class_or_word}
@@ -40,7 +40,7 @@ use Rattle.cedar_text.specs.machines.Wanting.{wanted_as, word_begun}
 use Rattle.cedar_text.specs.machines.Having.{having}
 use Rattle.cedar_text.specs.machines.Expressions.{word_alone, alone_of, alone_read, named_read, word_read, alone_at_end, named_at_end}
 use Rattle.cedar_text.proofs.expressions.complete.Runs.{some_is, none_some, at, Setting, next_of, run, token, StandsAt, stands}
-use Rattle.cedar_text.proofs.machines.Laws.{steps-none}
+use Rattle.cedar_syntax.proofs.machines.Laws.{steps-none}
 
 -- a tree and the extent of its tokens
 abbrev pub closed : {T : Type 0} → List Lexeme → T → Ranged T

@@ -1,9 +1,9 @@
 -- Behind an operand, and where a list may end, shapes go as states do.
 use Rattle.std.specs.Prelude.{cond}
 use Rattle.std.proofs.Common.{◌≡◌, ℕ, ◌+◌, List, [], ◌∷◌, Option, Some, None, Bool, true, false, refl, sym, ap, subst}
-use Rattle.cedar_text.specs.Place.{extent_of, extent}
-use Rattle.cedar_text.specs.Trees.{Cell}
-use Rattle.cedar_text.specs.machines.Door.{next, too_large, is_some}
+use Rattle.cedar_syntax.specs.Place.{extent_of, extent}
+use Rattle.cedar_syntax.specs.Trees.{Cell}
+use Rattle.cedar_syntax.specs.machines.Door.{next, too_large, is_some}
 use Rattle.cedar_lexer.specs.Token.{Lexeme}
 use Rattle.cedar_syntax.specs.declared.cst.Expr.{Expr}
 use Rattle.cedar_syntax.specs.declared.cst.Or.{Or}
@@ -49,7 +49,7 @@ use Rattle.cedar_text.specs.declared.text_to_cst.expression.state.Reach.{Reach}
 use Rattle.cedar_text.specs.declared.text_to_cst.expression.state.Reach.TheVariants as reach
 use Rattle.cedar_text.specs.machines.Outcome.{Outcome}
 use Rattle.cedar_text.specs.machines.Outcome as outcome
-use Rattle.cedar_text.specs.declared.extent.Extent.{Extent}
+use Rattle.cedar_syntax.specs.declared.reading.extent.Extent.{Extent}
 use Rattle.cedar_text.specs.machines.ExpressionStates.{operator_of, edge}
 use Rattle.cedar_text.specs.machines.Wanting.{signed, after_signs, sign_read, list_ended, items_ended, keys_ended, set_ends, call_ends, record_ends}
 use Rattle.cedar_text.specs.machines.Having.{is_within, compared, sided, access_begun, paren_ended, set_ended, call_ended, index_ended, key_ended, value_ended, guard_ended, yes_ended, ended_by, had, having}

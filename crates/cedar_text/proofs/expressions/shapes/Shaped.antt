@@ -1,11 +1,11 @@
 -- The shapes of expressions go as its states do.
 use Rattle.std.specs.Prelude.{cond}
 use Rattle.std.proofs.Common.{◌≡◌, ℕ, List, [], ◌∷◌, Option, Some, None, Bool, true, false, refl, sym, ◌∙◌, ap, subst}
-use Rattle.cedar_text.specs.Place.{extent_of, extent}
-use Rattle.cedar_text.specs.Tokens.{fits, number_of, any_of}
+use Rattle.cedar_syntax.specs.Place.{extent_of, extent}
+use Rattle.cedar_syntax.specs.Tokens.{fits, number_of, any_of}
 use Rattle.cedar_text.specs.machines.Closing.{ranged, node_of, fresh, no_signs, operand_of, if_operand}
 use Rattle.cedar_text.specs.machines.WordShapes.{no_tree}
-use Rattle.cedar_text.specs.machines.Door.{Machine, Answer, next, ended, refused, too_large, Shapes, IsShape, is_some, option_image}
+use Rattle.cedar_syntax.specs.machines.Door.{Machine, Answer, next, ended, refused, too_large, Shapes, IsShape, is_some, option_image}
 use Rattle.cedar_lexer.specs.Token.{Lexeme}
 use Rattle.cedar_lexer.specs.declared.token.TokenKind.{TokenKind}
 use Rattle.cedar_lexer.specs.declared.token.TokenKind.TheVariants as kind
@@ -40,7 +40,7 @@ use Rattle.cedar_text.specs.declared.text_to_cst.expression.state.Alone.{Alone}
 use Rattle.cedar_text.specs.declared.text_to_cst.expression.state.Alone.TheVariants as alone
 use Rattle.cedar_text.specs.machines.Outcome.{Outcome}
 use Rattle.cedar_text.specs.machines.Outcome as outcome
-use Rattle.cedar_text.specs.declared.extent.Extent.{Extent}
+use Rattle.cedar_syntax.specs.declared.reading.extent.Extent.{Extent}
 use Rattle.cedar_text.specs.machines.ExpressionStates.{class_of, operator_of}
 use Rattle.cedar_text.specs.machines.Wanting.{literal_at, word_begun, wanted_as, wanting}
 use Rattle.cedar_text.specs.machines.Having.{field_read}

@@ -42,14 +42,14 @@ use Rattle.cedar_text.specs.declared.text_to_cst.expression.state.State.{State}
 use Rattle.cedar_text.specs.declared.text_to_cst.expression.state.Wanted.{Wanted}
 use Rattle.cedar_text.specs.declared.text_to_cst.expression.state.Reach.{Reach}
 use Rattle.cedar_text.specs.declared.text_to_cst.expression.state.Reach.TheVariants as reach
-use Rattle.cedar_text.specs.declared.extent.Extent.{Extent}
-use Rattle.cedar_text.specs.Place.{extent, placed}
-use Rattle.cedar_text.specs.Tokens.{Spot, one}
-use Rattle.cedar_text.specs.Trees.{Cell, member_of, bangs_of, dashes_of}
-use Rattle.cedar_text.specs.LooseExpressions.{ReadsRelOp, ReadsAddOp, ReadsMultOp, ReadsSigns, if_name, lone_expr, ReadsExpr, ReadsAnds, ReadsRelations, ReadsAdds, ReadsAdd, ReadsMults, ReadsUnaries, ReadsAccesses, ReadsPrimary, ReadsExprItems, ReadsInitItems}
-pub use Rattle.cedar_text.proofs.machines.Extents.{at}
+use Rattle.cedar_syntax.specs.declared.reading.extent.Extent.{Extent}
+use Rattle.cedar_syntax.specs.Place.{extent, placed}
+use Rattle.cedar_syntax.specs.Tokens.{Spot, one}
+use Rattle.cedar_syntax.specs.Trees.{Cell, member_of, bangs_of, dashes_of}
+use Rattle.cedar_syntax.specs.LooseExpressions.{ReadsRelOp, ReadsAddOp, ReadsMultOp, ReadsSigns, if_name, lone_expr, ReadsExpr, ReadsAnds, ReadsRelations, ReadsAdds, ReadsAdd, ReadsMults, ReadsUnaries, ReadsAccesses, ReadsPrimary, ReadsExprItems, ReadsInitItems}
+pub use Rattle.cedar_syntax.proofs.machines.Extents.{at}
 use Rattle.cedar_text.specs.machines.Closing.{ranged, Plain, onward, pending, levels_of, fresh, signs_of, no_signs, operand_with, operand_of}
-use Rattle.cedar_text.specs.machines.Door.{Machine, Comes}
+use Rattle.cedar_syntax.specs.machines.Door.{Machine, Comes}
 use Rattle.cedar_text.specs.machines.ExpressionStates.{state, edge}
 use Rattle.cedar_text.specs.machines.Wanting.{set_with, record_with}
 use Rattle.cedar_text.specs.machines.Having.{before}

@@ -24,13 +24,13 @@ use Rattle.cedar_text.specs.declared.text_to_cst.expression.state.Place.TheVaria
 use Rattle.cedar_text.specs.declared.text_to_cst.expression.state.Wanted.{Wanted}
 use Rattle.cedar_text.specs.declared.text_to_cst.expression.state.Reach.{Reach}
 use Rattle.cedar_text.specs.declared.text_to_cst.expression.state.Reach.TheVariants as reach
-use Rattle.cedar_text.specs.declared.extent.Extent.{Extent}
-use Rattle.cedar_text.specs.Place.{join, extent, placed, node_at}
-use Rattle.cedar_text.specs.Tokens.{Spot, one}
-use Rattle.cedar_text.specs.Trees.{Cell, rec_init_of}
-use Rattle.cedar_text.specs.LooseExpressions.{if_name, ReadsExpr, more_access, ReadsAccess, call, index, ReadsPrimary, paren, set, in_braces, ReadsExprs, no_expr, exprs, exprs_comma, ReadsExprItems, one_expr, more_exprs, ReadsRecInits, no_init, inits, inits_comma, ReadsInitItems, one_init, more_inits, ReadsRecInit, rec_init, if_init}
+use Rattle.cedar_syntax.specs.declared.reading.extent.Extent.{Extent}
+use Rattle.cedar_syntax.specs.Place.{join, extent, placed, node_at}
+use Rattle.cedar_syntax.specs.Tokens.{Spot, one}
+use Rattle.cedar_syntax.specs.Trees.{Cell, rec_init_of}
+use Rattle.cedar_syntax.specs.LooseExpressions.{if_name, ReadsExpr, more_access, ReadsAccess, call, index, ReadsPrimary, paren, set, in_braces, ReadsExprs, no_expr, exprs, exprs_comma, ReadsExprItems, one_expr, more_exprs, ReadsRecInits, no_init, inits, inits_comma, ReadsInitItems, one_init, more_inits, ReadsRecInit, rec_init, if_init}
 use Rattle.cedar_text.specs.machines.Closing.{ranged, whole, no_signs, operand_with, accessed}
-use Rattle.cedar_text.specs.machines.Door.{Machine}
+use Rattle.cedar_syntax.specs.machines.Door.{Machine}
 use Rattle.cedar_text.specs.machines.ExpressionStates.{opening, has_operand, has_primary, around, edge}
 use Rattle.cedar_text.specs.machines.Wanting.{record_with, items_ended, keys_ended}
 use Rattle.cedar_text.specs.machines.Having.{ended_by}

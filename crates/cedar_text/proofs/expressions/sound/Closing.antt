@@ -23,11 +23,11 @@ use Rattle.cedar_text.specs.declared.text_to_cst.expression.state.Left.{Left}
 use Rattle.cedar_text.specs.declared.text_to_cst.expression.state.Left.TheVariants as left
 use Rattle.cedar_text.specs.declared.text_to_cst.expression.state.Levels.{Levels}
 use Rattle.cedar_text.specs.declared.text_to_cst.expression.state.Operand.{Operand}
-use Rattle.cedar_text.specs.declared.extent.Extent.{Extent}
-use Rattle.cedar_text.specs.Place.{join, extent, placed}
-use Rattle.cedar_text.specs.Tokens.{Spot, one}
-use Rattle.cedar_text.specs.Trees.{Cell, if_of, unary_of}
-use Rattle.cedar_text.specs.LooseExpressions.{ReadsRelOp, ReadsAddOp, ReadsMultOp, ReadsExpr, or_expr, if_expr, ReadsOr, or, ReadsAnds, one_and, more_and, ReadsAnd, and, ReadsRelations, one_relation, more_relation, ReadsRelation, common, has, has_if, like, is, is_in, ReadsAdds, one_add, more_add, ReadsAdd, add, ReadsMults, one_mult, more_mult, ReadsMult, mult, ReadsUnaries, one_unary, more_unary, ReadsUnary, plain, banged, dashed, member}
+use Rattle.cedar_syntax.specs.declared.reading.extent.Extent.{Extent}
+use Rattle.cedar_syntax.specs.Place.{join, extent, placed}
+use Rattle.cedar_syntax.specs.Tokens.{Spot, one}
+use Rattle.cedar_syntax.specs.Trees.{Cell, if_of, unary_of}
+use Rattle.cedar_syntax.specs.LooseExpressions.{ReadsRelOp, ReadsAddOp, ReadsMultOp, ReadsExpr, or_expr, if_expr, ReadsOr, or, ReadsAnds, one_and, more_and, ReadsAnd, and, ReadsRelations, one_relation, more_relation, ReadsRelation, common, has, has_if, like, is, is_in, ReadsAdds, one_add, more_add, ReadsAdd, add, ReadsMults, one_mult, more_mult, ReadsMult, mult, ReadsUnaries, one_unary, more_unary, ReadsUnary, plain, banged, dashed, member}
 use Rattle.cedar_text.specs.machines.Closing.{ranged, Plain, Marked, linked, marked, onward, pending, unary_at, made_mult, made_add, made_common, related, made_and, made_or, made_expr, branched, add_at, whole, levels_of, fresh}
 use Rattle.cedar_text.specs.machines.Having.{before}
 use Rattle.cedar_text.proofs.expressions.Basics.{extent-append, chain_extent}

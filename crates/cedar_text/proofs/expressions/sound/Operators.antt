@@ -29,11 +29,11 @@ use Rattle.cedar_text.specs.declared.text_to_cst.expression.state.Reach.{Reach}
 use Rattle.cedar_text.specs.declared.text_to_cst.expression.state.Reach.TheVariants as reach
 use Rattle.cedar_text.specs.machines.Outcome.{Outcome}
 use Rattle.cedar_text.specs.machines.Outcome as outcome
-use Rattle.cedar_text.specs.Place.{extent, placed}
-use Rattle.cedar_text.specs.Tokens.{Spot, one}
-use Rattle.cedar_text.specs.LooseExpressions.{ReadsAddOp, ReadsMultOp, ReadsRelation, has_if, ReadsAdd, no_access, ReadsPrimary}
+use Rattle.cedar_syntax.specs.Place.{extent, placed}
+use Rattle.cedar_syntax.specs.Tokens.{Spot, one}
+use Rattle.cedar_syntax.specs.LooseExpressions.{ReadsAddOp, ReadsMultOp, ReadsRelation, has_if, ReadsAdd, no_access, ReadsPrimary}
 use Rattle.cedar_text.specs.machines.Closing.{Plain, linked, marked, onward, pending, unary_at, made_mult, related, add_at, relation_at, and_at, levels_of, fresh, no_signs, operand_with, operand_of}
-use Rattle.cedar_text.specs.machines.Door.{Machine, next, too_large}
+use Rattle.cedar_syntax.specs.machines.Door.{Machine, next, too_large}
 use Rattle.cedar_text.specs.machines.ExpressionStates.{opening, going_on, has_primary, edge}
 use Rattle.cedar_text.specs.machines.Having.{multiplied, summed, before, conjoined, disjoined, multiply_had, sum_had, and_had, or_had}
 use Rattle.cedar_text.proofs.expressions.Basics.{chain_extent}

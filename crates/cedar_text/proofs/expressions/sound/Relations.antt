@@ -27,11 +27,11 @@ use Rattle.cedar_text.specs.declared.text_to_cst.expression.state.Place.TheVaria
 use Rattle.cedar_text.specs.declared.text_to_cst.expression.state.Wanted.{Wanted}
 use Rattle.cedar_text.specs.declared.text_to_cst.expression.state.Reach.{Reach}
 use Rattle.cedar_text.specs.declared.text_to_cst.expression.state.Reach.TheVariants as reach
-use Rattle.cedar_text.specs.Place.{join, placed}
-use Rattle.cedar_text.specs.Tokens.{Spot, one}
-use Rattle.cedar_text.specs.LooseExpressions.{ReadsRelOp, within, ReadsAdds, ReadsAdd}
+use Rattle.cedar_syntax.specs.Place.{join, placed}
+use Rattle.cedar_syntax.specs.Tokens.{Spot, one}
+use Rattle.cedar_syntax.specs.LooseExpressions.{ReadsRelOp, within, ReadsAdds, ReadsAdd}
 use Rattle.cedar_text.specs.machines.Closing.{Plain, Marked, marked, pending, unary_at, made_mult, made_add, levels_of}
-use Rattle.cedar_text.specs.machines.Door.{Machine}
+use Rattle.cedar_syntax.specs.machines.Door.{Machine}
 use Rattle.cedar_text.specs.machines.ExpressionStates.{state, wants, edge}
 use Rattle.cedar_text.specs.machines.Having.{left_begun, before, is_within, side_place, compare_had, side_had}
 use Rattle.cedar_text.proofs.expressions.Basics.{extent-append, chain_extent}

@@ -19,13 +19,13 @@ use Rattle.cedar_text.specs.declared.text_to_cst.expression.state.State.{State}
 use Rattle.cedar_text.specs.declared.text_to_cst.expression.state.Wanted.{Wanted}
 use Rattle.cedar_text.specs.declared.text_to_cst.expression.state.Alone.TheVariants as alone
 use Rattle.cedar_text.specs.declared.text_to_cst.expression.state.Reach.TheVariants as reach
-use Rattle.cedar_text.specs.Place.{extent_of, placed}
-use Rattle.cedar_text.specs.Tokens.{Spot, one, any_of}
-use Rattle.cedar_text.specs.Trees.{Cell, name_of}
-use Rattle.cedar_text.specs.LooseExpressions.{no_access, field, ReadsPrimary, literally, referred, named}
-use Rattle.cedar_text.specs.LooseWords.{common as common_name, truth, falsity, any, one_word, more_words, qualified}
+use Rattle.cedar_syntax.specs.Place.{extent_of, placed}
+use Rattle.cedar_syntax.specs.Tokens.{Spot, one, any_of}
+use Rattle.cedar_syntax.specs.Trees.{Cell, name_of}
+use Rattle.cedar_syntax.specs.LooseExpressions.{no_access, field, ReadsPrimary, literally, referred, named}
+use Rattle.cedar_syntax.specs.LooseWords.{common as common_name, truth, falsity, any, one_word, more_words, qualified}
 use Rattle.cedar_text.specs.machines.Closing.{fresh, operand_of, if_operand}
-use Rattle.cedar_text.specs.machines.Door.{Machine, Answer, next, ended, refused, too_large, Comes, steps, step_from, taken, Door, AnswersRightly}
+use Rattle.cedar_syntax.specs.machines.Door.{Machine, Answer, next, ended, refused, too_large, Comes, steps, step_from, taken, Door, AnswersRightly}
 use Rattle.cedar_text.specs.machines.Named.{ReadsNamed, a_path, a_ref}
 use Rattle.cedar_text.specs.machines.ExpressionStates.{operator_of, edge}
 use Rattle.cedar_text.specs.machines.Wanting.{wanting}
@@ -35,7 +35,7 @@ use Rattle.cedar_text.proofs.expressions.sound.Begun.{at, closed, BegunBranches,
 use Rattle.cedar_text.proofs.expressions.sound.Operators.{After, moved, after_moved, leads_to, wants_leads, opens_in}
 use Rattle.cedar_text.proofs.expressions.sound.Tokens.{had_begun, wanted_begun}
 use Rattle.cedar_text.proofs.expressions.sound.Brackets.{access_ends}
-use Rattle.cedar_text.proofs.machines.Laws.{steps-append, steps-none}
+use Rattle.cedar_syntax.proofs.machines.Laws.{steps-append, steps-none}
 
 abbrev pub Names : Type 0
 Names = Machine Lexeme WordsState Named

@@ -22,14 +22,14 @@ use Rattle.cedar_text.specs.declared.text_to_cst.expression.state.Place.{Place}
 use Rattle.cedar_text.specs.declared.text_to_cst.expression.state.Wanted.{Wanted}
 use Rattle.cedar_text.specs.declared.text_to_cst.expression.state.Reach.{Reach}
 use Rattle.cedar_text.specs.declared.text_to_cst.expression.state.Reach.TheVariants as reach
-use Rattle.cedar_text.specs.declared.extent.Extent.{Extent}
-use Rattle.cedar_text.specs.Place.{join, extent}
-use Rattle.cedar_text.specs.Tokens.{Spot, one, fits, number_of}
-use Rattle.cedar_text.specs.Trees.{bangs_of, dashes_of}
-use Rattle.cedar_text.specs.LooseExpressions.{less, less_eq, greater_eq, greater, not_eq, equal, within, single_eq, plus, minus, times, divide, modulo, one_sign, more_signs, principal_slot, resource_slot, other_slot, literally, slotted}
-use Rattle.cedar_text.specs.LooseWords.{number, string}
+use Rattle.cedar_syntax.specs.declared.reading.extent.Extent.{Extent}
+use Rattle.cedar_syntax.specs.Place.{join, extent}
+use Rattle.cedar_syntax.specs.Tokens.{Spot, one, fits, number_of}
+use Rattle.cedar_syntax.specs.Trees.{bangs_of, dashes_of}
+use Rattle.cedar_syntax.specs.LooseExpressions.{less, less_eq, greater_eq, greater, not_eq, equal, within, single_eq, plus, minus, times, divide, modulo, one_sign, more_signs, principal_slot, resource_slot, other_slot, literally, slotted}
+use Rattle.cedar_syntax.specs.LooseWords.{number, string}
 use Rattle.cedar_text.specs.machines.Closing.{signs_of}
-use Rattle.cedar_text.specs.machines.Door.{Machine, Answer, next, ended, refused, too_large, Comes}
+use Rattle.cedar_syntax.specs.machines.Door.{Machine, Answer, next, ended, refused, too_large, Comes}
 use Rattle.cedar_text.specs.machines.ExpressionStates.{number_class, class_of, operator_of, edge}
 use Rattle.cedar_text.specs.machines.Wanting.{signed, after_signs, sign_read, list_ended, word_begun, wanted_as}
 use Rattle.cedar_text.specs.machines.Having.{access_begun, access_had, had}

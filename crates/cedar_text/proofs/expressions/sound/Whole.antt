@@ -25,13 +25,13 @@ use Rattle.cedar_text.specs.declared.text_to_cst.expression.state.Reach.{Reach}
 use Rattle.cedar_text.specs.declared.text_to_cst.expression.state.Reach.TheVariants as reach
 use Rattle.cedar_text.specs.machines.Outcome.{Outcome}
 use Rattle.cedar_text.specs.machines.Outcome as outcome
-use Rattle.cedar_text.specs.Place.{placed}
-use Rattle.cedar_text.specs.Tokens.{Spot, one, any_of}
-use Rattle.cedar_text.specs.Trees.{Cell, name_of}
-use Rattle.cedar_text.specs.LooseExpressions.{ReadsExpr, ReadsAdd, no_access, ReadsPrimary, literally, referred, named}
-use Rattle.cedar_text.specs.LooseWords.{common as common_name, truth, falsity, any, one_word, more_words, qualified}
+use Rattle.cedar_syntax.specs.Place.{placed}
+use Rattle.cedar_syntax.specs.Tokens.{Spot, one, any_of}
+use Rattle.cedar_syntax.specs.Trees.{Cell, name_of}
+use Rattle.cedar_syntax.specs.LooseExpressions.{ReadsExpr, ReadsAdd, no_access, ReadsPrimary, literally, referred, named}
+use Rattle.cedar_syntax.specs.LooseWords.{common as common_name, truth, falsity, any, one_word, more_words, qualified}
 use Rattle.cedar_text.specs.machines.Closing.{add_at, whole, if_operand}
-use Rattle.cedar_text.specs.machines.Door.{Machine, next, too_large, Comes, steps, taken, Door, option_image}
+use Rattle.cedar_syntax.specs.machines.Door.{Machine, next, too_large, Comes, steps, taken, Door, option_image}
 use Rattle.cedar_text.specs.machines.Named.{ReadsNamed, a_path, a_ref}
 use Rattle.cedar_text.specs.machines.ExpressionStates.{opening, alone_reach, edge}
 use Rattle.cedar_text.specs.machines.Expressions.{word_alone, step_of, if_at_end, alone_at_end, named_at_end, last_operand, expr_at_end, sum_at_end, primary_at_end, answered, expressions, sums, primaries}
@@ -40,7 +40,7 @@ use Rattle.cedar_text.proofs.expressions.sound.Closing.{sum_close}
 use Rattle.cedar_text.proofs.expressions.sound.Operators.{kept, moved, leads_to, unsigned_sum, wants_leads, opens_expr}
 use Rattle.cedar_text.proofs.expressions.sound.Brackets.{holds_whole}
 use Rattle.cedar_text.proofs.expressions.sound.Steps.{Names, true_kind, false_kind, if_kind, path_name, step_begun}
-use Rattle.cedar_text.proofs.machines.Laws.{some_is, none_some, if_some, steps-none}
+use Rattle.cedar_syntax.proofs.machines.Laws.{some_is, none_some, if_some, steps-none}
 
 -- the last operand, with all that is begun before it
 

@@ -1,6 +1,6 @@
 use Rattle.cedar_text.proofs.machines.Entries.{idents_read}
-use Rattle.cedar_text.proofs.machines.Told.{follows, found_clause, only_clause, refused_clause, places_clause}
-use Rattle.cedar_text.proofs.WordPlaces.{ident_places_lie}
+use Rattle.cedar_syntax.proofs.machines.Told.{follows, found_clause, only_clause, refused_clause, places_clause}
+use Rattle.cedar_syntax.proofs.WordPlaces.{ident_places_lie}
 use Rattle.cedar_text.proofs.text_to_cst.parse_ident.Goals as goal
 
 pub returns-clause-found : goal.returns-clause-found

@@ -1,8 +1,8 @@
-use Rattle.cedar_text.specs.MendedFaults.{PoliciesBefore}
+use Rattle.cedar_syntax.specs.MendedFaults.{PoliciesBefore}
 use Rattle.cedar_text.proofs.machines.MendedClauses.{found_clause, only_clause, refused_clause, leftmost_clause}
 use Rattle.cedar_text.proofs.machines.PolicyParts.{policies_mend}
-use Rattle.cedar_text.proofs.machines.Told.{places_clause}
-use Rattle.cedar_text.proofs.PolicyPlaces.{policies_places_lie}
+use Rattle.cedar_syntax.proofs.machines.Told.{places_clause}
+use Rattle.cedar_syntax.proofs.PolicyPlaces.{policies_places_lie}
 use Rattle.cedar_text.proofs.text_to_cst.parse_policies.Goals as goal
 
 pub returns-clause-found : goal.returns-clause-found

@@ -1,8 +1,8 @@
-use Rattle.cedar_text.specs.MendedFaults.{NothingBefore}
+use Rattle.cedar_syntax.specs.MendedFaults.{NothingBefore}
 use Rattle.cedar_text.proofs.machines.MendedClauses.{found_clause, only_clause, refused_clause, leftmost_clause}
 use Rattle.cedar_text.proofs.machines.PolicyParts.{policy_mends}
-use Rattle.cedar_text.proofs.machines.Told.{places_clause}
-use Rattle.cedar_text.proofs.PolicyPlaces.{policy_places_lie}
+use Rattle.cedar_syntax.proofs.machines.Told.{places_clause}
+use Rattle.cedar_syntax.proofs.PolicyPlaces.{policy_places_lie}
 use Rattle.cedar_text.proofs.text_to_cst.parse_policy.Goals as goal
 
 pub returns-clause-found : goal.returns-clause-found

@@ -1,6 +1,6 @@
 use Rattle.cedar_text.proofs.machines.WholeExpressions.{primaries_read}
-use Rattle.cedar_text.proofs.machines.Told.{follows, found_clause, only_clause, refused_clause, places_clause}
-use Rattle.cedar_text.proofs.ExpressionPlaces.{primary_places_lie}
+use Rattle.cedar_syntax.proofs.machines.Told.{follows, found_clause, only_clause, refused_clause, places_clause}
+use Rattle.cedar_syntax.proofs.ExpressionPlaces.{primary_places_lie}
 use Rattle.cedar_text.proofs.text_to_cst.parse_primary.Goals as goal
 
 pub returns-clause-found : goal.returns-clause-found

@@ -1,7 +1,7 @@
 //! What may come next, by the shape of the state alone: nothing is built.
 ghost use Rattle.std.specs.Prelude.{◌≡◌, [], ◌∷◌, List, Bool, None};
 ghost use Rattle.cedar_text.specs.declared.text_to_cst.expression.state.Place.TheVariants as place;
-ghost use Rattle.cedar_text.specs.machines.Door.{Answer, is_some, is_taken};
+ghost use Rattle.cedar_syntax.specs.machines.Door.{Answer, is_some, is_taken};
 ghost use Rattle.cedar_text.specs.machines.ExpressionStates.{operator_of};
 ghost use Rattle.cedar_text.specs.machines.NamedShapes.{named_shapes};
 ghost use Rattle.cedar_text.specs.machines.WordShapes.{WordsShape, WordsKind, words_shape};

@@ -1,8 +1,8 @@
 //! Accesses behind an operand: a field, a call, an index.
 ghost use Rattle.std.specs.Prelude.{◌≡◌, Some, IfOk};
 ghost use Rattle.cedar_lexer.specs.Token.{lexeme_of};
-ghost use Rattle.cedar_text.specs.Place.{extent_of};
-ghost use Rattle.cedar_text.specs.Tokens.{any_of};
+ghost use Rattle.cedar_syntax.specs.Place.{extent_of};
+ghost use Rattle.cedar_syntax.specs.Tokens.{any_of};
 ghost use Rattle.cedar_text.specs.declared.text_to_cst.expression.class.Access.TheVariants as opens;
 ghost use Rattle.cedar_text.specs.declared.text_to_cst.expression.class.Closing.TheVariants as closing;
 ghost use Rattle.cedar_text.specs.machines.Outcome as outcome;
@@ -11,8 +11,6 @@ ghost use Rattle.cedar_text.specs.machines.Wanting.{call_closed};
 ghost use Rattle.cedar_text.specs.machines.Having.{call_more, call_ended, index_ended, access_begun, access_had, field_read};
 ghost use Rattle.cedar_text.specs.machines.Stepped.{outcome_of};
 
-use crate::extent::{Extent, joined};
-use crate::place::token_extent;
 use crate::stack::Stack;
 use crate::text_to_cst::expression::begin::fresh_levels;
 use crate::text_to_cst::expression::class::{Access, Closing};
@@ -26,6 +24,8 @@ use crate::text_to_cst::words::as_ident;
 use cedar_expressions::Items;
 use cedar_lexer::token::Token;
 use cedar_syntax::cst::{Expr, Ident, MemAccess};
+use cedar_syntax::reading::extent::{Extent, joined};
+use cedar_syntax::reading::place::token_extent;
 use std::alloc::{AllocError, Global};
 use std::mem;
 

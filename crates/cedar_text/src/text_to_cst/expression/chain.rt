@@ -2,11 +2,11 @@
 ghost use Rattle.std.specs.Prelude.{◌≡◌, Some, None, IfOk, OnOk};
 ghost use Rattle.cedar_text.specs.machines.Closing.{begun_chain, longer, onward, pending, linked, marked};
 
-use crate::extent::{Extent, joined};
 use crate::text_to_cst::expression::state::{Chain, Mark, Pending, Ranged};
 use crate::text_to_cst::ground::Ground;
 use cedar_expressions::{Boxed, Items};
 use cedar_syntax::node::Node;
+use cedar_syntax::reading::extent::{Extent, joined};
 use std::alloc::{AllocError, Global};
 
 impl<T: Drop, I: Drop> Chain<T, I> {

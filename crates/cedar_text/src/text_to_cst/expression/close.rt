@@ -1,12 +1,11 @@
 //! Closes what is begun: a level is taken out of its slot, and becomes a tree with its last operand.
 ghost use Rattle.std.specs.Prelude.{◌≡◌, [], None, Some, IfOk, OnOk};
 ghost use Rattle.cedar_text.specs.machines.Closing.{unary_at, mult_at, add_at, relation_at, and_at, or_at, related, made_expr, branched, whole, levels_of};
-ghost use Rattle.cedar_text.specs.Trees.{if_of};
-ghost use Rattle.cedar_text.specs.Place.{join};
+ghost use Rattle.cedar_syntax.specs.Trees.{if_of};
+ghost use Rattle.cedar_syntax.specs.Place.{join};
 ghost use Rattle.cedar_text.specs.machines.Closing.{ranged, node_of, made_common};
 ghost use Rattle.cedar_text.specs.declared.text_to_cst.expression.state.Left.TheVariants as left;
 
-use crate::extent::joined;
 use crate::stack::Stack;
 use crate::text_to_cst::expression::chain::{close_pending, close_plain};
 use crate::text_to_cst::expression::state::{
@@ -18,6 +17,7 @@ use cedar_syntax::cst::{
     Add, And, Expr, ExprData, ExprImpl, Member, Mult, Or, RelOp, Relation, Unary,
 };
 use cedar_syntax::node::Node;
+use cedar_syntax::reading::extent::joined;
 use std::alloc::AllocError;
 
 /// The operand with its signs and accesses.

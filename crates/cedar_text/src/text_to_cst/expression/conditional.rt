@@ -4,13 +4,13 @@ ghost use Rattle.cedar_text.specs.declared.text_to_cst.expression.class.Closing.
 ghost use Rattle.cedar_text.specs.machines.Having.{guard_ended, branch_of, yes_ended};
 ghost use Rattle.cedar_text.specs.machines.Stepped.{outcome_of};
 
-use crate::extent::{Extent, joined};
 use crate::text_to_cst::expression::class::Closing;
 use crate::text_to_cst::expression::state::{
     Branch, Frame, Guard, Mark, Place, Ranged, State, Taken, Yes,
 };
 use crate::text_to_cst::ground::Ground;
 use cedar_syntax::cst::Expr;
+use cedar_syntax::reading::extent::{Extent, joined};
 use std::alloc::AllocError;
 
 impl State {

@@ -3,13 +3,13 @@ ghost use Rattle.std.specs.Prelude.{◌≡◌};
 ghost use Rattle.cedar_text.specs.declared.text_to_cst.expression.state.State.{State};
 ghost use Rattle.cedar_text.specs.contracts.text_to_cst.expression.state.State as states;
 
-use crate::text_to_cst::driver::Entry;
 use crate::text_to_cst::expression::state::{State, Wanted};
 use crate::text_to_cst::ground::Ground;
 use cedar_expressions::Source;
 use cedar_lexer::token::{Token, TokenKind};
 use cedar_syntax::cst::{Expr, Primary};
 use cedar_syntax::node::Node;
+use cedar_syntax::reading::driver::Entry;
 use std::alloc::{AllocError, Global};
 use std::marker::Model;
 

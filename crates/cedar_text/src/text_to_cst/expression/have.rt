@@ -7,7 +7,6 @@ ghost use Rattle.cedar_text.specs.machines.ExpressionStates.{alone_reach, edge, 
 ghost use Rattle.cedar_text.specs.machines.Having.{ended_by, had, having};
 ghost use Rattle.cedar_text.specs.machines.Stepped.{outcome_of};
 
-use crate::place::token_extent;
 use crate::text_to_cst::expression::class::{Closing, Operator, as_operator};
 use crate::text_to_cst::expression::state::{
     Frame, Mark, Operand, Ranged, Reach, State, Taken, Wanted,
@@ -15,6 +14,7 @@ use crate::text_to_cst::expression::state::{
 use crate::text_to_cst::ground::Ground;
 use cedar_lexer::token::Token;
 use cedar_syntax::cst::Expr;
+use cedar_syntax::reading::place::token_extent;
 use std::alloc::AllocError;
 
 /// How far an operand of the whole goes on.

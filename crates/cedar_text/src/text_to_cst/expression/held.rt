@@ -1,11 +1,11 @@
 //! Expressions and sums that a policy holds: what one token makes of them, and what is foreseen.
 ghost use Rattle.std.specs.Prelude.{◌≡◌, Some, None, IsTrue, IfOk};
 ghost use Rattle.cedar_lexer.specs.Token.{lexeme_of};
-ghost use Rattle.cedar_text.specs.Written.{IsWritten};
+ghost use Rattle.cedar_syntax.specs.Written.{IsWritten};
 ghost use Rattle.cedar_text.specs.declared.text_to_cst.expression.state.State.{State};
 ghost use Rattle.cedar_text.specs.contracts.text_to_cst.expression.state.State as states;
 ghost use Rattle.cedar_text.specs.machines.ExpressionShapes.{shape_of};
-ghost use Rattle.cedar_text.specs.machines.Judged.{answer_of, taken_as};
+ghost use Rattle.cedar_syntax.specs.machines.Judged.{answer_of, taken_as};
 ghost use Rattle.cedar_text.specs.machines.NamedShapes.{named_shapes};
 ghost use Rattle.cedar_text.specs.machines.Outlooks.{foreseen, outcome, outlook_of};
 ghost use Rattle.cedar_text.specs.machines.Whole.{shapes_by};
@@ -19,11 +19,11 @@ use crate::text_to_cst::expression::state::{State, Wanted};
 use crate::text_to_cst::ground::Ground;
 use crate::text_to_cst::outlook::{Foresees, Outlook};
 use crate::text_to_cst::reader::Reader;
-use crate::text_to_cst::state::Taken;
 use cedar_expressions::Source;
 use cedar_lexer::token::{Token, TokenKind};
 use cedar_syntax::cst::{Add, Expr};
 use cedar_syntax::node::Node;
+use cedar_syntax::reading::taken::Taken;
 use std::alloc::{AllocError, Global};
 use std::marker::Model;
 use std::mem;

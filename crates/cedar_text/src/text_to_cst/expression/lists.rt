@@ -3,10 +3,10 @@ ghost use Rattle.std.specs.Prelude.{◌≡◌, IfOk};
 ghost use Rattle.cedar_text.specs.machines.Wanting.{set_ends, call_ends, record_ends, items_ended, keys_ended, list_ended};
 ghost use Rattle.cedar_text.specs.machines.Stepped.{outcome_of};
 
-use crate::extent::Extent;
 use crate::text_to_cst::expression::class::Closing;
 use crate::text_to_cst::expression::state::{Frame, Mark, Place, State, Taken};
 use crate::text_to_cst::ground::Ground;
+use cedar_syntax::reading::extent::Extent;
 use std::alloc::AllocError;
 
 impl State {

@@ -1,16 +1,16 @@
 //! Numbers, strings and slots as operands.
 ghost use Rattle.std.specs.Prelude.{◌≡◌, IfOk};
 ghost use Rattle.cedar_lexer.specs.declared.token.TokenKind.TheVariants as kind;
-ghost use Rattle.cedar_text.specs.Written.{Written};
+ghost use Rattle.cedar_syntax.specs.Written.{Written};
 ghost use Rattle.cedar_text.specs.machines.Wanting.{literal_at, string_at, slot_of, slot_at};
 
-use crate::extent::Extent;
 use crate::text_to_cst::expression::class::SlotToken;
 use crate::text_to_cst::expression::state::Ranged;
 use crate::text_to_cst::ground::Ground;
 use crate::text_to_cst::literal::between_quotes;
 use cedar_expressions::Text;
 use cedar_syntax::cst::{Literal, Primary, Slot, Str};
+use cedar_syntax::reading::extent::Extent;
 use std::alloc::{AllocError, Global};
 
 /// A literal as an operand.

@@ -6,7 +6,6 @@ ghost use Rattle.cedar_text.specs.machines.Closing.{marked, linked, unary_at, mu
 ghost use Rattle.cedar_text.specs.machines.Having.{multiplied, summed, conjoined, disjoined, multiply_had, sum_had, and_had, or_had};
 ghost use Rattle.cedar_text.specs.machines.Stepped.{outcome_of};
 
-use crate::extent::Extent;
 use crate::text_to_cst::expression::begin::want_at;
 use crate::text_to_cst::expression::chain::{push_pending, push_plain};
 use crate::text_to_cst::expression::close::close_unary;
@@ -14,6 +13,7 @@ use crate::text_to_cst::expression::state::{Mark, Operand, Place, Reach, State, 
 use crate::text_to_cst::ground::Ground;
 use crate::text_to_cst::reader::put;
 use cedar_syntax::cst::{AddOp, MultOp};
+use cedar_syntax::reading::extent::Extent;
 use std::alloc::AllocError;
 
 impl State {

@@ -8,7 +8,6 @@ ghost use Rattle.cedar_text.specs.machines.Wanting.{paren_opened};
 ghost use Rattle.cedar_text.specs.machines.Having.{paren_ended};
 ghost use Rattle.cedar_text.specs.machines.Stepped.{outcome_of};
 
-use crate::extent::{Extent, joined};
 use crate::stack::Stack;
 use crate::text_to_cst::expression::begin::fresh_levels;
 use crate::text_to_cst::expression::class::Closing;
@@ -18,6 +17,7 @@ use crate::text_to_cst::expression::state::{
 use crate::text_to_cst::ground::Ground;
 use crate::text_to_cst::reader::put;
 use cedar_syntax::cst::{Expr, Primary};
+use cedar_syntax::reading::extent::{Extent, joined};
 use std::alloc::{AllocError, Global};
 use std::mem;
 

@@ -6,7 +6,6 @@ ghost use Rattle.cedar_text.specs.machines.Wanting.{record_opened, record_closed
 ghost use Rattle.cedar_text.specs.machines.Having.{value_begun, key_ended, record_more, value_ended};
 ghost use Rattle.cedar_text.specs.machines.Stepped.{outcome_of};
 
-use crate::extent::{Extent, joined};
 use crate::stack::Stack;
 use crate::text_to_cst::expression::begin::fresh_levels;
 use crate::text_to_cst::expression::class::Closing;
@@ -19,6 +18,7 @@ use crate::text_to_cst::reader::put;
 use cedar_expressions::Items;
 use cedar_syntax::cst::{Expr, Primary, RecInit};
 use cedar_syntax::node::Node;
+use cedar_syntax::reading::extent::{Extent, joined};
 use std::alloc::{AllocError, Global};
 use std::mem;
 

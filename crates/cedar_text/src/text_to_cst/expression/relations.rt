@@ -7,7 +7,6 @@ ghost use Rattle.cedar_text.specs.machines.Closing.{add_at};
 ghost use Rattle.cedar_text.specs.machines.Having.{left_begun, before, is_within, compared, side_of, side_place, sided, compare_had, side_had};
 ghost use Rattle.cedar_text.specs.machines.Stepped.{outcome_of};
 
-use crate::extent::{Extent, joined};
 use crate::text_to_cst::expression::begin::want_at;
 use crate::text_to_cst::expression::chain::begin_pending;
 use crate::text_to_cst::expression::class::Side;
@@ -19,6 +18,7 @@ use crate::text_to_cst::reader::put;
 use cedar_expressions::Boxed;
 use cedar_syntax::cst::{Add, RelOp};
 use cedar_syntax::node::Node;
+use cedar_syntax::reading::extent::{Extent, joined};
 use std::alloc::{AllocError, Global};
 
 /// A left side and the word behind it.

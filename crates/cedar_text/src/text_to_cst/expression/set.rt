@@ -6,7 +6,6 @@ ghost use Rattle.cedar_text.specs.machines.Wanting.{set_opened, set_closed};
 ghost use Rattle.cedar_text.specs.machines.Having.{set_more, set_ended};
 ghost use Rattle.cedar_text.specs.machines.Stepped.{outcome_of};
 
-use crate::extent::Extent;
 use crate::stack::Stack;
 use crate::text_to_cst::expression::begin::fresh_levels;
 use crate::text_to_cst::expression::class::Closing;
@@ -16,6 +15,7 @@ use crate::text_to_cst::ground::Ground;
 use crate::text_to_cst::reader::put;
 use cedar_expressions::Items;
 use cedar_syntax::cst::{Expr, Primary};
+use cedar_syntax::reading::extent::Extent;
 use std::alloc::{AllocError, Global};
 use std::mem;
 

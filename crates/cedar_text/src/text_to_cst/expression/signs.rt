@@ -3,11 +3,11 @@ ghost use Rattle.std.specs.Prelude.{◌≡◌};
 ghost use Rattle.cedar_text.specs.machines.Wanting.{signed, after_signs, sign_read};
 ghost use Rattle.cedar_text.specs.machines.Stepped.{outcome_of};
 
-use crate::extent::{Extent, joined};
 use crate::text_to_cst::expression::class::{Sign, signed};
 use crate::text_to_cst::expression::state::{Gap, Mode, Place, Signs, State, Taken};
 use crate::text_to_cst::reader::put;
 use cedar_syntax::cst::NegOp;
+use cedar_syntax::reading::extent::{Extent, joined};
 
 impl State {
     /// Behind signs that begin here.

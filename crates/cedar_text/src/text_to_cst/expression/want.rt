@@ -3,25 +3,25 @@ ghost use Rattle.std.specs.Prelude.{◌≡◌, Some, IfOk};
 ghost use Rattle.cedar_lexer.specs.Token.{lexeme_of};
 ghost use Rattle.cedar_syntax.specs.declared.cst.Literal.TheVariants as literal;
 ghost use Rattle.cedar_text.specs.machines.Begins.{IsBeginningOf};
-ghost use Rattle.cedar_text.specs.Place.{extent_of};
+ghost use Rattle.cedar_syntax.specs.Place.{extent_of};
 ghost use Rattle.cedar_lexer.specs.declared.token.TokenKind.TheVariants as kind;
-ghost use Rattle.cedar_text.specs.Written.{IsWritten, Written};
+ghost use Rattle.cedar_syntax.specs.Written.{IsWritten, Written};
 ghost use Rattle.cedar_text.specs.machines.Outcome as outcome;
 ghost use Rattle.cedar_text.specs.machines.ExpressionStates.{has_primary};
 ghost use Rattle.cedar_text.specs.machines.Wanting.{literal_at, string_at, slot_at, slot_of, word_begun, wanted_as, wanting};
 ghost use Rattle.cedar_text.specs.machines.Named.{named_words};
 ghost use Rattle.cedar_text.specs.machines.Stepped.{outcome_of};
 
-use crate::place::token_extent;
 use crate::text_to_cst::expression::class::{Beginning, SlotToken, as_beginning};
 use crate::text_to_cst::expression::literal::{literal_at, slot_at, string_at};
 use crate::text_to_cst::expression::state::{Gap, Mark, Mode, Signs, State, Taken};
 use crate::text_to_cst::expression::words;
 use crate::text_to_cst::ground::Ground;
 use crate::text_to_cst::reader::put;
-use crate::text_to_cst::state::Taken as Given;
 use cedar_lexer::token::Token;
 use cedar_syntax::cst::Literal;
+use cedar_syntax::reading::place::token_extent;
+use cedar_syntax::reading::taken::Taken as Given;
 use std::alloc::AllocError;
 
 impl State {

@@ -1,10 +1,10 @@
 //! What reads a whole text asks of a state, whatever the text is wanted as.
 ghost use Rattle.std.specs.Prelude.{◌≡◌, [], Some, None, IsTrue, IfOk};
 ghost use Rattle.cedar_lexer.specs.Token.{lexeme_of};
-ghost use Rattle.cedar_text.specs.Written.{IsWritten};
+ghost use Rattle.cedar_syntax.specs.Written.{IsWritten};
 ghost use Rattle.cedar_text.specs.declared.text_to_cst.expression.state.Wanted.TheVariants as form;
 ghost use Rattle.cedar_text.specs.machines.Closing.{node_of};
-ghost use Rattle.cedar_text.specs.machines.Door.{allows, option_image};
+ghost use Rattle.cedar_syntax.specs.machines.Door.{allows, option_image};
 ghost use Rattle.cedar_text.specs.machines.ExpressionStates.{opening};
 ghost use Rattle.cedar_text.specs.machines.Expressions.{step_of, expr_at_end, sum_at_end, primary_at_end};
 ghost use Rattle.cedar_text.specs.machines.Named.{named_words};

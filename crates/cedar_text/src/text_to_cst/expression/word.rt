@@ -3,8 +3,8 @@ ghost use Rattle.std.specs.Prelude.{◌≡◌, [], Some, None, IfOk};
 ghost use Rattle.cedar_lexer.specs.Token.{lexeme_of};
 ghost use Rattle.cedar_syntax.specs.declared.cst.Literal.TheVariants as literal;
 ghost use Rattle.cedar_syntax.specs.declared.cst.Primary.TheVariants as primary;
-ghost use Rattle.cedar_text.specs.Place.{extent_of};
-ghost use Rattle.cedar_text.specs.Written.{IsWritten};
+ghost use Rattle.cedar_syntax.specs.Place.{extent_of};
+ghost use Rattle.cedar_syntax.specs.Written.{IsWritten};
 ghost use Rattle.cedar_text.specs.declared.text_to_cst.expression.class.Operator.TheVariants as operator;
 ghost use Rattle.cedar_text.specs.machines.Closing.{ranged, node_of, no_signs, operand_of, if_primary, if_operand, if_key};
 ghost use Rattle.cedar_text.specs.machines.Wanting.{literal_at};
@@ -13,8 +13,6 @@ ghost use Rattle.cedar_text.specs.machines.Expressions.{name_at, word_alone, alo
 ghost use Rattle.cedar_text.specs.machines.Named.{named_of, named_words};
 ghost use Rattle.cedar_text.specs.machines.Stepped.{outcome_of};
 
-use crate::extent::Extent;
-use crate::place::token_extent;
 use crate::stack::Stack;
 use crate::text_to_cst::expression::begin::{fresh_levels, no_signs, operand_of};
 use crate::text_to_cst::expression::class::{Closing, Operator, as_operator};
@@ -25,11 +23,14 @@ use crate::text_to_cst::expression::state::{
 use crate::text_to_cst::expression::words::{self, alone_of, path_name};
 use crate::text_to_cst::ground::Ground;
 use crate::text_to_cst::reader::put;
-use crate::text_to_cst::state::{Entity, Taken as Given, Words, WordsState};
+use crate::text_to_cst::state::{Entity, Words, WordsState};
 use cedar_expressions::Items;
 use cedar_lexer::token::Token;
 use cedar_syntax::cst::{Expr, Ident, Literal, Name, Primary};
 use cedar_syntax::node::Node;
+use cedar_syntax::reading::extent::Extent;
+use cedar_syntax::reading::place::token_extent;
+use cedar_syntax::reading::taken::Taken as Given;
 use std::alloc::{AllocError, Global};
 use std::mem;
 

@@ -1,10 +1,10 @@
 //! What expressions ask of the machine of words that they hold.
 ghost use Rattle.std.specs.Prelude.{◌≡◌, ℕ, List, [], Some, IfOk};
 ghost use Rattle.cedar_lexer.specs.Token.{lexeme_of};
-ghost use Rattle.cedar_text.specs.Trees.{name_of};
-ghost use Rattle.cedar_text.specs.Written.{IsWritten};
+ghost use Rattle.cedar_syntax.specs.Trees.{name_of};
+ghost use Rattle.cedar_syntax.specs.Written.{IsWritten};
 ghost use Rattle.cedar_text.specs.machines.Closing.{ranged};
-ghost use Rattle.cedar_text.specs.machines.Door.{is_taken};
+ghost use Rattle.cedar_syntax.specs.machines.Door.{is_taken};
 ghost use Rattle.cedar_text.specs.machines.Expressions.{alone_of, word_alone};
 ghost use Rattle.cedar_text.specs.machines.Named.{named_words};
 ghost use Rattle.cedar_text.specs.machines.NamedShapes.{is_condition, named_shapes};
@@ -12,13 +12,14 @@ ghost use Rattle.cedar_text.specs.machines.Words.{word_node, path_extent, words_
 ghost use Rattle.cedar_text.specs.machines.WordShapes.{path_kind, words_shape};
 ghost use Rattle.cedar_text.specs.machines.WordsAhead.{goes_from, goes_of, ends_of, given_named};
 
-use crate::extent::Extent;
 use crate::text_to_cst::expression::state::{Alone, Ranged};
 use crate::text_to_cst::ground::Ground;
-use crate::text_to_cst::state::{Path, PathState, Taken, Words, WordsState};
+use crate::text_to_cst::state::{Path, PathState, Words, WordsState};
 use crate::text_to_cst::words::{is_any, word_node};
 use cedar_lexer::token::{Token, TokenKind};
 use cedar_syntax::cst::{Ident, Name};
+use cedar_syntax::reading::extent::Extent;
+use cedar_syntax::reading::taken::Taken;
 use std::alloc::AllocError;
 
 /// How words go on with a kind of token.

@@ -1,6 +1,6 @@
 use Rattle.std.proofs.Common.{ap, ◌∙◌}
 use Rattle.std.specs.Prelude.{reverse}
-use Rattle.cedar_text.proofs.Newest.{top_got}
+use Rattle.cedar_syntax.proofs.Newest.{top_got}
 use Rattle.cedar_text.proofs.stack.Stack.top.Goals as goal
 
 pub returns : goal.returns

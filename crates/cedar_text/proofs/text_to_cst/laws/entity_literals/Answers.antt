@@ -1,5 +1,5 @@
 use Rattle.cedar_text.proofs.machines.Entries.{refs_read}
-use Rattle.cedar_text.proofs.machines.Told.{follows, one_tree, tree_or_fault, one_fault, not_both_of}
+use Rattle.cedar_syntax.proofs.machines.Told.{follows, one_tree, tree_or_fault, one_fault, not_both_of}
 use Rattle.cedar_text.proofs.text_to_cst.laws.entity_literals.Goals as goal
 
 pub returns-clause-one_tree : goal.returns-clause-one_tree

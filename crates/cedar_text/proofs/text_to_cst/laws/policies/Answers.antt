@@ -1,7 +1,7 @@
-use Rattle.cedar_text.specs.MendedFaults.{PoliciesBefore}
+use Rattle.cedar_syntax.specs.MendedFaults.{PoliciesBefore}
 use Rattle.cedar_text.proofs.machines.MendedClauses.{has_list, one_fault_list}
 use Rattle.cedar_text.proofs.machines.PolicyParts.{all_policies_read, policies_mend}
-use Rattle.cedar_text.proofs.machines.Told.{follows, one_tree, tree_or_fault, one_fault, not_both_of}
+use Rattle.cedar_syntax.proofs.machines.Told.{follows, one_tree, tree_or_fault, one_fault, not_both_of}
 use Rattle.cedar_text.proofs.text_to_cst.laws.policies.Goals as goal
 
 pub returns-clause-one_tree : goal.returns-clause-one_tree

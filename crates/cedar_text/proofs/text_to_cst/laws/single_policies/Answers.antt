@@ -1,7 +1,7 @@
-use Rattle.cedar_text.specs.MendedFaults.{NothingBefore}
+use Rattle.cedar_syntax.specs.MendedFaults.{NothingBefore}
 use Rattle.cedar_text.proofs.machines.MendedClauses.{has_list, one_fault_list}
 use Rattle.cedar_text.proofs.machines.PolicyParts.{one_policy_read, policy_mends}
-use Rattle.cedar_text.proofs.machines.Told.{follows, one_tree, tree_or_fault, one_fault, not_both_of}
+use Rattle.cedar_syntax.proofs.machines.Told.{follows, one_tree, tree_or_fault, one_fault, not_both_of}
 use Rattle.cedar_text.proofs.text_to_cst.laws.single_policies.Goals as goal
 
 pub returns-clause-one_tree : goal.returns-clause-one_tree

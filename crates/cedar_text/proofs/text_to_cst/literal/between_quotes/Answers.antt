@@ -1,4 +1,4 @@
-use Rattle.cedar_text.proofs.Quotes.{ends_so, inside_is}
+use Rattle.cedar_syntax.proofs.Quotes.{ends_so, inside_is}
 use Rattle.cedar_text.proofs.text_to_cst.literal.between_quotes.Goals as goal
 
 pub before_quote-requires : goal.before_quote-requires

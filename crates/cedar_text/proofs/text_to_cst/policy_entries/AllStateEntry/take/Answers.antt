@@ -1,6 +1,6 @@
 use Rattle.std.proofs.Common.{◌∙◌}
 use Rattle.cedar_lexer.specs.Token.{lexeme_of}
-use Rattle.cedar_text.specs.machines.Mapping.{policies_node}
+use Rattle.cedar_syntax.specs.machines.Mapping.{policies_node}
 use Rattle.cedar_text.specs.machines.Placing.{placing}
 use Rattle.cedar_text.specs.machines.Policies.{policies_machine}
 use Rattle.cedar_text.specs.machines.PolicyParts.{policy_parts}

@@ -1,7 +1,7 @@
 use Rattle.std.proofs.Common.{◌≡◌, IfOk, subst}
 use Rattle.cedar_lexer.specs.Token.{lexeme_of}
 use Rattle.cedar_syntax.specs.declared.cst.Literal.TheVariants as literal
-use Rattle.cedar_text.specs.machines.Judged.{answer_of}
+use Rattle.cedar_syntax.specs.machines.Judged.{answer_of}
 use Rattle.cedar_text.specs.machines.Words.{string_literal, with_value}
 use Rattle.cedar_text.proofs.text_to_cst.state.WordsState.put_string.Goals as goal
 

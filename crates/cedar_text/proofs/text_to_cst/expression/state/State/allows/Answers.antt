@@ -1,5 +1,5 @@
 use Rattle.std.proofs.Common.{ap, sym, ◌∙◌}
-use Rattle.cedar_text.specs.machines.Door.{allows}
+use Rattle.cedar_syntax.specs.machines.Door.{allows}
 use Rattle.cedar_text.specs.machines.NamedShapes.{named_shapes}
 use Rattle.cedar_text.specs.machines.WordShapes.{words_shape}
 use Rattle.cedar_text.specs.machines.ExpressionShapes.{left_shape, mode_shape, stack_shape, shape_of, step_shape, ends}

@@ -1,5 +1,5 @@
 use Rattle.std.proofs.Common.{ap, sym, ◌∙◌}
-use Rattle.cedar_text.specs.machines.Door.{is_some}
+use Rattle.cedar_syntax.specs.machines.Door.{is_some}
 use Rattle.cedar_text.specs.machines.WordShapes.{WordsShape}
 use Rattle.cedar_text.specs.machines.ExpressionShapes.{list_end, stack_shape}
 use Rattle.cedar_text.proofs.text_to_cst.expression.state.State.may_end_list.Goals as goal

@@ -1,6 +1,6 @@
 use Rattle.std.proofs.Common.{sym, ◌∙◌}
 use Rattle.cedar_lexer.specs.Token.{lexeme_of}
-use Rattle.cedar_text.specs.machines.Judged.{answer_of}
+use Rattle.cedar_syntax.specs.machines.Judged.{answer_of}
 use Rattle.cedar_text.specs.machines.WholeExpressions.{whole_sums}
 use Rattle.cedar_text.specs.machines.Words.{ended_with}
 use Rattle.cedar_text.proofs.HeldParts.{ok_so, refused_if}

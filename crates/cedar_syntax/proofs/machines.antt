@@ -1,0 +1,9 @@
+pub mod Driving
+pub mod Expected
+pub mod Extents
+pub mod Holding
+pub mod Laws
+pub mod Marked
+pub mod Mending
+pub mod Skipping
+pub mod Told

@@ -1,0 +1,113 @@
+-- Machines that read tokens, and what one shows of itself to all that stands above it. `K` is what
+-- it takes for a token: the machine itself reads tokens, and its shapes read kinds.
+use Rattle.std.specs.Prelude.{◌≡◌, Bool, true, false, List, [], ◌∷◌, Option, Some, None}
+use Rattle.cedar_lexer.specs.Token.{Lexeme}
+use Rattle.cedar_lexer.specs.declared.token.TokenKind.{TokenKind}
+use Rattle.cedar_lexer.specs.declared.token.TokenKind.TheVariants as kind
+use Rattle.cedar_syntax.specs.Tokens.{fits}
+
+-- what a machine answers to a token
+pub data Answer (S T : Type 0) : Type 0 where
+  -- it is taken
+  next : S → Answer S T
+  -- the tree ended before it: it is not the machine's own
+  ended : T → Answer S T
+  -- no sentence has it here
+  refused : Answer S T
+  -- a number that doesn't fit, where a number may stand
+  too_large : Answer S T
+
+pub record Machine (K S T : Type 0) : Type 0 where
+  pub start : S
+  pub step : S → K → Answer S T
+  -- the tree, where it can end
+  pub finish : S → Option T
+
+abbrev pub taken : {S T : Type 0} → Answer S T → Option S
+taken (next s) = Some s
+taken (ended x) = None
+taken refused = None
+taken too_large = None
+
+abbrev pub step_from : {K S T : Type 0} → Machine K S T → Option S → K → Option S
+step_from m None k = None
+step_from m (Some s) k = taken (m.step s k)
+
+abbrev pub steps : {K S T : Type 0} → Machine K S T → Option S → List K → Option S
+steps m s [] = s
+steps m s (k ∷ ts) = steps m (step_from m s k) ts
+
+-- it comes to this state by these tokens
+abbrev pub Comes : {K S T : Type 0} → Machine K S T → List K → S → Type 0
+Comes m ts s = steps m (Some m.start) ts ≡ Some s
+
+-- and to this tree
+pub record RunsTo {K S T : Type 0} (m : Machine K S T) (ts : List K) (x : T) : Type 0 where
+  pub last : S
+  pub goes : Comes m ts last
+  pub ends : m.finish last ≡ Some x
+
+-- from this state some more tokens come to a tree
+pub record Completed {K S T : Type 0} (m : Machine K S T) (s : S) : Type 0 where
+  pub more : List K
+  pub last : S
+  pub tree : T
+  pub goes : steps m (Some s) more ≡ Some last
+  pub ends : m.finish last ≡ Some tree
+
+abbrev pub is_taken : {S T : Type 0} → Answer S T → Bool
+is_taken (next s) = true
+is_taken (ended x) = false
+is_taken refused = false
+is_taken too_large = false
+
+abbrev pub is_some : {T : Type 0} → Option T → Bool
+is_some (Some x) = true
+is_some None = false
+
+-- what a machine answers to a token, beside the tree that it could end with
+abbrev pub AnswersRightly : {S T : Type 0} → Lexeme → Answer S T → Option T → Type 0
+AnswersRightly t (next s) o = (t.kind ≡ kind.Number) → fits t.text ≡ true
+-- a token that is not taken has ended the tree just where there is one
+AnswersRightly t (ended x) o = o ≡ Some x
+AnswersRightly t refused o = o ≡ None
+AnswersRightly t too_large o = (t.kind ≡ kind.Number) × (fits t.text ≡ false)
+
+-- the door: all that a machine above may use
+pub record Door {S T : Type 0} (m : Machine Lexeme S T)
+    (R : List Lexeme → T → Type 0) : Type 0 where
+  pub complete : (ts : List Lexeme) (x : T) → R ts x → RunsTo m ts x
+  pub sound : (ts : List Lexeme) (s : S) (x : T) → Comes m ts s → m.finish s ≡ Some x → R ts x
+  pub viable : (s : S) → Completed m s
+  pub answers : (s : S) (t : Lexeme) → AnswersRightly t (m.step s t) (m.finish s)
+
+-- a kind that a machine above reads behind this one's trees: it neither begins one, nor goes on
+-- with one that can end
+pub record IsOutside {S T : Type 0} (m : Machine Lexeme S T) (k : TokenKind) : Type 0 where
+  pub behind : (s : S) (x : T) (t : Lexeme) → t.kind ≡ k → m.finish s ≡ Some x →
+      m.step s t ≡ ended x
+  pub before : (t : Lexeme) → t.kind ≡ k → m.step m.start t ≡ refused
+
+-- what may come next, as a machine of shapes has it
+abbrev pub allows : {S T : Type 0} → Machine TokenKind S T → S → Option TokenKind → Bool
+allows n s (Some k) = is_taken (n.step s k)
+allows n s None = is_some (n.finish s)
+
+-- the shape of what a token makes of a state; a number that doesn't fit stops the machine, not the
+-- shapes
+abbrev pub IsShape : {S T U V : Type 0} → (S → U) → (T → V) → Answer S T → Answer U V → Type 0
+IsShape f g (next s) a = a ≡ next (f s)
+IsShape f g (ended x) a = a ≡ ended (g x)
+IsShape f g refused a = a ≡ refused
+IsShape f g too_large a = is_taken a ≡ true
+
+abbrev pub option_image : {T V : Type 0} → (T → V) → Option T → Option V
+option_image g (Some x) = Some (g x)
+option_image g None = None
+
+-- the second machine goes over kinds as the first one does over tokens
+pub record Shapes {S T U V : Type 0} (m : Machine Lexeme S T) (n : Machine TokenKind U V)
+    (f : S → U) (g : T → V) : Type 0 where
+  pub starts : f m.start ≡ n.start
+  pub steps : (s : S) (t : Lexeme) → IsShape f g (m.step s t) (n.step (f s) t.kind)
+  pub finishes : (s : S) → n.finish (f s) ≡ option_image g (m.finish s)

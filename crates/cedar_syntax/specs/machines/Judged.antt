@@ -1,0 +1,178 @@
+-- How a machine reads a text by a rule, token after token, and what it says where it stops.
+use Rattle.std.specs.Prelude.{◌≡◌, ℕ, ◌+◌, ◌-◌, Bool, true, false, ◌||◌, ◌&&◌, not, cond, IsTrue, ◌↔◌, List, [], ◌∷◌, ◌++◌, Option, Some, None, Ok, length}
+use Rattle.std.specs.Str.{IsUtf8}
+use Rattle.cedar_lexer.specs.Token.{Lexeme, lexeme_of}
+use Rattle.cedar_lexer.specs.Cut.{Layout, Cuts, StopsFrom}
+use Rattle.cedar_lexer.specs.LexerState.{LexerState, Answers, IsCutOrStop}
+use Rattle.cedar_lexer.specs.declared.token.Token.{Token}
+use Rattle.cedar_lexer.specs.declared.token.TokenKind.{TokenKind}
+use Rattle.cedar_lexer.specs.declared.token.TokenKind.TheVariants as kind
+use Rattle.cedar_syntax.specs.ParseErrors.{faults_of}
+use Rattle.cedar_syntax.specs.declared.err.faults.Failure.{Failure}
+use Rattle.cedar_syntax.specs.declared.err.faults.Failure.TheVariants.{Memory, Errors}
+use Rattle.cedar_syntax.specs.declared.err.faults.ParseErrors.{ParseErrors}
+use Rattle.cedar_syntax.specs.declared.err.faults.ParseError.TheVariants.{ToCST}
+use Rattle.cedar_syntax.specs.declared.err.to_cst.RawFault.{RawFault}
+use Rattle.cedar_syntax.specs.declared.err.to_cst.RawFault.TheVariants as fault
+use Rattle.cedar_syntax.specs.declared.reading.expected.Narrowing.{Narrowing}
+use Rattle.cedar_syntax.specs.declared.reading.taken.Taken.{Taken}
+use Rattle.cedar_syntax.specs.declared.reading.taken.Taken.TheVariants as taking
+use Rattle.cedar_syntax.specs.Expected.{by_name, is_closer, can_narrow}
+use Rattle.cedar_syntax.specs.FirstFault.{end_of, unexpected_at, early_at, large_at}
+use Rattle.cedar_syntax.specs.Sentences.{kinds, Allowed}
+use Rattle.cedar_syntax.specs.machines.Door.{Answer, next, ended, refused, too_large, Machine, Comes, RunsTo, Door, is_some}
+
+-- what a step that left this state answered
+abbrev pub answer_of : {S T : Type 0} → Taken T → S → Answer S T
+answer_of taking.Next s = next s
+answer_of (taking.Ended x) s = ended x
+answer_of taking.Refused s = refused
+answer_of taking.TooLarge s = too_large
+
+-- a token that is allowed was taken, or is a number that doesn't fit
+abbrev pub taken_as : {S T : Type 0} → Bool → S → Answer S T
+taken_as true s = next s
+taken_as false s = too_large
+
+-- whether a kind is allowed, by what a machine answers to a token of it
+abbrev pub may_take : {S T : Type 0} → Answer S T → Bool
+may_take (next s) = true
+may_take (ended x) = false
+may_take refused = false
+may_take too_large = true
+
+-- a machine reads by a rule: its door, and what its states allow, kinds and the end
+pub record ReadsBy {S T : Type 0} (m : Machine Lexeme S T) (R : List Lexeme → T → Type 0)
+    (allowed : S → Option TokenKind → Bool) : Type 0 where
+  pub door : Door m R
+  pub takes : (s : S) (t : Lexeme) → may_take (m.step s t) ≡ allowed s (Some t.kind)
+  pub ends : (s : S) → is_some (m.finish s) ≡ allowed s None
+  pub exact : (ts : List Lexeme) (s : S) (after : Option TokenKind) → Comes m ts s →
+      IsTrue (allowed s after) ↔ Allowed R (kinds ts) after
+
+-- ---- what is expected, by what a state allows
+
+abbrev pub any_closer : (TokenKind → Bool) → List TokenKind → Bool
+any_closer p [] = false
+any_closer p (k ∷ ks) = (is_closer k && p k) || any_closer p ks
+
+abbrev pub is_narrowed : (Option TokenKind → Bool) → Narrowing → Option TokenKind → Bool
+is_narrowed p n after =
+    can_narrow n after &&
+    ((p (Some kind.Star) || p (Some kind.AndAnd)) && any_closer (λ k. p (Some k)) by_name)
+
+abbrev pub picks : Bool → (Option TokenKind → Bool) → TokenKind → Bool
+picks b p k = (not b || is_closer k) && p (Some k)
+
+abbrev pub picked_from : Bool → (Option TokenKind → Bool) → List TokenKind → List TokenKind
+picked_from b p [] = []
+picked_from b p (k ∷ ks) = cond (picks b p k) (k ∷ picked_from b p ks) (picked_from b p ks)
+
+abbrev pub expected_by : (Option TokenKind → Bool) → Narrowing → Option TokenKind → List TokenKind
+expected_by p n after = picked_from (is_narrowed p n after) p by_name
+
+-- ---- progress
+
+-- the text's tokens begin with these and then this one
+abbrev pub StandsBehind : List ℕ → List Lexeme → Lexeme → Type 0
+StandsBehind text before t = Layout text 0 (before ++ t ∷ []) t.end
+
+-- the lexer stands behind this token, or the text ends
+abbrev pub Ahead : List ℕ → List Lexeme → Option Token → LexerState → Type 0
+Ahead text before (Some t) l =
+    StandsBehind text before (lexeme_of t) × (l.source ≡ text) × (l.offset ≡ t.end) ×
+    (l.ended ≡ false)
+Ahead text before None l = Cuts text before
+
+-- some tokens of the text are read, and the next is ahead
+pub record Progress {S T : Type 0} (m : Machine Lexeme S T) (text : List ℕ) (s : S) (end : ℕ)
+    (ahead : Option Token) (l : LexerState) : Type 0 where
+  pub utf8 : IsUtf8 text
+  pub before : List Lexeme
+  pub comes : Comes m before s
+  pub ends : end ≡ end_of before
+  pub goes : Ahead text before ahead l
+
+-- the bytes that are left, and the token ahead
+abbrev pub tokens_left : Option Token → LexerState → ℕ
+tokens_left None l = 0
+tokens_left (Some t) l = 1 + (length l.source - l.offset)
+
+-- a tree that the tokens of the text run to
+pub record IsRead {S T : Type 0} (m : Machine Lexeme S T) (text : List ℕ) (x : T) : Type 0 where
+  pub tokens : List Lexeme
+  pub cut : Cuts text tokens
+  pub runs : RunsTo m tokens x
+
+-- ---- what the parts of the driver answer
+
+-- the one fault of this text
+abbrev pub IsFault : List ℕ → ParseErrors → RawFault → Type 0
+IsFault src errors raw = faults_of errors ≡ ToCST record { raw = raw; src = src } ∷ []
+
+abbrev pub FailsWith : List ℕ → RawFault → Failure → Type 0
+FailsWith src raw (Memory m) = Unit {0}
+FailsWith src raw (Errors errors) = IsFault src errors raw
+
+-- the lexer's next token, if there is one
+abbrev pub GivesToken : LexerState → Option Token → LexerState → Type 0
+GivesToken l (Some t) u = Answers l (Some (Ok t)) u
+GivesToken l None u = Answers l None u
+
+-- its bad place
+abbrev pub StopsBadly : List ℕ → LexerState → Failure → Type 0
+StopsBadly src l (Memory m) = Unit {0}
+StopsBadly src l (Errors errors) =
+    (place : ℕ) × StopsFrom l.source l.offset [] place ×
+    IsFault src errors (fault.InvalidToken place)
+
+-- ---- where it stops
+
+-- a number past 64 bits stops a machine where a number is allowed
+abbrev pub large_fault : {S T : Type 0} → List ℕ → Answer S T → Lexeme → Option RawFault
+large_fault src (next s) t = None
+large_fault src (ended x) t = None
+large_fault src refused t = None
+large_fault src too_large t = Some (large_at src t)
+
+-- what it tells in this state behind the tokens of the first group: of the token behind them, of
+-- the end, or of the bad place there
+abbrev pub told : {S T : Type 0} → Machine Lexeme S T → (S → Option TokenKind → Bool) →
+    Narrowing → List ℕ → S → List Lexeme → List Lexeme → Option ℕ → Option RawFault
+told m p n src s ts (t ∷ us) bad =
+    cond (p s (Some t.kind)) (large_fault src (m.step s t) t)
+    (Some (unexpected_at t (expected_by (p s) n (Some t.kind))))
+told m p n src s ts [] None =
+    cond (p s None) None (Some (early_at (end_of ts) (expected_by (p s) n None)))
+told m p n src s ts [] (Some place) = Some (fault.InvalidToken place)
+
+-- a text at which the machine stops with this fault
+pub record StopsWith {S T : Type 0} (m : Machine Lexeme S T) (p : S → Option TokenKind → Bool)
+    (n : Narrowing) (text : List ℕ) (raw : RawFault) : Type 0 where
+  pub before : List Lexeme
+  pub rest : List Lexeme
+  pub bad : Option ℕ
+  pub state : S
+  pub cut : IsCutOrStop text 0 (before ++ rest) bad
+  pub comes : Comes m before state
+  pub is : told m p n text state before rest bad ≡ Some raw
+
+abbrev pub IsStop : {S T : Type 0} → Machine Lexeme S T → (S → Option TokenKind → Bool) →
+    Narrowing → List ℕ → Failure → Type 0
+IsStop m p n text (Memory e) = Unit {0}
+IsStop m p n text (Errors errors) =
+    (raw : RawFault) × StopsWith m p n text raw × IsFault text errors raw
+
+-- a state that doesn't take the token behind it, or stops at it
+abbrev pub StopsAtToken : {S T : Type 0} → Machine Lexeme S T → (S → Option TokenKind → Bool) →
+    Narrowing → List ℕ → S → Lexeme → Failure → Type 0
+StopsAtToken m p n src s t (Memory e) = Unit {0}
+StopsAtToken m p n src s t (Errors errors) =
+    (raw : RawFault) × (told m p n src s [] (t ∷ []) None ≡ Some raw) × IsFault src errors raw
+
+-- and one that can't end
+abbrev pub StopsAtEnd : {S T : Type 0} → Machine Lexeme S T → (S → Option TokenKind → Bool) →
+    Narrowing → List ℕ → S → ℕ → Failure → Type 0
+StopsAtEnd m p n src s end (Memory e) = Unit {0}
+StopsAtEnd m p n src s end (Errors errors) =
+    (p s None ≡ false) × IsFault src errors (early_at end (expected_by (p s) n None))

@@ -1,0 +1,10 @@
+//! Reads a whole text by one rule of the grammar, token after token: the driver, and what it shares with the machines of the rules.
+
+pub mod driver;
+pub mod expected;
+pub mod extent;
+pub mod mark;
+pub mod mending;
+pub mod place;
+pub mod recovery;
+pub mod taken;

@@ -1,7 +1,0 @@
-use Rattle.std.proofs.Common.{◌≡◌, Some, drop}
-use Rattle.cedar_text.specs.machines.Judged.{any_closer}
-use Rattle.cedar_text.proofs.text_to_cst.expected.allows_closer.Given as goal
-
--- none of the kinds before this one closes something
-abbrev pub invariant-loop-kind : goal.invariant-loop-kind
-invariant-loop-kind g l = any_closer (λ k. g.E.Entry.allowed l.state (Some k)) (drop l.kind-index l.kinds) ≡ any_closer (λ k. g.E.Entry.allowed l.state (Some k)) l.kinds

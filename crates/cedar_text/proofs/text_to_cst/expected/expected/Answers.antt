@@ -1,7 +1,0 @@
-use Rattle.std.proofs.Common.{◌≡◌, IfOk, subst}
-use Rattle.cedar_text.specs.Expected.{by_name}
-use Rattle.cedar_text.specs.machines.Judged.{picked_from}
-use Rattle.cedar_text.proofs.text_to_cst.expected.expected.Goals as goal
-
-pub returns : goal.returns
-returns g c = subst (λ b. IfOk c.allowed_among.result (λ kinds. kinds ≡ picked_from b (g.E.Entry.allowed c.args.state.now) by_name)) c.is_narrowed-narrowed.ensures c.allowed_among.ensures
