@@ -10,7 +10,8 @@ use Rattle.cedar_parse.specs.declared.streams.WriterState.{WriterState}
 use Rattle.cedar_parse.specs.declared.streams.WriterState.TheVariants.{Written, Failed}
 use Rattle.cedar_parse.specs.Ends.{Streams, Stops, StopsWriting, Ends, TellsEnd, status_of}
 use Rattle.cedar_parse.specs.Streams.{IsNoText}
-use Rattle.cedar_parse.specs.Words.{AsksForExpression}
+use Rattle.cedar_parse.specs.declared.words.Command.{Command}
+use Rattle.cedar_parse.specs.Words.{AsksFor, AsksForNothing}
 
 -- the text wasn't had
 pub unread : (known : Option (List ℕ)) (read : Option Stop) (out : WriterState) (stop : Stop) →
@@ -49,11 +50,10 @@ told words s end status ends (inr untold) =
     (Stopped InputOutput, untold.1, Ends.untold untold.0 untold.2)
 
 pub unasked : {A : Type 0} (words : List (String A)) (s : Streams) (status : ℕ) →
-    (AsksForExpression words → IsTrue false) → TellsEnd Usage s.err status → EndsAt words s status
-unasked words s status h =
-    told words s Usage status (λ w. Ends.usage (λ asks. true≢false (sym (h asks))) w)
+    AsksForNothing words → TellsEnd Usage s.err status → EndsAt words s status
+unasked words s status none = told words s Usage status (λ w. Ends.usage none w)
 
-pub stopped : {A : Type 0} (words : List (String A)) (s : Streams) (status : ℕ) (stop : Stop) →
-    AsksForExpression words → Stops s.known s.read s.out stop → TellsEnd (Stopped stop) s.err status → EndsAt words s status
-stopped words s status stop asks stops =
-    told words s (Stopped stop) status (λ w. Ends.stopped stop asks stops w)
+pub stopped : {A : Type 0} (words : List (String A)) (s : Streams) (status : ℕ) (command : Command) (stop : Stop) →
+    AsksFor command words → Stops s.known s.read s.out stop → TellsEnd (Stopped stop) s.err status → EndsAt words s status
+stopped words s status command stop asks stops =
+    told words s (Stopped stop) status (λ w. Ends.stopped command stop asks stops w)

@@ -2,3 +2,4 @@ mod Endings
 mod Verdicts
 mod Spelled
 mod Naming
+mod MeantSets

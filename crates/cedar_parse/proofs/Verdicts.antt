@@ -10,18 +10,19 @@ use Rattle.cedar_syntax.specs.declared.err.faults.Failure.{Failure}
 use Rattle.cedar_syntax.specs.declared.err.faults.Failure.TheVariants.{Memory, Errors}
 use Rattle.cedar_syntax.specs.Located.{Located}
 use Rattle.cedar_syntax.specs.Forms.{located, expr_form}
-use Rattle.cedar_text.specs.FirstFault.{IsMemory}
-use Rattle.cedar_text.specs.Grammar.{IsTreeOf}
-use Rattle.cedar_text.specs.LooseExpressions.{ReadsExpr}
-use Rattle.cedar_text.specs.Place.{placed}
-use Rattle.cedar_text.specs.Trees.{Cell}
-use Rattle.cedar_text.proofs.ExpressionTokens.{expr_some}
-use Rattle.cedar_text.proofs.WordPlaces.{start_is}
+use Rattle.cedar_syntax.specs.FirstFault.{IsMemory}
+use Rattle.cedar_syntax.specs.Grammar.{IsTreeOf}
+use Rattle.cedar_syntax.specs.LooseExpressions.{ReadsExpr}
+use Rattle.cedar_syntax.specs.Place.{placed}
+use Rattle.cedar_syntax.specs.Trees.{Cell}
+use Rattle.cedar_syntax.proofs.ExpressionTokens.{expr_some}
+use Rattle.cedar_syntax.proofs.WordPlaces.{start_is}
 use Rattle.cedar_policy_parser.specs.Conversion.{Converts, value_outcome}
 use Rattle.cedar_policy_parser.specs.Extensions.{Extensions}
 use Rattle.cedar_policy_parser.specs.Refused.{TellsTree}
 use Rattle.cedar_policy_parser.specs.Seen.{Gives}
 use Rattle.cedar_policy_parser.specs.Strict.{Means, expression}
+use Rattle.cedar_parse.specs.declared.words.Command.TheVariants as command
 use Rattle.cedar_parse.specs.Ends.{IsMeant}
 use Rattle.cedar_parse.specs.Words.{styles_of}
 
@@ -37,7 +38,7 @@ Sound = (table : Extensions) (src : List ℕ) (ts : List Lexeme) (x : Expr) (w :
 
 -- a text is meant whose tree is converted
 pub meant_by : {A : Type 0} (words : List (String A)) → Sound → (src : List ℕ) (y : Cell Expr) (w : Value) → IsTreeOf ReadsExpr src y → Converts (styles_of words) (located expr_form y) w
-    → IsMeant words src
+    → IsMeant command.Expression words src
 meant_by words sound src y w g converted =
     let x = g.stands.tree in
     let r = g.stands.reads in
@@ -49,7 +50,7 @@ meant_by words sound src y w g converted =
     )
 
 -- where a text is meant, what reads only its tree reads it
-pub read_only : {A : Type 0} {R : Cell Expr → Type 0} (words : List (String A)) → Complete → (src : List ℕ) (only : (y : Cell Expr) → IsTreeOf ReadsExpr src y → R y) → IsMeant words src
+pub read_only : {A : Type 0} {R : Cell Expr → Type 0} (words : List (String A)) → Complete → (src : List ℕ) (only : (y : Cell Expr) → IsTreeOf ReadsExpr src y → R y) → IsMeant command.Expression words src
     → (y : Cell Expr) × (w : Value) × Converts (styles_of words) (located expr_form y) w × R y
 read_only words complete src only (ts, w, cut, means) =
     let d = complete (styles_of words) src ts w means in

@@ -6,6 +6,8 @@ use Rattle.cedar_lexer.specs.Cut.{Cuts}
 use Rattle.cedar_expressions.specs.Value.{Value}
 use Rattle.cedar_syntax.specs.declared.cst.TheConstants.{SIGN_LIMIT}
 use Rattle.cedar_policy_parser.specs.Strict.{Means, expression}
+use Rattle.cedar_policy_parser.specs.StrictPolicy.{IsPolicySet}
+use Rattle.cedar_policy_store.specs.PlaceFree.{Policies as PolicySet}
 use Rattle.cedar_parse.specs.declared.run.Ending.{Ending}
 use Rattle.cedar_parse.specs.declared.run.Ending.TheVariants.{Answered, Usage, Stopped}
 use Rattle.cedar_parse.specs.declared.run.Verdict.{Verdict}
@@ -17,16 +19,21 @@ use Rattle.cedar_parse.specs.declared.streams.Output.{Output}
 use Rattle.cedar_parse.specs.declared.streams.WriterState.{WriterState}
 use Rattle.cedar_parse.specs.declared.streams.WriterState.TheVariants.{Flushed, Written, Failed}
 use Rattle.cedar_parse.specs.Streams.{read_failure, writer_state, IsNoText}
-use Rattle.cedar_parse.specs.Words.{AsksForExpression, styles_of}
+use Rattle.cedar_parse.specs.declared.words.Command.{Command}
+use Rattle.cedar_parse.specs.declared.words.Command.TheVariants.{Expression, Policies}
+use Rattle.cedar_parse.specs.Words.{AsksFor, AsksForNothing, styles_of}
 
--- the text's tokens mean an expression that calls no extension but those that the words name
-abbrev pub IsMeant : {A : Type 0} → List (String A) → List ℕ → Type 0
-IsMeant words text = (ts : List Lexeme) × (value : Value) × Cuts text ts
+-- the text's tokens mean what the command asks for: an expression, or a set of policies, that calls no
+-- extension but those that the words name
+abbrev pub IsMeant : {A : Type 0} → Command → List (String A) → List ℕ → Type 0
+IsMeant Expression words text = (ts : List Lexeme) × (value : Value) × Cuts text ts
     × Means (styles_of words) SIGN_LIMIT expression ts value
+IsMeant Policies words text = (ts : List Lexeme) × (set : PolicySet) × Cuts text ts
+    × IsPolicySet (styles_of words) SIGN_LIMIT ts set
 
-abbrev pub IsVerdict : {A : Type 0} → List (String A) → List ℕ → Verdict → Type 0
-IsVerdict words text Accepted = IsMeant words text
-IsVerdict words text Refused = ¬ IsMeant words text
+abbrev pub IsVerdict : {A : Type 0} → Command → List (String A) → List ℕ → Verdict → Type 0
+IsVerdict command words text Accepted = IsMeant command words text
+IsVerdict command words text Refused = ¬ IsMeant command words text
 
 -- A run's streams at its end: what is known of the reader's text, `None` where the reader can't
 -- tell it before it is read; why reading failed, if it did; how the calls of both writers went.
@@ -65,12 +72,12 @@ StopsWriting out stop = (stop ≡ Memory) ⊎ (out ≡ Failed stop)
 -- what each end says of the words and of the streams
 pub data Ends {A : Type 0} (words : List (String A)) (s : Streams) : Ending → Type 0 where
   -- the text was read, and all that was written was passed on
-  answered : (verdict : Verdict) → AsksForExpression words →
-      IfSome s.known (λ text. IsVerdict words text verdict) → s.read ≡ None → s.out ≡ Flushed →
-      Ends words s (Answered verdict)
-  usage : ¬ AsksForExpression words → s.err ≡ Written → Ends words s Usage
-  stopped : (stop : Stop) → AsksForExpression words → Stops s.known s.read s.out stop →
-      s.err ≡ Written → Ends words s (Stopped stop)
+  answered : (command : Command) (verdict : Verdict) → AsksFor command words →
+      IfSome s.known (λ text. IsVerdict command words text verdict) → s.read ≡ None →
+      s.out ≡ Flushed → Ends words s (Answered verdict)
+  usage : AsksForNothing words → s.err ≡ Written → Ends words s Usage
+  stopped : (command : Command) (stop : Stop) → AsksFor command words →
+      Stops s.known s.read s.out stop → s.err ≡ Written → Ends words s (Stopped stop)
   -- why the run ends could not be told
   untold : (stop : Stop) → s.err ≡ Failed stop → Ends words s (Stopped InputOutput)
 

@@ -4,6 +4,8 @@ use Rattle.std.specs.List.{AllByRecursion, list_all, list_any}
 use Rattle.std.specs.Str.{byte, bytes_eq}
 use Rattle.cedar_expressions.specs.Path.{Path, name_text, is_unreserved_identifier}
 use Rattle.cedar_policy_parser.specs.Extensions.{Extensions}
+use Rattle.cedar_parse.specs.declared.words.Command.{Command}
+use Rattle.cedar_parse.specs.declared.words.Command.TheVariants.{Expression, Policies}
 
 -- a name none of whose identifiers is reserved
 abbrev pub is_unreserved_name : Path → Bool
@@ -24,12 +26,21 @@ pub data IsStyle (word : List ℕ) : Type 0 where
   function : (name : Path) → names_function name word ≡ true → IsStyle word
   method : (id : List ℕ) → names_method id word ≡ true → IsStyle word
 
--- The commands: so far there is one, `expr`. Each word behind it names a function or a method.
-abbrev pub AsksForExpression : {A : Type 0} → List (String A) → Type 0
-AsksForExpression [] = ⊥
-AsksForExpression (command ∷ words) =
-    (string_bytes command ≡ codes "expr")
+-- the word that a command has
+abbrev pub word_of : Command → List ℕ
+word_of Expression = codes "expr"
+word_of Policies = codes "policies"
+
+-- The words ask for a command: its word comes first, and each word behind it names a function or a
+-- method.
+abbrev pub AsksFor : {A : Type 0} → Command → List (String A) → Type 0
+AsksFor command [] = ⊥
+AsksFor command (word ∷ words) =
+    (string_bytes word ≡ word_of command)
     × AllByRecursion (λ word. IsStyle (string_bytes word)) words
+
+abbrev pub AsksForNothing : {A : Type 0} → List (String A) → Type 0
+AsksForNothing words = (command : Command) → ¬ AsksFor command words
 
 -- the two sets of names: the functions and the methods that the words name
 abbrev pub styles_of : {A : Type 0} → List (String A) → Extensions

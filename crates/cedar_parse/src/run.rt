@@ -7,14 +7,16 @@ ghost use Rattle.cedar_policy_parser.specs.Conversion.{Converts};
 ghost use Rattle.cedar_policy_parser.specs.Refused.{TellsTree};
 ghost use Rattle.cedar_parse.specs.Ends.{IsMeant, IsVerdict, Streams, streams_at, Ends, Stops, StopsWriting, TellsEnd, status_of};
 ghost use Rattle.cedar_parse.specs.Streams.{reader_of, read_failure, writer_state};
-ghost use Rattle.cedar_parse.specs.Words.{AsksForExpression, styles_of};
+ghost use Rattle.cedar_parse.specs.Words.{AsksFor, AsksForNothing, styles_of};
 ghost use Rattle.cedar_parse.specs.declared.run.Ending.{Ending as How};
 ghost use Rattle.cedar_parse.specs.declared.run.Ending.TheVariants.{Stopped, Usage};
 ghost use Rattle.cedar_parse.specs.declared.run.Verdict.TheVariants as verdict;
-ghost use Rattle.cedar_text.specs.FirstFault.{IsMemory};
+ghost use Rattle.cedar_parse.specs.declared.words.Command.TheVariants as command;
+ghost use Rattle.cedar_syntax.specs.FirstFault.{IsMemory};
 
+use crate::policies::policies;
 use crate::streams::{Input, Output, Stop, WriterState};
-use crate::words::{asks_for_an_expression, table_named};
+use crate::words::{Command, command_of, table_named};
 use cedar_expressions::ExprBuilder;
 use cedar_policy_parser::cst_to_ast::ExprAst;
 use cedar_policy_parser::laws::{converted_is_meant, meant_is_converted};
@@ -31,7 +33,7 @@ const USAGE: &str = "usage: cedar-parse expr|policies|format [fn:NAME | method:N
 
 /// What the text turned out to be.
 #[derive(Clone, Copy)]
-enum Verdict {
+pub(crate) enum Verdict {
     Accepted,
     Refused,
 }
@@ -101,14 +103,14 @@ pub fn run_on<R: Read + Drop, O: Write, E: Write>(
     ensures ends { (end : How) × (result ≡ status_of end)
         × Ends words.now
         (streams_at (R.remaining (reader_of input.old)) input.new out.new err.new) end }
-    ensures unread { ¬ AsksForExpression words.now → input.new ≡ input.old }
+    ensures unread { AsksForNothing words.now → input.new ≡ input.old }
 {
-    if !asks_for_an_expression(words) {
-        return tell(Ending::Usage, USAGE, err);
-    }
-    match answer(alloc, words, input, out) {
-        Ok(verdict) => Ending::Answered(verdict).status(),
-        Err(stop) => tell(Ending::Stopped(stop), stop.message(), err),
+    match command_of(words) {
+        None => tell(Ending::Usage, USAGE, err),
+        Some(command) => match answer(alloc, command, words, input, out) {
+            Ok(verdict) => Ending::Answered(verdict).status(),
+            Err(stop) => tell(Ending::Stopped(stop), stop.message(), err),
+        },
     }
 }
 
@@ -146,12 +148,13 @@ fn tell<E: Write>(ending: Ending, message: &str, err: &mut Output<E>) -> u8
 /// Reads the text and answers it.
 fn answer<R: Read + Drop, O: Write>(
     alloc: Global,
+    command: Command,
     words: &[String],
     input: &mut Input<R>,
     out: &mut Output<O>,
 ) -> Result<Verdict, Stop>
     ensures verdict { IfOk result (λ v.
-        IfSome (R.remaining (reader_of input.old)) (λ text. IsVerdict words.now text v)) }
+        IfSome (R.remaining (reader_of input.old)) (λ text. IsVerdict command words.now text v)) }
     ensures read { OnOk result (read_failure input.new ≡ None) }
     ensures flushed { OnOk result (writer_state out.new ≡ WriterState.Flushed) }
     ensures stops { IfErr result (λ stop.
@@ -159,23 +162,41 @@ fn answer<R: Read + Drop, O: Write>(
         (writer_state out.new) stop) }
 {
     let text = input.text(alloc)?;
-    passed_on(alloc, words, text.as_str(), out)
+    passed_on(alloc, command, words, text.as_str(), out)
 }
 
 /// Prints the answer and passes on what the writer holds back.
 fn passed_on<O: Write>(
     alloc: Global,
+    command: Command,
     words: &[String],
     text: &str,
     out: &mut Output<O>,
 ) -> Result<Verdict, Stop>
-    ensures verdict { IfOk result (λ v. IsVerdict words.now text.now v) }
+    ensures verdict { IfOk result (λ v. IsVerdict command words.now text.now v) }
     ensures flushed { OnOk result (writer_state out.new ≡ WriterState.Flushed) }
     ensures stops { IfErr result (λ stop. StopsWriting (writer_state out.new) stop) }
 {
-    let verdict = expression(alloc, words, text, out)?;
+    let verdict = answered(alloc, command, words, text, out)?;
     out.flush()?;
     Ok(verdict)
+}
+
+/// Prints what the command asks for, or the text's faults.
+fn answered<O: Write>(
+    alloc: Global,
+    command: Command,
+    words: &[String],
+    text: &str,
+    out: &mut Output<O>,
+) -> Result<Verdict, Stop>
+    ensures verdict { IfOk result (λ v. IsVerdict command words.now text.now v) }
+    ensures stops { IfErr result (λ stop. StopsWriting (writer_state out.new) stop) }
+{
+    match command {
+        Command::Expression => expression(alloc, words, text, out),
+        Command::Policies => policies(alloc, words, text, out),
+    }
 }
 
 /// Prints the text's tree and `ok`, or its faults.
@@ -185,7 +206,7 @@ fn expression<O: Write>(
     text: &str,
     out: &mut Output<O>,
 ) -> Result<Verdict, Stop>
-    ensures verdict { IfOk result (λ v. IsVerdict words.now text.now v) }
+    ensures verdict { IfOk result (λ v. IsVerdict command.Expression words.now text.now v) }
     ensures stops { IfErr result (λ stop. StopsWriting (writer_state out.new) stop) }
 {
     match meant(alloc, words, text) {
@@ -196,8 +217,8 @@ fn expression<O: Write>(
 
 /// The tree of a text that means an expression under the table that the words name.
 fn meant(alloc: Global, words: &[String], text: &str) -> Result<Node<Option<Expr>>, Failure>
-    ensures meant { IfOk result (λ tree. IsMeant words.now text.now) }
-    ensures only { IsMeant words.now text.now → IfErr result IsMemory }
+    ensures meant { IfOk result (λ tree. IsMeant command.Expression words.now text.now) }
+    ensures only { IsMeant command.Expression words.now text.now → IfErr result IsMemory }
 {
     meant_is_converted();
     converted_is_meant();
@@ -228,7 +249,8 @@ fn print_tree<O: Write>(tree: &Node<Option<Expr>>, out: &mut Output<O>) -> Resul
     Ok(Verdict::Accepted)
 }
 
-fn refused<O: Write>(failure: &Failure, out: &mut Output<O>) -> Result<Verdict, Stop>
+/// Prints the faults of a text; want of memory is none of them.
+pub(crate) fn refused<O: Write>(failure: &Failure, out: &mut Output<O>) -> Result<Verdict, Stop>
     ensures verdict { IfOk result (λ v. (v ≡ verdict.Refused) × ¬ (IsMemory failure.now)) }
     ensures stops { IfErr result (λ stop. StopsWriting (writer_state out.new) stop) }
 {

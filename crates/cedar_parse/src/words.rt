@@ -1,29 +1,54 @@
 //! The words of a run: its command, and the extension functions and methods that they name.
 //!
 //! The words are judged before input is read, and judging takes no memory; what they name is made once a text is there.
-ghost use Rattle.std.specs.Prelude.{◌≡◌, ◌↔◌, ℕ, true, false, List, Some, None, IsTrue, IfOk, MatchOption, string_bytes};
+ghost use Rattle.std.specs.Prelude.{◌≡◌, ◌≢◌, ◌↔◌, ℕ, true, false, List, Some, None, IsTrue, IfOk, MatchOption, string_bytes};
 ghost use Rattle.std.specs.BTreeSet.{contains};
 ghost use Rattle.std.specs.List.{AllByRecursion, list_all, list_any};
 ghost use Rattle.cedar_expressions.specs.Path.{Path, name_text, begins_identifier, continues_identifier, is_identifier, is_reserved_word, is_unreserved_identifier};
 ghost use Rattle.cedar_policy_parser.specs.Extensions.{table_of};
-ghost use Rattle.cedar_parse.specs.Words.{AsksForExpression, IsStyle, SpellsName, IsNamed, IsCut, IsUncut, is_unreserved_name, names_function, names_method, styles_of};
+ghost use Rattle.cedar_parse.specs.Words.{AsksFor, AsksForNothing, IsStyle, SpellsName, IsNamed, IsCut, IsUncut, is_unreserved_name, names_function, names_method, styles_of, word_of};
 
 use cedar_expressions::{Id, InternalName, Name, Text, UnreservedId};
 use cedar_policy_parser::ExtStyles;
 use std::alloc::{AllocError, Global};
 use std::collections::BTreeSet;
 
-/// The only command yet is `expr`, with words that name extension functions and methods behind it.
-pub fn asks_for_an_expression(words: &[String]) -> bool
-    ensures { IsTrue result ↔ AsksForExpression words.now }
+/// What a run makes of its text.
+#[derive(Clone, Copy)]
+pub enum Command {
+    /// `expr`: an expression.
+    Expression,
+    /// `policies`: a set of policies.
+    Policies,
+}
+
+/// The command that the words ask for: its word, with words that name extension functions and methods behind it.
+pub fn command_of(words: &[String]) -> Option<Command>
+    ensures { MatchOption result (AsksForNothing words.now)
+        (λ command. AsksFor command words.now) }
 {
-    match words.split_first() {
-        Some((command, styles)) => command.as_str() == "expr" && are_styles(styles),
-        None => false,
+    let (word, styles) = words.split_first()?;
+    let command = command_named(word.as_str())?;
+    if are_styles(styles) {
+        Some(command)
+    } else {
+        None
     }
 }
 
-/// The table of the functions and methods that the words name; `expr` names none.
+/// The command of a word, if it has one.
+fn command_named(word: &str) -> Option<Command>
+    ensures { MatchOption result ((command : Command) → word.now ≢ word_of command)
+        (λ command. word.now ≡ word_of command) }
+{
+    match word {
+        "expr" => Some(Command::Expression),
+        "policies" => Some(Command::Policies),
+        _ => None,
+    }
+}
+
+/// The table of the functions and methods that the words name; a command's word names none.
 pub fn table_named(alloc: Global, words: &[String]) -> Result<ExtStyles, AllocError>
     ensures { IfOk result (λ styles. table_of styles ≡ styles_of words.now) }
 {

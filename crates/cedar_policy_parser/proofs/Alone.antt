@@ -1,19 +1,28 @@
--- Where the parts have values, a relation is refused for its operators alone, a product for its quotients and remainders, in order.
-use Rattle.std.proofs.Common.{◌≡◌, List, [], ◌∷◌, ◌++◌, Option, Some, Ok, Err, refl, sym, ap, ◌∙◌}
+-- Where the parts have values, a relation is refused for its operators alone, a product for its quotients and remainders, in order, a record for a key that
+-- it has twice; and a name that is no variable is refused as an expression.
+use Rattle.std.proofs.Common.{◌≡◌, ℕ, zero, true, List, [], ◌∷◌, ◌++◌, Option, Some, None, Ok, Err, refl, sym, ap, ◌∙◌}
+use Rattle.cedar_expressions.specs.Keys.{repeats_key}
+use Rattle.cedar_expressions.specs.Path.{Path}
 use Rattle.cedar_expressions.specs.Value.{Value}
 use Rattle.cedar_syntax.specs.declared.loc.Loc.{Loc}
+use Rattle.cedar_syntax.specs.declared.node.Node.{Node}
 use Rattle.cedar_syntax.specs.declared.cst.MultOp.TheVariants as mul
+use Rattle.cedar_syntax.specs.declared.cst.Name.{Name}
 use Rattle.cedar_syntax.specs.declared.cst.NegOp.TheVariants as sign
 use Rattle.cedar_syntax.specs.declared.cst.RelOp.TheVariants as rel
 use Rattle.cedar_syntax.specs.Located as f
-use Rattle.cedar_syntax.specs.Located.{Located, Parts, at}
+use Rattle.cedar_syntax.specs.Located.{Located, Form, Parts, at}
 use Rattle.cedar_syntax.specs.Tree as t
-use Rattle.cedar_syntax.specs.Tree.{Operator, relation, product}
-use Rattle.cedar_policy_parser.specs.Alone.{HasValue, HaveValues, OperandsHaveValues, quotient, quotients}
-use Rattle.cedar_policy_parser.specs.Conversion.{Part, outcome, formed, operands, chained, factor, with_part}
+use Rattle.cedar_syntax.specs.Tree.{Level, Operator, disjunction, conjunction, relation, sum, product}
+use Rattle.cedar_policy_parser.specs.Alone.{HasValue, HaveValues, OperandsHaveValues, quotient, quotients, IsPair, ArePairs, IsBareName}
+use Rattle.cedar_policy_parser.specs.Conversion.{Part, outcome, formed, operands, pairs_given, pair_outcome, pair_formed, value_outcome, accesses_given, place_of, made, chained, keys, record_held, factor, with_part}
 use Rattle.cedar_policy_parser.specs.Extensions.{Extensions}
-use Rattle.cedar_policy_parser.specs.Held.{Held, as_expression}
-use Rattle.cedar_policy_parser.specs.Outcome.{Told, Outcome, refused, both, next, ambiguous_operators, invalid_single_eq, unary_op_limit}
+use Rattle.cedar_policy_parser.specs.Held.{Held, bare_name, as_expression, as_attribute}
+use Rattle.cedar_policy_parser.specs.Leaves.{named, variable_or_name}
+use Rattle.cedar_policy_parser.specs.Members.{member_outcome}
+use Rattle.cedar_policy_parser.specs.Names.{name_outcome, named_variable}
+use Rattle.cedar_policy_parser.specs.Outcome.{Told, Outcome, refused, both, next, ambiguous_operators, invalid_single_eq, unary_op_limit, expression_construction_error, arbitrary_variable}
+use Rattle.cedar_policy_parser.specs.References.{lone, lone_form}
 use Rattle.cedar_policy_parser.proofs.Inverted.{next_ok}
 
 -- ---- a product
@@ -102,3 +111,83 @@ bangs e place a = refl
 pub dashes : (e : Extensions) (place : Option Loc) (a : Located) → outcome e (at place (f.unary (Some sign.OverDash) a)) ≡ refused unary_op_limit place
 unfolding outcome formed
 dashes e place a = refl
+
+-- ---- a record
+
+joined_pair : (o : Outcome Held) (pair : List ℕ × Value) (x : Outcome Value) → next o as_attribute ≡ Ok pair.0 → x ≡ Ok pair.1 → next o (λ h. both (as_attribute h) x) ≡ Ok pair
+joined_pair (Ok h) pair x e k = rw (e, k) refl
+joined_pair (Err fs) pair x e k = cc
+
+one_pair : (e : Extensions) (n : Located) (pair : List ℕ × Value) → IsPair e n pair → pair_outcome e n ≡ Ok pair
+unfolding pair_outcome pair_formed
+one_pair e n pair h = ap (λ m. pair_outcome e m) h.is ∙ joined_pair (outcome e h.key) pair (value_outcome e h.value) h.attribute h.converts
+
+all_pairs : (e : Extensions) (ps : Parts) (pairs : List (List ℕ × Value)) → ArePairs e ps pairs → pairs_given e ps ≡ Ok pairs
+unfolding pairs_given
+all_pairs e f.none [] h = refl
+all_pairs e f.none (pair ∷ pairs) h = absurd h
+all_pairs e (f.more op n others) [] h = absurd h
+all_pairs e (f.more op n others) (pair ∷ pairs) h = rw (one_pair e n pair h.0, all_pairs e others pairs h.1) refl
+
+repeats : (place : Option Loc) (o : Outcome (List (List ℕ × Value))) (pairs : List (List ℕ × Value)) → o ≡ Ok pairs → repeats_key (keys pairs) ≡ true → next o (record_held place) ≡ refused expression_construction_error place
+repeats place o pairs e k = rw (e, k) refl
+
+pub repeated_key : (e : Extensions) (place : Option Loc) (inits : Parts) (pairs : List (List ℕ × Value)) → ArePairs e inits pairs → repeats_key (keys pairs) ≡ true
+    → outcome e (at place (f.record_of inits)) ≡ refused expression_construction_error place
+unfolding outcome formed
+repeated_key e place inits pairs h k = repeats place (pairs_given e inits) pairs (all_pairs e inits pairs h) k
+
+-- ---- a name
+
+bare : (place : Option Loc) (n : Node (Option Name)) (path : Path) → named_variable n.node ≡ None → name_outcome n ≡ Ok path → next (named place n) as_expression ≡ refused arbitrary_variable place
+bare place n path h k = ap (λ o. next (variable_or_name place o n) as_expression) h ∙ ap (λ o. next (next o (λ name. Ok (bare_name place name))) as_expression) k
+
+-- the tree that is found
+abbrev found : Located → Outcome Located
+found n = Ok n
+
+same_place : (p place : Option Loc) (m n : Node (Option Name)) → found (at p (f.name m)) ≡ found (at place (f.name n)) → p ≡ place
+same_place p place m n e = cc
+
+same_name : (p place : Option Loc) (m n : Node (Option Name)) → found (at p (f.name m)) ≡ found (at place (f.name n)) → m ≡ n
+same_name p place m n e = cc
+
+bare_at : (p place : Option Loc) (m n : Node (Option Name)) (path : Path) → found (at p (f.name m)) ≡ found (at place (f.name n)) → named_variable n.node ≡ None → name_outcome n ≡ Ok path → next (named p m) as_expression ≡ refused arbitrary_variable place
+bare_at p place m n path e h k = ap (λ q. next (named q m) as_expression) (same_place p place m n e) ∙ ap (λ r. next (named place r) as_expression) (same_name p place m n e) ∙ bare place n path h k
+
+chain_alone : (level : Level) (place : Option Loc) (o : Outcome Held) → chained level place f.none o (Ok []) ≡ o
+chain_alone disjunction place (Ok h) = refl
+chain_alone conjunction place (Ok h) = refl
+chain_alone relation place (Ok h) = refl
+chain_alone sum place (Ok h) = refl
+chain_alone product place (Ok h) = refl
+chain_alone disjunction place (Err fs) = refl
+chain_alone conjunction place (Err fs) = refl
+chain_alone relation place (Err fs) = refl
+chain_alone sum place (Err fs) = refl
+chain_alone product place (Err fs) = refl
+
+member_alone : (e : Extensions) (place : Option Loc) (o : Outcome Held) → next (both o (Ok [])) (λ p. member_outcome e place p.0 p.1) ≡ o
+member_alone e place (Ok h) = refl
+member_alone e place (Err fs) = refl
+
+mutual
+  unfolding outcome formed operands accesses_given lone lone_form
+
+  refused_name : (e : Extensions) (tree : Located) (place : Option Loc) (n : Node (Option Name)) (path : Path) → lone tree ≡ found (at place (f.name n)) → named_variable n.node ≡ None → name_outcome n ≡ Ok path → value_outcome e tree ≡ refused arbitrary_variable place
+  refused_name e (f.missing p) place n path i h k = cc
+  refused_name e (f.at p form) place n path i h k = refused_form e p form place n path i h k
+
+  refused_form : (e : Extensions) (p : Option Loc) (form : Form) (place : Option Loc) (n : Node (Option Name)) (path : Path) → lone_form p form ≡ found (at place (f.name n)) → named_variable n.node ≡ None → name_outcome n ≡ Ok path → next (formed e p form) as_expression ≡ refused arbitrary_variable place
+  refused_form e p (f.only m) place n path i h k = refused_name e m place n path i h k
+  refused_form e p (f.chain level m f.none) place n path i h k = ap (λ o. next o as_expression) (chain_alone level p (outcome e m)) ∙ refused_name e m place n path i h k
+  refused_form e p (f.unary None m) place n path i h k = refused_name e m place n path i h k
+  refused_form e p (f.unary (Some (sign.Bang zero)) m) place n path i h k = refused_name e m place n path i h k
+  refused_form e p (f.unary (Some (sign.Dash zero)) m) place n path i h k = refused_name e m place n path i h k
+  refused_form e p (f.member m f.none) place n path i h k = ap (λ o. next o as_expression) (member_alone e p (outcome e m)) ∙ refused_name e m place n path i h k
+  refused_form e p (f.parens m) place n path i h k = ap (λ o. next (next o (made (place_of m))) as_expression) (refused_name e m place n path i h k)
+  refused_form e p (f.name m) place n path i h k = bare_at p place m n path i h k
+  refused_form e p form place n path i h k = cc
+
+pub lone_name : (e : Extensions) (tree : Located) (place : Option Loc) → IsBareName tree place → value_outcome e tree ≡ refused arbitrary_variable place
+lone_name e tree place h = refused_name e tree place h.name h.path h.is h.no_variable h.converts

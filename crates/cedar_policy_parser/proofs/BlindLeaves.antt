@@ -18,7 +18,7 @@ use Rattle.cedar_syntax.specs.declared.cst.Str.{Str}
 use Rattle.cedar_syntax.specs.declared.cst.Str.TheVariants as str
 use Rattle.cedar_syntax.specs.declared.err.escape.UnescapeError.{UnescapeError}
 use Rattle.cedar_syntax.specs.Unlocated.{unlocated_by, unlocated_literal, unlocated_name, unlocated_node, unlocated_ref}
-use Rattle.cedar_text.specs.Pattern.{pattern_faults, pattern_pieces}
+use Rattle.cedar_syntax.specs.Pattern.{pattern_faults, pattern_pieces}
 use Rattle.cedar_policy_parser.specs.Alike.{Alike, Same}
 use Rattle.cedar_policy_parser.specs.Entities.{id_text, id_outcome, reference_outcome, slot_id}
 use Rattle.cedar_policy_parser.specs.Held.{Held, expression, variable, bare_name, bare_truth, bare_string, as_expression, as_pattern, as_entity_type, as_string, as_attribute, text_value, unqualified}

@@ -11,7 +11,7 @@ use Rattle.cedar_policy_parser.proofs.Loops.{take_next}
 abbrev pub items_of : {A : Type 0} → Vec A Global → List A
 items_of v = v.items
 
-all_snoc : {X Y : Type 0} (f : X → Outcome Y) (xs : List X) (x : X) → all_of f (xs ++ x ∷ []) ≡ item_more (all_of f xs) (f x)
+pub all_snoc : {X Y : Type 0} (f : X → Outcome Y) (xs : List X) (x : X) → all_of f (xs ++ x ∷ []) ≡ item_more (all_of f xs) (f x)
 all_snoc f [] x = last (f x)
 all_snoc f (y ∷ ys) x = ap (λ o. next (both (f y) o) (λ p. Ok (p.0 ∷ p.1))) (all_snoc f ys x) ∙ shifted (f y) (all_of f ys) (f x)
 

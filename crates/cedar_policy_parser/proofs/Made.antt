@@ -29,7 +29,7 @@ use Rattle.cedar_syntax.specs.Located as f
 use Rattle.cedar_syntax.specs.Located.{Located, Form, at}
 use Rattle.cedar_syntax.specs.Tree.{disjunction, conjunction, relation, sum, product}
 use Rattle.cedar_syntax.proofs.FormLevels.{expr_out, impl_out, data_or, data_if, or_out, and_out, relation_common, add_out, mult_out, unary_out, member_out, init_out, relation_has, relation_like, relation_is, relation_is_in, access_field, access_call, access_index, primary_literal, primary_ref, primary_name, primary_slot, primary_expr, primary_list, primary_inits}
-use Rattle.cedar_text.specs.Trees.{Cell, expr_of, if_of, or_of, and_of, common_of, add_of, mult_of, unary_of, member_of, has_of, like_of, is_of, rec_init_of}
+use Rattle.cedar_syntax.specs.Trees.{Cell, expr_of, if_of, or_of, and_of, common_of, add_of, mult_of, unary_of, member_of, has_of, like_of, is_of, rec_init_of}
 use Rattle.cedar_policy_parser.specs.Conversion.{outcome, formed, operands, value_outcome, chained, chosen, signed, made, place_of, bodies, set_of, record_held, accesses_given, access_outcome, access_formed, pairs_given, pair_outcome, pair_formed, with_attributes, matched, beside_type, typed, typed_within}
 use Rattle.cedar_policy_parser.specs.HasSide.{right_side}
 use Rattle.cedar_policy_parser.specs.Leaves.{named, slot_held, entity_held}

@@ -1,5 +1,5 @@
 -- Answers held against outcomes that are joined.
-use Rattle.std.proofs.Common.{append-nil, ◌≡◌, ◌<◌, ◌+◌, ℕ, List, [], ◌∷◌, ◌++◌, append_assoc, map, take, length, get_or, Option, Result, Ok, Err, IfOk, IfErr, IsErrAnd, refl, sym, ap, ◌∙◌}
+use Rattle.std.proofs.Common.{append-nil, ◌≡◌, ◌<◌, ◌+◌, ℕ, List, [], ◌∷◌, ◌++◌, append_assoc, map, take, length, get_or, Option, Result, Ok, Err, IfOk, IfErr, IsErrAnd, alloc_error, refl, sym, ap, ◌∙◌}
 use Rattle.cedar_expressions.specs.Value.{Value}
 use Rattle.cedar_syntax.specs.ParseErrors.{faults_of}
 use Rattle.cedar_syntax.specs.declared.loc.Loc.{Loc}
@@ -9,7 +9,7 @@ use Rattle.cedar_syntax.specs.declared.err.faults.ParseError.{ParseError}
 use Rattle.cedar_syntax.specs.Forms.{parts_of}
 use Rattle.cedar_syntax.specs.Located.{Located, none}
 use Rattle.cedar_syntax.specs.Tree.{Operator}
-use Rattle.cedar_text.specs.Joined.{TellsBoth}
+use Rattle.cedar_syntax.specs.Joined.{TellsBoth, WantsMemory}
 use Rattle.cedar_policy_parser.specs.Conversion.{Part, outcome, operands, with_part, factor, value_outcome}
 use Rattle.cedar_policy_parser.specs.Extensions.{Extensions}
 use Rattle.cedar_policy_parser.specs.Held.{as_expression}
@@ -75,10 +75,25 @@ pub both_gives : {A B X Y : Type 0} (u : A → X) (v : B → Y) (a : Result A Fa
 both_gives u v a b (Ok p) x y ok err h k = both_given u v a b x y p.0 p.1 h k ok.0 ok.1
 both_gives u v a b (Err f) x y ok err h k = both_refused u v a b x y f h k err
 
+-- what is made of a value
+pub then_gives : {X Y Z : Type 0} (u : X → Y) (f : Y → Z) (r : Result X Failure) (o : Outcome Y) → Gives u r o → Gives (λ x. f (u x)) r (next o (λ y. Ok (f y)))
+then_gives u f (Ok x) o h = rw h refl
+then_gives u f (Err e) o h = refused_next e o (λ y. Ok (f y)) h
+
 -- what `?` passes on
 pub passed_on : {X Y : Type 0} (u : X → Y) (r : Result X Failure) (f : Failure) (o : Outcome Y) → IsErrAnd r (λ e. e ≡ f) → Refuses f o → Gives u r o
 passed_on u (Ok x) f o is h = absurd is
 passed_on u (Err e) f o is h = rw is h
+
+-- want of memory, which `?` passes on
+pub wanting : {X Y : Type 0} (u : X → Y) (r : Result X Failure) (o : Outcome Y) → IsErrAnd r (λ e. e ≡ Memory alloc_error) → Gives u r o
+wanting u (Ok x) o is = absurd is
+wanting u (Err e) o is = rw is tt
+
+pub wants : {X : Type 0} (r : Result X Failure) → IsErrAnd r (λ e. e ≡ Memory alloc_error) → WantsMemory r
+wants (Ok x) is = absurd is
+wants (Err (Memory e)) is = tt
+wants (Err (Errors es)) is = cc
 
 -- an outcome in other words
 pub gives_at : {X Y : Type 0} (u : X → Y) (r : Result X Failure) (o p : Outcome Y) → o ≡ p → Gives u r p → Gives u r o

@@ -9,11 +9,11 @@ use Rattle.cedar_syntax.specs.declared.err.faults.Failure.{Failure}
 use Rattle.cedar_syntax.specs.declared.err.faults.Failure.TheVariants.{Memory, Errors}
 use Rattle.cedar_syntax.specs.Forms.{located, expr_form}
 use Rattle.cedar_syntax.specs.Located.{at}
-use Rattle.cedar_text.specs.FirstFault.{IsMemory}
-use Rattle.cedar_text.specs.Grammar.{IsTreeOf}
-use Rattle.cedar_text.specs.LooseExpressions.{ReadsExpr}
-use Rattle.cedar_text.specs.Place.{placed_or_start}
-use Rattle.cedar_text.specs.Trees.{Cell}
+use Rattle.cedar_syntax.specs.FirstFault.{IsMemory}
+use Rattle.cedar_syntax.specs.Grammar.{IsTreeOf}
+use Rattle.cedar_syntax.specs.LooseExpressions.{ReadsExpr}
+use Rattle.cedar_syntax.specs.Place.{placed_or_start}
+use Rattle.cedar_syntax.specs.Trees.{Cell}
 use Rattle.cedar_policy_parser.specs.Conversion.{Converts, value_outcome}
 use Rattle.cedar_policy_parser.specs.Extensions.{Extensions}
 use Rattle.cedar_policy_parser.specs.Outcome.{Outcome}

@@ -9,9 +9,9 @@ use Rattle.cedar_syntax.specs.declared.loc.Loc.{Loc}
 use Rattle.cedar_syntax.specs.declared.err.escape.UnescapeError.{UnescapeError}
 use Rattle.cedar_syntax.specs.declared.err.non_empty.NonEmpty.{NonEmpty}
 use Rattle.cedar_expressions.specs.declared.literal.PatternElem.{PatternElem}
-use Rattle.cedar_text.specs.Pattern.{IsPattern, HasPatternFaults, pattern_faults, pattern_pieces}
-use Rattle.cedar_text.specs.Piece.{Placed, IsLaidOut, IsUnescaped, HasEscapeFaults}
-use Rattle.cedar_text.proofs.Layouts.{laid_out, laid_once}
+use Rattle.cedar_syntax.specs.Pattern.{IsPattern, HasPatternFaults, pattern_faults, pattern_pieces}
+use Rattle.cedar_syntax.specs.Piece.{Placed, IsLaidOut, IsUnescaped, HasEscapeFaults}
+use Rattle.cedar_syntax.proofs.Layouts.{laid_out, laid_once}
 use Rattle.cedar_policy_parser.specs.Held.{text_value}
 use Rattle.cedar_policy_parser.specs.Outcome.{Outcome, next}
 use Rattle.cedar_policy_parser.specs.Strings.{layout, escape_faults, unescaped, told_at, unless_faulty, text_outcome, pattern_outcome}

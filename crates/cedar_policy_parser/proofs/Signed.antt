@@ -6,7 +6,7 @@ use Rattle.cedar_expressions.specs.Value.{Value}
 use Rattle.cedar_syntax.specs.declared.loc.Loc.{Loc}
 use Rattle.cedar_syntax.specs.declared.err.faults.Failure.{Failure}
 use Rattle.cedar_syntax.specs.declared.cst.NegOp.TheVariants as sign
-use Rattle.cedar_text.specs.Trees.{bangs_of, dashes_of, sign_limit}
+use Rattle.cedar_syntax.specs.Trees.{bangs_of, dashes_of, sign_limit}
 use Rattle.cedar_policy_parser.specs.Conversion.{applied, dashed, signed, negative, number_outcome, made}
 use Rattle.cedar_policy_parser.specs.Held.{Held, expression, as_expression}
 use Rattle.cedar_policy_parser.specs.Outcome.{Outcome, next, refused, integer_literal_too_large}

@@ -76,7 +76,8 @@ abbrev pub seen_matched : {E : Type 0} → (E → Value) → E × Vec PatternEle
 seen_matched meaning p = (meaning p.0, p.1.items)
 
 -- `is`, alone or with what stands behind `in`
-abbrev pub typed_by : Extensions → Option Loc → Outcome Typed → Option (Node (Option Add)) → Outcome Held
+abbrev pub typed_by : Extensions → Option Loc → Outcome Typed → Option (Node (Option Add))
+    → Outcome Held
 typed_by e place p None = next p (typed place)
 typed_by e place p (Some n) =
     next p (λ q. next (value_outcome e (located add_form n)) (typed_within place q))

@@ -1,15 +1,20 @@
 -- Which trees and which texts are refused, and with which faults.
 use Rattle.std.specs.Prelude.{◌⊎◌, ℕ, List}
 use Rattle.cedar_syntax.specs.declared.cst.Expr.{Expr}
+use Rattle.cedar_syntax.specs.declared.cst.Policies.{Policies}
 use Rattle.cedar_syntax.specs.declared.err.faults.Failure.{Failure}
 use Rattle.cedar_syntax.specs.Forms.{located, expr_form}
-use Rattle.cedar_text.specs.declared.text_to_cst.expected.Narrowing.TheVariants as narrowing
-use Rattle.cedar_text.specs.FirstFault.{IsRefusal}
-use Rattle.cedar_text.specs.Grammar.{IsTreeOf}
-use Rattle.cedar_text.specs.LooseExpressions.{ReadsExpr}
-use Rattle.cedar_text.specs.Trees.{Cell}
+use Rattle.cedar_syntax.specs.declared.reading.expected.Narrowing.TheVariants as narrowing
+use Rattle.cedar_syntax.specs.FirstFault.{IsRefusal}
+use Rattle.cedar_syntax.specs.Grammar.{IsTreeOf}
+use Rattle.cedar_syntax.specs.LooseExpressions.{ReadsExpr}
+use Rattle.cedar_syntax.specs.LoosePolicies.{ReadsPolicies}
+use Rattle.cedar_syntax.specs.MendedFaults.{IsMendedRefusal, PoliciesBefore}
+use Rattle.cedar_syntax.specs.Trees.{Cell}
+use Rattle.cedar_policy_parser.specs.Conditions.{Found}
 use Rattle.cedar_policy_parser.specs.Conversion.{value_outcome}
 use Rattle.cedar_policy_parser.specs.Extensions.{Extensions}
+use Rattle.cedar_policy_parser.specs.Policies.{policies_outcome}
 use Rattle.cedar_policy_parser.specs.Seen.{Refuses}
 
 -- a tree is refused with its faults, all that there are
@@ -20,3 +25,14 @@ TellsTree table failure tree = Refuses failure (value_outcome table (located exp
 abbrev pub RefusesText : Extensions → Failure → List ℕ → Type 0
 RefusesText table failure text = IsRefusal ReadsExpr narrowing.TokensAndEnd text failure
     ⊎ ((tree : Cell Expr) × IsTreeOf ReadsExpr text tree × TellsTree table failure tree)
+
+-- the same of the tree of policies, wherever the slots in their conditions were found
+abbrev pub TellsSet : Extensions → Failure → Cell Policies → Type 0
+TellsSet table failure tree =
+    (found : List (List Found)) × Refuses failure (policies_outcome table found tree)
+
+-- a text of policies is refused with its mended faults where it has no tree, else with the faults of
+-- its tree
+abbrev pub RefusesSet : Extensions → Failure → List ℕ → Type 0
+RefusesSet table failure text = IsMendedRefusal ReadsPolicies PoliciesBefore text failure
+    ⊎ ((tree : Cell Policies) × IsTreeOf ReadsPolicies text tree × TellsSet table failure tree)

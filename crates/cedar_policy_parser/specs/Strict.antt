@@ -17,9 +17,9 @@ use Rattle.cedar_expressions.specs.declared.literal.Literal.TheVariants as liter
 use Rattle.cedar_expressions.specs.Keys.{repeats_key}
 use Rattle.cedar_expressions.specs.Value as v
 use Rattle.cedar_expressions.specs.Value.{Value, values, terms, fields}
-use Rattle.cedar_text.specs.Pattern.{IsPattern}
-use Rattle.cedar_text.specs.Signs.{ReadsSigns, ReadsAddOp}
-use Rattle.cedar_text.specs.Tokens.{Spot, one, number_of, between_quotes}
+use Rattle.cedar_syntax.specs.Pattern.{IsPattern}
+use Rattle.cedar_syntax.specs.Signs.{ReadsSigns, ReadsAddOp}
+use Rattle.cedar_syntax.specs.Tokens.{Spot, one, number_of, between_quotes}
 use Rattle.cedar_policy_parser.specs.Extensions.{Extensions}
 use Rattle.cedar_policy_parser.specs.StrictCalls.{IsFunction, CallsMethod}
 use Rattle.cedar_policy_parser.specs.StrictWords.{IsVariable, IsVariableWord, IsIdentifier, IsName, IsText, IsSought, IsKey, IsEntity, name_of}

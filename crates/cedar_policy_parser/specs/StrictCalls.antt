@@ -12,7 +12,8 @@ use Rattle.cedar_policy_parser.specs.StrictWords.{name_of}
 -- the methods that every text may call
 abbrev pub standard_methods : List (List ℕ)
 standard_methods =
-    codes "contains" ∷ codes "containsAll" ∷ codes "containsAny" ∷ codes "isEmpty" ∷ codes "getTag" ∷ codes "hasTag" ∷ []
+    codes "contains" ∷ codes "containsAll" ∷ codes "containsAny" ∷ codes "isEmpty"
+    ∷ codes "getTag" ∷ codes "hasTag" ∷ []
 
 abbrev pub is_standard : List ℕ → Bool
 is_standard id = list_any (bytes_eq id) standard_methods
@@ -24,7 +25,8 @@ names_method table (_ ∷ _) id = false
 
 -- what may be called by its name alone: a function of the table whose name is no method's
 abbrev pub IsFunction : Extensions → List (List ℕ) → List ℕ → Type 0
-IsFunction table ids id = (names_method table ids id ≡ false) × (table.functions (name_of ids id) ≡ true)
+IsFunction table ids id =
+    (names_method table ids id ≡ false) × (table.functions (name_of ids id) ≡ true)
 
 -- a method called on a value with arguments, and the value that this means: each of the six takes
 -- its own number of them; any other is the table's, and is called on the value and the arguments

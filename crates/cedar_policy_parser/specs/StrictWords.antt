@@ -11,8 +11,8 @@ use Rattle.cedar_expressions.specs.declared.literal.Var.{Var}
 use Rattle.cedar_expressions.specs.declared.literal.Var.TheVariants as vars
 use Rattle.cedar_expressions.specs.Path.{Path, is_unreserved_identifier}
 use Rattle.cedar_expressions.specs.Written.{var_text}
-use Rattle.cedar_text.specs.Piece.{IsUnescaped}
-use Rattle.cedar_text.specs.Tokens.{Spot, one, between_quotes}
+use Rattle.cedar_syntax.specs.Piece.{IsUnescaped}
+use Rattle.cedar_syntax.specs.Tokens.{Spot, one, between_quotes}
 
 -- the four variables of a request
 pub data IsVariable : TokenKind → Var → Type 0 where

@@ -4,9 +4,9 @@ use Rattle.std.specs.Str.{chars}
 use Rattle.cedar_syntax.specs.declared.err.escape.UnescapeError.{UnescapeError}
 use Rattle.cedar_syntax.specs.declared.loc.Loc.{Loc}
 use Rattle.cedar_expressions.specs.declared.literal.PatternElem.{PatternElem}
-use Rattle.cedar_text.specs.Pattern.{pattern_faults, pattern_pieces}
-use Rattle.cedar_text.specs.Piece.{Placed, piece_faults, unescaped_pieces}
-use Rattle.cedar_text.proofs.Layouts.{laid_out}
+use Rattle.cedar_syntax.specs.Pattern.{pattern_faults, pattern_pieces}
+use Rattle.cedar_syntax.specs.Piece.{Placed, piece_faults, unescaped_pieces}
+use Rattle.cedar_syntax.proofs.Layouts.{laid_out}
 use Rattle.cedar_policy_parser.specs.Outcome.{Outcome, Told, unescape}
 
 -- the pieces that a raw text is laid out of: there are such, and no others (the law `one_layout`

@@ -14,7 +14,7 @@ use crate::join::bodies_of;
 use crate::members::Access;
 use crate::names::unreserved_ident;
 use crate::special::{ExprOrSpecial, builder_at, made, refusal};
-use crate::wanted::{into_attribute, into_string};
+use crate::wanted::{into_attribute, string_from};
 use cedar_expressions::{ExprBuilderInfallibleBuild, RecordError, Text};
 use cedar_syntax::cst::Ident;
 use cedar_syntax::err::{Failure, ToASTErrorKind};
@@ -72,9 +72,10 @@ pub(crate) fn index_from<B: ExprBuilderInfallibleBuild>(
     inner: Result<ExprOrSpecial<B::Expr>, Failure>,
 ) -> Result<Access<B::Expr>, Failure>
     ensures { (h : Outcome Held) → Gives (plain B.meaning) inner h
-        → Gives (seen_access B.meaning) result (next (next h as_string) (λ text. Ok (index text))) }
+        → Gives (seen_access B.meaning) result
+        (next (next h as_string) (λ text. Ok (index text))) }
 {
-    Ok(Access::Index(into_string::<B>(alloc, &inner?)?))
+    Ok(Access::Index(string_from::<B>(alloc, inner)?))
 }
 
 /// One more access behind those so far.
@@ -103,7 +104,9 @@ pub(crate) fn pair_from<B: ExprBuilderInfallibleBuild>(
         (next h (λ held. both (as_attribute held) x)) }
 {
     let key = key?;
-    flatten_tuple_2(into_attribute::<B>(alloc, &key), value)
+    let attribute = into_attribute::<B>(alloc, &key);
+    drop(key);
+    flatten_tuple_2(attribute, value)
 }
 
 /// One more pair behind those so far.

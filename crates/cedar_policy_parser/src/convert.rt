@@ -29,7 +29,7 @@ use cedar_syntax::err::Failure;
 use cedar_syntax::node::Node;
 use std::alloc::Global;
 
-fn inner_of(tree: &cst::Expr) -> &cst::ExprImpl
+pub(crate) fn inner_of(tree: &cst::Expr) -> &cst::ExprImpl
     ensures { tree.now ≡ exprs.Expr result.now }
 {
     match tree {
@@ -255,7 +255,7 @@ fn typed<B: ExprBuilderInfallibleBuild>(
 /// A sum, or its one part.
 #[cycle(convert)]
 #[inline(never)]
-fn add<B: ExprBuilderInfallibleBuild>(
+pub(crate) fn add<B: ExprBuilderInfallibleBuild>(
     alloc: Global,
     styles: &ExtStyles,
     node: &Node<Option<cst::Add>>,

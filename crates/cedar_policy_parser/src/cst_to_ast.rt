@@ -1,6 +1,14 @@
 //! Converts placed trees to values.
-ghost use Rattle.std.specs.Prelude.{◌≡◌, ℕ, List, string_bytes};
+ghost use Rattle.std.specs.Prelude.{◌≡◌, ℕ, List, Ok, IfOk, IfErr, string_bytes};
 ghost use Rattle.std.specs.Option.{option_copied};
+ghost use Rattle.cedar_policy_store.specs.PlaceFree.{set_meaning};
+ghost use Rattle.cedar_policy_store.specs.TextMap.{map_in};
+ghost use Rattle.cedar_policy_parser.specs.AnnotationKeys.{Annotated, Answers, AnswersEach, annotation_outcome, annotations_outcome, keyed};
+ghost use Rattle.cedar_policy_parser.specs.Conditions.{Found};
+ghost use Rattle.cedar_policy_parser.specs.GeneratedIds.{left, named_outcome};
+ghost use Rattle.cedar_policy_parser.specs.Policies.{template_parts, template_outcome, either_parts, either_outcome, static_outcome, policies_outcome};
+ghost use Rattle.cedar_policy_parser.specs.References.{referred, single_of, single_entity, entity_or_slot, one_or_multiple};
+ghost use Rattle.cedar_policy_parser.specs.Scope.{scope_outcome};
 ghost use Rattle.std.specs.BTreeSet.{contains};
 ghost use Rattle.cedar_expressions.specs.Path.{Path};
 ghost use Rattle.cedar_syntax.specs.Forms.{located, expr_form, member_form, primary_form};
@@ -9,20 +17,35 @@ ghost use Rattle.cedar_policy_parser.specs.Entities.{entity_outcome};
 ghost use Rattle.cedar_policy_parser.specs.Extensions.{table_of};
 ghost use Rattle.cedar_policy_parser.specs.Literals.{lone_literal, string_outcome};
 ghost use Rattle.cedar_policy_parser.specs.Names.{any_ident as any_outcome, valid_ident as valid_outcome};
-ghost use Rattle.cedar_policy_parser.specs.Seen.{Gives, itself};
+ghost use Rattle.cedar_policy_parser.specs.Seen.{Gives, Refuses, itself};
 
+use crate::annotations::{annotations, kv_pair};
 use crate::convert::expr;
 use crate::entities::entity_of;
 use crate::literals::literal_of;
 use crate::names::{any_ident, valid_ident};
-use crate::special::expr_of;
+pub use crate::policy_ids::GeneratedPolicyIds;
+pub use crate::scope::Scope;
+use crate::scope::scope_of;
+use crate::sets::policy_set;
+use crate::special::{expr_of, unreached};
+use crate::templates::{static_or_template, static_policy, template};
+pub use crate::to_ref_or_refs::OneOrMultipleRefs;
+use crate::to_ref_or_refs::{SingleEntity, to_ref_or_refs};
 use crate::wanted::string_literal;
-use cedar_expressions::{AnyId, EntityUID, ExprBuilderInfallibleBuild, Id, Name, UnreservedId};
-use cedar_syntax::cst::{Expr, Ident, Literal, Member, Primary, Ref};
+use cedar_expressions::{
+    AnyId, EntityUID, ExprBuilderInfallibleBuild, Id, Name, UnreservedId, Var,
+};
+use cedar_policy_store::{EntityReference, PolicyID, PolicySet, StaticPolicy, Template};
+use cedar_syntax::cst::{
+    Annotation, Expr, Ident, Literal, Member, Policies, Policy, PolicyImpl, Primary, Ref,
+};
 use cedar_syntax::err::Failure;
+use cedar_syntax::loc::Loc;
 use cedar_syntax::node::Node;
+use either::Either;
 use std::alloc::Global;
-use std::collections::BTreeSet;
+use std::collections::{BTreeMap, BTreeSet};
 
 /// The extension functions and methods that a text may call: two sets.
 #[derive(Drop)]
@@ -65,6 +88,15 @@ pub trait ExprAst {
         alloc: Global,
         styles: &ExtStyles,
     ) -> Result<B::Expr, Failure>;
+
+    /// The entity that the tree is, right of an operator of the scope.
+    fn to_ref(&self, alloc: Global, var: Var) -> Result<EntityUID, Failure>;
+
+    /// The entity that the tree is, or the slot of the variable.
+    fn to_ref_or_slot(&self, alloc: Global, var: Var) -> Result<EntityReference, Failure>;
+
+    /// The entity that the tree is, or the entities of a set.
+    fn to_refs(&self, alloc: Global, var: Var) -> Result<OneOrMultipleRefs, Failure>;
 }
 
 impl ExprAst for Node<Option<Expr>> {
@@ -77,6 +109,25 @@ impl ExprAst for Node<Option<Expr>> {
             (located expr_form self.now)) }
     {
         expr_of::<B>(alloc, expr::<B>(alloc, styles, self))
+    }
+
+    fn to_ref(&self, alloc: Global, var: Var) -> Result<EntityUID, Failure>
+        ensures { Gives single_of result (referred single_entity var self.now) }
+    {
+        let SingleEntity(uid) = to_ref_or_refs::<SingleEntity>(alloc, var, self)?;
+        Ok(uid)
+    }
+
+    fn to_ref_or_slot(&self, alloc: Global, var: Var) -> Result<EntityReference, Failure>
+        ensures { Gives itself result (referred entity_or_slot var self.now) }
+    {
+        to_ref_or_refs::<EntityReference>(alloc, var, self)
+    }
+
+    fn to_refs(&self, alloc: Global, var: Var) -> Result<OneOrMultipleRefs, Failure>
+        ensures { Gives itself result (referred one_or_multiple var self.now) }
+    {
+        to_ref_or_refs::<OneOrMultipleRefs>(alloc, var, self)
     }
 }
 
@@ -148,5 +199,180 @@ impl RefAst for Node<Option<Ref>> {
         ensures { Gives itself result (entity_outcome self.now) }
     {
         entity_of(alloc, self)
+    }
+}
+
+/// The conversion of an annotation.
+pub trait AnnotationAst {
+    /// The key, and what `f` makes of the text and the place. A condition: `f` may be called on every text and place.
+    fn to_kv_pair<T: Drop, F: Fn(Option<String>, Option<&Loc>) -> T>(
+        &self,
+        alloc: Global,
+        f: F,
+    ) -> Result<(AnyId, T), Failure>
+        requires { F.IsAlwaysCallable f };
+}
+
+impl AnnotationAst for Node<Option<Annotation>> {
+    fn to_kv_pair<T: Drop, F: Fn(Option<String>, Option<&Loc>) -> T>(
+        &self,
+        alloc: Global,
+        f: F,
+    ) -> Result<(AnyId, T), Failure>
+        requires { F.IsAlwaysCallable f }
+        ensures value { IfOk result (λ p. (a : Annotated) × (annotation_outcome self.now ≡ Ok a)
+            × (a.key ≡ p.0) × Answers F.Fn f a p.1) }
+        ensures refused { IfErr result (λ failure. Refuses failure (annotation_outcome self.now)) }
+    {
+        kv_pair::<T, F>(alloc, self, &f)
+    }
+}
+
+/// The conversion of a policy's scope and annotations.
+pub trait PolicyImplAst {
+    /// What is asked of the principal, the action and the resource.
+    fn extract_scope(&self, alloc: Global, styles: &ExtStyles) -> Result<Scope, Failure>;
+
+    /// What `f` makes of each annotation, by its key. A condition: `f` may be called on every text and place.
+    fn get_ast_annotations<T: Drop, F: Fn(Option<String>, Option<&Loc>) -> T>(
+        &self,
+        alloc: Global,
+        f: F,
+    ) -> Result<BTreeMap<AnyId, T>, Failure>
+        requires { F.IsAlwaysCallable f };
+}
+
+impl PolicyImplAst for PolicyImpl {
+    fn extract_scope(&self, alloc: Global, styles: &ExtStyles) -> Result<Scope, Failure>
+        ensures { Gives itself result (scope_outcome (table_of styles.now) self.now) }
+    {
+        scope_of(alloc, styles, &self.effect.loc, self.variables.as_slice())
+    }
+
+    fn get_ast_annotations<T: Drop, F: Fn(Option<String>, Option<&Loc>) -> T>(
+        &self,
+        alloc: Global,
+        f: F,
+    ) -> Result<BTreeMap<AnyId, T>, Failure>
+        requires { F.IsAlwaysCallable f }
+        ensures value { IfOk result (λ map. (all : List Annotated) × (made : List T)
+            × (annotations_outcome self.now.annotations ≡ Ok all) × AnswersEach F.Fn f all made
+            × (map_in map ≡ keyed all made)) }
+        ensures refused { IfErr result (λ failure.
+            Refuses failure (annotations_outcome self.now.annotations)) }
+    {
+        annotations::<T, F>(alloc, self.annotations.as_slice(), &f)
+    }
+}
+
+/// The conversion of a policy.
+pub trait PolicyAst {
+    /// The template that the tree stands for; of a static policy too.
+    fn to_template(
+        &self,
+        alloc: Global,
+        id: PolicyID,
+        styles: &ExtStyles,
+    ) -> Result<Template, Failure>;
+
+    /// The same.
+    fn to_policy_template(
+        &self,
+        alloc: Global,
+        id: PolicyID,
+        styles: &ExtStyles,
+    ) -> Result<Template, Failure>;
+
+    /// A static policy, or a template with a slot.
+    fn to_policy_or_template(
+        &self,
+        alloc: Global,
+        id: PolicyID,
+        styles: &ExtStyles,
+    ) -> Result<Either<StaticPolicy, Template>, Failure>;
+
+    /// The static policy that the tree stands for; a template with a slot is refused.
+    fn to_policy(
+        &self,
+        alloc: Global,
+        id: PolicyID,
+        styles: &ExtStyles,
+    ) -> Result<StaticPolicy, Failure>;
+}
+
+impl PolicyAst for Node<Option<Policy>> {
+    fn to_template(
+        &self,
+        alloc: Global,
+        id: PolicyID,
+        styles: &ExtStyles,
+    ) -> Result<Template, Failure>
+        ensures { (found : List Found) × Gives template_parts result
+            (template_outcome (table_of styles.now) found id self.now) }
+    {
+        template(alloc, styles, id, self)
+    }
+
+    fn to_policy_template(
+        &self,
+        alloc: Global,
+        id: PolicyID,
+        styles: &ExtStyles,
+    ) -> Result<Template, Failure>
+        ensures { (found : List Found) × Gives template_parts result
+            (template_outcome (table_of styles.now) found id self.now) }
+    {
+        template(alloc, styles, id, self)
+    }
+
+    fn to_policy_or_template(
+        &self,
+        alloc: Global,
+        id: PolicyID,
+        styles: &ExtStyles,
+    ) -> Result<Either<StaticPolicy, Template>, Failure>
+        ensures { (found : List Found) × Gives either_parts result
+            (either_outcome (table_of styles.now) found id self.now) }
+    {
+        static_or_template(alloc, styles, id, self)
+    }
+
+    fn to_policy(
+        &self,
+        alloc: Global,
+        id: PolicyID,
+        styles: &ExtStyles,
+    ) -> Result<StaticPolicy, Failure>
+        ensures { (found : List Found) × Gives template_parts result
+            (static_outcome (table_of styles.now) found id self.now) }
+    {
+        static_policy(alloc, styles, id, self)
+    }
+}
+
+/// The conversion of a set of policies.
+pub trait PoliciesAst {
+    /// Each policy with its name: `policy` and how many stand before it.
+    fn with_generated_policyids(&self, alloc: Global) -> Result<GeneratedPolicyIds<'_>, Failure>;
+
+    /// The set that the tree stands for, or all faults that hinder it, in their order. Or it is `Failure::Memory`.
+    fn to_policyset(&self, alloc: Global, styles: &ExtStyles) -> Result<PolicySet, Failure>;
+}
+
+impl PoliciesAst for Node<Option<Policies>> {
+    fn with_generated_policyids(&self, alloc: Global) -> Result<GeneratedPolicyIds<'_>, Failure>
+        ensures { Gives left result (named_outcome self.now) }
+    {
+        match &self.node {
+            Some(policies) => Ok(GeneratedPolicyIds::new(alloc, policies.0.as_slice())),
+            None => Err(unreached(alloc, &self.loc)),
+        }
+    }
+
+    fn to_policyset(&self, alloc: Global, styles: &ExtStyles) -> Result<PolicySet, Failure>
+        ensures { (found : List (List Found)) × Gives set_meaning result
+            (policies_outcome (table_of styles.now) found self.now) }
+    {
+        policy_set(alloc, styles, self)
     }
 }

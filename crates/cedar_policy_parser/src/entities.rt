@@ -17,7 +17,11 @@ use cedar_text::util::flatten_tuple_2;
 use std::alloc::Global;
 
 /// The text of an entity's id: its escape faults stand at the entity's place.
-fn id_of(alloc: Global, loc: &Option<Loc>, node: &Node<Option<Str>>) -> Result<Text, Failure>
+pub(crate) fn id_of(
+    alloc: Global,
+    loc: &Option<Loc>,
+    node: &Node<Option<Str>>,
+) -> Result<Text, Failure>
     ensures { Gives itself result (id_outcome loc.now node.now) }
 {
     match &node.node {

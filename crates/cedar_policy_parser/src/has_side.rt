@@ -156,7 +156,10 @@ fn attributes_from<B: ExprBuilderInfallibleBuild>(
         → Gives seen_attributes result (next h (attributes_of side.entry.loc.now
         (parts_of (map listed_access accesses.now)))) }
 {
-    attributes_of::<B>(side, accesses, &special?)
+    let special = special?;
+    let attributes = attributes_of::<B>(side, accesses, &special);
+    drop(special);
+    attributes
 }
 
 /// A primary that begins the right side: any but a literal or a name is refused at its place.

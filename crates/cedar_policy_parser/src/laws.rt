@@ -2,6 +2,7 @@
 ghost use Rattle.std.specs.Prelude.{◌≡◌, ◌↔◌, ℕ, List, [], Option, Some, Ok, Err, true};
 ghost use Rattle.cedar_lexer.specs.Spelling.{IsIdentifier};
 ghost use Rattle.cedar_lexer.specs.Token.{Lexeme};
+ghost use Rattle.cedar_expressions.specs.Keys.{repeats_key};
 ghost use Rattle.cedar_expressions.specs.Path.{is_identifier};
 ghost use Rattle.cedar_expressions.specs.Value.{Value};
 ghost use Rattle.cedar_syntax.specs.declared.loc.Loc.{Loc};
@@ -14,12 +15,15 @@ ghost use Rattle.cedar_syntax.specs.Located as f;
 ghost use Rattle.cedar_syntax.specs.Located.{Located, Parts};
 ghost use Rattle.cedar_syntax.specs.Tree as t;
 ghost use Rattle.cedar_syntax.specs.Unlocated.{unlocated};
-ghost use Rattle.cedar_text.specs.LooseExpressions.{ReadsExpr};
-ghost use Rattle.cedar_text.specs.Place.{placed};
-ghost use Rattle.cedar_policy_parser.specs.Alone.{HasValue, HaveValues, OperandsHaveValues, quotients};
-ghost use Rattle.cedar_policy_parser.specs.Conversion.{Converts, outcome, value_outcome};
+ghost use Rattle.cedar_syntax.specs.Grammar.{IsTreeOf};
+ghost use Rattle.cedar_syntax.specs.LooseExpressions.{ReadsExpr};
+ghost use Rattle.cedar_syntax.specs.Place.{placed};
+ghost use Rattle.cedar_syntax.specs.Trees.{Cell};
+ghost use Rattle.cedar_policy_parser.specs.Alone.{HasValue, HaveValues, OperandsHaveValues, quotients, ArePairs, IsBareName};
+ghost use Rattle.cedar_policy_parser.specs.Conversion.{Converts, keys, outcome, value_outcome};
 ghost use Rattle.cedar_policy_parser.specs.Extensions.{Extensions};
-ghost use Rattle.cedar_policy_parser.specs.Outcome.{given, refused, ambiguous_operators, invalid_single_eq, unary_op_limit};
+ghost use Rattle.cedar_policy_parser.specs.Outcome.{given, refused, ambiguous_operators, arbitrary_variable, expression_construction_error, invalid_single_eq, unary_op_limit};
+ghost use Rattle.cedar_policy_parser.specs.Standing.{StandWithin};
 ghost use Rattle.cedar_policy_parser.specs.Strict.{Means, expression};
 
 use cedar_text::text_to_cst::laws::expressions;
@@ -66,7 +70,9 @@ pub fn values_see_no_place()
 /// A relation whose operands have values is refused for its operators alone, at its place: two or more are
 /// `AmbiguousOperators`, a single `=` is `InvalidSingleEq`. A product whose operands have values is refused for each `/` and
 /// `%` in order, at its place, and for nothing else. More than four signs are `UnaryOpLimit` alone, at the place of the
-/// operand with its signs, whatever the operand is.
+/// operand with its signs, whatever the operand is. A record of which each key is an attribute and each value a value, with a
+/// key twice, is `ExpressionConstructionError` alone, at its place. A name that is no variable is `ArbitraryVariable` alone
+/// where an expression is wanted, in parentheses or not, at its place.
 pub fn refused_alone()
     ensures ambiguous { (table : Extensions) (place : Option Loc) (a b c : Located)
         (op next : t.Operator)
@@ -88,6 +94,22 @@ pub fn refused_alone()
     ensures dashes { (table : Extensions) (place : Option Loc) (a : Located)
         → outcome table (f.at place (f.unary (Some sign.OverDash) a))
         ≡ refused unary_op_limit place }
+    ensures repeated_key { (table : Extensions) (place : Option Loc) (inits : Parts)
+        (pairs : List (List ℕ × Value))
+        → ArePairs table inits pairs → repeats_key (keys pairs) ≡ true
+        → outcome table (f.at place (f.record_of inits))
+        ≡ refused expression_construction_error place }
+    ensures lone_name { (table : Extensions) (tree : Located) (place : Option Loc)
+        → IsBareName tree place
+        → value_outcome table tree ≡ refused arbitrary_variable place }
+{}
+
+/// What a text's tree is refused with stands within the tree's place, each fault at a known place of the same text; it is never
+/// of an empty node, and there is a fault.
+pub fn faults_stand_within()
+    ensures { (table : Extensions) (text : List ℕ) (tree : Cell Tree)
+        → IsTreeOf ReadsExpr text tree
+        → StandWithin tree.loc (value_outcome table (located expr_form tree)) }
 {}
 
 /// What is spelled as an identifier is one for tokens and for names.

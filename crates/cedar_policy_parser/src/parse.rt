@@ -4,16 +4,23 @@ ghost use Rattle.cedar_lexer.specs.Token.{Lexeme};
 ghost use Rattle.cedar_lexer.specs.Cut.{Cuts};
 ghost use Rattle.cedar_expressions.specs.Meaning.{unplaced};
 ghost use Rattle.cedar_expressions.specs.Value.{Value};
-ghost use Rattle.cedar_text.specs.FirstFault.{IsMemory};
+ghost use Rattle.cedar_policy_store.specs.PlaceFree.{Policies, set_meaning};
+ghost use Rattle.cedar_syntax.specs.FirstFault.{IsMemory};
+ghost use Rattle.cedar_syntax.specs.Leftmost.{HasLeftmost, NumbersFit};
+ghost use Rattle.cedar_syntax.specs.LoosePolicies.{ReadsPolicies};
+ghost use Rattle.cedar_syntax.specs.Sentences.{HasTree};
 ghost use Rattle.cedar_syntax.specs.declared.cst.TheConstants.{SIGN_LIMIT};
 ghost use Rattle.cedar_policy_parser.specs.Extensions.{table_of};
-ghost use Rattle.cedar_policy_parser.specs.Refused.{RefusesText};
+ghost use Rattle.cedar_policy_parser.specs.Refused.{RefusesSet, RefusesText};
 ghost use Rattle.cedar_policy_parser.specs.Strict.{Means, expression};
+ghost use Rattle.cedar_policy_parser.specs.StrictPolicy.{IsPolicySet};
 
-use crate::cst_to_ast::{ExprAst, ExtStyles};
+use crate::cst_to_ast::{ExprAst, ExtStyles, PoliciesAst};
 use cedar_expressions::{Expr, ExprBuilder};
+use cedar_lexer::laws::at_most_one_cut;
+use cedar_policy_store::PolicySet;
 use cedar_syntax::err::Failure;
-use cedar_text::text_to_cst::parse_expr;
+use cedar_text::text_to_cst::{parse_expr, parse_policies};
 use std::alloc::Global;
 
 /// The expression that a text means.
@@ -33,4 +40,29 @@ pub fn parse_expression(alloc: Global, text: &str, styles: &ExtStyles) -> Result
 {
     let tree = parse_expr(alloc, text)?;
     tree.to_expr::<ExprBuilder<()>>(alloc, styles)
+}
+
+/// The policies that a text means.
+///
+/// It answers a set exactly if the tokens that the text cuts into have a meaning in the strict grammar of policy sets under this table, and
+/// then that set, the only one, places aside: its policies and templates under `policy0`, `policy1` and so on. Any other text is
+/// refused with one or more faults, each at its bytes of the text: those of `parse_policies`, all that there are, or those of
+/// `to_policyset`, all that there are. Of a text whose tokens the loose grammar has no tree for and whose numbers fit 64 bits, one
+/// fault starts before all others: at the first token, or the end, that no sentence of it allows. Or it is `Failure::Memory`.
+pub fn parse_policyset(alloc: Global, text: &str, styles: &ExtStyles) -> Result<PolicySet, Failure>
+    ensures value { IfOk result (λ set.
+        (ts : List Lexeme) × Cuts text.now ts × IsPolicySet
+        (table_of styles.now) SIGN_LIMIT ts (set_meaning set)) }
+    ensures only { (ts : List Lexeme) (meant : Policies) → Cuts text.now ts
+        → IsPolicySet (table_of styles.now) SIGN_LIMIT ts meant
+        → MatchResult result (λ set. set_meaning set ≡ meant) IsMemory }
+    ensures refused { IfErr result (λ failure. RefusesSet
+        (table_of styles.now) failure text.now) }
+    ensures leftmost { (ts : List Lexeme) → Cuts text.now ts → NumbersFit ts
+        → ¬ HasTree (ReadsPolicies text.now) ts
+        → IfErr result (λ failure. HasLeftmost ReadsPolicies text.now ts failure) }
+{
+    at_most_one_cut();
+    let tree = parse_policies(alloc, text)?;
+    tree.to_policyset(alloc, styles)
 }

@@ -47,7 +47,9 @@ fn pattern_beside<B: ExprBuilderInfallibleBuild>(
         (next h (λ held. both x (as_pattern held))) }
 {
     let right = right?;
-    flatten_tuple_2(target, into_pattern::<B>(alloc, &right))
+    let pattern = into_pattern::<B>(alloc, &right);
+    drop(right);
+    flatten_tuple_2(target, pattern)
 }
 
 /// A value and the pattern right of its `like`.

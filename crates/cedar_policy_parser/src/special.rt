@@ -1,16 +1,18 @@
 //! Expressions, and what is one but may be something else where it stands bare; refusals at a place.
-ghost use Rattle.std.specs.Prelude.{◌≡◌, Ok};
+ghost use Rattle.std.specs.Prelude.{◌≡◌, IfOk, Ok};
 ghost use Rattle.std.specs.Option.{option_map};
 ghost use Rattle.cedar_expressions.specs.Value.{Value};
 ghost use Rattle.cedar_policy_parser.specs.Held.{Held, expression, as_expression};
 ghost use Rattle.cedar_policy_parser.specs.Outcome.{Outcome, arbitrary_variable, empty_node, next};
+ghost use Rattle.cedar_policy_parser.specs.References.{bytes_of};
 ghost use Rattle.cedar_policy_parser.specs.Seen.{Gives, TellsAlone, kind_of, plain};
 
+use crate::places::bytes_of;
 use crate::strings::text_of;
-use cedar_expressions::{ExprBuilderInfallibleBuild, Literal, Name, Place, Text, TryClone, Var};
+use cedar_expressions::{ExprBuilderInfallibleBuild, Literal, Name, Text, TryClone, Var};
 use cedar_syntax::err::{Failure, ParseErrors, ToASTError, ToASTErrorKind};
 use cedar_syntax::loc::Loc;
-use std::alloc::Global;
+use std::alloc::{AllocError, Global};
 
 /// An expression, or a form that is one where an expression is wanted and something else elsewhere, with its place.
 #[derive(Drop)]
@@ -26,17 +28,9 @@ pub(crate) enum ExprOrSpecial<E> {
 
 /// A builder for a node at a place.
 pub(crate) fn builder_at<B: ExprBuilderInfallibleBuild>(alloc: Global, loc: &Option<Loc>) -> B
-    ensures { B.node_place result ≡ option_map
-        (λ l. record { offset = l.span.offset; length = l.span.len }) loc.now }
+    ensures { B.node_place result ≡ option_map bytes_of loc.now }
 {
-    let place = match loc {
-        Some(loc) => Some(Place {
-            offset: loc.span.offset(),
-            length: loc.span.len(),
-        }),
-        None => None,
-    };
-    B::new(alloc).with_maybe_source_loc(place)
+    B::new(alloc).with_maybe_source_loc(bytes_of(loc))
 }
 
 /// An expression that was made, at its place.
@@ -49,12 +43,23 @@ pub(crate) fn made<B: ExprBuilderInfallibleBuild>(
     Ok(ExprOrSpecial::Expr(expr, loc.try_clone()?))
 }
 
+/// A value, with a place that is copied. Where that is refused, a caller then drops nothing on its way out.
+fn placed<T: Drop>(value: T, loc: &Option<Loc>) -> Result<(T, Option<Loc>), AllocError>
+    ensures { IfOk result (λ both. both ≡ (value, loc.now)) }
+{
+    let loc = loc.try_clone()?;
+    Ok((value, loc))
+}
+
 /// One fault at a place.
 pub(crate) fn refusal(alloc: Global, kind: ToASTErrorKind, loc: &Option<Loc>) -> Failure
     ensures { TellsAlone result (kind_of kind) loc.now }
 {
-    match loc.try_clone() {
-        Ok(loc) => Failure::Errors(ParseErrors::from_ast(alloc, ToASTError::new(kind, loc))),
+    match placed(kind, loc) {
+        Ok((kind, loc)) => Failure::Errors(ParseErrors::from_ast(
+            alloc,
+            ToASTError::new(kind, loc),
+        )),
         Err(error) => Failure::Memory(error),
     }
 }

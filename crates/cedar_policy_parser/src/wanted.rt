@@ -79,7 +79,8 @@ pub(crate) fn into_pattern<B: ExprBuilderInfallibleBuild>(
     alloc: Global,
     special: &ExprOrSpecial<B::Expr>,
 ) -> Result<Vec<PatternElem>, Failure>
-    ensures { Gives (λ elements. elements.items) result (as_pattern (plain B.meaning special.now)) }
+    ensures { Gives (λ elements. elements.items) result
+        (as_pattern (plain B.meaning special.now)) }
 {
     match special {
         ExprOrSpecial::Expr(_, loc) => Err(no_pattern(alloc, special, loc)),
@@ -100,7 +101,7 @@ fn no_string<E>(alloc: Global, special: &ExprOrSpecial<E>, loc: &Option<Loc>) ->
 }
 
 /// Where a string is wanted and nothing else: what it stands for.
-pub(crate) fn into_string<B: ExprBuilderInfallibleBuild>(
+fn into_string<B: ExprBuilderInfallibleBuild>(
     alloc: Global,
     special: &ExprOrSpecial<B::Expr>,
 ) -> Result<Text, Failure>
@@ -230,14 +231,17 @@ pub(crate) fn into_attribute<B: ExprBuilderInfallibleBuild>(
 }
 
 /// The string that a conversion gives, where a string is wanted and nothing else.
-fn string_from<B: ExprBuilderInfallibleBuild>(
+pub(crate) fn string_from<B: ExprBuilderInfallibleBuild>(
     alloc: Global,
     converted: Result<ExprOrSpecial<B::Expr>, Failure>,
 ) -> Result<Text, Failure>
     ensures { (h : Outcome Held) → Gives (plain B.meaning) converted h
         → Gives itself result (next h as_string) }
 {
-    into_string::<B>(alloc, &converted?)
+    let special = converted?;
+    let text = into_string::<B>(alloc, &special);
+    drop(special);
+    text
 }
 
 /// What a primary is where a string is wanted and nothing else.
@@ -268,7 +272,11 @@ fn no_name<B: ExprBuilderInfallibleBuild>(
     ensures { TellsAlone result invalid_string loc.now }
 {
     match named::<B>(alloc, loc, name) {
-        Ok(special) => no_string(alloc, &special, loc),
+        Ok(special) => {
+            let failure = no_string(alloc, &special, loc);
+            drop(special);
+            failure
+        }
         Err(Failure::Memory(error)) => Failure::Memory(error),
         Err(Failure::Errors(_)) => no_literal(alloc, loc),
     }

@@ -1,5 +1,5 @@
 //! Beginnings of a text of policies: where they end too early, and what is told of it.
-use super::held::{made, refusal};
+use super::held::{holds_for, made, refusal};
 use cedar_syntax::cst::Policies;
 use cedar_syntax::err::{Failure, ParseError};
 use cedar_syntax::loc::SourceSpan;
@@ -35,20 +35,21 @@ const REFUSED: [Beginning; 11] = [
 /// It is refused for its early end alone, with this label.
 fn ends_early(rt: &(impl Abort + AllocGlobal), failure: &Failure, row: &Beginning) {
     let Failure::Errors(faults) = failure else {
-        return assert!(rt; false, "want of memory");
+        return holds_for(rt, false, &"want of memory");
     };
     let ParseError::ToCST(fault) = faults.first() else {
-        return assert!(rt; false, "not a fault of the text");
+        return holds_for(rt, false, &"not a fault of the text");
     };
     let (text, end, wanted) = row;
     let span = SourceSpan::between(*end, *end);
-    assert!(rt;
+    holds_for(
+        rt,
         faults.len() == 1 && fault.primary_source_span() == Some(span),
-        "{text}"
+        text,
     );
     match made(rt, fault.label(rt.alloc())) {
-        Some(label) => assert!(rt; label.as_str() == *wanted, "{text}: {label}"),
-        None => assert!(rt; false, "{text}: no label"),
+        Some(label) => holds_for(rt, label.as_str() == *wanted, text),
+        None => holds_for(rt, false, text),
     }
 }
 

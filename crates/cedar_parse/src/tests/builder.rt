@@ -1,5 +1,5 @@
 //! The builder: each call is made, and the node that it makes compared.
-use super::held::{copies, copy_of, equal, list_of_two, made, refusal};
+use super::held::{copies, copy_of, equal, holds, list_of_two, made, refusal};
 use super::names::{name, text};
 use super::shapes::{Shape, shape_of};
 use cedar_expressions::{
@@ -81,7 +81,7 @@ fn makes(rt: &impl Abort, node: Result<Expr, AllocError>, wanted: Shape) {
 
 /// The node is of this kind.
 fn is(rt: &impl Abort, node: Expr, wanted: Shape) {
-    assert!(rt; shape_of(&node) == wanted);
+    holds(rt, shape_of(&node) == wanted);
     drop(node);
 }
 
@@ -195,10 +195,10 @@ fn is_for_a(refusal: &RecordError) -> bool {
 #[test]
 fn a_record_keeps_its_order_and_refuses_a_repeated_key(rt: HostRuntime) {
     let ordered = made(&rt, record(&rt, "b", "a"));
-    assert!(rt; begins_with_b(&ordered));
+    holds(&rt, begins_with_b(&ordered));
     drop(ordered);
     let repeated = refusal(&rt, record(&rt, "a", "a"));
-    assert!(rt; is_for_a(&repeated));
+    holds(&rt, is_for_a(&repeated));
     drop(repeated);
 }
 
@@ -227,17 +227,20 @@ fn placed(rt: &(impl Abort + AllocGlobal)) -> Expr {
 #[test]
 fn a_node_keeps_its_place(rt: HostRuntime) {
     let node = placed(&rt);
-    assert!(rt; node.place() == Some(PLACE));
+    holds(&rt, node.place() == Some(PLACE));
     let copy = copy_of(&rt, node);
-    assert!(rt; copy.place() == Some(PLACE));
+    holds(&rt, copy.place() == Some(PLACE));
     drop(copy);
 }
 
 #[test]
 fn equality_looks_at_no_place(rt: HostRuntime) {
-    assert!(rt; equal(placed(&rt), long(&rt, 1)));
-    assert!(rt; !equal(long(&rt, 1), long(&rt, 2)));
-    assert!(rt; !equal(repeated(&rt, NaryOp::Mul), repeated(&rt, NaryOp::And)));
+    holds(&rt, equal(placed(&rt), long(&rt, 1)));
+    holds(&rt, !equal(long(&rt, 1), long(&rt, 2)));
+    holds(
+        &rt,
+        !equal(repeated(&rt, NaryOp::Mul), repeated(&rt, NaryOp::And)),
+    );
 }
 
 /// A set of `?principal == ?resource`, of which the right one has a place, and `?principal`.
@@ -269,6 +272,6 @@ const SLOTS: [Slot; 3] = [
 fn slots_from_the_left(rt: HostRuntime) {
     let set = set_of_slots(&rt);
     let slots = made(&rt, set.slots(rt.alloc()));
-    assert!(rt; slots.as_slice() == SLOTS.as_slice());
+    holds(&rt, slots.as_slice() == SLOTS.as_slice());
     drop((set, slots));
 }

@@ -1,5 +1,5 @@
 //! The small calls of the conversion: literals, strings, slots, and what a table of extensions holds.
-use super::held::{made, refusal, says, shows};
+use super::held::{holds, holds_for, made, refusal, says, shows};
 use super::kinds::{function, method};
 use super::leaves::{Refused, is_told};
 use super::names::{name, text};
@@ -49,7 +49,7 @@ fn a_member_lends_its_literal(rt: HostRuntime) {
         let member = member(&rt, &tree).expect(&rt, "no member");
         match member.to_lit() {
             Some(literal) => shows(&rt, literal, wanted),
-            None => assert!(rt; wanted.is_empty(), "{text}"),
+            None => holds_for(&rt, wanted.is_empty(), text),
         }
         drop(tree);
     }
@@ -134,7 +134,7 @@ fn expressions_are_no_strings(rt: HostRuntime) {
     for (text, end) in &EXPRESSIONS {
         let node = made(&rt, parse_primary(rt.alloc(), text));
         let failure = refusal(&rt, node.to_string_literal::<ExprBuilder<()>>(rt.alloc()));
-        assert!(rt; is_no_string(&failure, *end), "{text}");
+        holds_for(&rt, is_no_string(&failure, *end), text);
         drop((node, failure));
     }
 }
@@ -151,9 +151,9 @@ const SLOTS: [(Var, bool, bool); 4] = [
 fn slots_match_their_variables(rt: HostRuntime) {
     let other = Slot::Other(text(&rt, "?action"));
     for (var, principal, resource) in &SLOTS {
-        assert!(rt; Slot::Principal.matches(*var) == *principal);
-        assert!(rt; Slot::Resource.matches(*var) == *resource);
-        assert!(rt; !other.matches(*var));
+        holds(&rt, Slot::Principal.matches(*var) == *principal);
+        holds(&rt, Slot::Resource.matches(*var) == *resource);
+        holds(&rt, !other.matches(*var));
     }
     drop(other);
 }
@@ -162,7 +162,7 @@ fn slots_match_their_variables(rt: HostRuntime) {
 fn slots_are_those_of_templates(rt: HostRuntime) {
     for id in &[SlotId::Principal, SlotId::Resource] {
         let slot = Slot::from(*id);
-        assert!(rt; made(&rt, slot.to_slot_id(rt.alloc())) == *id);
+        holds(&rt, made(&rt, slot.to_slot_id(rt.alloc())) == *id);
         drop(slot);
     }
     shows(&rt, &Slot::from(SlotId::Principal), "?principal");
@@ -174,7 +174,10 @@ fn another_slot_is_refused_without_a_place(rt: HostRuntime) {
     let other = Slot::Other(text(&rt, "?action"));
     let failure = refusal(&rt, other.to_slot_id(rt.alloc()));
     if let Failure::Errors(faults) = &failure {
-        assert!(rt; faults.len() == 1 && faults.primary_source_span().is_none());
+        holds(
+            &rt,
+            faults.len() == 1 && faults.primary_source_span().is_none(),
+        );
     }
     says(&rt, failure, "`?action` is not a valid template slot");
     drop(other);
@@ -193,11 +196,11 @@ pub(super) fn table(rt: &(impl Abort + AllocGlobal)) -> ExtStyles {
 #[test]
 fn a_table_is_two_sets(rt: HostRuntime) {
     let table = table(&rt);
-    assert!(rt; table.is_function(&function(&rt, "ip")));
-    assert!(rt; table.is_function(&name(&rt, "a", "f")));
-    assert!(rt; !table.is_function(&function(&rt, "f")));
-    assert!(rt; !table.is_function(&function(&rt, "isIpv4")));
-    assert!(rt; table.is_method(&method(&rt, "isIpv4")));
-    assert!(rt; !table.is_method(&method(&rt, "ip")));
+    holds(&rt, table.is_function(&function(&rt, "ip")));
+    holds(&rt, table.is_function(&name(&rt, "a", "f")));
+    holds(&rt, !table.is_function(&function(&rt, "f")));
+    holds(&rt, !table.is_function(&function(&rt, "isIpv4")));
+    holds(&rt, table.is_method(&method(&rt, "isIpv4")));
+    holds(&rt, !table.is_method(&method(&rt, "ip")));
     drop(table);
 }

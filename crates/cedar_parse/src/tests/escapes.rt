@@ -1,6 +1,6 @@
 //! Rows for the calls of `unescape`: raw texts, and what they stand for. The values come from the table of escapes and from the
 //! original's tests.
-use super::held::{made, refusal, says};
+use super::held::{holds_for, made, refusal, says};
 use cedar_expressions::PatternElem;
 use cedar_text::unescape::{
     EscapeError, UnescapeError, UnescapeFailure, to_pattern, to_unescaped_string,
@@ -33,7 +33,7 @@ fn are_told(raw: &str, failure: &UnescapeFailure, wanted: &[Told]) -> bool {
 /// The answer is a failure that tells these faults.
 fn tells<T: Drop>(rt: &impl Abort, raw: &str, answer: Result<T, UnescapeFailure>, wanted: &[Told]) {
     let failure = refusal(rt, answer);
-    assert!(rt; are_told(raw, &failure, wanted), "{raw:?}");
+    holds_for(rt, are_told(raw, &failure, wanted), &raw);
     drop(failure);
 }
 
@@ -208,7 +208,7 @@ const PATTERNS: [(&str, &[PatternElem]); 5] = [
 fn patterns_are_read(rt: HostRuntime) {
     for (raw, elems) in &PATTERNS {
         let pattern = made(&rt, to_pattern(rt.alloc(), raw));
-        assert!(rt; pattern.as_slice() == *elems, "{raw:?}");
+        holds_for(&rt, pattern.as_slice() == *elems, raw);
         drop(pattern);
     }
 }

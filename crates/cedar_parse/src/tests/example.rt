@@ -1,4 +1,5 @@
 //! The README's example of library use.
+use super::held::{holds, holds_for};
 use cedar_expressions::Expr;
 use cedar_policy_parser::{ExtStyles, parse_expression};
 use cedar_syntax::err::{Failure, ParseErrors};
@@ -42,8 +43,8 @@ fn shows_a_value_or_faults(rt: HostRuntime) {
     for (text, want) in &rows {
         let answer = read(rt.alloc(), text);
         let mut out = String::new(rt.alloc());
-        assert!(rt; show(&answer, &mut out).is_ok());
-        assert!(rt; out.as_str() == *want, "{text}");
+        holds(&rt, show(&answer, &mut out).is_ok());
+        holds_for(&rt, out.as_str() == *want, text);
         drop((answer, out));
     }
 }

@@ -1,6 +1,6 @@
 //! Expected tokens as the faults of a text tell them, and the hints of such faults.
 use super::faults::in_text;
-use super::held::made;
+use super::held::{holds_for, made};
 use cedar_expressions::Items;
 use cedar_lexer::token::TokenKind;
 use cedar_syntax::err::{
@@ -73,7 +73,7 @@ fn is_said(
 ) {
     let names = names_of(rt, row);
     let said = made(rt, expected_to_string(rt.alloc(), names.as_slice(), config));
-    assert!(rt; is_text(&said, wanted), "{row}");
+    holds_for(rt, is_text(&said, wanted), &row);
 }
 
 /// Whether a text is there and this one; where none is wanted, whether none is there.
@@ -129,7 +129,7 @@ fn ends(rt: &(impl Abort + AllocGlobal), text: &str, kinds: &[TokenKind]) -> ToC
 /// The label of a fault.
 fn is_labeled(rt: &(impl Abort + AllocGlobal), fault: ToCSTError, wanted: &str) {
     let label = made(rt, fault.label(rt.alloc()));
-    assert!(rt; is_text(&label, wanted), "{fault}");
+    holds_for(rt, is_text(&label, wanted), &fault);
 }
 
 #[test]
@@ -167,7 +167,7 @@ const HINTS: [(&str, usize, &str); 5] = [
 /// The hint of a fault.
 fn is_hinted(rt: &(impl Abort + AllocGlobal), fault: ToCSTError, wanted: &str) {
     let help = made(rt, fault.help(rt.alloc()));
-    assert!(rt; is_text(&help, wanted), "{fault}");
+    holds_for(rt, is_text(&help, wanted), &fault);
 }
 
 #[test]

@@ -1,5 +1,5 @@
 //! Faults of escapes, of texts and of trees, alone, in lists and joined.
-use super::held::{agrees, copies, equal, made, refusal, says, says_and_copies};
+use super::held::{agrees, copies, equal, holds, made, refusal, says, says_and_copies};
 use super::names::text;
 use super::places::{POLICY, place};
 use cedar_expressions::{Items, Source};
@@ -48,9 +48,9 @@ fn is_in_raw(fault: &UnescapeError, start: usize) -> bool {
 
 /// Both faults tell their piece.
 fn tell_their_piece(rt: &impl Abort, faults: &NonEmpty<UnescapeError>) {
-    assert!(rt; faults.len() == 2);
+    holds(rt, faults.len() == 2);
     for (fault, start) in faults.iter().zip(&[3, 5]) {
-        assert!(rt; is_in_raw(fault, *start));
+        holds(rt, is_in_raw(fault, *start));
     }
 }
 
@@ -130,8 +130,8 @@ fn is_told(
     message: &str,
 ) {
     let span = SourceSpan::between(start, end);
-    assert!(rt; fault.primary_source_span() == Some(span));
-    assert!(rt; fault.expected_kinds() == expected);
+    holds(rt, fault.primary_source_span() == Some(span));
+    holds(rt, fault.expected_kinds() == expected);
     says_and_copies(rt, fault, message);
 }
 
@@ -156,7 +156,7 @@ fn faults_of_texts_have_their_place_and_message(rt: HostRuntime) {
 #[test]
 fn raw_faults_are_equal_at_one_place_alone(rt: HostRuntime) {
     copies(&rt, too_large(&rt, 0));
-    assert!(rt; !equal(too_large(&rt, 0), too_large(&rt, 1)));
+    holds(&rt, !equal(too_large(&rt, 0), too_large(&rt, 1)));
 }
 
 /// The fault of a number that is too large, from this byte to the tenth.
@@ -188,17 +188,17 @@ fn starts_at(fault: &ParseError, start: usize) -> bool {
 
 /// The three faults stand there, in this order.
 fn stand_in_order(rt: &impl Abort, faults: &ParseErrors) {
-    assert!(rt; faults.len() == 3);
+    holds(rt, faults.len() == 3);
     for (fault, start) in faults.iter().zip(&[3, 4, 9]) {
-        assert!(rt; starts_at(fault, *start));
+        holds(rt, starts_at(fault, *start));
     }
 }
 
 /// There are three faults to iterate over, of which the first is the one that it is read as.
 fn have_a_first(rt: &impl Abort, faults: &ParseErrors) {
-    assert!(rt; faults.iter().count() == 3);
-    assert!(rt; faults.get(0) == Some(faults.first()));
-    assert!(rt; faults.get(3).is_none());
+    holds(rt, faults.iter().count() == 3);
+    holds(rt, faults.get(0) == Some(faults.first()));
+    holds(rt, faults.get(3).is_none());
 }
 
 /// Whether the last of the faults, which are handed on one by one, begins at this byte.
@@ -214,7 +214,7 @@ fn ends_at(faults: ParseErrors, start: usize) -> bool {
 
 #[test]
 fn a_list_of_faults_keeps_their_order(rt: HostRuntime) {
-    assert!(rt; ends_at(three_faults(&rt), 9));
+    holds(&rt, ends_at(three_faults(&rt), 9));
     let faults = three_faults(&rt);
     stand_in_order(&rt, &faults);
     have_a_first(&rt, &faults);
@@ -239,7 +239,7 @@ fn is_of_that_node(told: &ToASTError) -> bool {
 fn a_node_tells_a_fault_at_its_place(rt: HostRuntime) {
     let node = Node::with_source_loc(7, place(&rt, 43, 49));
     let told = made(&rt, node.to_ast_err(ToASTErrorKind::AmbiguousOperators));
-    assert!(rt; is_of_that_node(&told));
+    holds(&rt, is_of_that_node(&told));
     drop((node, told));
 }
 
@@ -250,7 +250,7 @@ fn lists_are_put_one_after_another(rt: HostRuntime) {
     let mut more = NonEmpty::new(rt.alloc(), 3);
     made(&rt, more.push(4));
     made(&rt, numbers.append(more));
-    assert!(rt; numbers.iter().eq([1, 2, 3, 4].iter()));
+    holds(&rt, numbers.iter().eq([1, 2, 3, 4].iter()));
     drop(numbers);
 }
 
@@ -290,14 +290,14 @@ fn failing_parts_tell_all_their_faults_in_order(rt: HostRuntime) {
 /// The answer is want of memory.
 fn wants<T: Drop>(rt: &impl Abort, joined: Result<T, Failure>) {
     let failure = refusal(rt, joined);
-    assert!(rt; matches!(failure, Failure::Memory(_)));
+    holds(rt, matches!(failure, Failure::Memory(_)));
     drop(failure);
 }
 
 #[test]
 fn values_are_joined_and_want_of_memory_is_the_answer(rt: HostRuntime) {
     let joined = flatten_tuple_2(part(&rt, &[]), part(&rt, &[]));
-    assert!(rt; made(&rt, joined) == (7, 7));
+    holds(&rt, made(&rt, joined) == (7, 7));
     wants(&rt, flatten_tuple_2(part(&rt, &[1]), wants_memory()));
     wants(&rt, flatten_tuple_2(wants_memory(), part(&rt, &[1])));
 }
@@ -320,10 +320,10 @@ fn three_and_four_parts_are_joined(rt: HostRuntime) {
 #[test]
 fn three_and_four_values_are_joined(rt: HostRuntime) {
     let three = flatten_tuple_3(part(&rt, &[]), part(&rt, &[]), part(&rt, &[]));
-    assert!(rt; made(&rt, three) == (7, 7, 7));
+    holds(&rt, made(&rt, three) == (7, 7, 7));
     let last = part(&rt, &[]);
     let four = flatten_tuple_4(part(&rt, &[]), part(&rt, &[]), part(&rt, &[]), last);
-    assert!(rt; made(&rt, four) == (7, 7, 7, 7));
+    holds(&rt, made(&rt, four) == (7, 7, 7, 7));
 }
 
 /// A part that wants memory.

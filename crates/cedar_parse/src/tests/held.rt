@@ -6,6 +6,16 @@ use cedar_expressions::TryClone;
 use std::fmt;
 use std::process::Abort;
 
+/// Ends the test unless this holds. (An `assert!` is dear to prove where much is held, a call isn't.)
+pub(super) fn holds(rt: &impl Abort, is_so: bool) {
+    assert!(rt; is_so);
+}
+
+/// Ends the test unless this holds for what is shown.
+pub(super) fn holds_for<T: fmt::Display>(rt: &impl Abort, is_so: bool, shown: &T) {
+    assert!(rt; is_so, "{shown}");
+}
+
 /// What is held, beside what was made.
 pub(super) fn beside<A: Drop, B, E>(held: A, made: Result<B, E>) -> Result<(A, B), E>
     ensures { IfOk result (λ both. IsOkAnd made (λ one. both ≡ (held, one))) }
@@ -44,7 +54,7 @@ pub(super) fn equal<T: PartialEq + Drop>(left: T, right: T) -> bool {
 
 /// The value is the one that is wanted.
 pub(super) fn agrees<T: PartialEq + Drop>(rt: &impl Abort, value: T, wanted: T, told: &str) {
-    assert!(rt; value == wanted, "{told}");
+    holds_for(rt, value == wanted, &told);
 }
 
 /// A copy of a value.
@@ -55,15 +65,15 @@ pub(super) fn copy_of<T: TryClone + Drop>(rt: &impl Abort, value: T) -> T {
 /// A copy of the value equals it.
 pub(super) fn is_copied<T: TryClone + PartialEq + Drop>(rt: &impl Abort, value: T) {
     let copy = made(rt, value.try_clone());
-    assert!(rt; copy == value);
+    holds(rt, copy == value);
 }
 
 /// Both ways to copy a value give an equal one.
 pub(super) fn copies_of<T: TryClone + Clone + PartialEq + Drop>(rt: &impl Abort, value: &T) {
     let clone = made(rt, value.clone());
-    assert!(rt; clone == *value);
+    holds(rt, clone == *value);
     let copy = made(rt, value.try_clone());
-    assert!(rt; copy == *value);
+    holds(rt, copy == *value);
 }
 
 /// The same of a value that is at hand for this alone.
@@ -74,7 +84,7 @@ pub(super) fn copies<T: TryClone + Clone + PartialEq + Drop>(rt: &impl Abort, va
 /// The value's own text is this one.
 pub(super) fn shows<T: fmt::Display>(rt: &(impl Abort + AllocGlobal), value: &T, text: &str) {
     let shown = made(rt, format!(in rt.alloc(); "{value}"));
-    assert!(rt; shown.as_str() == text, "{value}");
+    holds_for(rt, shown.as_str() == text, value);
 }
 
 /// The same of a value that is at hand for this alone.
@@ -96,7 +106,7 @@ pub(super) fn says_and_copies<T: fmt::Display + TryClone + Clone + PartialEq + D
 pub(super) fn shows_alike<T: fmt::Display>(rt: &(impl Abort + AllocGlobal), value: &T) {
     let plain = made(rt, format!(in rt.alloc(); "{value}"));
     let alternate = made(rt, format!(in rt.alloc(); "{value:#}"));
-    assert!(rt; plain.as_str() == alternate.as_str(), "{value}");
+    holds_for(rt, plain.as_str() == alternate.as_str(), value);
 }
 
 /// The same, and both ways to copy it give an equal one.

@@ -1,7 +1,7 @@
 //! What each kind of fault of a tree says, and the hints.
 use super::builder::long;
 use super::faults::three_faults;
-use super::held::{made, refusal, says_and_copies, shows};
+use super::held::{holds, holds_for, made, refusal, says_and_copies, shows};
 use super::names::{entity, id, internal_name, name, text};
 use cedar_expressions::{
     AnyId, Boxed, ExpressionConstructionError, Name, ReservedNameError, Slot, SlotId, UnaryOp,
@@ -299,7 +299,7 @@ fn names_that_are_taken_are_told(rt: HostRuntime) {
         "a policy with id `policy0` already exists in the policy set",
     );
     let found = ExpectedStaticPolicy::from(UnexpectedSlotError::FoundSlot(PRINCIPAL_SLOT));
-    assert!(rt; found.slot == PRINCIPAL_SLOT);
+    holds(&rt, found.slot == PRINCIPAL_SLOT);
 }
 
 /// The element of a scope that is this word alone.
@@ -416,8 +416,8 @@ fn is_hinted(rt: &(impl Abort + AllocGlobal), kind: ToASTErrorKind, wanted: &str
     let fault = ToASTError::new(kind, None);
     let help = made(rt, fault.help(rt.alloc()));
     match &help {
-        Some(hint) => assert!(rt; hint.as_str() == wanted, "{fault}"),
-        None => assert!(rt; wanted.is_empty(), "{fault}"),
+        Some(hint) => holds_for(rt, hint.as_str() == wanted, &fault),
+        None => holds_for(rt, wanted.is_empty(), &fault),
     }
     drop((fault, help));
 }

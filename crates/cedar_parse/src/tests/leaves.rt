@@ -1,5 +1,5 @@
 //! Identifiers and entities that trees stand for: `to_valid_ident`, `to_any_ident` and `to_ref`, and their faults with place and message.
-use super::held::{made, refusal, says, shows};
+use super::held::{holds_for, made, refusal, says, shows};
 use cedar_policy_parser::cst_to_ast::{IdentAst, RefAst};
 use cedar_syntax::err::{Failure, ParseError};
 use cedar_syntax::loc::SourceSpan;
@@ -67,14 +67,15 @@ pub(super) fn is_told(
     message: &str,
 ) {
     let Failure::Errors(faults) = failure else {
-        return assert!(rt; false, "want of memory");
+        return holds_for(rt, false, &"want of memory");
     };
     let ParseError::ToAST(fault) = faults.first() else {
-        return assert!(rt; false, "not a fault of the tree");
+        return holds_for(rt, false, &"not a fault of the tree");
     };
-    assert!(rt;
+    holds_for(
+        rt,
         faults.len() == count && fault.span() == Some(span),
-        "{message}"
+        &message,
     );
     shows(rt, fault, message);
 }

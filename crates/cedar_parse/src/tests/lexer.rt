@@ -1,4 +1,5 @@
 //! The lexer: each kind, the longest spelling, bad places, skips.
+use super::held::{holds, holds_for};
 use cedar_lexer::lexer::Lexer;
 use cedar_lexer::token::TokenKind;
 
@@ -43,8 +44,8 @@ fn has_kinds(text: &str, names: &str) -> bool {
 
 #[test]
 fn each_kind_once_with_its_name(rt: HostRuntime) {
-    assert!(rt; has_kinds(ALL, NAMES));
-    assert!(rt; NAMES.split_whitespace().count() == 50);
+    holds(&rt, has_kinds(ALL, NAMES));
+    holds(&rt, NAMES.split_whitespace().count() == 50);
 }
 
 /// Whether the next token is of this kind, at these bytes, and its text this one.
@@ -65,10 +66,13 @@ fn is_next(
 #[test]
 fn longest_spelling_wins(rt: HostRuntime) {
     let mut lexer = Lexer::new("a<=?principal1//x");
-    assert!(rt; is_next(&mut lexer, TokenKind::Identifier, (0, 1), "a"));
-    assert!(rt; is_next(&mut lexer, TokenKind::LessEq, (1, 3), "<="));
-    assert!(rt; is_next(&mut lexer, TokenKind::OtherSlot, (3, 14), "?principal1"));
-    assert!(rt; lexer.next().is_none());
+    holds(&rt, is_next(&mut lexer, TokenKind::Identifier, (0, 1), "a"));
+    holds(&rt, is_next(&mut lexer, TokenKind::LessEq, (1, 3), "<="));
+    holds(
+        &rt,
+        is_next(&mut lexer, TokenKind::OtherSlot, (3, 14), "?principal1"),
+    );
+    holds(&rt, lexer.next().is_none());
 }
 
 /// Texts and their tokens' kinds.
@@ -91,9 +95,9 @@ fn words_and_identifiers(rt: HostRuntime) {
     for (text, kinds) in &KINDS {
         let mut lexer = Lexer::new(text);
         for kind in *kinds {
-            assert!(rt; next_kind(&mut lexer) == Some(*kind), "{text:?}");
+            holds_for(&rt, next_kind(&mut lexer) == Some(*kind), text);
         }
-        assert!(rt; lexer.next().is_none());
+        holds(&rt, lexer.next().is_none());
     }
 }
 
@@ -117,7 +121,7 @@ const CUTS: [(&str, usize, Option<usize>); 13] = [
 #[test]
 fn white_space_comments_and_bad_places(rt: HostRuntime) {
     for (text, count, bad) in &CUTS {
-        assert!(rt; tokens_of(text) == (*count, *bad), "{text:?}");
+        holds_for(&rt, tokens_of(text) == (*count, *bad), text);
     }
 }
 
@@ -125,6 +129,6 @@ fn white_space_comments_and_bad_places(rt: HostRuntime) {
 #[test]
 fn a_lexer_ends_once(rt: HostRuntime) {
     let mut lexer = Lexer::new("~ 1");
-    assert!(rt; lexer.next().is_some());
-    assert!(rt; lexer.next().is_none());
+    holds(&rt, lexer.next().is_some());
+    holds(&rt, lexer.next().is_none());
 }

@@ -1,7 +1,7 @@
 //! Names, entities, words and wrappers: what is refused, how they are written, and that a copy equals its source.
 use super::held::{
-    agrees, copies, copies_of, is_copied, is_there, list_of_two, made, refusal, says,
-    says_and_copies, shows,
+    agrees, copies, copies_of, holds, holds_for, is_copied, is_there, list_of_two, made, refusal,
+    says, says_and_copies, shows,
 };
 use cedar_expressions::{
     AddOp, AnyId, BinaryCall, Boxed, Eid, EntityType, EntityUID, ExpressionConstructionError, Id,
@@ -67,7 +67,7 @@ fn identifiers_by_their_spelling(rt: HostRuntime) {
     for (word, any, free) in &IDENTIFIERS {
         let is_any = is_there(AnyId::new(text(&rt, word)));
         let is_free = is_there(Id::new(text(&rt, word)));
-        assert!(rt; (is_any, is_free) == (*any, *free), "{word}");
+        holds_for(&rt, (is_any, is_free) == (*any, *free), word);
     }
 }
 
@@ -96,8 +96,8 @@ fn reserved_names_are_refused(rt: HostRuntime) {
 #[test]
 fn names_are_ordered(rt: HostRuntime) {
     let (group, user) = (name(&rt, "App", "Group"), name(&rt, "App", "User"));
-    assert!(rt; group < user);
-    assert!(rt; user.basename().as_str() == "User");
+    holds(&rt, group < user);
+    holds(&rt, user.basename().as_str() == "User");
     drop((group, user));
 }
 
@@ -118,7 +118,7 @@ pub(super) fn entity(rt: &(impl Abort + AllocGlobal)) -> EntityUID {
 #[test]
 fn entities_are_written_and_copied(rt: HostRuntime) {
     let entity = entity(&rt);
-    assert!(rt; entity.eid().as_str() == "a\"b");
+    holds(&rt, entity.eid().as_str() == "a\"b");
     says_and_copies(&rt, entity, "App::User::\"a\"b\"");
 }
 
@@ -187,10 +187,10 @@ fn calls_and_what_holds_parts_are_copied(rt: HostRuntime) {
 fn items_are_copied_read_and_taken(rt: HostRuntime) {
     let mut items = Items::from(list_of_two(&rt, text(&rt, "b"), text(&rt, "a")));
     copies_of(&rt, &items);
-    assert!(rt; items.len() == 2);
+    holds(&rt, items.len() == 2);
     agrees(&rt, items.pop(), Some(text(&rt, "a")), "the last");
     for item in items.iter() {
-        assert!(rt; item.as_str() == "b");
+        holds(&rt, item.as_str() == "b");
     }
     drop(items);
 }
@@ -199,7 +199,7 @@ fn items_are_copied_read_and_taken(rt: HostRuntime) {
 fn sources_are_shared(rt: HostRuntime) {
     let source = made(&rt, Source::from_str(rt.alloc(), "abc"));
     let shared = made(&rt, source.share());
-    assert!(rt; shared == source);
+    holds(&rt, shared == source);
     drop(shared);
     says_and_copies(&rt, source, "abc");
 }

@@ -1,4 +1,5 @@
 //! Where the nodes of a value stand: where the nodes of the tree do that they are made of.
+use super::held::holds_for;
 use super::texts::{at, value};
 use cedar_expressions::{Expr, ExprKind, Place};
 
@@ -88,9 +89,9 @@ fn stands(part: Option<&Expr>) -> Option<Place> {
 fn nodes_of_values_have_their_places(rt: HostRuntime) {
     for (text, whole, first, last) in &STANDING {
         let value = value(&rt, text);
-        assert!(rt; value.place() == place_of(Some(*whole)), "{text}");
-        assert!(rt; stands(first_of(&value)) == place_of(*first), "{text}");
-        assert!(rt; stands(last_of(&value)) == place_of(*last), "{text}");
+        holds_for(&rt, value.place() == place_of(Some(*whole)), text);
+        holds_for(&rt, stands(first_of(&value)) == place_of(*first), text);
+        holds_for(&rt, stands(last_of(&value)) == place_of(*last), text);
         drop(value);
     }
 }

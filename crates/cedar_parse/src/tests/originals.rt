@@ -1,5 +1,5 @@
 //! Texts of the original's tests that are expressions, with what those tests want of them.
-use super::held::made;
+use super::held::{holds_for, made};
 use super::program::{EXPR, begins_so, ends_so};
 use super::texts::{tree, value};
 use cedar_expressions::{Expr, ExprKind, PatternElem, UnaryCall};
@@ -121,7 +121,7 @@ fn attribute(value: &Expr) -> Option<&str> {
 fn attributes_are_read(rt: HostRuntime) {
     for (text, wanted) in &ATTRIBUTES {
         let value = value(&rt, text);
-        assert!(rt; attribute(&value) == Some(*wanted), "{text}");
+        holds_for(&rt, attribute(&value) == Some(*wanted), text);
         drop(value);
     }
 }
@@ -183,7 +183,7 @@ fn patterns_are_read(rt: HostRuntime) {
     for (text, wanted) in &PATTERNS {
         let value = value(&rt, text);
         let pattern = pattern(&value).expect(&rt, "no pattern");
-        assert!(rt; written(&rt, pattern).as_str() == *wanted, "{text}");
+        holds_for(&rt, written(&rt, pattern).as_str() == *wanted, text);
         drop(value);
     }
 }

@@ -1,5 +1,5 @@
 //! Places and nodes, as a caller meets them.
-use super::held::{copies, made, refusal, says};
+use super::held::{copies, holds, made, refusal, says};
 use super::names::text;
 use cedar_syntax::err::Failure;
 use cedar_syntax::loc::{Loc, SourceSpan};
@@ -23,23 +23,26 @@ pub(super) fn place(rt: &(impl Abort + AllocGlobal), start: usize, end: usize) -
 
 #[test]
 fn a_range_ends_within_the_largest_number(rt: HostRuntime) {
-    assert!(rt; SourceSpan::new(usize::MAX, 1).is_none());
-    assert!(rt; SourceSpan::new(usize::MAX, 0).is_some());
+    holds(&rt, SourceSpan::new(usize::MAX, 1).is_none());
+    holds(&rt, SourceSpan::new(usize::MAX, 0).is_some());
     let span = SourceSpan::between(3, 7);
-    assert!(rt; span.offset() == 3);
-    assert!(rt; span.len() == 4);
-    assert!(rt; span.end() == 7);
-    assert!(rt; SourceSpan::between(7, 3).is_empty());
+    holds(&rt, span.offset() == 3);
+    holds(&rt, span.len() == 4);
+    holds(&rt, span.end() == 7);
+    holds(&rt, SourceSpan::between(7, 3).is_empty());
 }
 
 #[test]
 fn a_place_shows_its_snippet(rt: HostRuntime) {
     let inside = place(&rt, 43, 49);
-    assert!(rt; inside.snippet() == Some("a == b"));
-    assert!(rt; (inside.start(), inside.end()) == (43, 49));
-    assert!(rt; SourceSpan::from(&inside) == SourceSpan::between(43, 49));
+    holds(&rt, inside.snippet() == Some("a == b"));
+    holds(&rt, (inside.start(), inside.end()) == (43, 49));
+    holds(
+        &rt,
+        SourceSpan::from(&inside) == SourceSpan::between(43, 49),
+    );
     let shown = made(&rt, format!(in rt.alloc(); "{inside:?}"));
-    assert!(rt; shown.as_str() == "Loc(`a == b`)");
+    holds(&rt, shown.as_str() == "Loc(`a == b`)");
     drop(shown);
     copies(&rt, inside);
 }
@@ -49,19 +52,19 @@ fn a_place_moves(rt: HostRuntime) {
     let inside = place(&rt, 43, 49);
     let first = SourceSpan::between(0, 6);
     let moved = made(&rt, inside.span(first));
-    assert!(rt; moved.snippet() == Some("permit"));
-    assert!(rt; SourceSpan::from(moved) == first);
+    holds(&rt, moved.snippet() == Some("permit"));
+    holds(&rt, SourceSpan::from(moved) == first);
     drop(inside);
 }
 
 #[test]
 fn a_place_that_is_no_range_has_no_snippet(rt: HostRuntime) {
     let long = place(&rt, 43, 103);
-    assert!(rt; long.snippet().is_none());
+    holds(&rt, long.snippet().is_none());
     let cut = place_in(&rt, "1 é", 2, 3);
-    assert!(rt; cut.snippet().is_none());
+    holds(&rt, cut.snippet().is_none());
     let whole = made(&rt, cut.span(SourceSpan::between(2, 4)));
-    assert!(rt; whole.snippet() == Some("é"));
+    holds(&rt, whole.snippet() == Some("é"));
     drop((long, cut, whole));
 }
 
@@ -69,9 +72,9 @@ fn a_place_that_is_no_range_has_no_snippet(rt: HostRuntime) {
 fn nodes_compare_by_their_value(rt: HostRuntime) {
     let here = Node::with_source_loc(1u8, place(&rt, 0, 1));
     let there = Node::with_maybe_source_loc(1u8, Some(place(&rt, 5, 6)));
-    assert!(rt; here == there);
-    assert!(rt; here < Node::new(2u8));
-    assert!(rt; here.loc() != there.loc());
+    holds(&rt, here == there);
+    holds(&rt, here < Node::new(2u8));
+    holds(&rt, here.loc() != there.loc());
     drop(there);
     says(&rt, here, "1");
 }
@@ -80,8 +83,8 @@ fn nodes_compare_by_their_value(rt: HostRuntime) {
 fn a_node_is_copied_with_its_place(rt: HostRuntime) {
     let node = Node::with_source_loc(text(&rt, "a"), place(&rt, 2, 3));
     let copy = made(&rt, node.try_clone());
-    assert!(rt; copy.loc() == node.loc());
-    assert!(rt; copy == node);
+    holds(&rt, copy.loc() == node.loc());
+    holds(&rt, copy == node);
     drop(copy);
     copies(&rt, node);
 }
@@ -95,21 +98,21 @@ fn three(rt: &(impl Abort + AllocGlobal)) -> Node<u8> {
 fn a_node_lends_its_value(rt: HostRuntime) {
     let node = three(&rt);
     let lent = made(&rt, node.as_ref());
-    assert!(rt; *lent.node == 3);
+    holds(&rt, *lent.node == 3);
     let copy = lent.copied();
-    assert!(rt; copy.loc() == node.loc());
+    holds(&rt, copy.loc() == node.loc());
     let owned = made(&rt, made(&rt, node.as_ref()).cloned());
-    assert!(rt; owned == copy);
+    holds(&rt, owned == copy);
 }
 
 #[test]
 fn a_node_is_written_and_mapped(rt: HostRuntime) {
     let mut node = three(&rt);
     *made(&rt, node.as_mut()).node = 4;
-    assert!(rt; node.node == 4);
+    holds(&rt, node.node == 4);
     let (value, place) = node.map(|value| value / 2).into_inner();
-    assert!(rt; value == 2);
-    assert!(rt; place.is_some());
+    holds(&rt, value == 2);
+    holds(&rt, place.is_some());
 }
 
 /// A node with a place, which may hold a number.
@@ -120,11 +123,11 @@ fn node(rt: &(impl Abort + AllocGlobal), value: Option<u8>) -> Node<Option<u8>> 
 #[test]
 fn a_full_node_gives_its_value(rt: HostRuntime) {
     let full = node(&rt, Some(5));
-    assert!(rt; full.as_inner().copied() == Some(5));
-    assert!(rt; made(&rt, full.collapse()).is_some());
-    assert!(rt; *made(&rt, full.try_as_inner(rt.alloc())) == 5);
-    assert!(rt; full.apply(|value, _| Some(*value)) == Some(5));
-    assert!(rt; full.into_apply(|value, _| Some(value)) == Some(5));
+    holds(&rt, full.as_inner().copied() == Some(5));
+    holds(&rt, made(&rt, full.collapse()).is_some());
+    holds(&rt, *made(&rt, full.try_as_inner(rt.alloc())) == 5);
+    holds(&rt, full.apply(|value, _| Some(*value)) == Some(5));
+    holds(&rt, full.into_apply(|value, _| Some(value)) == Some(5));
 }
 
 /// What an empty node is refused with.
@@ -143,11 +146,11 @@ fn is_at_the_node(failure: &Failure) -> bool {
 #[test]
 fn an_empty_node_is_refused_at_its_place(rt: HostRuntime) {
     let empty = node(&rt, None);
-    assert!(rt; made(&rt, empty.collapse()).is_none());
+    holds(&rt, made(&rt, empty.collapse()).is_none());
     says(&rt, refusal(&rt, empty.try_as_inner(rt.alloc())), EMPTY);
     let refused = refusal(&rt, empty.try_as_inner(rt.alloc()));
-    assert!(rt; is_at_the_node(&refused));
+    holds(&rt, is_at_the_node(&refused));
     let fault = refusal(&rt, empty.try_into_inner());
-    assert!(rt; fault.span() == Some(SourceSpan::between(7, 10)));
+    holds(&rt, fault.span() == Some(SourceSpan::between(7, 10)));
     drop((refused, fault));
 }

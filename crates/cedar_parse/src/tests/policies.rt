@@ -1,5 +1,5 @@
 //! What `parse_policies` and `parse_policy` answer: trees, and all faults with the kinds that were expected.
-use super::held::{made, refusal, shows};
+use super::held::{holds, holds_for, made, refusal, shows};
 use super::words::{END, TOO_LARGE, prints};
 use cedar_syntax::cst::{Policies, Policy};
 use cedar_syntax::err::{Failure, ParseError, ToCSTError};
@@ -104,7 +104,7 @@ fn stands_at<T: Drop>(
         Some(loc) => Some(loc.span),
         None => None,
     };
-    assert!(rt; span == Some(SourceSpan::between(start, end)));
+    holds(rt, span == Some(SourceSpan::between(start, end)));
     drop(node);
 }
 
@@ -439,24 +439,24 @@ const REFUSED_ALONE: [Row; 8] = [
 fn is_told(rt: &(impl Abort + AllocGlobal), fault: &ToCSTError, row: &Row) {
     let (text, _, _, start, end, message, names) = row;
     let span = SourceSpan::between(*start, *end);
-    assert!(rt; fault.primary_source_span() == Some(span), "{text}");
+    holds_for(rt, fault.primary_source_span() == Some(span), text);
     shows(rt, fault, message);
     let mut told = String::new(rt.alloc());
     for kind in fault.expected_kinds() {
         made(rt, told.push_str(kind.name()));
         made(rt, told.push(' '));
     }
-    assert!(rt; told.as_str().trim_end() == *names, "{text}: {told}");
+    holds_for(rt, told.as_str().trim_end() == *names, text);
 }
 
 /// The failure has so many faults, and this one among them.
 fn tells(rt: &(impl Abort + AllocGlobal), failure: &Failure, row: &Row) {
     let Failure::Errors(faults) = failure else {
-        return assert!(rt; false, "want of memory");
+        return holds_for(rt, false, &"want of memory");
     };
-    assert!(rt; faults.len() == row.2, "{}: {}", row.0, faults.len());
+    holds_for(rt, faults.len() == row.2, &row.0);
     let Some(ParseError::ToCST(fault)) = faults.get(row.1) else {
-        return assert!(rt; false, "not a fault of the text");
+        return holds_for(rt, false, &"not a fault of the text");
     };
     is_told(rt, fault, row);
 }

@@ -1,5 +1,5 @@
 //! Runs of the program over memory: its rows, and readers and writers that fail.
-use super::held::{made, refusal};
+use super::held::{holds, holds_for, made, refusal};
 use crate::run::{arguments, refuse_arguments, run};
 use crate::streams::Output;
 use std::env::{Env, FillError};
@@ -22,9 +22,16 @@ pub(super) const USAGE_LINE: &str =
     "usage: cedar-parse expr|policies|format [fn:NAME | method:NAME]*\n";
 
 /// Words that ask for nothing that there is, and input that isn't UTF-8.
-const ENDED_EARLY: [Row; 8] = [
+const ENDED_EARLY: [Row; 9] = [
     (&[], b"\xff1 + 2", 2, "", USAGE_LINE),
-    (&["policies"], b"\xff1 + 2", 2, "", USAGE_LINE),
+    (&["policies", "f"], b"\xff1 + 2", 2, "", USAGE_LINE),
+    (
+        &["policies"],
+        b"\xff1 + 2",
+        4,
+        "",
+        "input or output failed\n",
+    ),
     (&["format"], b"\xff1 + 2", 2, "", USAGE_LINE),
     (&["expression"], b"\xff1 + 2", 2, "", USAGE_LINE),
     (&["fn:f"], b"\xff1 + 2", 2, "", USAGE_LINE),
@@ -238,22 +245,24 @@ pub(super) fn ends_so(rt: &(impl Abort + AllocGlobal), row: &Row) {
     let (words, input, status, written, said) = row;
     let mut out = Vec::new(rt.alloc());
     let (got, err) = run_on(rt, words, *input, &mut out);
-    assert!(rt;
+    holds_for(
+        rt,
         got == *status && out.as_slice() == written.as_bytes(),
-        "{written}"
+        written,
     );
-    assert!(rt; err.as_slice() == said.as_bytes());
+    holds(rt, err.as_slice() == said.as_bytes());
 }
 
 /// The text is refused, and what the program writes of it begins so.
 pub(super) fn begins_so(rt: &(impl Abort + AllocGlobal), text: &str, told: &str) {
     let mut out = Vec::new(rt.alloc());
     let (status, err) = run_on(rt, EXPR, text.as_bytes(), &mut out);
-    assert!(rt;
+    holds_for(
+        rt,
         status == 1 && out.as_slice().starts_with(told.as_bytes()),
-        "{text}"
+        &text,
     );
-    assert!(rt; err.is_empty());
+    holds(rt, err.is_empty());
 }
 
 #[test]
@@ -317,9 +326,12 @@ fn tells_of_a_read_that_fails(rt: HostRuntime) {
         };
         let mut out = Vec::new(rt.alloc());
         let (status, err) = run_on(&rt, EXPR, reader, &mut out);
-        assert!(rt; status == 4);
-        assert!(rt; out.is_empty());
-        assert!(rt; err.as_slice() == b"input or output failed\n".as_slice());
+        holds(&rt, status == 4);
+        holds(&rt, out.is_empty());
+        holds(
+            &rt,
+            err.as_slice() == b"input or output failed\n".as_slice(),
+        );
     }
 }
 
@@ -354,13 +366,13 @@ fn fails_at_each_write(rt: &(impl Abort + AllocGlobal), text: &str, want: &str, 
         };
         let (got, _) = run_on(rt, EXPR, text.as_bytes(), &mut out);
         if got == status {
-            assert!(rt; out.taken.as_slice() == want.as_bytes());
-            assert!(rt; writes_left > 0, "no write was needed");
+            holds(rt, out.taken.as_slice() == want.as_bytes());
+            holds_for(rt, writes_left > 0, &"no write was needed");
             return;
         }
-        assert!(rt; got == 4, "with {writes_left} writes");
+        holds_for(rt, got == 4, &writes_left);
     }
-    assert!(rt; false, "no number of writes was enough");
+    holds_for(rt, false, &"no number of writes was enough");
 }
 
 #[test]
@@ -387,7 +399,10 @@ impl Write for UnflushedWriter {
 fn tells_of_a_flush_that_fails(rt: HostRuntime) {
     for text in &["1", "1 +"] {
         let (status, err) = run_on(&rt, EXPR, text.as_bytes(), &mut UnflushedWriter);
-        assert!(rt; status == 4 && err.as_slice() == b"input or output failed\n".as_slice());
+        holds(
+            &rt,
+            status == 4 && err.as_slice() == b"input or output failed\n".as_slice(),
+        );
     }
 }
 
@@ -399,8 +414,8 @@ fn a_long_text_is_answered(rt: HostRuntime) {
     }
     let mut out = Vec::new(rt.alloc());
     let (status, err) = run_on(&rt, EXPR, text.as_bytes(), &mut out);
-    assert!(rt; status == 0 && out.as_slice() == b"1\nok\n".as_slice());
-    assert!(rt; err.is_empty());
+    holds(&rt, status == 0 && out.as_slice() == b"1\nok\n".as_slice());
+    holds(&rt, err.is_empty());
 }
 
 /// Arguments that the process might be given, the program's name first.
@@ -434,12 +449,15 @@ fn an_argument_that_is_no_text_is_a_usage_fault(rt: HostRuntime) {
     let error = refusal(&rt, arguments(&given));
     let mut err = Vec::new(rt.alloc());
     let status = refuse_arguments(error, &mut Output::new(&mut err));
-    assert!(rt; status == 2 && err.as_slice() == USAGE_LINE.as_bytes());
+    holds(&rt, status == 2 && err.as_slice() == USAGE_LINE.as_bytes());
 }
 
 #[test]
 fn arguments_come_without_the_programs_name(rt: HostRuntime) {
     let given = (Given(&[b"cedar-parse", b"expr", b"fn:f"]), rt.alloc());
     let words = made(&rt, arguments(&given));
-    assert!(rt; words.len() == 2 && words[0].as_str() == "expr" && words[1].as_str() == "fn:f");
+    holds(
+        &rt,
+        words.len() == 2 && words[0].as_str() == "expr" && words[1].as_str() == "fn:f",
+    );
 }

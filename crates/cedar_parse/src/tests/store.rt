@@ -1,6 +1,8 @@
 //! Templates, static policies and sets: their parts, their slots in order, what is refused, and that a copy equals its source.
 use super::builder::build;
-use super::held::{agrees, copies, copies_of, equal, made, refusal, says, says_and_copies, shows};
+use super::held::{
+    agrees, copies, copies_of, equal, holds, holds_for, made, refusal, says, says_and_copies, shows,
+};
 use super::names::text;
 use cedar_expressions::{
     AnyId, Eid, EntityType, EntityUID, Expr, ExprBuilderInfallibleBuild, Id, InternalName, Items,
@@ -134,8 +136,8 @@ fn slot_in_condition(rt: &(impl Abort + AllocGlobal)) -> Expr {
 #[test]
 fn names_of_policies(rt: HostRuntime) {
     let (first, tenth) = (id(&rt, "policy1"), id(&rt, "policy10"));
-    assert!(rt; first < tenth && first.as_str() == "policy1");
-    assert!(rt; tenth.into_string().as_str() == "policy10");
+    holds(&rt, first < tenth && first.as_str() == "policy1");
+    holds(&rt, tenth.into_string().as_str() == "policy10");
     says_and_copies(&rt, first, "policy1");
     says_and_copies(&rt, id(&rt, ""), "");
 }
@@ -150,7 +152,7 @@ fn effects_are_written(rt: HostRuntime) {
 #[test]
 fn an_annotation_without_a_value_has_the_empty_text(rt: HostRuntime) {
     let bare = Annotation::with_optional_value(rt.alloc(), None, at(3));
-    assert!(rt; bare.as_str() == "" && bare.place() == at(3));
+    holds(&rt, bare.as_str() == "" && bare.place() == at(3));
     says_and_copies(&rt, bare, "");
     let value = Some(string(&rt, "x"));
     says_and_copies(
@@ -166,8 +168,11 @@ fn annotations_by_key(rt: HostRuntime) {
     let (known, other) = (AnyId::new(text(&rt, "a")), AnyId::new(text(&rt, "b")));
     let known = known.expect(&rt, "no identifier");
     let other = other.expect(&rt, "no identifier");
-    assert!(rt; all.len() == 1 && !all.is_empty() && all.iter().count() == 1);
-    assert!(rt; all.get(&known).is_some() && all.get(&other).is_none());
+    holds(
+        &rt,
+        all.len() == 1 && !all.is_empty() && all.iter().count() == 1,
+    );
+    holds(&rt, all.get(&known).is_some() && all.get(&other).is_none());
     copies_of(&rt, &all);
     agrees(
         &rt,
@@ -197,10 +202,10 @@ fn constraints_have_the_slot_of_their_variable(rt: HostRuntime) {
         let resource = ResourceConstraint::new(constraint(&rt, *asked, 8));
         let (id, other) = (SlotId::Principal, SlotId::Resource);
         let wanted = has_slot.then_some(Slot { id, place: at(7) });
-        assert!(rt; principal.slot() == wanted, "{written}");
+        holds_for(&rt, principal.slot() == wanted, written);
         let id = other;
         let wanted = has_slot.then_some(Slot { id, place: at(8) });
-        assert!(rt; resource.slot() == wanted, "{written}");
+        holds_for(&rt, resource.slot() == wanted, written);
         shows(&rt, principal.as_inner(), written);
         shows(&rt, resource.as_inner(), written);
         drop((principal, resource));
@@ -307,12 +312,12 @@ fn slots_stand_in_order(rt: HostRuntime) {
         };
         let template = template(&rt, "t", (*principal, *resource), condition);
         let slots = made(&rt, template.slots(rt.alloc()));
-        assert!(rt; slots.len() == offsets.len());
+        holds(&rt, slots.len() == offsets.len());
         for (slot, offset) in slots.iter().zip(offsets.iter()) {
-            assert!(rt; slot.place == at(*offset));
-            assert!(rt; (slot.id == SlotId::Resource) == (*offset == 20));
+            holds(&rt, slot.place == at(*offset));
+            holds(&rt, (slot.id == SlotId::Resource) == (*offset == 20));
         }
-        assert!(rt; template.first_slot() == slots.first().copied());
+        holds(&rt, template.first_slot() == slots.first().copied());
         drop((template, slots));
     }
 }
@@ -329,10 +334,10 @@ fn a_template_without_slots_is_static(rt: HostRuntime) {
         let first = template.first_slot();
         match StaticPolicy::try_from(template) {
             Ok(policy) => {
-                assert!(rt; offsets.is_empty());
+                holds(&rt, offsets.is_empty());
                 drop(policy);
             }
-            Err(UnexpectedSlotError::FoundSlot(slot)) => assert!(rt; first == Some(slot)),
+            Err(UnexpectedSlotError::FoundSlot(slot)) => holds(&rt, first == Some(slot)),
         }
     }
 }
@@ -357,8 +362,11 @@ fn a_template_has_its_parts(rt: HostRuntime) {
         (Asked::Is, Asked::EqSlot),
         Some(slot_in_condition(&rt)),
     );
-    assert!(rt; whole.id().as_str() == "t" && whole.place() == at(0));
-    assert!(rt; whole.effect() == Effect::Permit && whole.annotations().len() == 1);
+    holds(&rt, whole.id().as_str() == "t" && whole.place() == at(0));
+    holds(
+        &rt,
+        whole.effect() == Effect::Permit && whole.annotations().len() == 1,
+    );
     shows(&rt, whole.principal_constraint(), "principal is T");
     shows(&rt, whole.action_constraint(), "action any");
     shows(&rt, whole.resource_constraint(), "resource == ?");
@@ -405,7 +413,7 @@ fn equality_looks_at_no_place(rt: HostRuntime) {
 #[test]
 fn static_policies_are_their_templates(rt: HostRuntime) {
     let policy = policy(&rt, "p");
-    assert!(rt; policy.id().as_str() == "p");
+    holds(&rt, policy.id().as_str() == "p");
     shows(
         &rt,
         policy.as_template(),
@@ -440,11 +448,14 @@ fn a_set_finds_by_name(rt: HostRuntime) {
         ("q", false, false),
     ] {
         let id = id(&rt, name);
-        assert!(rt; set.static_policy(&id).is_some() == *is_static, "{name}");
-        assert!(rt; set.template(&id).is_some() == *is_template, "{name}");
+        holds_for(&rt, set.static_policy(&id).is_some() == *is_static, name);
+        holds_for(&rt, set.template(&id).is_some() == *is_template, name);
         drop(id);
     }
-    assert!(rt; set.static_policies().count() == 1 && set.templates().count() == 1);
+    holds(
+        &rt,
+        set.static_policies().count() == 1 && set.templates().count() == 1,
+    );
     says_and_copies(&rt, set, "1 static policies, 1 templates");
 }
 

@@ -1,5 +1,5 @@
 //! Words that name extension functions and methods: which words do, and runs with them.
-use super::held::made;
+use super::held::{holds, holds_for, made};
 use super::program::{EXPR, Row, USAGE_LINE, ends_so};
 use crate::run::run;
 use std::process::Abort;
@@ -87,19 +87,20 @@ fn run_with(
 /// The word is a usage fault, and the input, which isn't UTF-8, doesn't matter.
 fn is_refused(rt: &(impl Abort + AllocGlobal), start: &str, end: &str) {
     let (status, out, err) = run_with(rt, start, end, b"\xff1");
-    assert!(rt; status == 2 && out.is_empty(), "{start}{end}");
-    assert!(rt; err.as_slice() == USAGE_LINE.as_bytes());
+    holds_for(rt, status == 2 && out.is_empty(), &start);
+    holds(rt, err.as_slice() == USAGE_LINE.as_bytes());
 }
 
 #[test]
 fn words_name_functions_and_methods(rt: HostRuntime) {
     for word in &STYLES {
         let (status, out, err) = run_with(&rt, word, "", b"1");
-        assert!(rt;
+        holds_for(
+            &rt,
             status == 0 && out.as_slice() == b"1\nok\n".as_slice(),
-            "{word}"
+            word,
         );
-        assert!(rt; err.is_empty());
+        holds(&rt, err.is_empty());
     }
 }
 

@@ -1,7 +1,7 @@
 //! What texts become: the places of their trees' nodes, and their values by `parse_expression`.
 use super::builder::{build, difference, long, prefixed};
 use super::counting::CountingBuilder;
-use super::held::{agrees, made};
+use super::held::{agrees, holds, holds_for, made};
 use super::names::text;
 use cedar_expressions::{
     Expr as Value, ExprBuilder, ExprBuilderInfallibleBuild, ExprKind, Literal, Place, UnaryOp, Var,
@@ -72,7 +72,7 @@ fn each_node_has_its_place(rt: HostRuntime) {
         SourceSpan::between(3, 4),
     ];
     let tree = tree(&rt, "1+(2)");
-    assert!(rt; places(&rt, &tree) == Some(wanted));
+    holds(&rt, places(&rt, &tree) == Some(wanted));
     drop(tree);
 }
 
@@ -104,7 +104,7 @@ pub(super) fn at(offset: usize, length: usize) -> Option<Place> {
 fn each_node_of_a_value_has_its_place(rt: HostRuntime) {
     let whole = value(&rt, "1 + principal == (2)");
     let wanted = [at(0, 20), at(0, 13), at(0, 1), at(4, 9), at(18, 1)];
-    assert!(rt; places_of_nodes(&whole) == Some(wanted));
+    holds(&rt, places_of_nodes(&whole) == Some(wanted));
     drop(whole);
 }
 
@@ -202,6 +202,6 @@ const CALLS: [(&str, Option<usize>); 8] = [
 #[test]
 fn each_builder_is_asked(rt: HostRuntime) {
     for (text, wanted) in &CALLS {
-        assert!(rt; calls(rt.alloc(), text) == *wanted, "{text}");
+        holds_for(&rt, calls(rt.alloc(), text) == *wanted, text);
     }
 }

@@ -1,6 +1,6 @@
 //! Trees: a copy of each type equals its source, its text under `{:#}` is that under `{}`; and what hinders the conversion of
 //! trees that no text has.
-use super::held::{made, refusal, says, shows_alike_and_copies};
+use super::held::{holds_for, made, refusal, says, shows_alike_and_copies};
 use super::names::text;
 use super::texts::{built, tree};
 use cedar_expressions::{ExprBuilder, TryClone};
@@ -51,13 +51,13 @@ fn copies_each_level(rt: &(impl Abort + AllocGlobal), whole: &Node<Option<Expr>>
     let data = implementation.expr.as_ref();
     shows_alike_and_copies(rt, data);
     let ExprData::Or(or) = data else {
-        return assert!(rt; false, "not a chain");
+        return holds_for(rt, false, &"not a chain");
     };
     let and = &held(rt, or).initial;
     let relation = &held(rt, and).initial;
     match held(rt, relation) {
         Relation::Common { initial, .. } => copies_each_operand(rt, initial),
-        _ => assert!(rt; false, "not a comparison"),
+        _ => holds_for(rt, false, &"not a comparison"),
     }
 }
 

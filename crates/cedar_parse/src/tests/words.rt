@@ -1,5 +1,5 @@
 //! What `parse_ref`, `parse_name` and `parse_ident` answer: trees, and the first fault with the kinds that were expected.
-use super::held::{made, refusal, shows};
+use super::held::{holds_for, made, refusal, shows};
 use cedar_syntax::cst::{Ident, Name, Ref};
 use cedar_syntax::err::{Failure, ParseError};
 use cedar_syntax::loc::SourceSpan;
@@ -134,16 +134,17 @@ const NO_IDENTS: [Refused; 4] = [
 /// The failure is this one fault.
 fn is_told(rt: &(impl Abort + AllocGlobal), failure: &Failure, row: &Refused) {
     let Failure::Errors(faults) = failure else {
-        return assert!(rt; false, "want of memory");
+        return holds_for(rt, false, &"want of memory");
     };
     let ParseError::ToCST(fault) = faults.first() else {
-        return assert!(rt; false, "not a fault of the text");
+        return holds_for(rt, false, &"not a fault of the text");
     };
     let (text, start, end, message, names) = row;
     let span = SourceSpan::between(*start, *end);
-    assert!(rt;
+    holds_for(
+        rt,
         faults.len() == 1 && fault.primary_source_span() == Some(span),
-        "{text}"
+        text,
     );
     shows(rt, fault, message);
     let mut told = String::new(rt.alloc());
@@ -151,7 +152,7 @@ fn is_told(rt: &(impl Abort + AllocGlobal), failure: &Failure, row: &Refused) {
         made(rt, told.push_str(kind.name()));
         made(rt, told.push(' '));
     }
-    assert!(rt; told.as_str().trim_end() == *names, "{text}: {told}");
+    holds_for(rt, told.as_str().trim_end() == *names, text);
 }
 
 /// The text is refused for this one fault.

@@ -10,10 +10,10 @@ use Rattle.cedar_syntax.specs.declared.cst.Primary.TheVariants as primary
 use Rattle.cedar_syntax.specs.Forms.{parts_of, listed_init}
 use Rattle.cedar_syntax.specs.Located.{Located}
 use Rattle.cedar_syntax.specs.Tree.{Operator, beside}
-use Rattle.cedar_text.specs.LooseExpressions as l
-use Rattle.cedar_text.specs.Place.{placed}
-use Rattle.cedar_text.specs.Tokens.{Spot, one}
-use Rattle.cedar_text.specs.Trees.{rec_init_of}
+use Rattle.cedar_syntax.specs.LooseExpressions as l
+use Rattle.cedar_syntax.specs.Place.{placed}
+use Rattle.cedar_syntax.specs.Tokens.{Spot, one}
+use Rattle.cedar_syntax.specs.Trees.{rec_init_of}
 use Rattle.cedar_policy_parser.specs.Conversion.{Part, operands, pairs_given, pair_outcome, set_of, record_held, made}
 use Rattle.cedar_policy_parser.specs.Extensions.{Extensions}
 use Rattle.cedar_policy_parser.specs.Held.{Held, as_expression, as_attribute}

@@ -19,13 +19,13 @@ use Rattle.cedar_syntax.specs.declared.cst.Literal.TheVariants as literal
 use Rattle.cedar_syntax.specs.declared.cst.Primary.TheVariants as primary
 use Rattle.cedar_syntax.specs.declared.cst.Slot.{Slot}
 use Rattle.cedar_syntax.specs.declared.cst.Slot.TheVariants as slot
-use Rattle.cedar_text.specs.LooseExpressions as l
-use Rattle.cedar_text.specs.LooseExpressions.{ReadsSlot}
-use Rattle.cedar_text.specs.LooseWords as lw
-use Rattle.cedar_text.specs.LooseWords.{ReadsLiteral, is_common}
-use Rattle.cedar_text.specs.Place.{placed}
-use Rattle.cedar_text.specs.Tokens.{Spot, one, number_of, any_of}
-use Rattle.cedar_text.specs.Trees.{name_of as tree_name}
+use Rattle.cedar_syntax.specs.LooseExpressions as l
+use Rattle.cedar_syntax.specs.LooseExpressions.{ReadsSlot}
+use Rattle.cedar_syntax.specs.LooseWords as lw
+use Rattle.cedar_syntax.specs.LooseWords.{ReadsLiteral, is_common}
+use Rattle.cedar_syntax.specs.Place.{placed}
+use Rattle.cedar_syntax.specs.Tokens.{Spot, one, number_of, any_of}
+use Rattle.cedar_syntax.specs.Trees.{name_of as tree_name}
 use Rattle.cedar_policy_parser.specs.Entities.{slot_id}
 use Rattle.cedar_policy_parser.specs.Extensions.{Extensions}
 use Rattle.cedar_policy_parser.specs.Held.{expression, as_expression}

@@ -16,11 +16,11 @@ use Rattle.cedar_syntax.specs.declared.cst.Unary.{Unary}
 use Rattle.cedar_syntax.specs.Forms.{located, parts_of, and_form, relation_form, mult_form, unary_form, or_operand, and_operand, add_operand, mult_operand, listed_expr}
 use Rattle.cedar_syntax.specs.Located.{Located, Parts}
 use Rattle.cedar_syntax.specs.Tree.{Level, Operator, or_or, and_and, add, multiply, beside, disjunction, conjunction, sum, product}
-use Rattle.cedar_text.specs.LooseExpressions as l
-use Rattle.cedar_text.specs.LooseExpressions.{ReadsAnds, ReadsRelations, ReadsMults, ReadsUnaries, ReadsAddOp}
-use Rattle.cedar_text.specs.Place.{placed}
-use Rattle.cedar_text.specs.Tokens.{Spot, one}
-use Rattle.cedar_text.specs.Trees.{Cell, expr_of, or_of, and_of, add_of, mult_of}
+use Rattle.cedar_syntax.specs.LooseExpressions as l
+use Rattle.cedar_syntax.specs.LooseExpressions.{ReadsAnds, ReadsRelations, ReadsMults, ReadsUnaries, ReadsAddOp}
+use Rattle.cedar_syntax.specs.Place.{placed}
+use Rattle.cedar_syntax.specs.Tokens.{Spot, one}
+use Rattle.cedar_syntax.specs.Trees.{Cell, expr_of, or_of, and_of, add_of, mult_of}
 use Rattle.cedar_policy_parser.specs.Conversion.{Part, Converts, outcome, operands, chained, combined, allowed, made}
 use Rattle.cedar_policy_parser.specs.Extensions.{Extensions}
 use Rattle.cedar_policy_parser.specs.Held.{Held, as_expression}

@@ -15,13 +15,13 @@ use Rattle.cedar_syntax.specs.Located as f
 use Rattle.cedar_syntax.specs.Located.{Located, Form, Parts, at}
 use Rattle.cedar_syntax.specs.Tree.{Operator}
 use Rattle.cedar_syntax.proofs.FormLevels.{primary_name, primary_literal, access_field}
-use Rattle.cedar_text.specs.LooseExpressions as l
-use Rattle.cedar_text.specs.LooseExpressions.{ReadsAdd, ReadsExpr, ReadsMember, ReadsPrimary, ReadsAccesses, lone_add, lone_expr}
-use Rattle.cedar_text.specs.LooseWords as lw
-use Rattle.cedar_text.specs.Pattern.{IsPattern}
-use Rattle.cedar_text.specs.Place.{placed}
-use Rattle.cedar_text.specs.Tokens.{Spot, one, between_quotes}
-use Rattle.cedar_text.specs.Trees.{Cell, member_of}
+use Rattle.cedar_syntax.specs.LooseExpressions as l
+use Rattle.cedar_syntax.specs.LooseExpressions.{ReadsAdd, ReadsExpr, ReadsMember, ReadsPrimary, ReadsAccesses, lone_add, lone_expr}
+use Rattle.cedar_syntax.specs.LooseWords as lw
+use Rattle.cedar_syntax.specs.Pattern.{IsPattern}
+use Rattle.cedar_syntax.specs.Place.{placed}
+use Rattle.cedar_syntax.specs.Tokens.{Spot, one, between_quotes}
+use Rattle.cedar_syntax.specs.Trees.{Cell, member_of}
 use Rattle.cedar_policy_parser.specs.Conversion.{outcome, accesses_given}
 use Rattle.cedar_policy_parser.specs.Extensions.{Extensions}
 use Rattle.cedar_policy_parser.specs.HasSide.{Attributes, right_side, attributes_of, behind_first, fields_of, field_of, field_form}
@@ -52,7 +52,7 @@ alone_reads src ts x r = read_at src ts (ts ++ []) (member_of (placed src ts x) 
 sum_reads : (src : List ℕ) (ts : List Lexeme) (x : Member) → ReadsMember src ts x → ReadsAdd src ts (lone_add src ts x)
 sum_reads src ts x r = l.add (l.one_mult (l.mult (l.one_unary (l.plain r))))
 
-expr_reads : (src : List ℕ) (ts : List Lexeme) (x : Member) → ReadsMember src ts x → ReadsExpr src ts (lone_expr src ts x)
+pub expr_reads : (src : List ℕ) (ts : List Lexeme) (x : Member) → ReadsMember src ts x → ReadsExpr src ts (lone_expr src ts x)
 expr_reads src ts x r = l.or_expr (l.or (l.one_and (l.and (l.one_relation (l.common (l.one_add (sum_reads src ts x r)))))))
 
 pub by_itself : (e : Extensions) (p : Option Loc) (o : Outcome Held) → next o (λ h. member_outcome e p h []) ≡ o

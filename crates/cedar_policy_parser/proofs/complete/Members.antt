@@ -12,11 +12,11 @@ use Rattle.cedar_syntax.specs.declared.cst.Primary.TheVariants as primary
 use Rattle.cedar_syntax.specs.Forms.{located, parts_of, access_form, primary_form, member_form, listed_access, listed_expr}
 use Rattle.cedar_syntax.specs.Located.{at}
 use Rattle.cedar_syntax.specs.Tree.{beside}
-use Rattle.cedar_text.specs.LooseExpressions as l
-use Rattle.cedar_text.specs.LooseExpressions.{ReadsMember, ReadsAccess}
-use Rattle.cedar_text.specs.Place.{placed}
-use Rattle.cedar_text.specs.Tokens.{Spot, one}
-use Rattle.cedar_text.specs.Trees.{Cell, member_of}
+use Rattle.cedar_syntax.specs.LooseExpressions as l
+use Rattle.cedar_syntax.specs.LooseExpressions.{ReadsMember, ReadsAccess}
+use Rattle.cedar_syntax.specs.Place.{placed}
+use Rattle.cedar_syntax.specs.Tokens.{Spot, one}
+use Rattle.cedar_syntax.specs.Trees.{Cell, member_of}
 use Rattle.cedar_policy_parser.specs.Conversion.{Converts, Part, outcome, operands, accesses_given, access_outcome, bodies}
 use Rattle.cedar_policy_parser.specs.Extensions.{Extensions}
 use Rattle.cedar_policy_parser.specs.Held.{Held, expression, bare_name, as_expression}

@@ -17,8 +17,8 @@ use Rattle.cedar_syntax.specs.declared.cst.RecInit.{RecInit}
 use Rattle.cedar_syntax.specs.Forms.{parts_of, expr_form, or_form, and_form, relation_form, add_form, mult_form, unary_form, primary_form, init_form, listed_access, listed_expr, listed_init}
 use Rattle.cedar_syntax.specs.Located.{at}
 use Rattle.cedar_syntax.specs.Tree.{Operator, add, beside}
-use Rattle.cedar_text.specs.LooseExpressions.{ReadsExpr, ReadsOr, ReadsAnd, ReadsRelation, ReadsAdd, ReadsMult, ReadsUnary, ReadsAccesses, ReadsPrimary, ReadsExprItems, ReadsExprs, ReadsRecInit, ReadsInitItems, ReadsRecInits}
-use Rattle.cedar_text.specs.Trees.{Cell}
+use Rattle.cedar_syntax.specs.LooseExpressions.{ReadsExpr, ReadsOr, ReadsAnd, ReadsRelation, ReadsAdd, ReadsMult, ReadsUnary, ReadsAccesses, ReadsPrimary, ReadsExprItems, ReadsExprs, ReadsRecInit, ReadsInitItems, ReadsRecInits}
+use Rattle.cedar_syntax.specs.Trees.{Cell}
 use Rattle.cedar_policy_parser.specs.Conversion.{Part, Converts, outcome, operands, accesses_given, pair_outcome, pairs_given, bodies, added}
 use Rattle.cedar_policy_parser.specs.Extensions.{Extensions}
 use Rattle.cedar_policy_parser.specs.HasSide.{Attributes, right_side}

@@ -13,11 +13,11 @@ use Rattle.cedar_syntax.specs.declared.cst.RelOp.TheVariants as rel
 use Rattle.cedar_syntax.specs.Forms.{located, parts_of, add_form, relation_operand}
 use Rattle.cedar_syntax.specs.Located.{Located, none}
 use Rattle.cedar_syntax.specs.Tree.{Operator, compare, relation}
-use Rattle.cedar_text.specs.LooseExpressions as l
-use Rattle.cedar_text.specs.LooseExpressions.{ReadsRelOp}
-use Rattle.cedar_text.specs.Place.{placed}
-use Rattle.cedar_text.specs.Tokens.{Spot, one}
-use Rattle.cedar_text.specs.Trees.{if_of, common_of, has_of, like_of, is_of}
+use Rattle.cedar_syntax.specs.LooseExpressions as l
+use Rattle.cedar_syntax.specs.LooseExpressions.{ReadsRelOp}
+use Rattle.cedar_syntax.specs.Place.{placed}
+use Rattle.cedar_syntax.specs.Tokens.{Spot, one}
+use Rattle.cedar_syntax.specs.Trees.{if_of, common_of, has_of, like_of, is_of}
 use Rattle.cedar_policy_parser.specs.Conversion.{outcome, operands, compared, made, chosen, with_attributes, matched, beside_type, typed, typed_within}
 use Rattle.cedar_policy_parser.specs.Extensions.{Extensions}
 use Rattle.cedar_policy_parser.specs.HasSide.{Attributes}

@@ -13,13 +13,13 @@ use Rattle.cedar_syntax.specs.declared.cst.Primary.{Primary}
 use Rattle.cedar_syntax.specs.declared.cst.Primary.TheVariants as primary
 use Rattle.cedar_syntax.specs.Forms.{located, member_form, primary_form}
 use Rattle.cedar_syntax.specs.Located.{at}
-use Rattle.cedar_text.specs.LooseExpressions as l
-use Rattle.cedar_text.specs.LooseExpressions.{ReadsSigns, ReadsMember, ReadsPrimary, ReadsAccesses}
-use Rattle.cedar_text.specs.LooseWords as lw
-use Rattle.cedar_text.specs.LooseWords.{ReadsLiteral}
-use Rattle.cedar_text.specs.Place.{placed}
-use Rattle.cedar_text.specs.Tokens.{Spot, one, number_of, fits}
-use Rattle.cedar_text.specs.Trees.{Cell, unary_of, member_of, bangs_of, dashes_of, sign_limit}
+use Rattle.cedar_syntax.specs.LooseExpressions as l
+use Rattle.cedar_syntax.specs.LooseExpressions.{ReadsSigns, ReadsMember, ReadsPrimary, ReadsAccesses}
+use Rattle.cedar_syntax.specs.LooseWords as lw
+use Rattle.cedar_syntax.specs.LooseWords.{ReadsLiteral}
+use Rattle.cedar_syntax.specs.Place.{placed}
+use Rattle.cedar_syntax.specs.Tokens.{Spot, one, number_of, fits}
+use Rattle.cedar_syntax.specs.Trees.{Cell, unary_of, member_of, bangs_of, dashes_of, sign_limit}
 use Rattle.cedar_policy_parser.specs.Conversion.{number_in, lone_literal, literal_alone}
 use Rattle.cedar_policy_parser.specs.Extensions.{Extensions}
 use Rattle.cedar_policy_parser.specs.Strict.{repeated, IsNumeral}

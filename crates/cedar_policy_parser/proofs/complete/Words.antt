@@ -16,12 +16,12 @@ use Rattle.cedar_syntax.specs.declared.cst.Name.{Name}
 use Rattle.cedar_syntax.specs.declared.cst.Ref.{Ref}
 use Rattle.cedar_syntax.specs.declared.cst.Ref.TheVariants as ref
 use Rattle.cedar_syntax.specs.declared.cst.Str.TheVariants as str
-use Rattle.cedar_text.specs.Piece.{IsUnescaped}
-use Rattle.cedar_text.specs.Place.{placed}
-use Rattle.cedar_text.specs.LooseWords as l
-use Rattle.cedar_text.specs.LooseWords.{ReadsAny, ReadsLiteral, ReadsName, ReadsPath, ReadsRef, is_common}
-use Rattle.cedar_text.specs.Tokens.{Spot, one, between_quotes}
-use Rattle.cedar_text.specs.Trees.{Cell, name_of as tree_name}
+use Rattle.cedar_syntax.specs.Piece.{IsUnescaped}
+use Rattle.cedar_syntax.specs.Place.{placed}
+use Rattle.cedar_syntax.specs.LooseWords as l
+use Rattle.cedar_syntax.specs.LooseWords.{ReadsAny, ReadsLiteral, ReadsName, ReadsPath, ReadsRef, is_common}
+use Rattle.cedar_syntax.specs.Tokens.{Spot, one, between_quotes}
+use Rattle.cedar_syntax.specs.Trees.{Cell, name_of as tree_name}
 use Rattle.cedar_policy_parser.specs.Entities.{entity_of, reference_outcome}
 use Rattle.cedar_policy_parser.specs.Held.{Held, variable, bare_name, bare_string, as_entity_type, as_attribute, variable_text, type_named}
 use Rattle.cedar_policy_parser.specs.HasSide.{attributes_of, behind_first}

@@ -13,8 +13,8 @@ use Rattle.cedar_expressions.specs.Value.{Value}
 use Rattle.cedar_expressions.specs.Written.{var_text}
 use Rattle.cedar_syntax.specs.declared.loc.Loc.{Loc}
 use Rattle.cedar_syntax.specs.declared.cst.TheConstants.{SIGN_LIMIT}
-use Rattle.cedar_text.specs.Pattern.{IsPattern}
-use Rattle.cedar_text.specs.Tokens.{Spot, one, between_quotes}
+use Rattle.cedar_syntax.specs.Pattern.{IsPattern}
+use Rattle.cedar_syntax.specs.Tokens.{Spot, one, between_quotes}
 use Rattle.cedar_policy_parser.specs.Extensions.{Extensions}
 use Rattle.cedar_policy_parser.specs.Held.{Held, expression, variable, bare_name, bare_truth, bare_string, as_expression, as_pattern, as_entity_type, as_string, as_attribute, variable_text, unqualified}
 use Rattle.cedar_policy_parser.specs.Strict as m

@@ -15,10 +15,10 @@ use Rattle.cedar_syntax.specs.Located as f
 use Rattle.cedar_syntax.specs.Located.{Located, at}
 use Rattle.cedar_syntax.specs.Tree.{Level, disjunction, conjunction, relation, sum, product}
 use Rattle.cedar_syntax.proofs.FormLevels.{primary_name}
-use Rattle.cedar_text.specs.LooseExpressions.{if_name, lone_add, lone_expr}
-use Rattle.cedar_text.specs.Place.{placed}
-use Rattle.cedar_text.specs.Tokens.{Spot, one}
-use Rattle.cedar_text.specs.Trees.{Cell, or_of, and_of, common_of, mult_of, unary_of, member_of, name_of}
+use Rattle.cedar_syntax.specs.LooseExpressions.{if_name, lone_add, lone_expr}
+use Rattle.cedar_syntax.specs.Place.{placed}
+use Rattle.cedar_syntax.specs.Tokens.{Spot, one}
+use Rattle.cedar_syntax.specs.Trees.{Cell, or_of, and_of, common_of, mult_of, unary_of, member_of, name_of}
 use Rattle.cedar_policy_parser.specs.Conversion.{outcome, operands, accesses_given}
 use Rattle.cedar_policy_parser.specs.Extensions.{Extensions}
 use Rattle.cedar_policy_parser.specs.HasSide.{Attributes, right_side, right_form, begins_with, attributes_of}

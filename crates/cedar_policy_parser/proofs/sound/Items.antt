@@ -10,7 +10,7 @@ use Rattle.cedar_syntax.specs.declared.cst.TheConstants.{SIGN_LIMIT}
 use Rattle.cedar_syntax.specs.Forms.{parts_of}
 use Rattle.cedar_syntax.specs.Located.{Located}
 use Rattle.cedar_syntax.specs.Tree.{Operator}
-use Rattle.cedar_text.specs.Tokens.{Spot, one}
+use Rattle.cedar_syntax.specs.Tokens.{Spot, one}
 use Rattle.cedar_policy_parser.specs.Conversion.{Part, bodies, accesses_given, access_outcome, pairs_given, pair_outcome, with_first, set_of, record_held, keys}
 use Rattle.cedar_policy_parser.specs.Extensions.{Extensions}
 use Rattle.cedar_policy_parser.specs.Held.{Held, expression}

@@ -13,13 +13,13 @@ use Rattle.cedar_syntax.specs.declared.cst.Name.{Name}
 use Rattle.cedar_syntax.specs.declared.cst.Ref.{Ref}
 use Rattle.cedar_syntax.specs.declared.cst.Slot.{Slot}
 use Rattle.cedar_syntax.specs.declared.cst.Literal.{Literal}
-use Rattle.cedar_text.specs.Place.{placed}
-use Rattle.cedar_text.specs.LooseExpressions as l
-use Rattle.cedar_text.specs.LooseExpressions.{ReadsSlot}
-use Rattle.cedar_text.specs.LooseWords as lw
-use Rattle.cedar_text.specs.LooseWords.{ReadsLiteral, ReadsAny, ReadsPath, ReadsName, ReadsRef}
-use Rattle.cedar_text.specs.Tokens.{Spot, one, number_of, any_of}
-use Rattle.cedar_text.specs.Trees.{Cell, name_of}
+use Rattle.cedar_syntax.specs.Place.{placed}
+use Rattle.cedar_syntax.specs.LooseExpressions as l
+use Rattle.cedar_syntax.specs.LooseExpressions.{ReadsSlot}
+use Rattle.cedar_syntax.specs.LooseWords as lw
+use Rattle.cedar_syntax.specs.LooseWords.{ReadsLiteral, ReadsAny, ReadsPath, ReadsName, ReadsRef}
+use Rattle.cedar_syntax.specs.Tokens.{Spot, one, number_of, any_of}
+use Rattle.cedar_syntax.specs.Trees.{Cell, name_of}
 use Rattle.cedar_policy_parser.specs.Extensions.{Extensions}
 use Rattle.cedar_policy_parser.specs.Entities.{entity_outcome}
 use Rattle.cedar_policy_parser.specs.Held.{Held, expression, as_expression}

@@ -9,7 +9,7 @@ use Rattle.cedar_syntax.specs.declared.loc.Loc.{Loc}
 use Rattle.cedar_syntax.specs.declared.cst.TheConstants.{SIGN_LIMIT}
 use Rattle.cedar_syntax.specs.Located.{Parts}
 use Rattle.cedar_syntax.specs.Tree.{Level, Operator, disjunction, conjunction, product}
-use Rattle.cedar_text.specs.Tokens.{Spot, one}
+use Rattle.cedar_syntax.specs.Tokens.{Spot, one}
 use Rattle.cedar_policy_parser.specs.Conversion.{Part, chained, combined, joined, allowed, bodies}
 use Rattle.cedar_policy_parser.specs.Extensions.{Extensions}
 use Rattle.cedar_policy_parser.specs.Held.{Held, as_expression}

@@ -8,7 +8,7 @@ use Rattle.cedar_expressions.specs.Value as v
 use Rattle.cedar_expressions.specs.Value.{Value, values}
 use Rattle.cedar_syntax.specs.declared.loc.Loc.{Loc}
 use Rattle.cedar_syntax.specs.declared.cst.TheConstants.{SIGN_LIMIT}
-use Rattle.cedar_text.specs.Tokens.{Spot, one}
+use Rattle.cedar_syntax.specs.Tokens.{Spot, one}
 use Rattle.cedar_policy_parser.specs.Extensions.{Extensions}
 use Rattle.cedar_policy_parser.specs.Held.{Held, expression, variable, bare_name, bare_truth, bare_string, as_expression}
 use Rattle.cedar_policy_parser.specs.Members.{Access, field, call, index, accesses_of, name_accesses, some_accesses, member_outcome, method_outcome, function_outcome}

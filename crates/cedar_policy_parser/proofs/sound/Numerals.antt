@@ -14,13 +14,13 @@ use Rattle.cedar_syntax.specs.declared.cst.Ref.{Ref}
 use Rattle.cedar_syntax.specs.declared.cst.Slot.{Slot}
 use Rattle.cedar_syntax.specs.Forms.{member_form, primary_form}
 use Rattle.cedar_syntax.specs.Located.{at}
-use Rattle.cedar_text.specs.Place.{placed}
-use Rattle.cedar_text.specs.LooseExpressions as l
-use Rattle.cedar_text.specs.LooseExpressions.{ReadsSlot, ReadsMember, ReadsPrimary, ReadsAccesses, ReadsAccess}
-use Rattle.cedar_text.specs.LooseWords as lw
-use Rattle.cedar_text.specs.LooseWords.{ReadsAny, ReadsLiteral, ReadsName, ReadsRef}
-use Rattle.cedar_text.specs.Tokens.{Spot, one, number_of, any_of}
-use Rattle.cedar_text.specs.Trees.{Cell, member_of}
+use Rattle.cedar_syntax.specs.Place.{placed}
+use Rattle.cedar_syntax.specs.LooseExpressions as l
+use Rattle.cedar_syntax.specs.LooseExpressions.{ReadsSlot, ReadsMember, ReadsPrimary, ReadsAccesses, ReadsAccess}
+use Rattle.cedar_syntax.specs.LooseWords as lw
+use Rattle.cedar_syntax.specs.LooseWords.{ReadsAny, ReadsLiteral, ReadsName, ReadsRef}
+use Rattle.cedar_syntax.specs.Tokens.{Spot, one, number_of, any_of}
+use Rattle.cedar_syntax.specs.Trees.{Cell, member_of}
 use Rattle.cedar_policy_parser.specs.Conversion.{number_in, lone_literal, literal_alone}
 use Rattle.cedar_policy_parser.specs.Strict.{IsNumeral}
 use Rattle.cedar_policy_parser.proofs.Made.{lone_member, lone_accessed, lone_literally, lone_named, lone_slot, lone_referred, lone_paren, lone_set, lone_braces}

@@ -7,8 +7,8 @@ use Rattle.cedar_expressions.specs.declared.literal.PatternElem.{PatternElem}
 use Rattle.cedar_expressions.specs.Value as v
 use Rattle.cedar_expressions.specs.Value.{Value}
 use Rattle.cedar_syntax.specs.declared.loc.Loc.{Loc}
-use Rattle.cedar_text.specs.Pattern.{IsPattern}
-use Rattle.cedar_text.specs.Tokens.{Spot, one, between_quotes}
+use Rattle.cedar_syntax.specs.Pattern.{IsPattern}
+use Rattle.cedar_syntax.specs.Tokens.{Spot, one, between_quotes}
 use Rattle.cedar_policy_parser.specs.Conversion.{matched, beside_type, typed, typed_within, with_attributes, chosen}
 use Rattle.cedar_policy_parser.specs.Extensions.{Extensions}
 use Rattle.cedar_policy_parser.specs.HasSide.{Attributes}

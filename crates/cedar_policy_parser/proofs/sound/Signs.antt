@@ -7,10 +7,10 @@ use Rattle.cedar_expressions.specs.Value as v
 use Rattle.cedar_expressions.specs.Value.{Value}
 use Rattle.cedar_syntax.specs.declared.loc.Loc.{Loc}
 use Rattle.cedar_syntax.specs.declared.cst.NegOp.TheVariants as sign
-use Rattle.cedar_text.specs.LooseExpressions as l
-use Rattle.cedar_text.specs.LooseExpressions.{ReadsSigns}
-use Rattle.cedar_text.specs.Tokens.{number_of}
-use Rattle.cedar_text.specs.Trees.{bangs_of, dashes_of, sign_limit}
+use Rattle.cedar_syntax.specs.LooseExpressions as l
+use Rattle.cedar_syntax.specs.LooseExpressions.{ReadsSigns}
+use Rattle.cedar_syntax.specs.Tokens.{number_of}
+use Rattle.cedar_syntax.specs.Trees.{bangs_of, dashes_of, sign_limit}
 use Rattle.cedar_policy_parser.specs.Conversion.{applied, dashed, signed, made, negative}
 use Rattle.cedar_policy_parser.specs.Extensions.{Extensions}
 use Rattle.cedar_policy_parser.specs.Held.{Held, expression, as_expression}

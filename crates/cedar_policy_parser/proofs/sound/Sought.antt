@@ -20,11 +20,11 @@ use Rattle.cedar_syntax.specs.Located as f
 use Rattle.cedar_syntax.specs.Located.{Located, Form, Parts, at}
 use Rattle.cedar_syntax.specs.Tree.{Level, Operator, sum, product}
 use Rattle.cedar_syntax.proofs.FormLevels.{add_out, mult_out, unary_out, member_out, access_field, access_call, access_index, primary_literal, primary_ref, primary_name, primary_slot, primary_expr, primary_list, primary_inits}
-use Rattle.cedar_text.specs.Place.{placed}
-use Rattle.cedar_text.specs.LooseExpressions as l
-use Rattle.cedar_text.specs.LooseExpressions.{ReadsAdd, ReadsMults, ReadsMult, ReadsUnaries, ReadsUnary, ReadsMember, ReadsPrimary, ReadsAccesses, ReadsAccess, ReadsSigns}
-use Rattle.cedar_text.specs.Tokens.{Spot, one}
-use Rattle.cedar_text.specs.Trees.{Cell, add_of, mult_of, unary_of, member_of, bangs_of, dashes_of, sign_limit}
+use Rattle.cedar_syntax.specs.Place.{placed}
+use Rattle.cedar_syntax.specs.LooseExpressions as l
+use Rattle.cedar_syntax.specs.LooseExpressions.{ReadsAdd, ReadsMults, ReadsMult, ReadsUnaries, ReadsUnary, ReadsMember, ReadsPrimary, ReadsAccesses, ReadsAccess, ReadsSigns}
+use Rattle.cedar_syntax.specs.Tokens.{Spot, one}
+use Rattle.cedar_syntax.specs.Trees.{Cell, add_of, mult_of, unary_of, member_of, bangs_of, dashes_of, sign_limit}
 use Rattle.cedar_policy_parser.specs.Extensions.{Extensions, no_extensions}
 use Rattle.cedar_policy_parser.specs.HasSide.{Attributes, right_side, right_form, begins_with, begun_by, attributes_of, behind_first, fields_of, field_of, field_form, string_alone, no_sign}
 use Rattle.cedar_policy_parser.specs.Held.{Held, expression, variable, bare_name, bare_truth, bare_string, variable_text, unqualified, as_string}

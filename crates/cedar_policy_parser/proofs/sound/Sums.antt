@@ -12,9 +12,9 @@ use Rattle.cedar_syntax.specs.declared.cst.MultOp.{MultOp}
 use Rattle.cedar_syntax.specs.Forms.{parts_of}
 use Rattle.cedar_syntax.specs.Located.{Located, Parts}
 use Rattle.cedar_syntax.specs.Tree.{Operator, compare, add, multiply, relation, sum}
-use Rattle.cedar_text.specs.LooseExpressions as l
-use Rattle.cedar_text.specs.LooseExpressions.{ReadsRelOp, ReadsAddOp, ReadsMultOp}
-use Rattle.cedar_text.specs.Tokens.{Spot, one}
+use Rattle.cedar_syntax.specs.LooseExpressions as l
+use Rattle.cedar_syntax.specs.LooseExpressions.{ReadsRelOp, ReadsAddOp, ReadsMultOp}
+use Rattle.cedar_syntax.specs.Tokens.{Spot, one}
 use Rattle.cedar_policy_parser.specs.Conversion.{Part, value_outcome, operands, chained, compared, related, factor, added}
 use Rattle.cedar_policy_parser.specs.Extensions.{Extensions}
 use Rattle.cedar_policy_parser.specs.Held.{Held, expression, as_expression}

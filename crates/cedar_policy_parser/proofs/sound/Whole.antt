@@ -23,11 +23,11 @@ use Rattle.cedar_syntax.specs.declared.cst.RecInit.{RecInit}
 use Rattle.cedar_syntax.specs.Forms.{located, parts_of, expr_form, or_form, and_form, relation_form, add_form, mult_form, unary_form, member_form, primary_form, access_form, init_form, or_operand, and_operand, relation_operand, add_operand, mult_operand, listed_access, listed_expr, listed_init}
 use Rattle.cedar_syntax.specs.Located.{at}
 use Rattle.cedar_syntax.specs.Tree.{Operator, or_or, and_and, multiply, beside}
-use Rattle.cedar_text.specs.Place.{placed}
-use Rattle.cedar_text.specs.LooseExpressions as l
-use Rattle.cedar_text.specs.LooseExpressions.{ReadsExpr, ReadsOr, ReadsAnds, ReadsAnd, ReadsRelations, ReadsRelation, ReadsAdds, ReadsAdd, ReadsMults, ReadsMult, ReadsUnaries, ReadsUnary, ReadsMember, ReadsAccesses, ReadsAccess, ReadsPrimary, ReadsExprs, ReadsExprItems, ReadsRecInits, ReadsInitItems, ReadsRecInit, if_name, lone_add}
-use Rattle.cedar_text.specs.Tokens.{Spot, one}
-use Rattle.cedar_text.specs.Trees.{Cell, member_of, bangs_of, dashes_of}
+use Rattle.cedar_syntax.specs.Place.{placed}
+use Rattle.cedar_syntax.specs.LooseExpressions as l
+use Rattle.cedar_syntax.specs.LooseExpressions.{ReadsExpr, ReadsOr, ReadsAnds, ReadsAnd, ReadsRelations, ReadsRelation, ReadsAdds, ReadsAdd, ReadsMults, ReadsMult, ReadsUnaries, ReadsUnary, ReadsMember, ReadsAccesses, ReadsAccess, ReadsPrimary, ReadsExprs, ReadsExprItems, ReadsRecInits, ReadsInitItems, ReadsRecInit, if_name, lone_add}
+use Rattle.cedar_syntax.specs.Tokens.{Spot, one}
+use Rattle.cedar_syntax.specs.Trees.{Cell, member_of, bangs_of, dashes_of}
 use Rattle.cedar_policy_parser.specs.Conversion.{Part, outcome, operands, value_outcome, accesses_given, access_outcome, pairs_given, pair_outcome, made, number_in, lone_literal, bodies}
 use Rattle.cedar_policy_parser.specs.Extensions.{Extensions}
 use Rattle.cedar_policy_parser.specs.HasSide.{right_side}
@@ -181,7 +181,7 @@ mutual
       let d = snoc_parts e place relation_operand xs (o, placed src us y) ps k in
       compared_more o d.0 ps d.1 p d.4 (sound_adds e place s d.0 r i d.2) q (sum_of e src us y d.1 (λ t j. sound_add e (placed src us y).loc t n j) (plain_operand e place (relation_operand (o, placed src us y)) d.1 (λ v. refl) d.3))
 
-  sound_add : {src : List ℕ} {ts : List Lexeme} {x : Add} (e : Extensions) (place : Option Loc) (h : Held) → ReadsAdd src ts x → outcome e (at place (add_form x)) ≡ Ok h → HeldAs e m.sum ts h
+  pub sound_add : {src : List ℕ} {ts : List Lexeme} {x : Add} (e : Extensions) (place : Option Loc) (h : Held) → ReadsAdd src ts x → outcome e (at place (add_form x)) ≡ Ok h → HeldAs e m.sum ts h
   sound_add e place h (l.add {ts = ts} {x = x} {xs = xs} r) k =
       add_held e ts place (parts_of (map add_operand xs)) (outcome e (located mult_form x)) (operands e place (parts_of (map add_operand xs))) h (λ s qs i j. sound_mults e place s qs r i j) (sym (gives_add e place x xs) ∙ k)
 

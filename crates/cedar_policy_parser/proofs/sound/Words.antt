@@ -10,11 +10,11 @@ use Rattle.cedar_syntax.specs.declared.loc.Loc.{Loc}
 use Rattle.cedar_syntax.specs.declared.cst.Ident.{Ident}
 use Rattle.cedar_syntax.specs.declared.cst.Name.{Name}
 use Rattle.cedar_syntax.specs.declared.cst.Ref.{Ref}
-use Rattle.cedar_text.specs.Place.{placed}
-use Rattle.cedar_text.specs.LooseWords as l
-use Rattle.cedar_text.specs.LooseWords.{ReadsAny, ReadsPath, ReadsName, ReadsRef}
-use Rattle.cedar_text.specs.Tokens.{Spot, one, any_of, between_quotes}
-use Rattle.cedar_text.specs.Trees.{Cell, name_of}
+use Rattle.cedar_syntax.specs.Place.{placed}
+use Rattle.cedar_syntax.specs.LooseWords as l
+use Rattle.cedar_syntax.specs.LooseWords.{ReadsAny, ReadsPath, ReadsName, ReadsRef}
+use Rattle.cedar_syntax.specs.Tokens.{Spot, one, any_of, between_quotes}
+use Rattle.cedar_syntax.specs.Trees.{Cell, name_of}
 use Rattle.cedar_policy_parser.specs.Entities.{entity_of, reference_outcome}
 use Rattle.cedar_policy_parser.specs.Names.{filled, all_of, valid_ident_of, valid_ident, unreserved, unreserved_ident, path_of, identifiers, path_outcome, name_outcome}
 use Rattle.cedar_policy_parser.specs.Outcome.{Outcome, both, next}

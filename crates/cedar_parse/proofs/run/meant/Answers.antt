@@ -1,4 +1,4 @@
-use Rattle.cedar_text.specs.FirstFault.{IsMemory}
+use Rattle.cedar_syntax.specs.FirstFault.{IsMemory}
 use Rattle.cedar_parse.proofs.Verdicts.{meant_by, read_only, refused_for_memory, err_on}
 use Rattle.cedar_parse.proofs.run.meant.Goals as goal
 

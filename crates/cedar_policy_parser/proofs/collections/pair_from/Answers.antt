@@ -8,4 +8,4 @@ returns g c h x l k =
     let m = g.B.ExprBuilderInfallibleBuild.meaning in
     let key = rw c.in_ok-key.was at l in
     gives_at (seen_pair m) c.flatten_tuple_2.result _ _ (given_next h _ _ key)
-    (both_gives itself m c.into_attribute.result c.args.value c.flatten_tuple_2.result _ x c.flatten_tuple_2.ensures.both c.flatten_tuple_2.ensures.faults c.into_attribute.ensures k)
+    (both_gives itself m c.into_attribute-attribute.result c.args.value c.flatten_tuple_2.result _ x c.flatten_tuple_2.ensures.both c.flatten_tuple_2.ensures.faults c.into_attribute-attribute.ensures k)

@@ -15,3 +15,9 @@ returns-clause-bangs c = alone.bangs
 
 pub returns-clause-dashes : goal.returns-clause-dashes
 returns-clause-dashes c = alone.dashes
+
+pub returns-clause-repeated_key : goal.returns-clause-repeated_key
+returns-clause-repeated_key c = alone.repeated_key
+
+pub returns-clause-lone_name : goal.returns-clause-lone_name
+returns-clause-lone_name c = alone.lone_name

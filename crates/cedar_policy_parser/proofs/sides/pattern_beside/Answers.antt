@@ -8,4 +8,4 @@ returns g c x h k l =
     let m = g.B.ExprBuilderInfallibleBuild.meaning in
     let right = rw c.in_ok-right.was at l in
     gives_at (seen_matched m) c.flatten_tuple_2.result _ _ (given_next h _ _ right)
-    (both_gives m items_of c.args.target c.into_pattern.result c.flatten_tuple_2.result x _ c.flatten_tuple_2.ensures.both c.flatten_tuple_2.ensures.faults k c.into_pattern.ensures)
+    (both_gives m items_of c.args.target c.into_pattern-pattern.result c.flatten_tuple_2.result x _ c.flatten_tuple_2.ensures.both c.flatten_tuple_2.ensures.faults k c.into_pattern-pattern.ensures)

@@ -1,0 +1,142 @@
+//! Trees of policies that no text gives, and what hinders their conversion.
+use super::held::{holds, holds_for, made, refusal};
+use super::names::text;
+use super::places::place;
+use super::policy_calls::{id, no_styles, policy, spans};
+use cedar_policy_parser::cst_to_ast::{PoliciesAst, PolicyAst, PolicyImplAst};
+use cedar_syntax::Items;
+use cedar_syntax::cst::{Cond, Ident, Policies, Policy, PolicyImpl};
+use cedar_syntax::err::{Failure, ParseError, ToASTErrorKind};
+use cedar_syntax::node::Node;
+use std::process::Abort;
+
+/// A policy that asks for nothing.
+const PERMIT: &str = "permit(principal, action, resource);";
+
+/// An empty node at a place.
+fn empty<T>(rt: &(impl Abort + AllocGlobal), start: usize, end: usize) -> Node<Option<T>> {
+    Node::with_maybe_source_loc(None, Some(place(rt, start, end)))
+}
+
+/// A word as no text spells it, at a place.
+fn word(
+    rt: &(impl Abort + AllocGlobal),
+    spelling: &str,
+    start: usize,
+    end: usize,
+) -> Node<Option<Ident>> {
+    let ident = Ident::Ident(text(rt, spelling));
+    Node::with_maybe_source_loc(Some(ident), Some(place(rt, start, end)))
+}
+
+/// What a policy's tree holds, to be changed.
+fn parts(rt: &(impl Abort + AllocGlobal), text: &str) -> PolicyImpl {
+    let (policy, loc) = policy(rt, text).into_inner();
+    drop(loc);
+    let Policy::Policy(parts) = policy.expect(rt, "an empty node");
+    parts
+}
+
+/// The tree that holds these parts.
+fn tree(parts: PolicyImpl) -> Node<Option<Policy>> {
+    Node::new(Some(Policy::Policy(parts)))
+}
+
+/// The failure is an empty node, at these bytes and alone.
+fn is_empty_node(rt: &impl Abort, failure: &Failure, start: usize, end: usize) {
+    spans(rt, failure, &[(start, end)]);
+    if let Failure::Errors(faults) = failure {
+        let ParseError::ToAST(fault) = faults.first() else {
+            return holds_for(rt, false, &"not a fault of the tree");
+        };
+        holds(
+            rt,
+            matches!(fault.kind(), ToASTErrorKind::EmptyNodeInvariantViolation),
+        );
+    }
+}
+
+#[test]
+fn an_empty_set_is_refused(rt: HostRuntime) {
+    let styles = no_styles(&rt);
+    let node: Node<Option<Policies>> = empty(&rt, 3, 5);
+    let failure = refusal(&rt, node.to_policyset(rt.alloc(), &styles));
+    is_empty_node(&rt, &failure, 3, 5);
+    let unnamed = refusal(&rt, node.with_generated_policyids(rt.alloc()));
+    is_empty_node(&rt, &unnamed, 3, 5);
+    drop((styles, node, failure, unnamed));
+}
+
+#[test]
+fn an_empty_policy_of_a_set_is_refused(rt: HostRuntime) {
+    let styles = no_styles(&rt);
+    let mut items = Items::new(rt.alloc());
+    made(&rt, items.push(policy(&rt, PERMIT)));
+    made(&rt, items.push(empty(&rt, 7, 9)));
+    let node = Node::new(Some(Policies(items)));
+    let failure = refusal(&rt, node.to_policyset(rt.alloc(), &styles));
+    is_empty_node(&rt, &failure, 7, 9);
+    drop((styles, node, failure));
+}
+
+#[test]
+fn an_empty_element_is_no_extra_one(rt: HostRuntime) {
+    let styles = no_styles(&rt);
+    let mut parts = parts(&rt, PERMIT);
+    made(&rt, parts.variables.push(empty(&rt, 7, 9)));
+    let failure = refusal(&rt, parts.extract_scope(rt.alloc(), &styles));
+    is_empty_node(&rt, &failure, 7, 9);
+    drop((styles, parts, failure));
+}
+
+#[test]
+fn an_empty_scope_misses_three_elements(rt: HostRuntime) {
+    let styles = no_styles(&rt);
+    let mut parts = parts(&rt, PERMIT);
+    parts.variables = Items::new(rt.alloc());
+    let failure = refusal(&rt, parts.extract_scope(rt.alloc(), &styles));
+    spans(&rt, &failure, &[(6, 6), (6, 6), (6, 6)]);
+    parts.effect = Node::new(Some(Ident::Permit));
+    let unplaced = refusal(&rt, parts.extract_scope(rt.alloc(), &styles));
+    if let Failure::Errors(faults) = &unplaced {
+        holds(
+            &rt,
+            faults.len() == 3 && faults.primary_source_span().is_none(),
+        );
+    }
+    drop((styles, parts, failure, unplaced));
+}
+
+#[test]
+fn a_spelled_word_is_no_word(rt: HostRuntime) {
+    let styles = no_styles(&rt);
+    let mut parts = parts(&rt, "permit(principal, action, resource) when { true };");
+    parts.effect = word(&rt, "permit", 0, 6);
+    let failure = refusal(&rt, tree(parts).to_template(rt.alloc(), id(&rt), &styles));
+    spans(&rt, &failure, &[(0, 6)]);
+    drop((styles, failure));
+}
+
+#[test]
+fn an_empty_condition_word_is_refused(rt: HostRuntime) {
+    let styles = no_styles(&rt);
+    let mut parts = parts(&rt, PERMIT);
+    let cond = Cond {
+        cond: empty(&rt, 3, 5),
+        expr: None,
+    };
+    made(&rt, parts.conds.push(Node::new(Some(cond))));
+    let failure = refusal(&rt, tree(parts).to_template(rt.alloc(), id(&rt), &styles));
+    is_empty_node(&rt, &failure, 3, 5);
+    drop((styles, failure));
+}
+
+#[test]
+fn an_empty_annotation_is_refused(rt: HostRuntime) {
+    let styles = no_styles(&rt);
+    let mut parts = parts(&rt, "@a permit(principal, action, resource);");
+    made(&rt, parts.annotations.push(empty(&rt, 3, 5)));
+    let failure = refusal(&rt, tree(parts).to_policy(rt.alloc(), id(&rt), &styles));
+    is_empty_node(&rt, &failure, 3, 5);
+    drop((styles, failure));
+}

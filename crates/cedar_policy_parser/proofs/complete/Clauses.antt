@@ -1,0 +1,93 @@
+-- Conditions have trees that give them, wherever slots were looked for.
+use Rattle.std.proofs.Common.{◌≡◌, ℕ, List, [], ◌∷◌, ◌++◌, Option, Some, Ok, true, false, refl, sym, ap, ◌∙◌}
+use Rattle.cedar_lexer.specs.Token.{Lexeme}
+use Rattle.cedar_lexer.specs.declared.token.TokenKind.TheVariants as kind
+use Rattle.cedar_expressions.specs.declared.literal.SlotId.{SlotId}
+use Rattle.cedar_expressions.specs.Value as v
+use Rattle.cedar_expressions.specs.Value.{Value}
+use Rattle.cedar_syntax.specs.declared.loc.Loc.{Loc}
+use Rattle.cedar_syntax.specs.declared.cst.Cond.{Cond}
+use Rattle.cedar_syntax.specs.declared.cst.Ident.TheVariants as ident
+use Rattle.cedar_syntax.specs.declared.cst.TheConstants.{SIGN_LIMIT}
+use Rattle.cedar_syntax.specs.Forms.{located, expr_form}
+use Rattle.cedar_syntax.specs.LoosePolicies as l
+use Rattle.cedar_syntax.specs.LoosePolicies.{ReadsCond, ReadsMany}
+use Rattle.cedar_syntax.specs.LooseWords as lw
+use Rattle.cedar_syntax.specs.Place.{placed}
+use Rattle.cedar_syntax.specs.Tokens.{Spot, one}
+use Rattle.cedar_syntax.specs.Trees.{Cell, cond_of}
+use Rattle.cedar_policy_parser.specs.Conditions.{Found, condition_of, condition_outcome, conditions_outcome, meant, paired, slots_outcome, slots_told, without_slots}
+use Rattle.cedar_policy_parser.specs.Conversion.{value_outcome}
+use Rattle.cedar_policy_parser.specs.Extensions.{Extensions}
+use Rattle.cedar_policy_parser.specs.Names.{all_of}
+use Rattle.cedar_policy_parser.specs.Outcome.{Outcome, both, next}
+use Rattle.cedar_policy_parser.specs.Scope.{unless_told}
+use Rattle.cedar_policy_parser.specs.StrictPolicy as m
+use Rattle.cedar_policy_parser.specs.StrictPolicy.{AreConditions, IsCondition}
+use Rattle.cedar_policy_parser.specs.ValueSlots.{slots_of}
+use Rattle.cedar_policy_parser.proofs.Inverted.{ok_is, next_ok, both_ok}
+use Rattle.cedar_policy_parser.proofs.complete.Whole.{complete}
+use Rattle.cedar_policy_parser.proofs.sound.Clauses.{paired_snoc}
+
+record ConditionRead (e : Extensions) (src : List ℕ) (ts : List Lexeme) (c : Value) : Type 0 where
+  tree : Cond
+  reads : ReadsCond src ts tree
+  gives : (found : Found) (place : Option Loc) → condition_of e found place tree ≡ Ok c
+
+none_found : (place : Option Loc) (found : Found) (ids : List SlotId) → ids ≡ [] → unless_told (slots_told place ids found) ≡ Ok tt
+none_found place found ids h = rw h refl
+
+when_given : (place : Option Loc) (found : Found) (o : Outcome Value) (x : Value) → o ≡ Ok x → slots_of x ≡ [] → next o (without_slots place found true) ≡ Ok x
+when_given place found o x h none = rw h (ap (λ u. next u (λ _. Ok x)) (none_found place found (slots_of x) none))
+
+unless_given : (place : Option Loc) (found : Found) (o : Outcome Value) (x : Value) → o ≡ Ok x → slots_of x ≡ [] → next o (without_slots place found false) ≡ Ok (v.not x)
+unless_given place found o x h none = rw h (ap (λ u. next u (λ _. Ok (v.not x))) (none_found place found (slots_of x) none))
+
+condition_read : (e : Extensions) (src : List ℕ) {ts : List Lexeme} {c : Value} → IsCondition e SIGN_LIMIT ts c → ConditionRead e src ts c
+condition_read e src (m.when {ts = ts} {a = x} p a z i none) =
+    let d = complete e src i in
+    let n = placed src ts d.tree in
+    record {
+      tree = cond_of (placed src (one kind.When p) ident.When) (Some n);
+      reads = l.cond a z (lw.any p refl) (l.body d.reads);
+      gives = λ found place. when_given place found (value_outcome e (located expr_form n)) x (d.gives n.loc) none;
+    }
+condition_read e src (m.unless {ts = ts} {a = x} p a z i none) =
+    let d = complete e src i in
+    let n = placed src ts d.tree in
+    record {
+      tree = cond_of (placed src (one kind.Unless p) ident.Unless) (Some n);
+      reads = l.cond a z (lw.any p refl) (l.body d.reads);
+      gives = λ found place. unless_given place found (value_outcome e (located expr_form n)) x (d.gives n.loc) none;
+    }
+
+-- ---- all of a policy
+
+all_more : {X Y : Type 0} (f : X → Outcome Y) (w : X) (xs : List X) (y : Y) (ys : List Y) → f w ≡ Ok y → all_of f xs ≡ Ok ys → all_of f (w ∷ xs) ≡ Ok (y ∷ ys)
+all_more f w xs y ys h k = rw (h, k) refl
+
+all_last : {X Y : Type 0} (f : X → Outcome Y) (xs : List X) (x : X) (ys : List Y) (y : Y) → all_of f xs ≡ Ok ys → f x ≡ Ok y → all_of f (xs ++ x ∷ []) ≡ Ok (ys ++ y ∷ [])
+all_last f [] x ys y h k = all_more f x [] y [] k refl ∙ ap (λ zs. Ok (zs ++ y ∷ [])) (ok_is h)
+all_last f (w ∷ xs) x ys y h k =
+    let a = next_ok (both (f w) (all_of f xs)) _ ys h in
+    let b = both_ok (f w) (all_of f xs) a.0 a.1 in
+    all_more f w (xs ++ x ∷ []) a.0.0 (a.0.1 ++ y ∷ []) b.0 (all_last f xs x a.0.1 y b.1 k) ∙ ap (λ zs. Ok (zs ++ y ∷ [])) (ok_is a.2)
+
+pub record ConditionsRead (e : Extensions) (src : List ℕ) (ts : List Lexeme) (cs : List Value) : Type 0 where
+  pub cells : List (Cell Cond)
+  pub reads : ReadsMany src (ReadsCond src) ts cells
+  pub gives : (found : List Found) → conditions_outcome e found cells ≡ Ok cs
+
+pub conditions_read : (e : Extensions) (src : List ℕ) {ts : List Lexeme} {cs : List Value} → AreConditions e SIGN_LIMIT ts cs → ConditionsRead e src ts cs
+conditions_read e src m.no_condition = record { cells = []; reads = l.none; gives = λ found. refl }
+conditions_read e src (m.more_conditions {us = us} {cs = cs} {c = c} i j) =
+    let d = conditions_read e src i in
+    let k = condition_read e src j in
+    let n = placed src us k.tree in
+    record {
+      cells = d.cells ++ n ∷ [];
+      reads = l.more d.reads k.reads;
+      gives = λ found.
+          let f = paired_snoc found d.cells n in
+          ap (all_of (condition_outcome e)) f.1 ∙ all_last (condition_outcome e) (paired found d.cells) (f.0, n) cs c (d.gives found) (k.gives f.0 n.loc);
+    }

@@ -1,0 +1,19 @@
+use Rattle.std.proofs.Common.{refl}
+use Rattle.cedar_policy_parser.specs.Conditions.{slot_told}
+use Rattle.cedar_policy_parser.specs.Seen.{none_seen}
+use Rattle.cedar_policy_parser.proofs.FaultLists.{told_read}
+use Rattle.cedar_policy_parser.proofs.Loops.{take_whole}
+use Rattle.cedar_policy_parser.proofs.Outcomes.{gives_at}
+use Rattle.cedar_policy_parser.proofs.conditions.no_slots.Goals as goal
+
+pub loop-slot-init : goal.loop-slot-init
+loop-slot-init c = refl
+
+pub loop-slot-preserved : goal.loop-slot-preserved
+loop-slot-preserved c =
+    gives_at none_seen c.one_more_fault-all.result _ _
+    (told_read (slot_told c.args.site.loc.now) c.args.slots.now c.loop-slot.slot-index _ c.loop-slot-test.true)
+    (c.one_more_fault-all.ensures.told _ _ c.loop-slot.invariant c.slot_fault.ensures)
+
+pub returns : goal.returns
+returns c = rw (take_whole c.args.slots.now c.loop-slot.slot-index c.loop-slot-test.false) at c.loop-slot.invariant

@@ -1,0 +1,36 @@
+use Rattle.std.proofs.Common.{inl}
+use Rattle.cedar_policy_store.specs.PlaceFree.{set_meaning}
+use Rattle.cedar_syntax.specs.Leftmost.{HasLeftmost}
+use Rattle.cedar_syntax.specs.LoosePolicies.{ReadsPolicies}
+use Rattle.cedar_syntax.proofs.machines.Driving.{passed_on}
+use Rattle.cedar_policy_parser.specs.Extensions.{table_of}
+use Rattle.cedar_policy_parser.specs.Refused.{RefusesSet}
+use Rattle.cedar_policy_parser.proofs.Parsed.{err_on}
+use Rattle.cedar_policy_parser.proofs.ParsedSets.{tree_found, read_value, read_only, told_tree, has_tree}
+use Rattle.cedar_policy_parser.proofs.parse.parse_policyset.Goals as goal
+
+pub returns-in_err-tree-clause-only : goal.returns-in_err-tree-clause-only
+returns-in_err-tree-clause-only c ts set cut means =
+    let d = tree_found (table_of c.args.styles.now) c.args.text.now ts set cut means in
+    passed_on c.from_residual.result c.in_err-tree.field-0.0 _ _ c.from_residual.ensures.1 (c.in_err-tree.ensures.only d.tree d.stands)
+
+pub returns-clause-value : goal.returns-clause-value
+returns-clause-value c = read_value (table_of c.args.styles.now) set_meaning c.args.text.now c.in_ok-tree.tree c.to_policyset.result c.in_ok-tree.ensures.found c.to_policyset.ensures
+
+pub returns-clause-only : goal.returns-clause-only
+returns-clause-only c ts set cut means =
+    let d = tree_found (table_of c.args.styles.now) c.args.text.now ts set cut means in
+    read_only (table_of c.args.styles.now) set_meaning c.in_ok-tree.tree d.tree set c.to_policyset.result (c.in_ok-tree.ensures.only d.tree d.stands) c.to_policyset.ensures d.gives
+
+pub returns-in_err-tree-clause-refused : goal.returns-in_err-tree-clause-refused
+returns-in_err-tree-clause-refused c = err_on c.from_residual.result c.in_err-tree.field-0.0 (λ f. RefusesSet (table_of c.args.styles.now) f c.args.text.now) c.from_residual.ensures.1 (inl c.in_err-tree.ensures.refused)
+
+pub returns-clause-refused : goal.returns-clause-refused
+returns-clause-refused c = told_tree (table_of c.args.styles.now) set_meaning c.args.text.now c.in_ok-tree.tree c.to_policyset.result c.in_ok-tree.ensures.found c.to_policyset.ensures
+
+pub returns-in_err-tree-clause-leftmost : goal.returns-in_err-tree-clause-leftmost
+returns-in_err-tree-clause-leftmost c ts cut fit none =
+    err_on c.from_residual.result c.in_err-tree.field-0.0 (λ f. HasLeftmost ReadsPolicies c.args.text.now ts f) c.from_residual.ensures.1 (c.in_err-tree.ensures.leftmost ts cut fit)
+
+pub returns-clause-leftmost : goal.returns-clause-leftmost
+returns-clause-leftmost c ts cut fit none = absurd (none (has_tree c.at_most_one_cut.ensures c.args.text.now c.in_ok-tree.tree ts c.in_ok-tree.ensures.found cut))

@@ -1,0 +1,5 @@
+use Rattle.cedar_policy_parser.proofs.OneSet.{one_set_meaning}
+use Rattle.cedar_policy_parser.proofs.policy_laws.one_set.Goals as goal
+
+pub returns : goal.returns
+returns c = one_set_meaning c.policies.ensures.one_tree

@@ -1,0 +1,10 @@
+use Rattle.std.proofs.Common.{subst}
+use Rattle.cedar_policy_parser.specs.Extensions.{table_of}
+use Rattle.cedar_policy_parser.specs.Policies.{either_outcome, either_parts}
+use Rattle.cedar_policy_parser.specs.Seen.{Gives}
+use Rattle.cedar_policy_parser.proofs.sets.policy_at.Goals as goal
+
+pub returns : goal.returns
+returns c =
+    let given = c.static_or_template.ensures in
+    (given.0, subst (λ id. Gives either_parts c.static_or_template.result (either_outcome (table_of c.args.styles.now) given.0 id c.args.node.now)) c.in_ok-id.ensures given.1)

@@ -1,0 +1,160 @@
+//! Annotations: keys, and what a caller makes of their texts.
+ghost use Rattle.std.specs.Prelude.{◌≡◌, ◌⊎◌, ℕ, List, [], ◌∷◌, ◌++◌, Ok, IfOk, IfErr, true, false, string_bytes};
+ghost use Rattle.std.specs.BTreeMap.{IsOrdered};
+ghost use Rattle.std.specs.FinMap.{contains_key, insert};
+ghost use Rattle.std.specs.Option.{option_map};
+ghost use Rattle.cedar_syntax.specs.declared.err.faults.ParseError.TheVariants.{ToAST};
+ghost use Rattle.cedar_policy_parser.specs.AnnotationKeys as k;
+ghost use Rattle.cedar_policy_parser.specs.AnnotationKeys.{Annotated};
+ghost use Rattle.cedar_policy_store.specs.TextMap.{map_in, text_order};
+ghost use Rattle.cedar_policy_parser.specs.Outcome.{Told, duplicate_annotation};
+ghost use Rattle.cedar_policy_parser.specs.Scope.{unless_told};
+ghost use Rattle.cedar_policy_parser.specs.Seen.{Gives, Refuses, none_seen, told_of};
+ghost use Rattle.cedar_syntax.specs.Joined.{WantsMemory};
+
+use crate::entities::id_of;
+use crate::joins::{one_more_fault, refused_too};
+use crate::names::any_ident;
+use crate::special::unreached;
+use cedar_expressions::{AnyId, TryClone};
+use cedar_syntax::cst::{Annotation, Str};
+use cedar_syntax::err::{Failure, ToASTError, ToASTErrorKind};
+use cedar_syntax::loc::Loc;
+use cedar_syntax::node::Node;
+use cedar_text::util::flatten_tuple_2;
+use std::alloc::{AllocError, Global};
+use std::collections::BTreeMap;
+
+/// The text that an annotation's string stands for, if it has one.
+fn text_of(
+    alloc: Global,
+    loc: &Option<Loc>,
+    node: &Option<Node<Option<Str>>>,
+) -> Result<Option<String>, Failure>
+    ensures { Gives (option_map string_bytes) result (k.text_given loc.now node.now) }
+{
+    match node {
+        Some(node) => Ok(Some(id_of(alloc, loc, node)?.into_string())),
+        None => Ok(None),
+    }
+}
+
+/// A key and its text, joined.
+fn pair(
+    alloc: Global,
+    loc: &Option<Loc>,
+    annotation: &Annotation,
+) -> Result<(AnyId, Option<String>), Failure>
+    ensures { Gives (k.pair_seen loc.now) result (k.pair_given loc.now annotation.now) }
+{
+    flatten_tuple_2(
+        any_ident(alloc, &annotation.key),
+        text_of(alloc, loc, &annotation.value),
+    )
+}
+
+/// The key and the text of an annotation.
+fn text_pair(
+    alloc: Global,
+    node: &Node<Option<Annotation>>,
+) -> Result<(AnyId, Option<String>), Failure>
+    ensures { Gives (k.pair_seen node.now.loc) result (k.annotation_outcome node.now) }
+{
+    match &node.node {
+        Some(inner) => pair(alloc, &node.loc, inner),
+        None => Err(unreached(alloc, &node.loc)),
+    }
+}
+
+/// The key of an annotation, and what `f` makes of its text and its place.
+pub(crate) fn kv_pair<T: Drop, F: Fn(Option<String>, Option<&Loc>) -> T>(
+    alloc: Global,
+    node: &Node<Option<Annotation>>,
+    f: &F,
+) -> Result<(AnyId, T), Failure>
+    requires { F.IsAlwaysCallable f.now }
+    ensures value { IfOk result (λ p. (a : Annotated) × (k.annotation_outcome node.now ≡ Ok a)
+        × (a.key ≡ p.0) × k.Answers F.Fn f.now a p.1) }
+    ensures refused { IfErr result (λ failure. Refuses failure (k.annotation_outcome node.now)) }
+{
+    let (key, text) = text_pair(alloc, node)?;
+    let value = f(text, node.loc.as_ref());
+    Ok((key, value))
+}
+
+/// An annotation whose key an earlier one has.
+fn duplicate(key: &AnyId, loc: &Option<Loc>) -> Result<ToASTError, AllocError>
+    ensures { IfOk result (λ made. told_of (ToAST made) ≡ (duplicate_annotation, loc.now)) }
+{
+    let loc = loc.try_clone()?;
+    Ok(ToASTError::new(ToASTErrorKind::DuplicateAnnotation(key.try_clone()?), loc))
+}
+
+/// Keeps a value under its key, unless an earlier annotation has it.
+fn keep<T: Drop>(
+    alloc: Global,
+    map: &mut BTreeMap<AnyId, T>,
+    pair: (AnyId, T),
+    loc: &Option<Loc>,
+    all: Result<(), Failure>,
+) -> Result<(), Failure>
+    ensures ordered { IsOrdered text_order map.old → IsOrdered text_order map.new }
+    ensures memory { WantsMemory all → WantsMemory result }
+    ensures known { IsOrdered text_order map.old → contains_key (map_in map.old) pair.0 ≡ true
+        → (map_in map.new ≡ map_in map.old)
+        × ((faults : List Told) → Gives none_seen all (unless_told faults)
+        → Gives none_seen result
+        (unless_told (faults ++ (duplicate_annotation, loc.now) ∷ []))) }
+    ensures new { IsOrdered text_order map.old → contains_key (map_in map.old) pair.0 ≡ false
+        → WantsMemory result
+        ⊎ ((result ≡ all) × (map_in map.new ≡ insert (map_in map.old) pair.0 pair.1)) }
+{
+    let (key, value) = pair;
+    if map.contains_key(&key) {
+        return one_more_fault(alloc, all, duplicate(&key, loc));
+    }
+    map.insert(key, value)?;
+    all
+}
+
+/// One annotation more, behind those so far.
+fn one_more<T: Drop, F: Fn(Option<String>, Option<&Loc>) -> T>(
+    alloc: Global,
+    map: &mut BTreeMap<AnyId, T>,
+    all: Result<(), Failure>,
+    node: &Node<Option<Annotation>>,
+    f: &F,
+) -> Result<(), Failure>
+    requires { F.IsAlwaysCallable f.now }
+    ensures ordered { IsOrdered text_order map.old → IsOrdered text_order map.new }
+    ensures filled { (so_far : k.Gathered) → IsOrdered text_order map.old
+        → k.Filled F.Fn f.now so_far (map_in map.old) all
+        → k.Filled F.Fn f.now (k.gather_node so_far node.now) (map_in map.new) result }
+{
+    match kv_pair::<T, F>(alloc, node, f) {
+        Ok(pair) => keep::<T>(alloc, map, pair, &node.loc, all),
+        Err(failure) => refused_too(all, failure),
+    }
+}
+
+/// What `f` makes of each annotation, by its key.
+pub(crate) fn annotations<T: Drop, F: Fn(Option<String>, Option<&Loc>) -> T>(
+    alloc: Global,
+    nodes: &[Node<Option<Annotation>>],
+    f: &F,
+) -> Result<BTreeMap<AnyId, T>, Failure>
+    requires { F.IsAlwaysCallable f.now }
+    ensures value { IfOk result (λ map. (all : List Annotated) × (made : List T)
+        × (k.annotations_outcome nodes.now ≡ Ok all) × k.AnswersEach F.Fn f.now all made
+        × (map_in map ≡ k.keyed all made)) }
+    ensures refused { IfErr result (λ failure.
+        Refuses failure (k.annotations_outcome nodes.now)) }
+{
+    let mut map = BTreeMap::new(alloc);
+    let mut all: Result<(), Failure> = Ok(());
+    for node in nodes {
+        all = one_more::<T, F>(alloc, &mut map, all, node, f);
+    }
+    all?;
+    Ok(map)
+}

@@ -1,0 +1,186 @@
+//! Conditions: `when` and `unless` with an expression without slots.
+ghost use Rattle.std.specs.Prelude.{◌≡◌, List, Option, IfOk, map};
+ghost use Rattle.std.specs.Option.{option_map};
+ghost use Rattle.cedar_expressions.specs.Meaning.{unplaced};
+ghost use Rattle.cedar_expressions.specs.Value.{Value};
+ghost use Rattle.cedar_syntax.specs.declared.err.faults.ParseError.TheVariants.{ToAST};
+ghost use Rattle.cedar_policy_parser.specs.Conditions as k;
+ghost use Rattle.cedar_policy_parser.specs.Conditions.{Found};
+ghost use Rattle.cedar_policy_parser.specs.Extensions.{table_of};
+ghost use Rattle.cedar_policy_parser.specs.Outcome.{Outcome, empty_clause, invalid_condition, slots_in_condition_clause};
+ghost use Rattle.cedar_policy_parser.specs.PolicyMeaning.{condition_meant};
+ghost use Rattle.cedar_policy_parser.specs.Scope.{unless_told};
+ghost use Rattle.cedar_policy_parser.specs.Seen.{Gives, TellsAlone, item_more, itself, none_seen, told_of};
+
+use crate::cst_to_ast::{ExprAst, ExtStyles};
+use crate::joins::{one_more_fault, place_within};
+use crate::methods::Site;
+use crate::special::{builder_at, refusal, unreached};
+use cedar_expressions::{Expr, ExprBuilder, ExprBuilderInfallibleBuild, Slot, TryClone};
+use cedar_syntax::cst::{Cond, Ident};
+use cedar_syntax::err::{Failure, ToASTError, ToASTErrorKind};
+use cedar_syntax::loc::Loc;
+use cedar_syntax::node::Node;
+use cedar_text::util::flatten_tuple_2;
+use std::alloc::{AllocError, Global};
+
+/// A condition's word that is neither `when` nor `unless`.
+fn other_word(alloc: Global, loc: &Option<Loc>, word: &Ident) -> Failure
+    ensures { TellsAlone result invalid_condition loc.now }
+{
+    match word.try_clone() {
+        Ok(word) => refusal(alloc, ToASTErrorKind::InvalidCondition(word), loc),
+        Err(error) => Failure::Memory(error),
+    }
+}
+
+/// Whether a condition's word is `when`; else it is `unless`.
+fn is_when(alloc: Global, node: &Node<Option<Ident>>) -> Result<bool, Failure>
+    ensures { Gives itself result (k.is_when node.now) }
+{
+    match &node.node {
+        Some(Ident::When) => Ok(true),
+        Some(Ident::Unless) => Ok(false),
+        Some(word) => Err(other_word(alloc, &node.loc, word)),
+        None => Err(unreached(alloc, &node.loc)),
+    }
+}
+
+/// A condition with nothing in it.
+fn nothing_in(site: Site<'_>, word: &Option<Ident>) -> Failure
+    ensures { TellsAlone result empty_clause site.entry.loc.now }
+{
+    match word.try_clone() {
+        Ok(word) => refusal(site.alloc, ToASTErrorKind::EmptyClause(word), site.loc),
+        Err(error) => Failure::Memory(error),
+    }
+}
+
+/// The expression of a condition.
+fn clause(site: Site<'_>, cond: &Cond) -> Result<Expr, Failure>
+    ensures { Gives unplaced result
+        (k.clause (table_of site.entry.styles.now) site.entry.loc.now cond.now.expr) }
+{
+    match &cond.expr {
+        Some(expr) => expr.to_expr::<ExprBuilder<()>>(site.alloc, site.styles),
+        None => Err(nothing_in(site, &cond.cond.node)),
+    }
+}
+
+/// A slot in a condition.
+fn slot_fault(slot: Slot, word: &'static str, loc: &Option<Loc>) -> Result<ToASTError, AllocError>
+    ensures { IfOk result (λ made. told_of (ToAST made)
+        ≡ (slots_in_condition_clause, k.place_within loc.now slot.place)) }
+{
+    let loc = place_within(loc, slot.place)?;
+    Ok(ToASTError::new(ToASTErrorKind::slots_in_condition_clause(slot, word), loc))
+}
+
+/// Refuses each slot of a condition.
+fn no_slots(site: Site<'_>, word: &'static str, slots: &[Slot]) -> Result<(), Failure>
+    ensures { Gives none_seen result
+        (unless_told (map (k.slot_told site.entry.loc.now) slots.now)) }
+{
+    let mut all: Result<(), Failure> = Ok(());
+    for slot in slots {
+        all = one_more_fault(site.alloc, all, slot_fault(*slot, word, site.loc));
+    }
+    all
+}
+
+/// Refuses a condition in which slots stand.
+fn without_slots(site: Site<'_>, when: bool, expr: &Expr) -> Result<(), Failure>
+    ensures { (found : Found) × Gives none_seen result
+        (k.slots_outcome site.entry.loc.now found (unplaced expr.now)) }
+{
+    let word = if when { "when" } else { "unless" };
+    let slots = expr.slots(site.alloc)?;
+    no_slots(site, word, slots.as_slice())
+}
+
+/// `unless` is `not`.
+fn meant(site: Site<'_>, when: bool, expr: Expr) -> Result<Expr, AllocError>
+    ensures { IfOk result (λ e. unplaced e ≡ k.meant when (unplaced expr)) }
+{
+    if when {
+        Ok(expr)
+    } else {
+        builder_at::<ExprBuilder<()>>(site.alloc, site.loc).not(expr)
+    }
+}
+
+fn condition_of(site: Site<'_>, cond: &Cond) -> Result<Expr, Failure>
+    ensures { (found : Found) × Gives unplaced result
+        (k.condition_of (table_of site.entry.styles.now) found site.entry.loc.now cond.now) }
+{
+    let when = is_when(site.alloc, &cond.cond)?;
+    let expr = clause(site, cond)?;
+    without_slots(site, when, &expr)?;
+    Ok(meant(site, when, expr)?)
+}
+
+fn condition(alloc: Global, styles: &ExtStyles, node: &Node<Option<Cond>>) -> Result<Expr, Failure>
+    ensures { (found : Found) × Gives unplaced result
+        (k.condition_outcome (table_of styles.now) (found, node.now)) }
+{
+    match &node.node {
+        Some(inner) => {
+            let site = Site {
+                alloc,
+                styles,
+                loc: &node.loc,
+            };
+            condition_of(site, inner)
+        }
+        None => Err(unreached(alloc, &node.loc)),
+    }
+}
+
+/// One more condition behind those so far.
+fn one_more(
+    all: Result<Vec<Expr>, Failure>,
+    next: Result<Expr, Failure>,
+) -> Result<Vec<Expr>, Failure>
+    ensures { (cs : Outcome (List Value)) (c : Outcome Value)
+        → Gives k.meanings all cs → Gives unplaced next c
+        → Gives k.meanings result (item_more cs c) }
+{
+    let (mut all, next) = flatten_tuple_2(all, next)?;
+    all.push(next)?;
+    Ok(all)
+}
+
+/// The conditions of a policy, joined.
+pub(crate) fn conditions(
+    alloc: Global,
+    styles: &ExtStyles,
+    nodes: &[Node<Option<Cond>>],
+) -> Result<Vec<Expr>, Failure>
+    ensures { (found : List Found) × Gives k.meanings result
+        (k.conditions_outcome (table_of styles.now) found nodes.now) }
+{
+    let mut all: Result<Vec<Expr>, Failure> = Ok(Vec::new(alloc));
+    for node in nodes {
+        all = one_more(all, condition(alloc, styles, node));
+    }
+    all
+}
+
+/// Conditions folded to the right with `&&`: none asks for nothing.
+pub(crate) fn folded(
+    alloc: Global,
+    loc: &Option<Loc>,
+    conditions: Vec<Expr>,
+) -> Result<Option<Expr>, AllocError>
+    ensures { IfOk result (λ c. option_map unplaced c
+        ≡ condition_meant (map unplaced conditions.items)) }
+{
+    let mut earlier = conditions;
+    let Some(mut all) = earlier.pop() else {
+        return Ok(None);
+    };
+    while let Some(condition) = earlier.pop() {
+        all = builder_at::<ExprBuilder<()>>(alloc, loc).and(condition, all)?;
+    }
+    Ok(Some(all))
+}

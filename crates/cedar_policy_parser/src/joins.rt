@@ -1,0 +1,66 @@
+//! Faults one behind another, and places within a place.
+ghost use Rattle.std.specs.Prelude.{◌≡◌, ◌⊎◌, List, [], ◌∷◌, ◌++◌, IfOk, Ok};
+ghost use Rattle.cedar_policy_parser.specs.Conditions.{bytes_within as within, place_within as within_place};
+ghost use Rattle.cedar_syntax.specs.declared.err.faults.ParseError.TheVariants.{ToAST};
+ghost use Rattle.cedar_policy_parser.specs.Outcome.{Told, Outcome, both, next};
+ghost use Rattle.cedar_policy_parser.specs.Seen.{Gives, Refuses, none_seen, told_of};
+ghost use Rattle.cedar_policy_parser.specs.Scope.{unless_told};
+ghost use Rattle.cedar_syntax.specs.FirstFault.{IsMemory};
+ghost use Rattle.cedar_syntax.specs.Joined.{WantsMemory};
+
+use cedar_expressions::{Place, TryClone};
+use cedar_syntax::err::{Failure, ParseErrors, ToASTError};
+use cedar_syntax::loc::{Loc, SourceSpan};
+use cedar_text::util::flatten_tuple_2;
+use std::alloc::{AllocError, Global};
+
+/// One more fault, behind those so far if there are any.
+pub(crate) fn one_more_fault(
+    alloc: Global,
+    all: Result<(), Failure>,
+    fault: Result<ToASTError, AllocError>,
+) -> Result<(), Failure>
+    ensures told { (faults : List Told) (one : Told) → Gives none_seen all (unless_told faults)
+        → IfOk fault (λ made. told_of (ToAST made) ≡ one)
+        → Gives none_seen result (unless_told (faults ++ one ∷ [])) }
+    ensures memory { WantsMemory all → WantsMemory result }
+{
+    let fault = Failure::Errors(ParseErrors::from_ast(alloc, fault?));
+    let refused: Result<(), Failure> = Err(fault);
+    let ((), ()) = flatten_tuple_2(all, refused)?;
+    Ok(())
+}
+
+/// The faults so far, and those of one part more.
+pub(crate) fn refused_too(all: Result<(), Failure>, failure: Failure) -> Result<(), Failure>
+    ensures told { (o p : Outcome (Unit {0})) → Gives none_seen all o → Refuses failure p
+        → Gives none_seen result (next (both o p) (λ _. Ok tt)) }
+    ensures memory { WantsMemory all ⊎ IsMemory failure → WantsMemory result }
+{
+    let refused: Result<(), Failure> = Err(failure);
+    let ((), ()) = flatten_tuple_2(all, refused)?;
+    Ok(())
+}
+
+/// These bytes of the same text where they lie within a place, else that place.
+fn bytes_within(loc: &Loc, bytes: Place) -> Result<Loc, AllocError>
+    ensures { IfOk result (λ place. place ≡ within loc.now bytes) }
+{
+    match SourceSpan::new(bytes.offset, bytes.length) {
+        Some(span) if loc.start() <= span.offset() && span.end() <= loc.end() => loc.span(span),
+        _ => loc.try_clone(),
+    }
+}
+
+/// The same where both are known, else the place.
+pub(crate) fn place_within(
+    place: &Option<Loc>,
+    bytes: Option<Place>,
+) -> Result<Option<Loc>, AllocError>
+    ensures { IfOk result (λ within. within ≡ within_place place.now bytes) }
+{
+    match (place, bytes) {
+        (Some(loc), Some(bytes)) => Ok(Some(bytes_within(loc, bytes)?)),
+        _ => place.try_clone(),
+    }
+}

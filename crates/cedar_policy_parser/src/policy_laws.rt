@@ -1,0 +1,161 @@
+//! Laws that join the definitions: what the trees of policies are converted to is what their tokens mean.
+ghost use Rattle.std.specs.Prelude.{◌≡◌, ℕ, ◌-◌, List, [], ◌∷◌, map, length, Option, Some, None, Ok, Err};
+ghost use Rattle.std.specs.List.{All};
+ghost use Rattle.cedar_expressions.specs.Value.{Value};
+ghost use Rattle.cedar_lexer.specs.Token.{Lexeme};
+ghost use Rattle.cedar_policy_store.specs.PlaceFree as free;
+ghost use Rattle.cedar_syntax.specs.declared.cst.Cond.{Cond};
+ghost use Rattle.cedar_syntax.specs.declared.cst.Expr.{Expr};
+ghost use Rattle.cedar_syntax.specs.declared.cst.Ident.{Ident};
+ghost use Rattle.cedar_syntax.specs.declared.cst.Policies.{Policies as SetTree};
+ghost use Rattle.cedar_syntax.specs.declared.cst.Policy.{Policy as PolicyTree};
+ghost use Rattle.cedar_syntax.specs.declared.cst.Policy.TheVariants as trees;
+ghost use Rattle.cedar_syntax.specs.declared.cst.PolicyImpl.{PolicyImpl};
+ghost use Rattle.cedar_syntax.specs.declared.cst.TheConstants.{SIGN_LIMIT};
+ghost use Rattle.cedar_syntax.specs.declared.loc.Loc.{Loc};
+ghost use Rattle.cedar_syntax.specs.declared.node.Node.{Node};
+ghost use Rattle.cedar_syntax.specs.Forms.{located, expr_form};
+ghost use Rattle.cedar_syntax.specs.Grammar.{IsTreeOf};
+ghost use Rattle.cedar_syntax.specs.LoosePolicies.{ReadsPolicies, ReadsPolicy};
+ghost use Rattle.cedar_syntax.specs.Place.{placed};
+ghost use Rattle.cedar_syntax.specs.Trees.{Cell};
+ghost use Rattle.cedar_policy_parser.specs.Blocks.{faults_in, policy_faults, set_faults};
+ghost use Rattle.cedar_policy_parser.specs.Conditions.{Found, condition_outcome};
+ghost use Rattle.cedar_policy_parser.specs.Conversion.{Converts};
+ghost use Rattle.cedar_policy_parser.specs.Due.{IsCondition, IsWhenOrUnless, IsOfNoName, count, is_extra_element, is_missing_variable};
+ghost use Rattle.cedar_policy_parser.specs.Extensions.{Extensions};
+ghost use Rattle.cedar_policy_parser.specs.Outcome.{Told, refused, empty_clause, invalid_condition, invalid_effect, slots_in_condition_clause};
+ghost use Rattle.cedar_policy_parser.specs.Policies as k;
+ghost use Rattle.cedar_policy_parser.specs.Policies.{Parts, meaning_of};
+ghost use Rattle.cedar_policy_parser.specs.Scope.{scope_outcome};
+ghost use Rattle.cedar_policy_parser.specs.Standing.{StandWithin};
+ghost use Rattle.cedar_policy_parser.specs.StrictPolicy.{IsPolicy, IsPolicySet};
+ghost use Rattle.cedar_policy_parser.specs.ValueSlots.{slots_of};
+
+use cedar_text::text_to_cst::laws::{policies, single_policies};
+
+/// What a policy's tree is converted to is what its tokens mean.
+pub fn policy_is_meant()
+    ensures { (table : Extensions) (found : List Found) (src id : List ℕ) (ts : List Lexeme)
+        (x : PolicyTree) (parts : Parts)
+        → ReadsPolicy src ts x → k.template_outcome table found id (placed src ts x) ≡ Ok parts
+        → IsPolicy table SIGN_LIMIT id ts (meaning_of parts) }
+{}
+
+/// Tokens that mean a policy have a tree that is converted to it.
+pub fn meant_is_policy()
+    ensures { (table : Extensions) (src id : List ℕ) (ts : List Lexeme) (policy : free.Policy)
+        → IsPolicy table SIGN_LIMIT id ts policy
+        → (x : PolicyTree) × (parts : Parts) × ReadsPolicy src ts x
+        × ((found : List Found)
+        → k.template_outcome table found id (placed src ts x) ≡ Ok parts)
+        × (meaning_of parts ≡ policy) }
+{}
+
+/// What the tree of a set is converted to is what its tokens mean.
+pub fn set_is_meant()
+    ensures { (table : Extensions) (found : List (List Found)) (src : List ℕ) (ts : List Lexeme)
+        (x : SetTree) (set : free.Policies)
+        → ReadsPolicies src ts x → k.policies_outcome table found (placed src ts x) ≡ Ok set
+        → IsPolicySet table SIGN_LIMIT ts set }
+{}
+
+/// Tokens that mean a set have a tree that is converted to it.
+pub fn meant_is_set()
+    ensures { (table : Extensions) (src : List ℕ) (ts : List Lexeme) (set : free.Policies)
+        → IsPolicySet table SIGN_LIMIT ts set
+        → (x : SetTree) × ReadsPolicies src ts x
+        × ((found : List (List Found))
+        → k.policies_outcome table found (placed src ts x) ≡ Ok set) }
+{}
+
+/// Tokens of a policy have at most one meaning under a name.
+pub fn one_policy()
+    ensures { (table : Extensions) (id : List ℕ) (ts : List Lexeme) (v w : free.Policy)
+        → IsPolicy table SIGN_LIMIT id ts v → IsPolicy table SIGN_LIMIT id ts w → v ≡ w }
+{
+    single_policies();
+}
+
+/// Tokens of a set have at most one meaning.
+pub fn one_set()
+    ensures { (table : Extensions) (ts : List Lexeme) (v w : free.Policies)
+        → IsPolicySet table SIGN_LIMIT ts v → IsPolicySet table SIGN_LIMIT ts w → v ≡ w }
+{
+    policies();
+}
+
+/// What the tree of a policy, or of a set, is refused with stands within its place, each fault at a known place of the same
+/// text, wherever slots were found; it is never of an empty node, and there is a fault. What a policy of a set is refused with
+/// stands within that policy's place.
+pub fn policy_faults_stand_within()
+    ensures policies { (table : Extensions) (found : List Found) (text id : List ℕ)
+        (tree : Cell PolicyTree)
+        → IsTreeOf ReadsPolicy text tree
+        → StandWithin tree.loc (k.template_outcome table found id tree) }
+    ensures sets { (table : Extensions) (found : List (List Found)) (text : List ℕ)
+        (tree : Cell SetTree)
+        → IsTreeOf ReadsPolicies text tree
+        → StandWithin tree.loc (k.policies_outcome table found tree) }
+    ensures members { (table : Extensions) (found : List Found) (text id : List ℕ)
+        (tree : Cell SetTree) (set : SetTree)
+        → IsTreeOf ReadsPolicies text tree → tree.node ≡ Some set
+        → All (λ node. StandWithin node.loc (k.template_outcome table found id node)) set.0 }
+{}
+
+/// The faults of a set are those of its policies, one after another, whatever name each has. Those of a policy are those of its
+/// effect, of each annotation, of its scope and of each condition, in this order.
+pub fn blocks()
+    ensures set { (table : Extensions) (found : List (List Found)) (id : List ℕ)
+        (nodes : List (Node (Option PolicyTree)))
+        → faults_in (k.set_outcome table found nodes) ≡ set_faults table found id nodes }
+    ensures policy { (table : Extensions) (found : List Found) (id : List ℕ) (place : Option Loc)
+        (parts : PolicyImpl)
+        → faults_in (k.template_of table found id place (trees.Policy parts))
+        ≡ policy_faults table found parts }
+{}
+
+/// In a parsed policy a refused effect is `InvalidEffect` alone; its scope has a `MissingScopeVariable` just for each element
+/// that is missing, and an `ExtraScopeElement` just for each beyond three; and no fault of a parsed policy or set is of a name
+/// that two policies have. A condition whose word is neither `when` nor `unless` is `InvalidCondition` alone; with one of them
+/// it is `EmptyClause` alone if it has no expression, and, if its expression converts, just a `SlotsInConditionClause` for
+/// each slot.
+pub fn due()
+    ensures effect { (text : List ℕ) (tree : Cell PolicyTree) (parts : PolicyImpl)
+        (faults : List Told)
+        → IsTreeOf ReadsPolicy text tree → tree.node ≡ Some (trees.Policy parts)
+        → k.effect_outcome parts.effect ≡ Err faults
+        → faults ≡ (invalid_effect, parts.effect.loc) ∷ [] }
+    ensures missing { (table : Extensions) (text : List ℕ) (tree : Cell PolicyTree)
+        (parts : PolicyImpl)
+        → IsTreeOf ReadsPolicy text tree → tree.node ≡ Some (trees.Policy parts)
+        → count is_missing_variable (faults_in (scope_outcome table parts))
+        ≡ 3 - length parts.variables }
+    ensures extra { (table : Extensions) (text : List ℕ) (tree : Cell PolicyTree)
+        (parts : PolicyImpl)
+        → IsTreeOf ReadsPolicy text tree → tree.node ≡ Some (trees.Policy parts)
+        → count is_extra_element (faults_in (scope_outcome table parts))
+        ≡ length parts.variables - 3 }
+    ensures policy_names { (table : Extensions) (found : List Found) (text id : List ℕ)
+        (tree : Cell PolicyTree)
+        → IsTreeOf ReadsPolicy text tree
+        → All IsOfNoName (faults_in (k.template_outcome table found id tree)) }
+    ensures set_names { (table : Extensions) (found : List (List Found)) (text : List ℕ)
+        (tree : Cell SetTree)
+        → IsTreeOf ReadsPolicies text tree
+        → All IsOfNoName (faults_in (k.policies_outcome table found tree)) }
+    ensures other_word { (table : Extensions) (found : Found) (node : Node (Option Cond))
+        (word : Ident) (place : Option Loc) (expr : Option (Node (Option Expr)))
+        → IsCondition node word place expr → ¬ (IsWhenOrUnless word)
+        → condition_outcome table (found, node) ≡ refused invalid_condition place }
+    ensures no_clause { (table : Extensions) (found : Found) (node : Node (Option Cond))
+        (word : Ident) (place : Option Loc)
+        → IsCondition node word place None → IsWhenOrUnless word
+        → condition_outcome table (found, node) ≡ refused empty_clause node.loc }
+    ensures slots { (table : Extensions) (found : Found) (node : Node (Option Cond))
+        (word : Ident) (place : Option Loc) (expr : Node (Option Expr)) (value : Value)
+        → IsCondition node word place (Some expr) → IsWhenOrUnless word
+        → Converts table (located expr_form expr) value
+        → map (λ fault. fault.0) (faults_in (condition_outcome table (found, node)))
+        ≡ map (λ slot. slots_in_condition_clause) (slots_of value) }
+{}
