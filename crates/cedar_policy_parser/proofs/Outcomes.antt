@@ -99,6 +99,14 @@ wants (Err (Errors es)) is = cc
 pub gives_at : {X Y : Type 0} (u : X → Y) (r : Result X Failure) (o p : Outcome Y) → o ≡ p → Gives u r p → Gives u r o
 gives_at u r o p e h = rw e h
 
+-- the same of an answer that is left in its place
+pub gives_left : {X Y : Type 0} (u : X → Y) (place r : Result X Failure) (o p : Outcome Y) → place ≡ r → o ≡ p → Gives u r p → Gives u place o
+gives_left u place r o p i e h = rw (i, e) h
+
+-- the same of an answer that was taken from its place
+pub given_in : {X Y : Type 0} (u : X → Y) (r place : Result X Failure) (o : Outcome Y) → r ≡ place → Gives u place o → Gives u r o
+given_in u r place o i h = rw i h
+
 -- ---- operands, from the last
 
 pub none_yet : (e : Extensions) (place : Option Loc) → operands e place none ≡ Ok []

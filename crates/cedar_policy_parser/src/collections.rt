@@ -10,6 +10,7 @@ ghost use Rattle.cedar_policy_parser.specs.Outcome.{Outcome, both, next, express
 ghost use Rattle.cedar_policy_parser.specs.Seen.{Gives, behind, item_more, plain};
 ghost use Rattle.cedar_expressions.specs.Value.{Value};
 
+use crate::answer::{put, take};
 use crate::join::bodies_of;
 use crate::members::Access;
 use crate::names::unreserved_ident;
@@ -29,6 +30,12 @@ pub(crate) struct Beside;
 
 /// A record's key and its value.
 pub(crate) type Keyed<E> = (Text, E);
+
+/// The pairs of a record.
+pub(crate) type Pairs<E> = Result<Vec<Keyed<E>>, Failure>;
+
+/// The accesses of a member.
+pub(crate) type Accesses<E> = Result<Vec<Access<E>>, Failure>;
 
 /// A set of its items.
 #[inline(never)]
@@ -79,10 +86,10 @@ pub(crate) fn index_from<B: ExprBuilderInfallibleBuild>(
 }
 
 /// One more access behind those so far.
-pub(crate) fn access_more<B: ExprBuilderInfallibleBuild>(
-    all: Result<Vec<Access<B::Expr>>, Failure>,
+fn access_more<B: ExprBuilderInfallibleBuild>(
+    all: Accesses<B::Expr>,
     next: Result<Access<B::Expr>, Failure>,
-) -> Result<Vec<Access<B::Expr>>, Failure>
+) -> Accesses<B::Expr>
     ensures { (xs : Outcome (List Given)) (x : Outcome Given)
         → Gives (seen_accesses B.meaning) all xs → Gives (seen_access B.meaning) next x
         → Gives (seen_accesses B.meaning) result (item_more xs x) }
@@ -90,6 +97,20 @@ pub(crate) fn access_more<B: ExprBuilderInfallibleBuild>(
     let (mut all, next) = flatten_tuple_2(all, next)?;
     all.push(next)?;
     Ok(all)
+}
+
+/// Adds an access behind those so far.
+#[inline(never)]
+pub(crate) fn add_access<B: ExprBuilderInfallibleBuild>(
+    all: &mut Accesses<B::Expr>,
+    next: Result<Access<B::Expr>, Failure>,
+)
+    ensures { (xs : Outcome (List Given)) (x : Outcome Given)
+        → Gives (seen_accesses B.meaning) all.old xs → Gives (seen_access B.meaning) next x
+        → Gives (seen_accesses B.meaning) all.new (item_more xs x) }
+{
+    let held = take(all);
+    put(all, access_more::<B>(held, next));
 }
 
 /// A pair of a record: the key's conversion, and then key and value joined.
@@ -110,10 +131,10 @@ pub(crate) fn pair_from<B: ExprBuilderInfallibleBuild>(
 }
 
 /// One more pair behind those so far.
-pub(crate) fn pair_more<B: ExprBuilderInfallibleBuild>(
-    all: Result<Vec<Keyed<B::Expr>>, Failure>,
+fn pair_more<B: ExprBuilderInfallibleBuild>(
+    all: Pairs<B::Expr>,
     next: Result<Keyed<B::Expr>, Failure>,
-) -> Result<Vec<Keyed<B::Expr>>, Failure>
+) -> Pairs<B::Expr>
     ensures { (xs : Outcome (List Pair)) (x : Outcome Pair)
         → Gives (seen_pairs B.meaning) all xs → Gives (seen_pair B.meaning) next x
         → Gives (seen_pairs B.meaning) result (item_more xs x) }
@@ -123,12 +144,26 @@ pub(crate) fn pair_more<B: ExprBuilderInfallibleBuild>(
     Ok(all)
 }
 
+/// Adds a pair behind those so far.
+#[inline(never)]
+pub(crate) fn add_pair<B: ExprBuilderInfallibleBuild>(
+    all: &mut Pairs<B::Expr>,
+    next: Result<Keyed<B::Expr>, Failure>,
+)
+    ensures { (xs : Outcome (List Pair)) (x : Outcome Pair)
+        → Gives (seen_pairs B.meaning) all.old xs → Gives (seen_pair B.meaning) next x
+        → Gives (seen_pairs B.meaning) all.new (item_more xs x) }
+{
+    let held = take(all);
+    put(all, pair_more::<B>(held, next));
+}
+
 /// A record of its pairs: a repeated key is refused.
 #[inline(never)]
 pub(crate) fn record_from<B: ExprBuilderInfallibleBuild>(
     alloc: Global,
     loc: &Option<Loc>,
-    pairs: Result<Vec<Keyed<B::Expr>>, Failure>,
+    pairs: Pairs<B::Expr>,
 ) -> Result<ExprOrSpecial<B::Expr>, Failure>
     ensures { (ps : Outcome (List Pair)) → Gives (seen_pairs B.meaning) pairs ps
         → Gives (plain B.meaning) result (next ps (record_held loc.now)) }

@@ -1,6 +1,6 @@
 //! The conversion of expressions: each call opens one node, converts its parts and joins what they gave.
 //!
-//! A node with one part goes through a function with a small frame, so that a level of nesting takes little of the stack; a node with several goes to
+//! The answer is left where the caller wants it (`answer`), so a node with one part goes through without a frame of its own; a node with several goes to
 //! the function of its level's chain. That one takes the node itself, by which the proof sees that the calls end, so it opens the node again and has an
 //! arm for what its caller has already taken.
 ghost use Rattle.std.specs.Prelude.{◌≡◌, Option, Some};
@@ -13,8 +13,8 @@ ghost use Rattle.cedar_policy_parser.specs.Conversion.{outcome};
 ghost use Rattle.cedar_policy_parser.specs.Extensions.{table_of};
 ghost use Rattle.cedar_policy_parser.specs.Seen.{Gives, plain};
 
+use crate::answer::{Converted, Parts, chosen_in, gather, put, take, unreached_in, value_in};
 use crate::chain::{AndAnd, OrOr, chain_from, factor_of};
-use crate::conditional::if_from;
 use crate::cst_to_ast::ExtStyles;
 use crate::has_side::right_side;
 use crate::join::{at_most_one, more};
@@ -22,10 +22,8 @@ use crate::literals::bare_number;
 use crate::primaries::member;
 use crate::sides::{has_from, is_from, is_in_from, like_from, type_beside};
 use crate::signs::{signed_from, without_operand};
-use crate::special::{ExprOrSpecial, expr_of, unreached};
 use cedar_expressions::{AddOp, ExprBuilderInfallibleBuild};
 use cedar_syntax::cst::{self, MultOp, RelOp};
-use cedar_syntax::err::Failure;
 use cedar_syntax::node::Node;
 use std::alloc::Global;
 
@@ -44,16 +42,17 @@ pub(crate) fn expr<B: ExprBuilderInfallibleBuild>(
     alloc: Global,
     styles: &ExtStyles,
     node: &Node<Option<cst::Expr>>,
-) -> Result<ExprOrSpecial<B::Expr>, Failure>
-    ensures { Gives (plain B.meaning) result (outcome (table_of styles.now)
+    answer: &mut Converted<B::Expr>,
+)
+    ensures { Gives (plain B.meaning) answer.new (outcome (table_of styles.now)
         (located expr_form node.now)) }
 {
     match &node.node {
         Some(tree) => match inner_of(tree).expr.as_ref() {
-            cst::ExprData::Or(part) => or::<B>(alloc, styles, part),
-            cst::ExprData::If(_, _, _) => conditional::<B>(alloc, styles, node),
+            cst::ExprData::Or(part) => or::<B>(alloc, styles, part, answer),
+            cst::ExprData::If(_, _, _) => conditional::<B>(alloc, styles, node, answer),
         },
-        None => conditional::<B>(alloc, styles, node),
+        None => conditional::<B>(alloc, styles, node, answer),
     }
 }
 
@@ -63,21 +62,24 @@ fn conditional<B: ExprBuilderInfallibleBuild>(
     alloc: Global,
     styles: &ExtStyles,
     node: &Node<Option<cst::Expr>>,
-) -> Result<ExprOrSpecial<B::Expr>, Failure>
-    ensures { Gives (plain B.meaning) result (outcome (table_of styles.now)
+    answer: &mut Converted<B::Expr>,
+)
+    ensures { Gives (plain B.meaning) answer.new (outcome (table_of styles.now)
         (located expr_form node.now)) }
 {
     match &node.node {
         Some(tree) => match inner_of(tree).expr.as_ref() {
-            cst::ExprData::Or(part) => or::<B>(alloc, styles, part),
+            cst::ExprData::Or(part) => or::<B>(alloc, styles, part, answer),
             cst::ExprData::If(guard, consequent, alternative) => {
-                let guard = expr_of::<B>(alloc, expr::<B>(alloc, styles, guard));
-                let consequent = expr_of::<B>(alloc, expr::<B>(alloc, styles, consequent));
-                let alternative = expr_of::<B>(alloc, expr::<B>(alloc, styles, alternative));
-                if_from::<B>(alloc, &node.loc, guard, consequent, alternative)
+                expr::<B>(alloc, styles, guard, answer);
+                let mut guard = value_in::<B>(alloc, answer);
+                expr::<B>(alloc, styles, consequent, answer);
+                let mut consequent = value_in::<B>(alloc, answer);
+                expr::<B>(alloc, styles, alternative, answer);
+                chosen_in::<B>(alloc, &node.loc, &mut guard, &mut consequent, answer)
             }
         },
-        None => Err(unreached(alloc, &node.loc)),
+        None => unreached_in::<B>(alloc, &node.loc, answer),
     }
 }
 
@@ -88,13 +90,14 @@ fn or<B: ExprBuilderInfallibleBuild>(
     alloc: Global,
     styles: &ExtStyles,
     node: &Node<Option<cst::Or>>,
-) -> Result<ExprOrSpecial<B::Expr>, Failure>
-    ensures { Gives (plain B.meaning) result (outcome (table_of styles.now)
+    answer: &mut Converted<B::Expr>,
+)
+    ensures { Gives (plain B.meaning) answer.new (outcome (table_of styles.now)
         (located or_form node.now)) }
 {
     match &node.node {
-        Some(or) if or.extended.is_empty() => and::<B>(alloc, styles, &or.initial),
-        _ => or_chain::<B>(alloc, styles, node),
+        Some(or) if or.extended.is_empty() => and::<B>(alloc, styles, &or.initial, answer),
+        _ => or_chain::<B>(alloc, styles, node, answer),
     }
 }
 
@@ -104,21 +107,26 @@ fn or_chain<B: ExprBuilderInfallibleBuild>(
     alloc: Global,
     styles: &ExtStyles,
     node: &Node<Option<cst::Or>>,
-) -> Result<ExprOrSpecial<B::Expr>, Failure>
-    ensures { Gives (plain B.meaning) result (outcome (table_of styles.now)
+    answer: &mut Converted<B::Expr>,
+)
+    ensures { Gives (plain B.meaning) answer.new (outcome (table_of styles.now)
         (located or_form node.now)) }
 {
     match &node.node {
         Some(or) => {
-            let first = and::<B>(alloc, styles, &or.initial);
-            let mut rest: Result<Vec<(OrOr, B::Expr)>, Failure> = Ok(Vec::new(alloc));
+            and::<B>(alloc, styles, &or.initial, answer);
+            let first = take(answer);
+            let mut rest: Parts<OrOr, B::Expr> = Ok(Vec::new(alloc));
             for part in or.extended.as_slice() {
-                let part = expr_of::<B>(alloc, and::<B>(alloc, styles, part));
-                rest = more::<B, OrOr>(rest, OrOr, part);
+                and::<B>(alloc, styles, part, answer);
+                gather::<B, OrOr>(alloc, &mut rest, OrOr, answer);
             }
-            chain_from::<B, OrOr>(alloc, &node.loc, first, rest, Ok(()))
+            put(
+                answer,
+                chain_from::<B, OrOr>(alloc, &node.loc, first, rest, Ok(())),
+            )
         }
-        None => Err(unreached(alloc, &node.loc)),
+        None => unreached_in::<B>(alloc, &node.loc, answer),
     }
 }
 
@@ -129,13 +137,14 @@ fn and<B: ExprBuilderInfallibleBuild>(
     alloc: Global,
     styles: &ExtStyles,
     node: &Node<Option<cst::And>>,
-) -> Result<ExprOrSpecial<B::Expr>, Failure>
-    ensures { Gives (plain B.meaning) result (outcome (table_of styles.now)
+    answer: &mut Converted<B::Expr>,
+)
+    ensures { Gives (plain B.meaning) answer.new (outcome (table_of styles.now)
         (located and_form node.now)) }
 {
     match &node.node {
-        Some(and) if and.extended.is_empty() => relation::<B>(alloc, styles, &and.initial),
-        _ => and_chain::<B>(alloc, styles, node),
+        Some(and) if and.extended.is_empty() => relation::<B>(alloc, styles, &and.initial, answer),
+        _ => and_chain::<B>(alloc, styles, node, answer),
     }
 }
 
@@ -145,21 +154,26 @@ fn and_chain<B: ExprBuilderInfallibleBuild>(
     alloc: Global,
     styles: &ExtStyles,
     node: &Node<Option<cst::And>>,
-) -> Result<ExprOrSpecial<B::Expr>, Failure>
-    ensures { Gives (plain B.meaning) result (outcome (table_of styles.now)
+    answer: &mut Converted<B::Expr>,
+)
+    ensures { Gives (plain B.meaning) answer.new (outcome (table_of styles.now)
         (located and_form node.now)) }
 {
     match &node.node {
         Some(and) => {
-            let first = relation::<B>(alloc, styles, &and.initial);
-            let mut rest: Result<Vec<(AndAnd, B::Expr)>, Failure> = Ok(Vec::new(alloc));
+            relation::<B>(alloc, styles, &and.initial, answer);
+            let first = take(answer);
+            let mut rest: Parts<AndAnd, B::Expr> = Ok(Vec::new(alloc));
             for part in and.extended.as_slice() {
-                let part = expr_of::<B>(alloc, relation::<B>(alloc, styles, part));
-                rest = more::<B, AndAnd>(rest, AndAnd, part);
+                relation::<B>(alloc, styles, part, answer);
+                gather::<B, AndAnd>(alloc, &mut rest, AndAnd, answer);
             }
-            chain_from::<B, AndAnd>(alloc, &node.loc, first, rest, Ok(()))
+            put(
+                answer,
+                chain_from::<B, AndAnd>(alloc, &node.loc, first, rest, Ok(())),
+            )
         }
-        None => Err(unreached(alloc, &node.loc)),
+        None => unreached_in::<B>(alloc, &node.loc, answer),
     }
 }
 
@@ -170,15 +184,16 @@ fn relation<B: ExprBuilderInfallibleBuild>(
     alloc: Global,
     styles: &ExtStyles,
     node: &Node<Option<cst::Relation>>,
-) -> Result<ExprOrSpecial<B::Expr>, Failure>
-    ensures { Gives (plain B.meaning) result (outcome (table_of styles.now)
+    answer: &mut Converted<B::Expr>,
+)
+    ensures { Gives (plain B.meaning) answer.new (outcome (table_of styles.now)
         (located relation_form node.now)) }
 {
     match &node.node {
         Some(cst::Relation::Common { initial, extended }) if extended.is_empty() => {
-            add::<B>(alloc, styles, initial)
+            add::<B>(alloc, styles, initial, answer)
         }
-        _ => relation_chain::<B>(alloc, styles, node),
+        _ => relation_chain::<B>(alloc, styles, node, answer),
     }
 }
 
@@ -188,34 +203,76 @@ fn relation_chain<B: ExprBuilderInfallibleBuild>(
     alloc: Global,
     styles: &ExtStyles,
     node: &Node<Option<cst::Relation>>,
-) -> Result<ExprOrSpecial<B::Expr>, Failure>
-    ensures { Gives (plain B.meaning) result (outcome (table_of styles.now)
+    answer: &mut Converted<B::Expr>,
+)
+    ensures { Gives (plain B.meaning) answer.new (outcome (table_of styles.now)
         (located relation_form node.now)) }
 {
     match &node.node {
         Some(cst::Relation::Common { initial, extended }) => {
-            let first = add::<B>(alloc, styles, initial);
-            let mut rest: Result<Vec<(RelOp, B::Expr)>, Failure> = Ok(Vec::new(alloc));
+            add::<B>(alloc, styles, initial, answer);
+            let first = take(answer);
+            let mut rest: Parts<RelOp, B::Expr> = Ok(Vec::new(alloc));
             for (op, part) in extended.as_slice() {
-                let part = expr_of::<B>(alloc, add::<B>(alloc, styles, part));
-                rest = more::<B, RelOp>(rest, *op, part);
+                add::<B>(alloc, styles, part, answer);
+                gather::<B, RelOp>(alloc, &mut rest, *op, answer);
             }
             let allowed = at_most_one(alloc, &node.loc, extended.as_slice());
-            chain_from::<B, RelOp>(alloc, &node.loc, first, rest, allowed)
+            put(
+                answer,
+                chain_from::<B, RelOp>(alloc, &node.loc, first, rest, allowed),
+            )
         }
-        Some(cst::Relation::Has { target, field }) => {
-            let right = right_side::<B>(alloc, field.as_ref());
-            let target = expr_of::<B>(alloc, add::<B>(alloc, styles, target));
-            has_from::<B>(alloc, &node.loc, right, target)
-        }
-        Some(cst::Relation::Like { target, pattern }) => {
-            let target = expr_of::<B>(alloc, add::<B>(alloc, styles, target));
-            let pattern = add::<B>(alloc, styles, pattern.as_ref());
-            like_from::<B>(alloc, &node.loc, target, pattern)
-        }
-        Some(cst::Relation::IsIn { .. }) => typed::<B>(alloc, styles, node),
-        None => Err(unreached(alloc, &node.loc)),
+        Some(cst::Relation::Has { .. }) => has::<B>(alloc, styles, node, answer),
+        Some(cst::Relation::Like { .. }) => like::<B>(alloc, styles, node, answer),
+        Some(cst::Relation::IsIn { .. }) => typed::<B>(alloc, styles, node, answer),
+        None => unreached_in::<B>(alloc, &node.loc, answer),
     }
+}
+
+/// `has`. Another relation than this is its caller's.
+#[cycle(convert)]
+#[inline(never)]
+fn has<B: ExprBuilderInfallibleBuild>(
+    alloc: Global,
+    styles: &ExtStyles,
+    node: &Node<Option<cst::Relation>>,
+    answer: &mut Converted<B::Expr>,
+)
+    ensures { (a b : Held (Option Sum)) → node.now.node ≡ Some (relations.Has a b)
+        → Gives (plain B.meaning) answer.new
+        (outcome (table_of styles.now) (located relation_form node.now)) }
+{
+    let Some(cst::Relation::Has { target, field }) = &node.node else {
+        return unreached_in::<B>(alloc, &node.loc, answer);
+    };
+    let right = right_side::<B>(alloc, field.as_ref());
+    add::<B>(alloc, styles, target, answer);
+    let target = value_in::<B>(alloc, answer);
+    put(answer, has_from::<B>(alloc, &node.loc, right, target))
+}
+
+/// `like`. Another relation than this is its caller's.
+#[cycle(convert)]
+#[inline(never)]
+fn like<B: ExprBuilderInfallibleBuild>(
+    alloc: Global,
+    styles: &ExtStyles,
+    node: &Node<Option<cst::Relation>>,
+    answer: &mut Converted<B::Expr>,
+)
+    ensures { (a b : Held (Option Sum)) → node.now.node ≡ Some (relations.Like a b)
+        → Gives (plain B.meaning) answer.new
+        (outcome (table_of styles.now) (located relation_form node.now)) }
+{
+    let Some(cst::Relation::Like { target, pattern }) = &node.node else {
+        return unreached_in::<B>(alloc, &node.loc, answer);
+    };
+    add::<B>(alloc, styles, target, answer);
+    let target = value_in::<B>(alloc, answer);
+    add::<B>(alloc, styles, pattern.as_ref(), answer);
+    let pattern = take(answer);
+    put(answer, like_from::<B>(alloc, &node.loc, target, pattern))
 }
 
 /// `is` alone or with `in`. Another relation than these is its caller's.
@@ -225,9 +282,10 @@ fn typed<B: ExprBuilderInfallibleBuild>(
     alloc: Global,
     styles: &ExtStyles,
     node: &Node<Option<cst::Relation>>,
-) -> Result<ExprOrSpecial<B::Expr>, Failure>
+    answer: &mut Converted<B::Expr>,
+)
     ensures { (a b : Held (Option Sum)) (c : Option (Held (Option Sum)))
-        → node.now.node ≡ Some (relations.IsIn a b c) → Gives (plain B.meaning) result
+        → node.now.node ≡ Some (relations.IsIn a b c) → Gives (plain B.meaning) answer.new
         (outcome (table_of styles.now) (located relation_form node.now)) }
 {
     let Some(
@@ -238,16 +296,19 @@ fn typed<B: ExprBuilderInfallibleBuild>(
         },
     ) = &node.node
     else {
-        return Err(unreached(alloc, &node.loc));
+        return unreached_in::<B>(alloc, &node.loc, answer);
     };
-    let left = expr_of::<B>(alloc, add::<B>(alloc, styles, target));
-    let right = add::<B>(alloc, styles, entity_type.as_ref());
+    add::<B>(alloc, styles, target, answer);
+    let left = value_in::<B>(alloc, answer);
+    add::<B>(alloc, styles, entity_type.as_ref(), answer);
+    let right = take(answer);
     let pair = type_beside::<B>(alloc, &target.loc, left, right);
     match in_entity {
-        None => is_from::<B>(alloc, &node.loc, pair),
+        None => put(answer, is_from::<B>(alloc, &node.loc, pair)),
         Some(within) => {
-            let within = expr_of::<B>(alloc, add::<B>(alloc, styles, within.as_ref()));
-            is_in_from::<B>(alloc, &node.loc, pair, within)
+            add::<B>(alloc, styles, within.as_ref(), answer);
+            let within = value_in::<B>(alloc, answer);
+            put(answer, is_in_from::<B>(alloc, &node.loc, pair, within))
         }
     }
 }
@@ -259,13 +320,14 @@ pub(crate) fn add<B: ExprBuilderInfallibleBuild>(
     alloc: Global,
     styles: &ExtStyles,
     node: &Node<Option<cst::Add>>,
-) -> Result<ExprOrSpecial<B::Expr>, Failure>
-    ensures { Gives (plain B.meaning) result (outcome (table_of styles.now)
+    answer: &mut Converted<B::Expr>,
+)
+    ensures { Gives (plain B.meaning) answer.new (outcome (table_of styles.now)
         (located add_form node.now)) }
 {
     match &node.node {
-        Some(add) if add.extended.is_empty() => mult::<B>(alloc, styles, &add.initial),
-        _ => add_chain::<B>(alloc, styles, node),
+        Some(add) if add.extended.is_empty() => mult::<B>(alloc, styles, &add.initial, answer),
+        _ => add_chain::<B>(alloc, styles, node, answer),
     }
 }
 
@@ -275,21 +337,26 @@ fn add_chain<B: ExprBuilderInfallibleBuild>(
     alloc: Global,
     styles: &ExtStyles,
     node: &Node<Option<cst::Add>>,
-) -> Result<ExprOrSpecial<B::Expr>, Failure>
-    ensures { Gives (plain B.meaning) result (outcome (table_of styles.now)
+    answer: &mut Converted<B::Expr>,
+)
+    ensures { Gives (plain B.meaning) answer.new (outcome (table_of styles.now)
         (located add_form node.now)) }
 {
     match &node.node {
         Some(add) => {
-            let first = mult::<B>(alloc, styles, &add.initial);
-            let mut rest: Result<Vec<(AddOp, B::Expr)>, Failure> = Ok(Vec::new(alloc));
+            mult::<B>(alloc, styles, &add.initial, answer);
+            let first = take(answer);
+            let mut rest: Parts<AddOp, B::Expr> = Ok(Vec::new(alloc));
             for (op, part) in add.extended.as_slice() {
-                let part = expr_of::<B>(alloc, mult::<B>(alloc, styles, part));
-                rest = more::<B, AddOp>(rest, *op, part);
+                mult::<B>(alloc, styles, part, answer);
+                gather::<B, AddOp>(alloc, &mut rest, *op, answer);
             }
-            chain_from::<B, AddOp>(alloc, &node.loc, first, rest, Ok(()))
+            put(
+                answer,
+                chain_from::<B, AddOp>(alloc, &node.loc, first, rest, Ok(())),
+            )
         }
-        None => Err(unreached(alloc, &node.loc)),
+        None => unreached_in::<B>(alloc, &node.loc, answer),
     }
 }
 
@@ -300,13 +367,14 @@ fn mult<B: ExprBuilderInfallibleBuild>(
     alloc: Global,
     styles: &ExtStyles,
     node: &Node<Option<cst::Mult>>,
-) -> Result<ExprOrSpecial<B::Expr>, Failure>
-    ensures { Gives (plain B.meaning) result (outcome (table_of styles.now)
+    answer: &mut Converted<B::Expr>,
+)
+    ensures { Gives (plain B.meaning) answer.new (outcome (table_of styles.now)
         (located mult_form node.now)) }
 {
     match &node.node {
-        Some(mult) if mult.extended.is_empty() => unary::<B>(alloc, styles, &mult.initial),
-        _ => mult_chain::<B>(alloc, styles, node),
+        Some(mult) if mult.extended.is_empty() => unary::<B>(alloc, styles, &mult.initial, answer),
+        _ => mult_chain::<B>(alloc, styles, node, answer),
     }
 }
 
@@ -316,21 +384,27 @@ fn mult_chain<B: ExprBuilderInfallibleBuild>(
     alloc: Global,
     styles: &ExtStyles,
     node: &Node<Option<cst::Mult>>,
-) -> Result<ExprOrSpecial<B::Expr>, Failure>
-    ensures { Gives (plain B.meaning) result (outcome (table_of styles.now)
+    answer: &mut Converted<B::Expr>,
+)
+    ensures { Gives (plain B.meaning) answer.new (outcome (table_of styles.now)
         (located mult_form node.now)) }
 {
     match &node.node {
         Some(mult) => {
-            let first = unary::<B>(alloc, styles, &mult.initial);
-            let mut rest: Result<Vec<(MultOp, B::Expr)>, Failure> = Ok(Vec::new(alloc));
+            unary::<B>(alloc, styles, &mult.initial, answer);
+            let first = take(answer);
+            let mut rest: Parts<MultOp, B::Expr> = Ok(Vec::new(alloc));
             for (op, part) in mult.extended.as_slice() {
-                let part = expr_of::<B>(alloc, unary::<B>(alloc, styles, part));
+                unary::<B>(alloc, styles, part, answer);
+                let part = value_in::<B>(alloc, answer);
                 rest = more::<B, MultOp>(rest, *op, factor_of::<B>(alloc, &node.loc, *op, part));
             }
-            chain_from::<B, MultOp>(alloc, &node.loc, first, rest, Ok(()))
+            put(
+                answer,
+                chain_from::<B, MultOp>(alloc, &node.loc, first, rest, Ok(())),
+            )
         }
-        None => Err(unreached(alloc, &node.loc)),
+        None => unreached_in::<B>(alloc, &node.loc, answer),
     }
 }
 
@@ -341,13 +415,14 @@ fn unary<B: ExprBuilderInfallibleBuild>(
     alloc: Global,
     styles: &ExtStyles,
     node: &Node<Option<cst::Unary>>,
-) -> Result<ExprOrSpecial<B::Expr>, Failure>
-    ensures { Gives (plain B.meaning) result (outcome (table_of styles.now)
+    answer: &mut Converted<B::Expr>,
+)
+    ensures { Gives (plain B.meaning) answer.new (outcome (table_of styles.now)
         (located unary_form node.now)) }
 {
     match &node.node {
-        Some(unary) if unary.op.is_none() => member::<B>(alloc, styles, &unary.item),
-        _ => signed::<B>(alloc, styles, node),
+        Some(unary) if unary.op.is_none() => member::<B>(alloc, styles, &unary.item, answer),
+        _ => signed::<B>(alloc, styles, node, answer),
     }
 }
 
@@ -357,21 +432,26 @@ fn signed<B: ExprBuilderInfallibleBuild>(
     alloc: Global,
     styles: &ExtStyles,
     node: &Node<Option<cst::Unary>>,
-) -> Result<ExprOrSpecial<B::Expr>, Failure>
-    ensures { Gives (plain B.meaning) result (outcome (table_of styles.now)
+    answer: &mut Converted<B::Expr>,
+)
+    ensures { Gives (plain B.meaning) answer.new (outcome (table_of styles.now)
         (located unary_form node.now)) }
 {
     match &node.node {
         Some(unary) => {
             let bare = bare_number(&unary.item);
-            match without_operand::<B>(alloc, &node.loc, unary.op, bare) {
-                Some(answer) => answer,
+            match without_operand::<B>(alloc, &node.loc, &unary.item.loc, unary.op, bare) {
+                Some(given) => put(answer, given),
                 None => {
-                    let item = member::<B>(alloc, styles, &unary.item);
-                    signed_from::<B>(alloc, &node.loc, unary.op, bare, item)
+                    member::<B>(alloc, styles, &unary.item, answer);
+                    let item = take(answer);
+                    put(
+                        answer,
+                        signed_from::<B>(alloc, &node.loc, unary.op, bare, item),
+                    )
                 }
             }
         }
-        None => Err(unreached(alloc, &node.loc)),
+        None => unreached_in::<B>(alloc, &node.loc, answer),
     }
 }

@@ -20,6 +20,7 @@ ghost use Rattle.cedar_policy_parser.specs.Names.{any_ident as any_outcome, vali
 ghost use Rattle.cedar_policy_parser.specs.Seen.{Gives, Refuses, itself};
 
 use crate::annotations::{annotations, kv_pair};
+use crate::answer::{Converted, unanswered};
 use crate::convert::expr;
 use crate::entities::entity_of;
 use crate::literals::literal_of;
@@ -108,7 +109,9 @@ impl ExprAst for Node<Option<Expr>> {
         ensures { Gives B.meaning result (value_outcome (table_of styles.now)
             (located expr_form self.now)) }
     {
-        expr_of::<B>(alloc, expr::<B>(alloc, styles, self))
+        let mut answer: Converted<B::Expr> = unanswered();
+        expr::<B>(alloc, styles, self, &mut answer);
+        expr_of::<B>(alloc, answer)
     }
 
     fn to_ref(&self, alloc: Global, var: Var) -> Result<EntityUID, Failure>

@@ -2,6 +2,7 @@
 #![tactic(auto)]
 
 mod annotations;
+mod answer;
 mod chain;
 mod collections;
 mod conditional;

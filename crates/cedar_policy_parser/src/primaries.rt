@@ -1,28 +1,35 @@
 //! The conversion of members and primaries: the part of the ring of calls below the operators (`convert`).
+ghost use Rattle.std.specs.Prelude.{◌≡◌, List, Option, Some};
+ghost use Rattle.cedar_syntax.specs.declared.cst.Expr.{Expr as Tree};
+ghost use Rattle.cedar_syntax.specs.declared.cst.MemAccess.TheVariants as accesses;
+ghost use Rattle.cedar_syntax.specs.declared.cst.Primary.TheVariants as primaries;
+ghost use Rattle.cedar_syntax.specs.declared.cst.RecInit.{RecInit as Init};
+ghost use Rattle.cedar_syntax.specs.declared.node.Node.{Node as Held};
 ghost use Rattle.cedar_syntax.specs.Forms.{located, member_form, primary_form, access_form, init_form};
 ghost use Rattle.cedar_policy_parser.specs.Conversion.{outcome, access_outcome, pair_outcome};
-ghost use Rattle.cedar_policy_parser.specs.Applied.{seen_access, seen_pair};
+ghost use Rattle.cedar_policy_parser.specs.Applied.{Pair, seen_accesses, seen_pairs};
 ghost use Rattle.cedar_policy_parser.specs.Extensions.{table_of};
-ghost use Rattle.cedar_policy_parser.specs.Seen.{Gives, plain};
+ghost use Rattle.cedar_policy_parser.specs.Members.{Access as Given};
+ghost use Rattle.cedar_policy_parser.specs.Outcome.{Outcome};
+ghost use Rattle.cedar_policy_parser.specs.Seen.{Gives, item_more, plain};
 
+use crate::answer::{
+    Converted, Parts, gather, member_in, parens_in, put, take, unreached_in, value_in,
+};
 use crate::collections::{
-    Beside, Keyed, access_more, call_from, field_from, index_from, pair_from, pair_more,
+    Accesses, Beside, Pairs, add_access, add_pair, call_from, field_from, index_from, pair_from,
     record_from, set_from,
 };
-use crate::conditional::parens_from;
 use crate::convert::expr;
 use crate::cst_to_ast::ExtStyles;
 use crate::entities::entity;
-use crate::join::more;
 use crate::literals::literal;
-use crate::members::{Access, member_from};
 use crate::methods::Site;
 use crate::names::named;
 use crate::slots::slot;
-use crate::special::{ExprOrSpecial, expr_of, unreached};
+use crate::special::unreached;
 use cedar_expressions::ExprBuilderInfallibleBuild;
 use cedar_syntax::cst;
-use cedar_syntax::err::Failure;
 use cedar_syntax::node::Node;
 use std::alloc::Global;
 
@@ -33,13 +40,16 @@ pub(crate) fn member<B: ExprBuilderInfallibleBuild>(
     alloc: Global,
     styles: &ExtStyles,
     node: &Node<Option<cst::Member>>,
-) -> Result<ExprOrSpecial<B::Expr>, Failure>
-    ensures { Gives (plain B.meaning) result (outcome (table_of styles.now)
+    answer: &mut Converted<B::Expr>,
+)
+    ensures { Gives (plain B.meaning) answer.new (outcome (table_of styles.now)
         (located member_form node.now)) }
 {
     match &node.node {
-        Some(member) if member.access.is_empty() => primary::<B>(alloc, styles, &member.item),
-        _ => accessed::<B>(alloc, styles, node),
+        Some(member) if member.access.is_empty() => {
+            primary::<B>(alloc, styles, &member.item, answer)
+        }
+        _ => accessed::<B>(alloc, styles, node, answer),
     }
 }
 
@@ -50,54 +60,82 @@ fn accessed<B: ExprBuilderInfallibleBuild>(
     alloc: Global,
     styles: &ExtStyles,
     node: &Node<Option<cst::Member>>,
-) -> Result<ExprOrSpecial<B::Expr>, Failure>
-    ensures { Gives (plain B.meaning) result (outcome (table_of styles.now)
+    answer: &mut Converted<B::Expr>,
+)
+    ensures { Gives (plain B.meaning) answer.new (outcome (table_of styles.now)
         (located member_form node.now)) }
 {
     match &node.node {
         Some(member) => {
-            let item = primary::<B>(alloc, styles, &member.item);
-            let mut all: Result<Vec<Access<B::Expr>>, Failure> = Ok(Vec::new(alloc));
+            primary::<B>(alloc, styles, &member.item, answer);
+            let mut item = take(answer);
+            let mut all: Accesses<B::Expr> = Ok(Vec::new(alloc));
             for part in member.access.as_slice() {
-                all = access_more::<B>(all, access::<B>(alloc, styles, part));
+                access::<B>(alloc, styles, part, answer, &mut all);
             }
             let site = Site {
                 alloc,
                 styles,
                 loc: &node.loc,
             };
-            member_from::<B>(site, item, all)
+            member_in::<B>(site, &mut item, &mut all, answer)
         }
-        None => Err(unreached(alloc, &node.loc)),
+        None => unreached_in::<B>(alloc, &node.loc, answer),
     }
 }
 
-/// One access.
+/// One access, added behind those so far. What is left in `answer` is of no use.
 #[cycle(convert)]
 #[inline(never)]
 fn access<B: ExprBuilderInfallibleBuild>(
     alloc: Global,
     styles: &ExtStyles,
     node: &Node<Option<cst::MemAccess>>,
-) -> Result<Access<B::Expr>, Failure>
-    ensures { Gives (seen_access B.meaning) result
-        (access_outcome (table_of styles.now) (located access_form node.now)) }
+    answer: &mut Converted<B::Expr>,
+    all: &mut Accesses<B::Expr>,
+)
+    ensures { (xs : Outcome (List Given)) → Gives (seen_accesses B.meaning) all.old xs
+        → Gives (seen_accesses B.meaning) all.new
+        (item_more xs (access_outcome (table_of styles.now) (located access_form node.now))) }
 {
     match &node.node {
-        Some(cst::MemAccess::Field(ident)) => field_from::<B::Expr>(alloc, ident),
-        Some(cst::MemAccess::Call(items)) => {
-            let mut all: Result<Vec<(Beside, B::Expr)>, Failure> = Ok(Vec::new(alloc));
-            for part in items.as_slice() {
-                let part = expr_of::<B>(alloc, expr::<B>(alloc, styles, part));
-                all = more::<B, Beside>(all, Beside, part);
-            }
-            call_from::<B>(alloc, all)
+        Some(cst::MemAccess::Field(ident)) => {
+            add_access::<B>(all, field_from::<B::Expr>(alloc, ident))
         }
+        Some(cst::MemAccess::Call(_)) => arguments::<B>(alloc, styles, node, answer, all),
         Some(cst::MemAccess::Index(inner)) => {
-            index_from::<B>(alloc, expr::<B>(alloc, styles, inner))
+            expr::<B>(alloc, styles, inner, answer);
+            let index = take(answer);
+            add_access::<B>(all, index_from::<B>(alloc, index))
         }
-        None => Err(unreached(alloc, &node.loc)),
+        None => add_access::<B>(all, Err(unreached(alloc, &node.loc))),
     }
+}
+
+/// A call's arguments, as one access. Another access than a call is its caller's.
+#[cycle(convert)]
+#[inline(never)]
+fn arguments<B: ExprBuilderInfallibleBuild>(
+    alloc: Global,
+    styles: &ExtStyles,
+    node: &Node<Option<cst::MemAccess>>,
+    answer: &mut Converted<B::Expr>,
+    all: &mut Accesses<B::Expr>,
+)
+    ensures { (a : List (Held (Option Tree))) (xs : Outcome (List Given))
+        → node.now.node ≡ Some (accesses.Call a) → Gives (seen_accesses B.meaning) all.old xs
+        → Gives (seen_accesses B.meaning) all.new
+        (item_more xs (access_outcome (table_of styles.now) (located access_form node.now))) }
+{
+    let Some(cst::MemAccess::Call(items)) = &node.node else {
+        return add_access::<B>(all, Err(unreached(alloc, &node.loc)));
+    };
+    let mut given: Parts<Beside, B::Expr> = Ok(Vec::new(alloc));
+    for part in items.as_slice() {
+        expr::<B>(alloc, styles, part, answer);
+        gather::<B, Beside>(alloc, &mut given, Beside, answer);
+    }
+    add_access::<B>(all, call_from::<B>(alloc, given))
 }
 
 /// A primary: parentheses go through.
@@ -107,15 +145,17 @@ fn primary<B: ExprBuilderInfallibleBuild>(
     alloc: Global,
     styles: &ExtStyles,
     node: &Node<Option<cst::Primary>>,
-) -> Result<ExprOrSpecial<B::Expr>, Failure>
-    ensures { Gives (plain B.meaning) result (outcome (table_of styles.now)
+    answer: &mut Converted<B::Expr>,
+)
+    ensures { Gives (plain B.meaning) answer.new (outcome (table_of styles.now)
         (located primary_form node.now)) }
 {
     match &node.node {
         Some(cst::Primary::Expr(inner)) => {
-            parens_from::<B>(alloc, &inner.loc, expr::<B>(alloc, styles, inner))
+            expr::<B>(alloc, styles, inner, answer);
+            parens_in::<B>(alloc, &inner.loc, answer)
         }
-        _ => gathered::<B>(alloc, styles, node),
+        _ => gathered::<B>(alloc, styles, node, answer),
     }
 }
 
@@ -125,54 +165,95 @@ fn gathered<B: ExprBuilderInfallibleBuild>(
     alloc: Global,
     styles: &ExtStyles,
     node: &Node<Option<cst::Primary>>,
-) -> Result<ExprOrSpecial<B::Expr>, Failure>
-    ensures { Gives (plain B.meaning) result (outcome (table_of styles.now)
+    answer: &mut Converted<B::Expr>,
+)
+    ensures { Gives (plain B.meaning) answer.new (outcome (table_of styles.now)
         (located primary_form node.now)) }
 {
     match &node.node {
-        Some(cst::Primary::Literal(inner)) => literal::<B>(alloc, inner),
-        Some(cst::Primary::Ref(inner)) => entity::<B>(alloc, inner.as_ref()),
-        Some(cst::Primary::Name(inner)) => named::<B>(alloc, &node.loc, inner),
-        Some(cst::Primary::Slot(inner)) => slot::<B>(alloc, inner),
-        Some(cst::Primary::Expr(inner)) => {
-            parens_from::<B>(alloc, &inner.loc, expr::<B>(alloc, styles, inner))
+        Some(cst::Primary::Literal(inner)) => put(answer, literal::<B>(alloc, inner)),
+        Some(cst::Primary::Ref(inner)) => put(answer, entity::<B>(alloc, inner.as_ref())),
+        Some(cst::Primary::Name(inner)) => put(answer, named::<B>(alloc, &node.loc, inner)),
+        Some(cst::Primary::Slot(inner)) => put(answer, slot::<B>(alloc, inner)),
+        Some(cst::Primary::Expr(nested)) => {
+            expr::<B>(alloc, styles, nested, answer);
+            parens_in::<B>(alloc, &nested.loc, answer)
         }
-        Some(cst::Primary::EList(items)) => {
-            let mut all: Result<Vec<(Beside, B::Expr)>, Failure> = Ok(Vec::new(alloc));
-            for part in items.as_slice() {
-                let part = expr_of::<B>(alloc, expr::<B>(alloc, styles, part));
-                all = more::<B, Beside>(all, Beside, part);
-            }
-            set_from::<B>(alloc, &node.loc, all)
-        }
-        Some(cst::Primary::RInits(items)) => {
-            let mut all: Result<Vec<Keyed<B::Expr>>, Failure> = Ok(Vec::new(alloc));
-            for part in items.as_slice() {
-                all = pair_more::<B>(all, init::<B>(alloc, styles, part));
-            }
-            record_from::<B>(alloc, &node.loc, all)
-        }
-        None => Err(unreached(alloc, &node.loc)),
+        Some(cst::Primary::EList(_)) => set::<B>(alloc, styles, node, answer),
+        Some(cst::Primary::RInits(_)) => record::<B>(alloc, styles, node, answer),
+        None => unreached_in::<B>(alloc, &node.loc, answer),
     }
 }
 
-/// A pair of a record.
+/// A set. Another primary is its caller's.
+#[cycle(convert)]
+#[inline(never)]
+fn set<B: ExprBuilderInfallibleBuild>(
+    alloc: Global,
+    styles: &ExtStyles,
+    node: &Node<Option<cst::Primary>>,
+    answer: &mut Converted<B::Expr>,
+)
+    ensures { (a : List (Held (Option Tree))) → node.now.node ≡ Some (primaries.EList a)
+        → Gives (plain B.meaning) answer.new (outcome (table_of styles.now)
+        (located primary_form node.now)) }
+{
+    let Some(cst::Primary::EList(items)) = &node.node else {
+        return unreached_in::<B>(alloc, &node.loc, answer);
+    };
+    let mut all: Parts<Beside, B::Expr> = Ok(Vec::new(alloc));
+    for part in items.as_slice() {
+        expr::<B>(alloc, styles, part, answer);
+        gather::<B, Beside>(alloc, &mut all, Beside, answer);
+    }
+    put(answer, set_from::<B>(alloc, &node.loc, all))
+}
+
+/// A record. Another primary is its caller's.
+#[cycle(convert)]
+#[inline(never)]
+fn record<B: ExprBuilderInfallibleBuild>(
+    alloc: Global,
+    styles: &ExtStyles,
+    node: &Node<Option<cst::Primary>>,
+    answer: &mut Converted<B::Expr>,
+)
+    ensures { (a : List (Held (Option Init))) → node.now.node ≡ Some (primaries.RInits a)
+        → Gives (plain B.meaning) answer.new (outcome (table_of styles.now)
+        (located primary_form node.now)) }
+{
+    let Some(cst::Primary::RInits(inits)) = &node.node else {
+        return unreached_in::<B>(alloc, &node.loc, answer);
+    };
+    let mut all: Pairs<B::Expr> = Ok(Vec::new(alloc));
+    for part in inits.as_slice() {
+        init::<B>(alloc, styles, part, answer, &mut all);
+    }
+    put(answer, record_from::<B>(alloc, &node.loc, all))
+}
+
+/// A pair of a record, added behind those so far. What is left in `answer` is of no use.
 #[cycle(convert)]
 #[inline(never)]
 fn init<B: ExprBuilderInfallibleBuild>(
     alloc: Global,
     styles: &ExtStyles,
     node: &Node<Option<cst::RecInit>>,
-) -> Result<Keyed<B::Expr>, Failure>
-    ensures { Gives (seen_pair B.meaning) result
-        (pair_outcome (table_of styles.now) (located init_form node.now)) }
+    answer: &mut Converted<B::Expr>,
+    all: &mut Pairs<B::Expr>,
+)
+    ensures { (xs : Outcome (List Pair)) → Gives (seen_pairs B.meaning) all.old xs
+        → Gives (seen_pairs B.meaning) all.new
+        (item_more xs (pair_outcome (table_of styles.now) (located init_form node.now))) }
 {
     match &node.node {
         Some(pair) => {
-            let key = expr::<B>(alloc, styles, &pair.0);
-            let value = expr_of::<B>(alloc, expr::<B>(alloc, styles, &pair.1));
-            pair_from::<B>(alloc, key, value)
+            expr::<B>(alloc, styles, &pair.0, answer);
+            let key = take(answer);
+            expr::<B>(alloc, styles, &pair.1, answer);
+            let value = value_in::<B>(alloc, answer);
+            add_pair::<B>(all, pair_from::<B>(alloc, key, value))
         }
-        None => Err(unreached(alloc, &node.loc)),
+        None => add_pair::<B>(all, Err(unreached(alloc, &node.loc))),
     }
 }

@@ -56,10 +56,11 @@ fn negated(number: u64) -> i64
     }
 }
 
-/// The last `-` and a number as one literal, and the other `-` before it.
+/// The last `-` and a number as one literal, which stands at the number (`at`), and the other `-` before it.
 fn negative<B: ExprBuilderInfallibleBuild>(
     alloc: Global,
     loc: &Option<Loc>,
+    at: &Option<Loc>,
     others: u8,
     number: u64,
 ) -> Result<ExprOrSpecial<B::Expr>, Failure>
@@ -68,7 +69,7 @@ fn negative<B: ExprBuilderInfallibleBuild>(
     if number > LARGEST {
         return Err(refusal(alloc, ToASTErrorKind::IntegerLiteralTooLarge(number), loc));
     }
-    let literal = builder_at::<B>(alloc, loc).val(Literal::Long(negated(number)))?;
+    let literal = builder_at::<B>(alloc, at).val(Literal::Long(negated(number)))?;
     made::<B>(repeat_neg::<B>(alloc, loc, others, literal)?, loc)
 }
 
@@ -79,10 +80,11 @@ fn over_limit(alloc: Global, op: UnaryOp, loc: &Option<Loc>) -> Failure
     refusal(alloc, ToASTErrorKind::UnaryOpLimit(op), loc)
 }
 
-/// What signs give whatever their operand gives, or `None` where the operand is needed.
+/// What signs give whatever their operand, which stands at `at`, gives, or `None` where the operand is needed.
 pub(crate) fn without_operand<B: ExprBuilderInfallibleBuild>(
     alloc: Global,
     loc: &Option<Loc>,
+    at: &Option<Loc>,
     op: Option<NegOp>,
     bare: Option<u64>,
 ) -> Option<Result<ExprOrSpecial<B::Expr>, Failure>>
@@ -100,7 +102,7 @@ pub(crate) fn without_operand<B: ExprBuilderInfallibleBuild>(
                 if count == 0 {
                     return None;
                 }
-                Some(negative::<B>(alloc, loc, count - 1, number))
+                Some(negative::<B>(alloc, loc, at, count - 1, number))
             }
         },
     }
@@ -156,7 +158,7 @@ fn dashed<B: ExprBuilderInfallibleBuild>(
             if count == 0 {
                 return item;
             }
-            negative::<B>(alloc, loc, count - 1, number)
+            negative::<B>(alloc, loc, loc, count - 1, number)
         }
         None => opposite::<B>(alloc, loc, count, item),
     }

@@ -4,7 +4,7 @@ use denote.Ref.{Bor}
 use Rattle.std.proofs.Math.Seq.{take-append_seam}
 use Rattle.cedar_lexer.specs.declared.token.TokenKind.TheVariants as kind
 use Rattle.cedar_syntax.specs.Tokens.{between_quotes}
-use Rattle.cedar_syntax.specs.Written.{Written}
+use Rattle.cedar_syntax.specs.WrittenTokens.{Written}
 
 -- it begins with a quote
 pub begins_so : (text : List ℕ) (r : Option (Bor (List ℕ))) → Written kind.StringLit text → MatchOption r ((rest : List ℕ) → text ≢ 34 ∷ rest) (λ x. text ≡ 34 ∷ x.now) → r ≡ None → ⊥

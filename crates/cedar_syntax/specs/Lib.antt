@@ -39,5 +39,5 @@ pub mod Trees
 pub mod UnescapeFailure
 pub mod Unlocated
 pub mod Unplaced
-pub mod Written
+pub mod WrittenTokens
 pub mod machines

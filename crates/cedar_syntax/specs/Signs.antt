@@ -15,4 +15,5 @@ pub data ReadsAddOp : TokenKind → AddOp → Type 0 where
 -- one sign or more, all of one kind, and how many they are
 pub data ReadsSigns (k : TokenKind) : List Lexeme → ℕ → Type 0 where
   one_sign : (p : Spot) → ReadsSigns k (one k p) 1
-  more_signs : {ts : List Lexeme} {n : ℕ} (p : Spot) → ReadsSigns k ts n → ReadsSigns k (ts ++ one k p) (n + 1)
+  more_signs : {ts : List Lexeme} {n : ℕ} (p : Spot)
+      → ReadsSigns k ts n → ReadsSigns k (ts ++ one k p) (n + 1)

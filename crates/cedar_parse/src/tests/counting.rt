@@ -52,7 +52,8 @@ fn split_items<B: ExprBuilderInfallibleBuild>(
     alloc: Global,
     items: Vec<Counted<B::Expr>>,
 ) -> Result<(Vec<B::Expr>, usize), AllocError>
-    ensures { IfOk result (λ parts. map B.meaning parts.0.items ≡ map (λ c. B.meaning c.expr) items.items) }
+    ensures { IfOk result (λ parts.
+        map B.meaning parts.0.items ≡ map (λ c. B.meaning c.expr) items.items) }
 {
     let mut exprs = Vec::new(alloc);
     let mut nodes = 0usize;
@@ -68,7 +69,8 @@ fn split_terms<B: ExprBuilderInfallibleBuild>(
     alloc: Global,
     terms: Vec<(AddOp, Counted<B::Expr>)>,
 ) -> Result<(Vec<(AddOp, B::Expr)>, usize), AllocError>
-    ensures { IfOk result (λ parts. v.terms (map (λ t. (t.0, B.meaning t.1)) parts.0.items) ≡ v.terms (map (λ t. (t.0, B.meaning t.1.expr)) terms.items)) }
+    ensures { IfOk result (λ parts. v.terms (map (λ t. (t.0, B.meaning t.1)) parts.0.items)
+        ≡ v.terms (map (λ t. (t.0, B.meaning t.1.expr)) terms.items)) }
 {
     let mut exprs = Vec::new(alloc);
     let mut nodes = 0usize;
@@ -84,8 +86,10 @@ fn split_pairs<B: ExprBuilderInfallibleBuild>(
     alloc: Global,
     pairs: Vec<(Text, Counted<B::Expr>)>,
 ) -> Result<(Vec<(Text, B::Expr)>, usize), AllocError>
-    ensures fields { IfOk result (λ parts. v.fields (map (λ p. (p.0, B.meaning p.1)) parts.0.items) ≡ v.fields (map (λ p. (p.0, B.meaning p.1.expr)) pairs.items)) }
-    ensures keys { IfOk result (λ parts. map (λ p. p.0) parts.0.items ≡ map (λ p. p.0) pairs.items) }
+    ensures fields { IfOk result (λ parts. v.fields (map (λ p. (p.0, B.meaning p.1)) parts.0.items)
+        ≡ v.fields (map (λ p. (p.0, B.meaning p.1.expr)) pairs.items)) }
+    ensures keys { IfOk result (λ parts.
+        map (λ p. p.0) parts.0.items ≡ map (λ p. p.0) pairs.items) }
 {
     let mut exprs = Vec::new(alloc);
     let mut nodes = 0usize;
@@ -165,7 +169,8 @@ impl<B: ExprBuilderInfallibleBuild> ExprBuilderInfallibleBuild for CountingBuild
         first: Counted<B::Expr>,
         rest: Vec<Counted<B::Expr>>,
     ) -> Result<Counted<B::Expr>, AllocError>
-        ensures { IfOk result (λ e. B.meaning e.expr ≡ v.or_nary (B.meaning first.expr) (v.values (map (λ c. B.meaning c.expr) rest.items))) }
+        ensures { IfOk result (λ e. B.meaning e.expr ≡ v.or_nary (B.meaning first.expr)
+            (v.values (map (λ c. B.meaning c.expr) rest.items))) }
     {
         let (first, (rest, nodes)) = beside(first, split_items::<B>(self.alloc, rest))?;
         let nodes = nodes.saturating_add(first.nodes);
@@ -177,7 +182,8 @@ impl<B: ExprBuilderInfallibleBuild> ExprBuilderInfallibleBuild for CountingBuild
         first: Counted<B::Expr>,
         rest: Vec<Counted<B::Expr>>,
     ) -> Result<Counted<B::Expr>, AllocError>
-        ensures { IfOk result (λ e. B.meaning e.expr ≡ v.and_naryl (B.meaning first.expr) (v.values (map (λ c. B.meaning c.expr) rest.items))) }
+        ensures { IfOk result (λ e. B.meaning e.expr ≡ v.and_naryl (B.meaning first.expr)
+            (v.values (map (λ c. B.meaning c.expr) rest.items))) }
     {
         let (first, (rest, nodes)) = beside(first, split_items::<B>(self.alloc, rest))?;
         let nodes = nodes.saturating_add(first.nodes);
@@ -189,7 +195,8 @@ impl<B: ExprBuilderInfallibleBuild> ExprBuilderInfallibleBuild for CountingBuild
         first: Counted<B::Expr>,
         rest: Vec<(AddOp, Counted<B::Expr>)>,
     ) -> Result<Counted<B::Expr>, AllocError>
-        ensures { IfOk result (λ e. B.meaning e.expr ≡ v.add_nary (B.meaning first.expr) (v.terms (map (λ t. (t.0, B.meaning t.1.expr)) rest.items))) }
+        ensures { IfOk result (λ e. B.meaning e.expr ≡ v.add_nary (B.meaning first.expr)
+            (v.terms (map (λ t. (t.0, B.meaning t.1.expr)) rest.items))) }
     {
         let (first, (rest, nodes)) = beside(first, split_terms::<B>(self.alloc, rest))?;
         let nodes = nodes.saturating_add(first.nodes);
@@ -201,7 +208,8 @@ impl<B: ExprBuilderInfallibleBuild> ExprBuilderInfallibleBuild for CountingBuild
         first: Counted<B::Expr>,
         rest: Vec<Counted<B::Expr>>,
     ) -> Result<Counted<B::Expr>, AllocError>
-        ensures { IfOk result (λ e. B.meaning e.expr ≡ v.mul_nary (B.meaning first.expr) (v.values (map (λ c. B.meaning c.expr) rest.items))) }
+        ensures { IfOk result (λ e. B.meaning e.expr ≡ v.mul_nary (B.meaning first.expr)
+            (v.values (map (λ c. B.meaning c.expr) rest.items))) }
     {
         let (first, (rest, nodes)) = beside(first, split_items::<B>(self.alloc, rest))?;
         let nodes = nodes.saturating_add(first.nodes);
@@ -374,21 +382,26 @@ impl<B: ExprBuilderInfallibleBuild> ExprBuilderInfallibleBuild for CountingBuild
         function: Name,
         args: Vec<Counted<B::Expr>>,
     ) -> Result<Counted<B::Expr>, AllocError>
-        ensures { IfOk result (λ e. B.meaning e.expr ≡ v.call_extension_fn function (v.values (map (λ c. B.meaning c.expr) args.items))) }
+        ensures { IfOk result (λ e. B.meaning e.expr ≡ v.call_extension_fn function
+            (v.values (map (λ c. B.meaning c.expr) args.items))) }
     {
         let (args, nodes) = split_items::<B>(self.alloc, args)?;
         Counted::over(nodes, self.inner.call_extension_fn(function, args))
     }
 
     fn set(self, elements: Vec<Counted<B::Expr>>) -> Result<Counted<B::Expr>, AllocError>
-        ensures { IfOk result (λ e. B.meaning e.expr ≡ v.set (v.values (map (λ c. B.meaning c.expr) elements.items))) }
+        ensures { IfOk result (λ e. B.meaning e.expr ≡ v.set
+            (v.values (map (λ c. B.meaning c.expr) elements.items))) }
     {
         let (elements, nodes) = split_items::<B>(self.alloc, elements)?;
         Counted::over(nodes, self.inner.set(elements))
     }
 
     fn record(self, pairs: Vec<(Text, Counted<B::Expr>)>) -> Result<Counted<B::Expr>, RecordError>
-        ensures ok { IfOk result (λ e. (B.meaning e.expr ≡ v.«record» (v.fields (map (λ p. (p.0, B.meaning p.1.expr)) pairs.items))) × (repeats_key (map (λ p. p.0) pairs.items) ≡ false)) }
+        ensures ok { IfOk result (λ e.
+            (B.meaning e.expr
+            ≡ v.«record» (v.fields (map (λ p. (p.0, B.meaning p.1.expr)) pairs.items)))
+            × (repeats_key (map (λ p. p.0) pairs.items) ≡ false)) }
         ensures err { IfErr result (λ error. IsDue error (map (λ p. p.0) pairs.items)) }
     {
         let (pairs, nodes) = split_pairs::<B>(self.alloc, pairs)?;

@@ -9,7 +9,7 @@ type Standing = (&'static str, Bytes, Option<Bytes>, Option<Bytes>);
 /// The first byte and the one behind the last.
 type Bytes = (usize, usize);
 
-const STANDING: [Standing; 26] = [
+const STANDING: [Standing; 28] = [
     (" A::\"b\" ", (1, 7), None, None),
     (" ?principal ", (1, 11), None, None),
     (" \"a\"", (1, 4), None, None),
@@ -39,6 +39,8 @@ const STANDING: [Standing; 26] = [
     ("!true", (0, 5), Some((1, 5)), Some((1, 5))),
     ("!!(1)", (0, 5), Some((0, 5)), Some((0, 5))),
     ("-(5)", (0, 4), Some((2, 3)), Some((2, 3))),
+    ("-1", (1, 2), None, None),
+    ("--1", (0, 3), Some((2, 3)), Some((2, 3))),
     ("principal.a", (0, 11), Some((0, 9)), Some((0, 9))),
     ("principal.a.b", (0, 13), Some((0, 13)), Some((0, 13))),
     ("(principal)[\"a\"]", (0, 16), Some((1, 10)), Some((1, 10))),

@@ -209,7 +209,7 @@ fn conditions_are_folded_to_the_right(rt: HostRuntime) {
 // ---- annotations
 
 /// What a policy's tree holds.
-fn parts<'a>(rt: &impl Abort, tree: &'a Node<Option<Policy>>) -> &'a PolicyImpl {
+pub(super) fn parts<'a>(rt: &impl Abort, tree: &'a Node<Option<Policy>>) -> &'a PolicyImpl {
     let Policy::Policy(parts) = tree.as_inner().expect(rt, "an empty node");
     parts
 }

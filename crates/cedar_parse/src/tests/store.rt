@@ -1,4 +1,4 @@
-//! Templates, static policies and sets: their parts, their slots in order, what is refused, and that a copy equals its source.
+//! Templates and static policies: their parts, their slots in order, what is refused, and that a copy equals its source.
 use super::builder::build;
 use super::held::{
     agrees, copies, copies_of, equal, holds, holds_for, made, refusal, says, says_and_copies, shows,
@@ -9,9 +9,9 @@ use cedar_expressions::{
     Name, NodePlace, Place, Slot, SlotId,
 };
 use cedar_policy_store::{
-    ActionConstraint, Annotation, Annotations, Effect, EntityReference, PolicyID, PolicySet,
-    PolicySetError, PrincipalConstraint, PrincipalOrResourceConstraint, ResourceConstraint,
-    StaticPolicy, Template, UnexpectedSlotError,
+    ActionConstraint, Annotation, Annotations, Effect, EntityReference, PolicyID,
+    PrincipalConstraint, PrincipalOrResourceConstraint, ResourceConstraint, StaticPolicy, Template,
+    UnexpectedSlotError,
 };
 use std::collections::BTreeMap;
 use std::process::Abort;
@@ -22,7 +22,7 @@ fn string(rt: &(impl Abort + AllocGlobal), text: &str) -> String {
 }
 
 /// The name of a policy.
-fn id(rt: &(impl Abort + AllocGlobal), text: &str) -> PolicyID {
+pub(super) fn id(rt: &(impl Abort + AllocGlobal), text: &str) -> PolicyID {
     PolicyID::new(string(rt, text))
 }
 
@@ -55,7 +55,7 @@ fn slot_at(offset: usize) -> EntityReference {
 
 /// What may be asked of a principal or a resource.
 #[derive(Clone, Copy)]
-enum Asked {
+pub(super) enum Asked {
     Any,
     EqUser,
     EqSlot,
@@ -95,7 +95,7 @@ fn annotations(rt: &(impl Abort + AllocGlobal), value: &str) -> Annotations {
 }
 
 /// A template with slots at the offsets 10 and 20, and a condition.
-fn template(
+pub(super) fn template(
     rt: &(impl Abort + AllocGlobal),
     name: &str,
     asked: (Asked, Asked),
@@ -114,12 +114,12 @@ fn template(
 }
 
 /// A template that asks for nothing.
-fn plain(rt: &(impl Abort + AllocGlobal), name: &str) -> Template {
+pub(super) fn plain(rt: &(impl Abort + AllocGlobal), name: &str) -> Template {
     template(rt, name, (Asked::Any, Asked::Any), None)
 }
 
 /// A static policy that asks for nothing.
-fn policy(rt: &(impl Abort + AllocGlobal), name: &str) -> StaticPolicy {
+pub(super) fn policy(rt: &(impl Abort + AllocGlobal), name: &str) -> StaticPolicy {
     made(rt, StaticPolicy::try_from(plain(rt, name)))
 }
 
@@ -426,84 +426,4 @@ fn static_policies_are_their_templates(rt: HostRuntime) {
     );
     let held = Template::from(self::policy(&rt, "p"));
     agrees(&rt, held, plain(&rt, "p"), "the template");
-}
-
-/// A set with the static policy `p` and the template `t`.
-fn set_of_two(rt: &(impl Abort + AllocGlobal)) -> PolicySet {
-    let mut set = PolicySet::new(rt.alloc());
-    made(rt, set.add_static(policy(rt, "p")));
-    made(
-        rt,
-        set.add_template(template(rt, "t", (Asked::EqSlot, Asked::Any), None)),
-    );
-    set
-}
-
-#[test]
-fn a_set_finds_by_name(rt: HostRuntime) {
-    let set = set_of_two(&rt);
-    for (name, is_static, is_template) in &[
-        ("p", true, false),
-        ("t", false, true),
-        ("q", false, false),
-    ] {
-        let id = id(&rt, name);
-        holds_for(&rt, set.static_policy(&id).is_some() == *is_static, name);
-        holds_for(&rt, set.template(&id).is_some() == *is_template, name);
-        drop(id);
-    }
-    holds(
-        &rt,
-        set.static_policies().count() == 1 && set.templates().count() == 1,
-    );
-    says_and_copies(&rt, set, "1 static policies, 1 templates");
-}
-
-#[test]
-fn a_known_name_is_refused(rt: HostRuntime) {
-    for name in &["p", "t"] {
-        let mut set = set_of_two(&rt);
-        let wanted = PolicySetError::Occupied { id: id(&rt, name) };
-        agrees(
-            &rt,
-            refusal(&rt, set.add_static(policy(&rt, name))),
-            wanted,
-            name,
-        );
-        let wanted = PolicySetError::Occupied { id: id(&rt, name) };
-        agrees(
-            &rt,
-            refusal(&rt, set.add_template(plain(&rt, name))),
-            wanted,
-            name,
-        );
-        agrees(&rt, set, set_of_two(&rt), "unchanged");
-    }
-}
-
-#[test]
-fn a_known_name_is_told(rt: HostRuntime) {
-    let mut set = set_of_two(&rt);
-    let refused = refusal(&rt, set.add_static(policy(&rt, "t")));
-    shows(&rt, &refused, "duplicate template or policy id `t`");
-    copies(&rt, refused);
-    drop(set);
-}
-
-#[test]
-fn sets_are_equal_by_their_policies(rt: HostRuntime) {
-    let mut more = set_of_two(&rt);
-    made(&rt, more.add_static(policy(&rt, "q")));
-    agrees(&rt, equal(set_of_two(&rt), more), false, "one more");
-    agrees(
-        &rt,
-        PolicySet::new(rt.alloc()),
-        PolicySet::new(rt.alloc()),
-        "no policy",
-    );
-    says(
-        &rt,
-        PolicySet::new(rt.alloc()),
-        "0 static policies, 0 templates",
-    );
 }

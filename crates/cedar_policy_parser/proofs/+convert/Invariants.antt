@@ -25,11 +25,11 @@ invariant-convert::mult_chain-loop-op g l = Gives (behind multiply g.B.ExprBuild
 abbrev pub invariant-primaries::accessed-loop-part : goal.invariant-primaries::accessed-loop-part
 invariant-primaries::accessed-loop-part g l = Gives (seen_accesses g.B.ExprBuilderInfallibleBuild.meaning) l.all (accesses_given (table_of l.styles) (parts_of (map listed_access (take l.part-index l.part-items))))
 
-abbrev pub invariant-primaries::access-loop-part : goal.invariant-primaries::access-loop-part
-invariant-primaries::access-loop-part g l = Gives (behind (λ op. beside) g.B.ExprBuilderInfallibleBuild.meaning) l.all (operands (table_of l.styles) l.node.loc (parts_of (map listed_expr (take l.part-index l.part-items))))
+abbrev pub invariant-primaries::arguments-loop-part : goal.invariant-primaries::arguments-loop-part
+invariant-primaries::arguments-loop-part g l = Gives (behind (λ op. beside) g.B.ExprBuilderInfallibleBuild.meaning) l.given (operands (table_of l.styles) l.node.loc (parts_of (map listed_expr (take l.part-index l.part-items))))
 
-abbrev pub invariant-primaries::gathered-loop-part : goal.invariant-primaries::gathered-loop-part
-invariant-primaries::gathered-loop-part g l = Gives (behind (λ op. beside) g.B.ExprBuilderInfallibleBuild.meaning) l.all (operands (table_of l.styles) l.node.loc (parts_of (map listed_expr (take l.part-index l.part-items))))
+abbrev pub invariant-primaries::set-loop-part : goal.invariant-primaries::set-loop-part
+invariant-primaries::set-loop-part g l = Gives (behind (λ op. beside) g.B.ExprBuilderInfallibleBuild.meaning) l.all (operands (table_of l.styles) l.node.loc (parts_of (map listed_expr (take l.part-index l.part-items))))
 
-abbrev pub invariant-primaries::gathered-loop-part-2 : goal.invariant-primaries::gathered-loop-part-2
-invariant-primaries::gathered-loop-part-2 g l = Gives (seen_pairs g.B.ExprBuilderInfallibleBuild.meaning) l.all (pairs_given (table_of l.styles) (parts_of (map listed_init (take l.part-index l.part-items))))
+abbrev pub invariant-primaries::record-loop-part : goal.invariant-primaries::record-loop-part
+invariant-primaries::record-loop-part g l = Gives (seen_pairs g.B.ExprBuilderInfallibleBuild.meaning) l.all (pairs_given (table_of l.styles) (parts_of (map listed_init (take l.part-index l.part-items))))

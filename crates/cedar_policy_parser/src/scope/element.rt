@@ -11,6 +11,7 @@ ghost use Rattle.cedar_policy_parser.specs.Outcome.{Outcome, invalid_scope_varia
 ghost use Rattle.cedar_policy_parser.specs.Scope as s;
 ghost use Rattle.cedar_policy_parser.specs.Seen.{Gives, Refuses, TellsAlone, itself, none_seen};
 
+use crate::answer::{Converted, unanswered};
 use crate::convert::add;
 use crate::cst_to_ast::{ExprAst, ExtStyles};
 use crate::methods::Site;
@@ -163,8 +164,9 @@ fn type_of(
 ) -> Result<EntityType, Failure>
     ensures { Gives itself result (s.type_outcome (table_of site.entry.styles.now) node.now) }
 {
-    let right = add::<ExprBuilder<()>>(site.alloc, site.styles, node)?;
-    into_entity_type::<ExprBuilder<()>>(site.alloc, left.as_ref(), right)
+    let mut right: Converted<Expr> = unanswered();
+    add::<ExprBuilder<()>>(site.alloc, site.styles, node, &mut right);
+    into_entity_type::<ExprBuilder<()>>(site.alloc, left.as_ref(), right?)
 }
 
 fn is_in(

@@ -16,7 +16,7 @@ use Rattle.cedar_syntax.specs.declared.reading.extent.Extent.{Extent}
 use Rattle.cedar_syntax.specs.declared.reading.expected.Narrowing.{Narrowing}
 use Rattle.cedar_syntax.specs.FirstFault.{end_at, end_of, early_at}
 use Rattle.cedar_syntax.specs.Place.{join, extent_of, extent}
-use Rattle.cedar_syntax.specs.Written.{IsWritten}
+use Rattle.cedar_syntax.specs.WrittenTokens.{IsWritten}
 use Rattle.cedar_syntax.specs.machines.Door.{next, Machine, taken, Comes}
 use Rattle.cedar_syntax.specs.machines.Judged.{expected_by, Ahead, Progress, tokens_left, IsRead, IsFault, GivesToken, StopsBadly, told, IsStop, StopsAtToken, StopsAtEnd}
 use Rattle.cedar_syntax.proofs.machines.Laws.{then_steps}

@@ -14,7 +14,7 @@ use Rattle.cedar_syntax.specs.declared.reading.mending.Refusal.TheVariants as re
 use Rattle.cedar_syntax.specs.declared.reading.mending.Run.{Run}
 use Rattle.cedar_syntax.specs.declared.reading.recovery.Way.{Way}
 use Rattle.cedar_syntax.specs.MendedFaults.{listed}
-use Rattle.cedar_syntax.specs.Written.{IsWritten}
+use Rattle.cedar_syntax.specs.WrittenTokens.{IsWritten}
 use Rattle.cedar_syntax.specs.machines.Door.{Machine, Answer, next, ended, refused, too_large, taken, steps, Comes}
 use Rattle.cedar_syntax.specs.machines.Judged.{tokens_left, IsRead}
 use Rattle.cedar_syntax.specs.machines.Recovery.{Recovers, Recovery, reading, skipping, stopped}

@@ -1,7 +1,7 @@
 //! Reads a whole text by one rule of the grammar, token after token, with one token of look-ahead.
 ghost use Rattle.std.specs.Prelude.{◌≡◌, Some, None, IfOk, MatchResult};
 ghost use Rattle.cedar_lexer.specs.Token.{lexeme_of};
-ghost use Rattle.cedar_syntax.specs.Written.{IsWritten};
+ghost use Rattle.cedar_syntax.specs.WrittenTokens.{IsWritten};
 ghost use Rattle.cedar_syntax.specs.FirstFault.{unexpected_at, early_at, large_at};
 ghost use Rattle.cedar_syntax.specs.machines.Door.{next};
 ghost use Rattle.cedar_syntax.specs.machines.Judged.{expected_by, Progress, IsRead, FailsWith, GivesToken, StopsBadly, StopsAtToken, StopsAtEnd, IsStop};
@@ -21,7 +21,7 @@ pub trait Entry: Drop {
     ghost use Rattle.cedar_lexer.specs.Token.{Lexeme, lexeme_of};
     ghost use Rattle.cedar_lexer.specs.declared.token.TokenKind.{TokenKind};
     ghost use Rattle.cedar_syntax.specs.declared.node.Node.{Node};
-    ghost use Rattle.cedar_syntax.specs.Written.{IsWritten};
+    ghost use Rattle.cedar_syntax.specs.WrittenTokens.{IsWritten};
     ghost use Rattle.cedar_syntax.specs.machines.Door.{Machine};
     ghost use Rattle.cedar_syntax.specs.machines.Judged.{taken_as};
 
@@ -61,6 +61,7 @@ pub trait Entry: Drop {
 const TOO_LARGE: &str = "integer parse error: number too large to fit in target type";
 
 /// The refusal of a text for one fault.
+#[cold]
 pub fn failure(alloc: Global, source: &Source, raw: RawFault) -> Failure
     ensures { FailsWith source.now raw result }
 {
@@ -71,6 +72,7 @@ pub fn failure(alloc: Global, source: &Source, raw: RawFault) -> Failure
 }
 
 /// No sentence goes on with this token.
+#[cold]
 pub fn unexpected<E: Entry>(
     alloc: Global,
     state: &E,
@@ -91,6 +93,7 @@ pub fn unexpected<E: Entry>(
 }
 
 /// No sentence ends at the end of the text, which stands at this place.
+#[cold]
 pub fn early<E: Entry>(
     alloc: Global,
     state: &E,
@@ -108,6 +111,7 @@ pub fn early<E: Entry>(
 }
 
 /// This token is a number past 64 bits.
+#[cold]
 pub fn large_number(
     alloc: Global,
     source: &Source,
@@ -123,6 +127,7 @@ pub fn large_number(
 }
 
 /// The next token of the text, or none at its end.
+#[inline(always)]
 pub fn next_token<'a>(
     alloc: Global,
     source: &Source,
@@ -141,6 +146,7 @@ pub fn next_token<'a>(
 }
 
 /// One more token.
+#[inline(always)]
 fn judge<E: Entry>(
     alloc: Global,
     source: &Source,

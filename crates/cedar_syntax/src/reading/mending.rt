@@ -5,7 +5,7 @@ ghost use Rattle.cedar_lexer.specs.Token.{lexeme_of};
 ghost use Rattle.cedar_syntax.specs.NonEmpty.{list_of};
 ghost use Rattle.cedar_syntax.specs.declared.reading.mending.Doing.TheVariants as doing;
 ghost use Rattle.cedar_syntax.specs.MendedFaults.{fault_of, listed};
-ghost use Rattle.cedar_syntax.specs.Written.{IsWritten};
+ghost use Rattle.cedar_syntax.specs.WrittenTokens.{IsWritten};
 ghost use Rattle.cedar_syntax.specs.machines.Judged.{IsRead};
 ghost use Rattle.cedar_syntax.specs.machines.Mending.{bad_fault, refused_fault, bad_or, recovers_of, stage_of, skipped_by, judged_by, recover_by, last_of, told_at, answer_as, RefusesWith, IsToldBy, IsTold};
 

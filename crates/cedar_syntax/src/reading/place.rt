@@ -21,6 +21,7 @@ pub fn token_extent(token: Token<'_>) -> Extent
 }
 
 /// The place of these bytes of the source.
+#[inline(always)]
 pub fn loc_at(source: &Source, extent: Option<Extent>) -> Result<Option<Loc>, AllocError>
     ensures { IfOk result (λ loc. loc ≡ loc_at source.now extent) }
 {
@@ -34,6 +35,7 @@ pub fn loc_at(source: &Source, extent: Option<Extent>) -> Result<Option<Loc>, Al
 }
 
 /// A tree as a node, at the bytes of the source that it takes.
+#[inline(always)]
 pub fn node_at<T: Drop>(
     source: &Source,
     extent: Option<Extent>,

@@ -3,7 +3,7 @@ use Rattle.std.specs.Prelude.{ℕ, List}
 use Rattle.cedar_lexer.specs.declared.token.TokenKind.TheVariants as kind
 use Rattle.cedar_text.specs.declared.text_to_cst.expression.class.Beginning.{Beginning}
 use Rattle.cedar_text.specs.declared.text_to_cst.expression.class.Beginning.TheVariants as beginning
-use Rattle.cedar_syntax.specs.Written.{Written}
+use Rattle.cedar_syntax.specs.WrittenTokens.{Written}
 
 -- the text of a string stands between two quotes
 abbrev pub IsBeginningOf : Beginning → List ℕ → Type 0

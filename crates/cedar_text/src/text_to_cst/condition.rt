@@ -2,7 +2,7 @@
 ghost use Rattle.std.specs.Prelude.{◌≡◌, Some, None, IfOk};
 ghost use Rattle.cedar_lexer.specs.Token.{lexeme_of};
 ghost use Rattle.cedar_syntax.specs.Tokens.{any_of};
-ghost use Rattle.cedar_syntax.specs.Written.{IsWritten};
+ghost use Rattle.cedar_syntax.specs.WrittenTokens.{IsWritten};
 ghost use Rattle.cedar_syntax.specs.machines.Marks.{mark_of};
 ghost use Rattle.cedar_text.specs.machines.Condition.{at_word, behind_word, behind_body, at_body, body_ended, condition_step, IsOutsideBody};
 ghost use Rattle.cedar_syntax.specs.machines.Judged.{answer_of};

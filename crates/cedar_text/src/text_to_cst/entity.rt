@@ -5,7 +5,7 @@ ghost use Rattle.cedar_lexer.specs.Token.{lexeme_of};
 ghost use Rattle.cedar_lexer.specs.declared.token.TokenKind.TheVariants as kind;
 ghost use Rattle.cedar_syntax.specs.Place.{extent_of};
 ghost use Rattle.cedar_syntax.specs.Tokens.{any_of};
-ghost use Rattle.cedar_syntax.specs.Written.{IsWritten, Written};
+ghost use Rattle.cedar_syntax.specs.WrittenTokens.{IsWritten, Written};
 ghost use Rattle.cedar_syntax.specs.machines.Door.{allows, is_taken};
 ghost use Rattle.cedar_syntax.specs.machines.Judged.{answer_of};
 ghost use Rattle.cedar_text.specs.machines.Words.{as_words, path_begun, path_words, words_more, words_step, entity_of, uid_of, at_inits, inits_closed, item_wanted, key_had, with_value, string_literal, value_wanted, item_had, inits_step, named};

@@ -19,6 +19,7 @@ pub struct Ground<'a> {
 
 impl Ground<'_> {
     /// A tree as a node, at the bytes of the source that it takes.
+    #[inline(always)]
     pub fn node_at<T: Drop>(
         self,
         extent: Option<Extent>,
@@ -30,6 +31,7 @@ impl Ground<'_> {
     }
 
     /// A tree as a node, at its bytes.
+    #[inline(always)]
     pub fn node_of<T: Drop>(self, item: Ranged<T>) -> Result<Node<Option<T>>, AllocError>
         ensures { IfOk result (λ node. node ≡ node_of self.entry.source.now item) }
     {

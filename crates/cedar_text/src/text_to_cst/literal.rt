@@ -4,7 +4,7 @@ ghost use Rattle.std.specs.Str.Parse.{IsNumeral};
 ghost use Rattle.cedar_lexer.specs.Token.{lexeme_of};
 ghost use Rattle.cedar_lexer.specs.declared.token.TokenKind.TheVariants as kind;
 ghost use Rattle.cedar_syntax.specs.Tokens.{between_quotes, fits, number_of};
-ghost use Rattle.cedar_syntax.specs.Written.{Written};
+ghost use Rattle.cedar_syntax.specs.WrittenTokens.{Written};
 ghost use Rattle.cedar_text.specs.machines.Words.{string_node};
 
 use cedar_expressions::{Source, Text};

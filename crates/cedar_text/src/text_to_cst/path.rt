@@ -69,6 +69,7 @@ impl Path {
     }
 
     /// The path as a name, at its bytes.
+    #[inline(always)]
     pub fn into_name(self, source: &Source) -> Result<Node<Option<Name>>, AllocError>
         ensures { IfOk result (λ name. name ≡ named source.now self) }
     {

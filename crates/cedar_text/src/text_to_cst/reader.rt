@@ -10,7 +10,7 @@ use std::alloc::{AllocError, Global};
 pub trait Reader<T: Drop>: Drop {
     ghost use Rattle.std.specs.Prelude.{◌≡◌, ℕ, List, IfOk};
     ghost use Rattle.cedar_lexer.specs.Token.{Lexeme, lexeme_of};
-    ghost use Rattle.cedar_syntax.specs.Written.{IsWritten};
+    ghost use Rattle.cedar_syntax.specs.WrittenTokens.{IsWritten};
     ghost use Rattle.cedar_syntax.specs.machines.Door.{Machine};
     ghost use Rattle.cedar_syntax.specs.machines.Judged.{answer_of};
 

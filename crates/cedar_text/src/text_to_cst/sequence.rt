@@ -1,7 +1,7 @@
 //! Forms that are begun, and what stands before them.
 ghost use Rattle.std.specs.Prelude.{◌≡◌, [], None, IfOk};
 ghost use Rattle.cedar_lexer.specs.Token.{lexeme_of};
-ghost use Rattle.cedar_syntax.specs.Written.{IsWritten};
+ghost use Rattle.cedar_syntax.specs.WrittenTokens.{IsWritten};
 ghost use Rattle.cedar_syntax.specs.machines.Door.{ended};
 ghost use Rattle.cedar_text.specs.machines.Sequences.{sequence, beginning, many_step, behind_item, listed_step};
 ghost use Rattle.cedar_syntax.specs.machines.Judged.{answer_of};

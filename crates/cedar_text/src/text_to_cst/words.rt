@@ -15,6 +15,7 @@ use cedar_syntax::reading::place::{node_at, token_extent};
 use std::alloc::{AllocError, Global};
 
 /// What a token of this kind and text is as an identifier.
+#[inline(always)]
 pub fn as_ident(alloc: Global, kind: TokenKind, text: &str) -> Result<Option<Ident>, AllocError>
     ensures { IfOk result (λ ident. ident ≡ any_of kind text.now) }
 {

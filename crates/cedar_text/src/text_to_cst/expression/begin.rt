@@ -50,6 +50,7 @@ pub fn want_at(place: Place) -> Mode
 }
 
 /// An operand that has no accesses yet.
+#[inline(always)]
 pub fn operand_of(
     ground: Ground<'_>,
     signs: Signs,
@@ -97,6 +98,7 @@ impl State {
     }
 
     /// Behind an operand that has no accesses yet.
+    #[inline(always)]
     pub fn have_primary(
         &mut self,
         ground: Ground<'_>,

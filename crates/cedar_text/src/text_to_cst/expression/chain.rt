@@ -11,6 +11,7 @@ use std::alloc::{AllocError, Global};
 
 impl<T: Drop, I: Drop> Chain<T, I> {
     /// One operand alone.
+    #[inline(always)]
     fn begin(ground: Ground<'_>, item: Ranged<T>) -> Result<Chain<T, I>, AllocError>
         ensures { IfOk result (λ chain. chain ≡ begun_chain ground.entry.source.now item) }
     {
@@ -23,6 +24,7 @@ impl<T: Drop, I: Drop> Chain<T, I> {
     }
 
     /// One operand more.
+    #[inline(always)]
     fn extend(&mut self, item: I, extent: Option<Extent>) -> Result<(), AllocError>
         ensures { OnOk result (self.new ≡ longer self.old item extent) }
     {
@@ -32,6 +34,7 @@ impl<T: Drop, I: Drop> Chain<T, I> {
     }
 
     /// The operator behind the last operand.
+    #[inline(always)]
     fn go_on(&mut self, operator: Extent)
         ensures { self.new ≡ onward self.old operator }
     {
@@ -41,6 +44,7 @@ impl<T: Drop, I: Drop> Chain<T, I> {
 
 impl<T: Drop, O: Drop + Copy> Pending<T, O> {
     /// One more operand.
+    #[inline(always)]
     fn link(&mut self, ground: Ground<'_>, item: Ranged<T>) -> Result<(), AllocError>
         ensures chain { OnOk result (self.new.chain ≡ marked ground.entry.source.now
             (Some self.old) item) }
@@ -50,6 +54,7 @@ impl<T: Drop, O: Drop + Copy> Pending<T, O> {
     }
 
     /// One more operand, and the operator behind it.
+    #[inline(always)]
     pub fn push(
         &mut self,
         ground: Ground<'_>,
@@ -67,6 +72,7 @@ impl<T: Drop, O: Drop + Copy> Pending<T, O> {
     }
 
     /// The chain, with one more operand at its end.
+    #[inline(always)]
     pub fn close(
         self,
         ground: Ground<'_>,
@@ -82,6 +88,7 @@ impl<T: Drop, O: Drop + Copy> Pending<T, O> {
 }
 
 /// One operand alone, and the operator behind it.
+#[inline(always)]
 pub fn begin_pending<T: Drop, O: Drop + Copy>(
     ground: Ground<'_>,
     item: Ranged<T>,
@@ -97,6 +104,7 @@ pub fn begin_pending<T: Drop, O: Drop + Copy>(
 }
 
 /// One more operand and the operator behind it, at a level that may not be begun.
+#[inline(always)]
 pub fn push_pending<T: Drop, O: Drop + Copy>(
     ground: Ground<'_>,
     slot: &mut Option<Boxed<Pending<T, O>>>,
@@ -118,6 +126,7 @@ pub fn push_pending<T: Drop, O: Drop + Copy>(
 }
 
 /// The level's chain with its last operand.
+#[inline(always)]
 pub fn close_pending<T: Drop, O: Drop + Copy>(
     ground: Ground<'_>,
     begun: Option<Boxed<Pending<T, O>>>,
@@ -133,6 +142,7 @@ pub fn close_pending<T: Drop, O: Drop + Copy>(
 
 impl<T: Drop> Chain<T, Node<Option<T>>> {
     /// One more operand of a level that has one operator.
+    #[inline(always)]
     fn link(&mut self, ground: Ground<'_>, item: Ranged<T>) -> Result<(), AllocError>
         ensures { OnOk result (self.new ≡ linked ground.entry.source.now (Some self.old) item) }
     {
@@ -141,6 +151,7 @@ impl<T: Drop> Chain<T, Node<Option<T>>> {
     }
 
     /// One more operand, and the operator behind it.
+    #[inline(always)]
     fn push(
         &mut self,
         ground: Ground<'_>,
@@ -157,6 +168,7 @@ impl<T: Drop> Chain<T, Node<Option<T>>> {
 }
 
 /// The same as `push_pending` at a level of one operator.
+#[inline(always)]
 pub fn push_plain<T: Drop>(
     ground: Ground<'_>,
     slot: &mut Option<Boxed<Chain<T, Node<Option<T>>>>>,
@@ -178,6 +190,7 @@ pub fn push_plain<T: Drop>(
 }
 
 /// The level's chain with its last operand.
+#[inline(always)]
 pub fn close_plain<T: Drop>(
     ground: Ground<'_>,
     begun: Option<Boxed<Chain<T, Node<Option<T>>>>>,

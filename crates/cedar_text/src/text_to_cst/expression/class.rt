@@ -3,7 +3,7 @@
 ghost use Rattle.std.specs.Prelude.{◌≡◌, []};
 ghost use Rattle.std.specs.Str.Parse.{IsNumeral};
 ghost use Rattle.cedar_text.specs.machines.Begins.{IsBeginningOf};
-ghost use Rattle.cedar_syntax.specs.Written.{Written};
+ghost use Rattle.cedar_syntax.specs.WrittenTokens.{Written};
 ghost use Rattle.cedar_text.specs.machines.ExpressionStates.{class_of, number_class, operator_of};
 ghost use Rattle.cedar_text.specs.machines.Wanting.{signed};
 

@@ -21,6 +21,7 @@ use cedar_syntax::reading::extent::joined;
 use std::alloc::AllocError;
 
 /// The operand with its signs and accesses.
+#[inline(always)]
 pub fn close_unary(ground: Ground<'_>, operand: Operand) -> Result<Ranged<Unary>, AllocError>
     ensures { IfOk result (λ unary. unary ≡ unary_at ground.entry.source.now operand) }
 {
@@ -39,6 +40,7 @@ pub fn close_unary(ground: Ground<'_>, operand: Operand) -> Result<Ranged<Unary>
 }
 
 /// A chain of comparisons, or a sum alone.
+#[inline(always)]
 fn as_common(chain: Chain<Add, (RelOp, Node<Option<Add>>)>) -> Ranged<Relation>
     ensures { result ≡ made_common chain }
 {
@@ -231,6 +233,7 @@ fn close_branches(
 
 impl Levels {
     /// The product that ends with the operand.
+    #[inline(always)]
     pub fn close_mult(
         &mut self,
         ground: Ground<'_>,
@@ -255,6 +258,7 @@ impl Levels {
     }
 
     /// The sum that ends with the operand.
+    #[inline(always)]
     pub fn close_add(
         &mut self,
         ground: Ground<'_>,
@@ -279,6 +283,7 @@ impl Levels {
     }
 
     /// The relation that ends with this sum.
+    #[inline(always)]
     fn relate(
         &mut self,
         ground: Ground<'_>,
@@ -297,6 +302,7 @@ impl Levels {
     }
 
     /// The relation that ends with the operand.
+    #[inline(always)]
     pub fn close_relation(
         &mut self,
         ground: Ground<'_>,
@@ -312,6 +318,7 @@ impl Levels {
     }
 
     /// The `&&` that ends with the operand.
+    #[inline(always)]
     pub fn close_and(
         &mut self,
         ground: Ground<'_>,
@@ -335,6 +342,7 @@ impl Levels {
     }
 
     /// The `||` that ends with the operand.
+    #[inline(always)]
     fn close_or(&mut self, ground: Ground<'_>, operand: Operand) -> Result<Ranged<Or>, AllocError>
         ensures closed { IfOk result (λ closed. closed
             ≡ or_at ground.entry.source.now self.old operand) }

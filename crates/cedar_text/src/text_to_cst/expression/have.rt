@@ -121,6 +121,7 @@ impl State {
     }
 
     /// A token behind an operand.
+    #[inline(always)]
     pub fn have(
         &mut self,
         ground: Ground<'_>,

@@ -1,7 +1,7 @@
 //! Expressions and sums that a policy holds: what one token makes of them, and what is foreseen.
 ghost use Rattle.std.specs.Prelude.{◌≡◌, Some, None, IsTrue, IfOk};
 ghost use Rattle.cedar_lexer.specs.Token.{lexeme_of};
-ghost use Rattle.cedar_syntax.specs.Written.{IsWritten};
+ghost use Rattle.cedar_syntax.specs.WrittenTokens.{IsWritten};
 ghost use Rattle.cedar_text.specs.declared.text_to_cst.expression.state.State.{State};
 ghost use Rattle.cedar_text.specs.contracts.text_to_cst.expression.state.State as states;
 ghost use Rattle.cedar_text.specs.machines.ExpressionShapes.{shape_of};

@@ -1,7 +1,7 @@
 //! Numbers, strings and slots as operands.
 ghost use Rattle.std.specs.Prelude.{◌≡◌, IfOk};
 ghost use Rattle.cedar_lexer.specs.declared.token.TokenKind.TheVariants as kind;
-ghost use Rattle.cedar_syntax.specs.Written.{Written};
+ghost use Rattle.cedar_syntax.specs.WrittenTokens.{Written};
 ghost use Rattle.cedar_text.specs.machines.Wanting.{literal_at, string_at, slot_of, slot_at};
 
 use crate::text_to_cst::expression::class::SlotToken;
@@ -14,6 +14,7 @@ use cedar_syntax::reading::extent::Extent;
 use std::alloc::{AllocError, Global};
 
 /// A literal as an operand.
+#[inline(always)]
 pub fn literal_at(
     ground: Ground<'_>,
     extent: Option<Extent>,

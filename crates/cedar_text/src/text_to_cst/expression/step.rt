@@ -1,7 +1,7 @@
 //! One token more.
 ghost use Rattle.std.specs.Prelude.{◌≡◌, IfOk};
 ghost use Rattle.cedar_lexer.specs.Token.{lexeme_of};
-ghost use Rattle.cedar_syntax.specs.Written.{IsWritten};
+ghost use Rattle.cedar_syntax.specs.WrittenTokens.{IsWritten};
 ghost use Rattle.cedar_text.specs.machines.Expressions.{stepped, step_of};
 ghost use Rattle.cedar_text.specs.machines.Named.{named_words};
 ghost use Rattle.cedar_text.specs.machines.Stepped.{outcome_of};

@@ -5,7 +5,7 @@ ghost use Rattle.cedar_syntax.specs.declared.cst.Literal.TheVariants as literal;
 ghost use Rattle.cedar_text.specs.machines.Begins.{IsBeginningOf};
 ghost use Rattle.cedar_syntax.specs.Place.{extent_of};
 ghost use Rattle.cedar_lexer.specs.declared.token.TokenKind.TheVariants as kind;
-ghost use Rattle.cedar_syntax.specs.Written.{IsWritten, Written};
+ghost use Rattle.cedar_syntax.specs.WrittenTokens.{IsWritten, Written};
 ghost use Rattle.cedar_text.specs.machines.Outcome as outcome;
 ghost use Rattle.cedar_text.specs.machines.ExpressionStates.{has_primary};
 ghost use Rattle.cedar_text.specs.machines.Wanting.{literal_at, string_at, slot_at, slot_of, word_begun, wanted_as, wanting};

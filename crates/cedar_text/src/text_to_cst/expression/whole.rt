@@ -1,7 +1,7 @@
 //! What reads a whole text asks of a state, whatever the text is wanted as.
 ghost use Rattle.std.specs.Prelude.{◌≡◌, [], Some, None, IsTrue, IfOk};
 ghost use Rattle.cedar_lexer.specs.Token.{lexeme_of};
-ghost use Rattle.cedar_syntax.specs.Written.{IsWritten};
+ghost use Rattle.cedar_syntax.specs.WrittenTokens.{IsWritten};
 ghost use Rattle.cedar_text.specs.declared.text_to_cst.expression.state.Wanted.TheVariants as form;
 ghost use Rattle.cedar_text.specs.machines.Closing.{node_of};
 ghost use Rattle.cedar_syntax.specs.machines.Door.{allows, option_image};

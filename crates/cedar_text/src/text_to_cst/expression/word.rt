@@ -4,7 +4,7 @@ ghost use Rattle.cedar_lexer.specs.Token.{lexeme_of};
 ghost use Rattle.cedar_syntax.specs.declared.cst.Literal.TheVariants as literal;
 ghost use Rattle.cedar_syntax.specs.declared.cst.Primary.TheVariants as primary;
 ghost use Rattle.cedar_syntax.specs.Place.{extent_of};
-ghost use Rattle.cedar_syntax.specs.Written.{IsWritten};
+ghost use Rattle.cedar_syntax.specs.WrittenTokens.{IsWritten};
 ghost use Rattle.cedar_text.specs.declared.text_to_cst.expression.class.Operator.TheVariants as operator;
 ghost use Rattle.cedar_text.specs.machines.Closing.{ranged, node_of, no_signs, operand_of, if_primary, if_operand, if_key};
 ghost use Rattle.cedar_text.specs.machines.Wanting.{literal_at};
@@ -97,6 +97,7 @@ fn if_key(ground: Ground<'_>, extent: Option<Extent>) -> Result<Node<Option<Expr
 
 impl State {
     /// What goes on behind this operand.
+    #[inline(always)]
     fn have_item(
         &mut self,
         ground: Ground<'_>,
@@ -230,6 +231,7 @@ impl State {
     }
 
     /// `true` or `false`, and the token behind it.
+    #[inline(always)]
     fn read_bool(
         &mut self,
         ground: Ground<'_>,

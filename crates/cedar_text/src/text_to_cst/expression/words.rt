@@ -2,7 +2,7 @@
 ghost use Rattle.std.specs.Prelude.{◌≡◌, ℕ, List, [], Some, IfOk};
 ghost use Rattle.cedar_lexer.specs.Token.{lexeme_of};
 ghost use Rattle.cedar_syntax.specs.Trees.{name_of};
-ghost use Rattle.cedar_syntax.specs.Written.{IsWritten};
+ghost use Rattle.cedar_syntax.specs.WrittenTokens.{IsWritten};
 ghost use Rattle.cedar_text.specs.machines.Closing.{ranged};
 ghost use Rattle.cedar_syntax.specs.machines.Door.{is_taken};
 ghost use Rattle.cedar_text.specs.machines.Expressions.{alone_of, word_alone};
@@ -51,6 +51,7 @@ fn as_alone(ident: &Option<Ident>) -> Alone
 }
 
 /// What a path alone is.
+#[inline(always)]
 pub fn alone_of(name: &Name) -> Alone
     ensures { result ≡ alone_of name.now.path name.now.name }
 {
@@ -62,6 +63,7 @@ pub fn alone_of(name: &Name) -> Alone
 }
 
 /// A path as a name that isn't a node yet.
+#[inline(always)]
 pub fn path_name(ground: Ground<'_>, path: Path) -> Result<Ranged<Name>, AllocError>
     ensures { IfOk result
         (λ name. name ≡ ranged (Some (path_extent path))
@@ -141,6 +143,7 @@ pub fn goes_on(words: &WordsState, kind: TokenKind) -> Goes
 }
 
 /// The words, where they can end.
+#[inline(always)]
 pub fn finish(words: WordsState) -> Option<Words>
     ensures { result ≡ words_end words }
 {
