@@ -1,3 +1,5 @@
+pub mod Begins
+pub mod Classes
 pub mod Door
 pub mod Following
 pub mod Judged

@@ -1,4 +1,6 @@
 pub mod HeldParts
+pub mod Joints
+pub mod KindTexts
 mod Taking
 mod Within
 mod WordsBehind

@@ -2,8 +2,8 @@
 use Rattle.std.specs.Prelude.{◌⊎◌}
 use Rattle.std.proofs.Common.{◌≡◌, ℕ, List, Option, Some, None, Bool, true, false, refl, ap, sym, ◌∙◌, IsTrue}
 use Rattle.cedar_lexer.specs.Token.{Lexeme}
-use Rattle.cedar_text.specs.machines.Outcome.{Outcome}
-use Rattle.cedar_text.specs.machines.Outcome as outcome
+use Rattle.cedar_text.specs.machines.Advance.{Advance}
+use Rattle.cedar_text.specs.machines.Advance as advance
 use Rattle.cedar_text.specs.declared.text_to_cst.expression.state.State.{State}
 use Rattle.cedar_text.specs.declared.text_to_cst.expression.state.Taken.{Taken}
 use Rattle.cedar_text.specs.declared.text_to_cst.expression.state.Taken.TheVariants as taking
@@ -16,7 +16,7 @@ use Rattle.cedar_text.specs.machines.Named.{named_words}
 use Rattle.cedar_text.specs.machines.NamedShapes.{named_shapes}
 use Rattle.cedar_text.specs.machines.WordShapes.{words_shape}
 use Rattle.cedar_text.specs.machines.ExpressionShapes.{Shape, step_shape, stack_shape, left_shape, mode_shape, shape_of, told, ends, ends_with}
-use Rattle.cedar_text.specs.machines.Stepped.{outcome_of}
+use Rattle.cedar_text.specs.machines.Stepped.{advance_of}
 use Rattle.cedar_text.specs.machines.Whole.{shapes_by}
 use Rattle.cedar_syntax.proofs.machines.Laws.{ends_alike}
 use Rattle.cedar_text.proofs.machines.Named.{named_kind, named_alike}
@@ -34,18 +34,18 @@ pub ends_some : (b : Bool) → is_some (ends_with b) ≡ b
 ends_some true = refl
 ends_some false = refl
 
-none_refused : {W : Type 0} (f : WordsState → W) (a : Outcome) (o : Option (Shape W)) (b : Bool) → Alike f a o → is_taken (told b o) ≡ true → a ≡ outcome.not_taken → ⊥
-none_refused f (outcome.next s) o b h t e = cc
-none_refused f outcome.too_large o b h t e = cc
-none_refused f outcome.not_taken None true h t e = cc
-none_refused f outcome.not_taken None false h t e = cc
-none_refused f outcome.not_taken (Some s) b h t e = cc
+none_refused : {W : Type 0} (f : WordsState → W) (a : Advance) (o : Option (Shape W)) (b : Bool) → Alike f a o → is_taken (told b o) ≡ true → a ≡ advance.not_taken → ⊥
+none_refused f (advance.next s) o b h t e = cc
+none_refused f advance.too_large o b h t e = cc
+none_refused f advance.not_taken None true h t e = cc
+none_refused f advance.not_taken None false h t e = cc
+none_refused f advance.not_taken (Some s) b h t e = cc
 
 -- the code's answer is not that the token wasn't taken
-pub is_taken_there : (src : List ℕ) (w : Wanted) (s : State) (t : Lexeme) (taken : Taken) (left : State) → outcome_of taken left ≡ step_of w src (named_words src) s t → IsTrue (allows (shapes_by w named_shapes) (shape_of words_shape s) (Some t.kind)) → taken ≡ taking.NotTaken → ⊥
+pub is_taken_there : (src : List ℕ) (w : Wanted) (s : State) (t : Lexeme) (taken : Taken) (left : State) → advance_of taken left ≡ step_of w src (named_words src) s t → IsTrue (allows (shapes_by w named_shapes) (shape_of words_shape s) (Some t.kind)) → taken ≡ taking.NotTaken → ⊥
 is_taken_there src w s t taken left e h n =
     none_refused words_shape (step_of w src (named_words src) s t) (step_shape w named_shapes (stack_shape s.stack) (left_shape s.levels.relation) (mode_shape words_shape s.mode) t.kind) (ends named_shapes (stack_shape s.stack) (mode_shape words_shape s.mode))
-    (step_alike words_shape named_kind w src (named_words src) named_shapes (named_alike src) s.stack s.levels s.mode t) h (sym e ∙ ap (λ taken. outcome_of taken left) n)
+    (step_alike words_shape named_kind w src (named_words src) named_shapes (named_alike src) s.stack s.levels s.mode t) h (sym e ∙ ap (λ taken. advance_of taken left) n)
 
 none_ended : {T : Type 0} (o : Option T) → is_some o ≡ true → o ≡ None → ⊥
 none_ended None h e = cc

@@ -7,8 +7,8 @@ use Rattle.cedar_syntax.specs.declared.cst.RelOp.TheVariants as rel
 use Rattle.cedar_syntax.specs.declared.reading.extent.Extent.{Extent}
 use Rattle.cedar_text.specs.declared.text_to_cst.expression.state.Frame.{Frame}
 use Rattle.cedar_text.specs.declared.text_to_cst.expression.state.Levels.{Levels}
-use Rattle.cedar_text.specs.machines.Outcome.{Outcome}
-use Rattle.cedar_text.specs.machines.Outcome as outcome
+use Rattle.cedar_text.specs.machines.Advance.{Advance}
+use Rattle.cedar_text.specs.machines.Advance as advance
 use Rattle.cedar_text.specs.declared.text_to_cst.expression.state.Mode.TheVariants as mode
 use Rattle.cedar_text.specs.declared.text_to_cst.expression.state.Place.{Place}
 use Rattle.cedar_text.specs.declared.text_to_cst.expression.state.Ranged.{Ranged}
@@ -28,7 +28,7 @@ use Rattle.cedar_text.specs.machines.WordsAhead.{given_named}
 abbrev IsOther : RelOp → Type 0
 IsOther o = (o ≡ rel.Less) ⊎ (o ≡ rel.LessEq) ⊎ (o ≡ rel.GreaterEq) ⊎ (o ≡ rel.Greater) ⊎ (o ≡ rel.NotEq) ⊎ (o ≡ rel.Eq) ⊎ (o ≡ rel.InvalidSingleEq)
 
-pub other_refused : (src : List ℕ) (st : List Frame) (lv : Levels) (y : Ranged (Cell Add)) (x : Ranged Add) (o : RelOp) (e : Extent) → IsOther o → outcome.not_taken ≡ is_within src st lv y x o e
+pub other_refused : (src : List ℕ) (st : List Frame) (lv : Levels) (y : Ranged (Cell Add)) (x : Ranged Add) (o : RelOp) (e : Extent) → IsOther o → advance.not_taken ≡ is_within src st lv y x o e
 other_refused src st lv y x o e (inl i) = ap (λ o. is_within src st lv y x o e) (sym i)
 other_refused src st lv y x o e (inr (inl i)) = ap (λ o. is_within src st lv y x o e) (sym i)
 other_refused src st lv y x o e (inr (inr (inl i))) = ap (λ o. is_within src st lv y x o e) (sym i)
@@ -37,12 +37,12 @@ other_refused src st lv y x o e (inr (inr (inr (inr (inl i))))) = ap (λ o. is_w
 other_refused src st lv y x o e (inr (inr (inr (inr (inr (inl i)))))) = ap (λ o. is_within src st lv y x o e) (sym i)
 other_refused src st lv y x o e (inr (inr (inr (inr (inr (inr i)))))) = ap (λ o. is_within src st lv y x o e) (sym i)
 
-pub begun_refused : (src : List ℕ) (st : List Frame) (lv : Levels) (p : Place) (sg : Signs) (f : Taken Words) (s : WordsState) (a : Answer WordsState Named) → given_named src f s ≡ a → ((x : Words) × (f ≡ given.Ended x)) ⊎ (f ≡ given.Refused) → outcome.not_taken ≡ word_begun st lv p sg a
+pub begun_refused : (src : List ℕ) (st : List Frame) (lv : Levels) (p : Place) (sg : Signs) (f : Taken Words) (s : WordsState) (a : Answer WordsState Named) → given_named src f s ≡ a → ((x : Words) × (f ≡ given.Ended x)) ⊎ (f ≡ given.Refused) → advance.not_taken ≡ word_begun st lv p sg a
 begun_refused src st lv p sg f s a e (inl i) = ap (λ f. word_begun st lv p sg (given_named src f s)) (sym i.1) ∙ ap (λ a. word_begun st lv p sg a) e
 begun_refused src st lv p sg f s a e (inr i) = ap (λ f. word_begun st lv p sg (given_named src f s)) (sym i) ∙ ap (λ a. word_begun st lv p sg a) e
 
-pub begun_next : (src : List ℕ) (st : List Frame) (lv : Levels) (p : Place) (sg : Signs) (f : Taken Words) (s : WordsState) (a : Answer WordsState Named) → given_named src f s ≡ a → f ≡ given.Next → outcome.next (state st lv (mode.Word p sg s)) ≡ word_begun st lv p sg a
+pub begun_next : (src : List ℕ) (st : List Frame) (lv : Levels) (p : Place) (sg : Signs) (f : Taken Words) (s : WordsState) (a : Answer WordsState Named) → given_named src f s ≡ a → f ≡ given.Next → advance.next (state st lv (mode.Word p sg s)) ≡ word_begun st lv p sg a
 begun_next src st lv p sg f s a e i = ap (λ f. word_begun st lv p sg (given_named src f s)) (sym i) ∙ ap (λ a. word_begun st lv p sg a) e
 
-pub begun_large : (src : List ℕ) (st : List Frame) (lv : Levels) (p : Place) (sg : Signs) (f : Taken Words) (s : WordsState) (a : Answer WordsState Named) → given_named src f s ≡ a → f ≡ given.TooLarge → outcome.too_large ≡ word_begun st lv p sg a
+pub begun_large : (src : List ℕ) (st : List Frame) (lv : Levels) (p : Place) (sg : Signs) (f : Taken Words) (s : WordsState) (a : Answer WordsState Named) → given_named src f s ≡ a → f ≡ given.TooLarge → advance.too_large ≡ word_begun st lv p sg a
 begun_large src st lv p sg f s a e i = ap (λ f. word_begun st lv p sg (given_named src f s)) (sym i) ∙ ap (λ a. word_begun st lv p sg a) e

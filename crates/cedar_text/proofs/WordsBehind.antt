@@ -16,7 +16,7 @@ use Rattle.cedar_text.specs.machines.Expressions.{answered}
 use Rattle.cedar_text.specs.machines.ExpressionShapes.{WordShapes, FrameShape, LeftShape, after_words, word_shape}
 use Rattle.cedar_syntax.specs.machines.Judged.{answer_of, taken_as}
 use Rattle.cedar_text.specs.machines.Named.{named_of}
-use Rattle.cedar_text.specs.machines.Outcome.{Outcome}
+use Rattle.cedar_text.specs.machines.Advance.{Advance}
 use Rattle.cedar_text.specs.machines.Whole.{outcome_as}
 use Rattle.cedar_text.specs.machines.Words.{kept, kept_end, words_machine}
 use Rattle.cedar_text.specs.machines.WordsAhead.{goes_from, goes_of, ends_of, given_named}
@@ -91,11 +91,11 @@ image_kept f (Some x) = refl
 image_kept f None = refl
 
 -- what is told of the state inside is told of the state that it is
-pub taken_whole : {T E : Type 0} (r : Result Bool E) (o : Option T) (s : State) (g : State → Outcome) (x y : State) → x ≡ y → IfOk r (λ fits. outcome_as fits s ≡ g x) → IfOk r (λ fits. taken_as fits s ≡ answered o (g y))
+pub taken_whole : {T E : Type 0} (r : Result Bool E) (o : Option T) (s : State) (g : State → Advance) (x y : State) → x ≡ y → IfOk r (λ fits. outcome_as fits s ≡ g x) → IfOk r (λ fits. taken_as fits s ≡ answered o (g y))
 taken_whole (Ok b) o s g x y e h = answered_as o b s ∙ ap (λ a. answered o a) (h ∙ ap (λ x. g x) e)
 taken_whole (Err m) o s g x y e h = h
 
-pub taken_kept : {T U E : Type 0} (f : T → U) (r : Result Bool E) (o : Option T) (s : State) (g : State → Outcome) (x y : State) → x ≡ y → IfOk r (λ fits. outcome_as fits s ≡ g x) → IfOk r (λ fits. taken_as fits s ≡ kept (λ x. Some (f x)) (answered o (g y)))
+pub taken_kept : {T U E : Type 0} (f : T → U) (r : Result Bool E) (o : Option T) (s : State) (g : State → Advance) (x y : State) → x ≡ y → IfOk r (λ fits. outcome_as fits s ≡ g x) → IfOk r (λ fits. taken_as fits s ≡ kept (λ x. Some (f x)) (answered o (g y)))
 taken_kept f (Ok b) o s g x y e h = kept_as f o b s ∙ ap (λ a. kept (λ x. Some (f x)) (answered o a)) (h ∙ ap (λ x. g x) e)
 taken_kept f (Err m) o s g x y e h = h
 

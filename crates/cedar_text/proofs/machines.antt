@@ -5,6 +5,7 @@ pub mod Condition
 pub mod Ending
 pub mod Entries
 pub mod Faults
+pub mod GoesOn
 pub mod Held
 pub mod Images
 pub mod Keeping
@@ -27,6 +28,7 @@ pub mod Recovery
 pub mod Scope
 pub mod SequenceShapes
 pub mod Sequences
+pub mod StandsInText
 pub mod Telling
 pub mod WholeExpressions
 pub mod WordShapes

@@ -1,1 +1,3 @@
+pub mod GoesOn
+pub mod StandsInText
 pub mod machines

@@ -1,5 +1,5 @@
+pub mod Advance
 pub mod Annotation
-pub mod Begins
 pub mod Closing
 pub mod Condition
 pub mod ExpressionShapes
@@ -8,7 +8,6 @@ pub mod Expressions
 pub mod Having
 pub mod Named
 pub mod NamedShapes
-pub mod Outcome
 pub mod Outlooks
 pub mod Placing
 pub mod Policies

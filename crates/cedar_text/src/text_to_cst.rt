@@ -1,4 +1,4 @@
-//! The loose syntax tree of a text, or the first fault for which it has none.
+//! The loose syntax tree of a text, or the faults for which it has none: the first, of policies all.
 ghost use Rattle.std.specs.Prelude.{◌≡◌, List, MatchResult, IfOk, IfErr};
 ghost use Rattle.std.specs.List.{All};
 ghost use Rattle.cedar_lexer.specs.Cut.{Cuts};

@@ -1,3 +1,4 @@
+//! The bytes of what is begun.
 ghost use Rattle.std.specs.Prelude.{◌≡◌};
 ghost use Rattle.cedar_syntax.specs.Place.{join};
 

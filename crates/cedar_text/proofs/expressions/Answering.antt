@@ -6,8 +6,10 @@ use Rattle.cedar_syntax.specs.Tokens.{fits, number_of, any_of}
 use Rattle.cedar_syntax.specs.Trees.{Cell}
 use Rattle.cedar_text.specs.machines.Closing.{ranged, node_of, fresh, no_signs, operand_of, if_operand}
 use Rattle.cedar_syntax.specs.machines.Door.{Machine, Answer, next, ended, refused, too_large, AnswersRightly}
-use Rattle.cedar_text.specs.machines.ExpressionStates.{number_class, class_of, operator_of, reach_of}
-use Rattle.cedar_text.specs.machines.Wanting.{literal_at, signed, after_signs, sign_read, list_ended, set_ends, call_ends, record_ends, word_begun, wanted_as, wanting}
+use Rattle.cedar_syntax.specs.machines.Classes.{number_class, class_of, operator_of}
+use Rattle.cedar_text.specs.machines.ExpressionStates.{reach_of}
+use Rattle.cedar_syntax.specs.machines.Classes.{signed}
+use Rattle.cedar_text.specs.machines.Wanting.{literal_at, after_signs, sign_read, list_ended, set_ends, call_ends, record_ends, word_begun, wanted_as, wanting}
 use Rattle.cedar_text.specs.machines.Having.{is_within, compared, sided, field_read, ended_by, had}
 use Rattle.cedar_text.specs.machines.Expressions.{alone_of, name_at, if_key_read, key_or_guard, if_alone, alone_read, named_read, word_read, stepped, step_of, expr_at_end, sum_at_end, primary_at_end, answered, expressions, sums, primaries}
 use Rattle.cedar_lexer.specs.Token.{Lexeme}
@@ -25,15 +27,15 @@ use Rattle.cedar_syntax.specs.declared.cst.Primary.TheVariants as primary
 use Rattle.cedar_syntax.specs.declared.cst.Literal.TheVariants as literal
 use Rattle.cedar_syntax.specs.declared.cst.Name.{Name}
 use Rattle.cedar_syntax.specs.declared.cst.Ref.{Ref}
-use Rattle.cedar_text.specs.declared.text_to_cst.expression.class.Sign.{Sign}
-use Rattle.cedar_text.specs.declared.text_to_cst.expression.class.Sign.TheVariants as sign
-use Rattle.cedar_text.specs.declared.text_to_cst.expression.class.Beginning.TheVariants as beginning
-use Rattle.cedar_text.specs.declared.text_to_cst.expression.class.Closing.{Closing}
-use Rattle.cedar_text.specs.declared.text_to_cst.expression.class.Closing.TheVariants as closing
-use Rattle.cedar_text.specs.declared.text_to_cst.expression.class.Access.{Access}
-use Rattle.cedar_text.specs.declared.text_to_cst.expression.class.Side.{Side}
-use Rattle.cedar_text.specs.declared.text_to_cst.expression.class.Operator.{Operator}
-use Rattle.cedar_text.specs.declared.text_to_cst.expression.class.Operator.TheVariants as operator
+use Rattle.cedar_syntax.specs.declared.reading.class.Sign.{Sign}
+use Rattle.cedar_syntax.specs.declared.reading.class.Sign.TheVariants as sign
+use Rattle.cedar_syntax.specs.declared.reading.class.Beginning.TheVariants as beginning
+use Rattle.cedar_syntax.specs.declared.reading.class.Closing.{Closing}
+use Rattle.cedar_syntax.specs.declared.reading.class.Closing.TheVariants as closing
+use Rattle.cedar_syntax.specs.declared.reading.class.Access.{Access}
+use Rattle.cedar_syntax.specs.declared.reading.class.Side.{Side}
+use Rattle.cedar_syntax.specs.declared.reading.class.Operator.{Operator}
+use Rattle.cedar_syntax.specs.declared.reading.class.Operator.TheVariants as operator
 use Rattle.cedar_text.specs.machines.Named.{Named}
 use Rattle.cedar_text.specs.machines.Named as words_read
 use Rattle.cedar_text.specs.declared.text_to_cst.state.WordsState.{WordsState}
@@ -63,24 +65,24 @@ use Rattle.cedar_text.specs.declared.text_to_cst.expression.state.Alone.{Alone}
 use Rattle.cedar_text.specs.declared.text_to_cst.expression.state.Alone.TheVariants as alone
 use Rattle.cedar_text.specs.declared.text_to_cst.expression.state.Reach.{Reach}
 use Rattle.cedar_text.specs.declared.text_to_cst.expression.state.Reach.TheVariants as reach
-use Rattle.cedar_text.specs.machines.Outcome.{Outcome}
-use Rattle.cedar_text.specs.machines.Outcome as outcome
+use Rattle.cedar_text.specs.machines.Advance.{Advance}
+use Rattle.cedar_text.specs.machines.Advance as advance
 use Rattle.cedar_syntax.specs.declared.reading.extent.Extent.{Extent}
 
 abbrev pub Names : Type 0
 Names = Machine Lexeme WordsState Named
 
 -- what a step says of the number that a token is
-abbrev pub Judges : Lexeme → Outcome → Type 0
-Judges t (outcome.next s) = (t.kind ≡ kind.Number) → fits t.text ≡ true
-Judges t outcome.not_taken = Unit {0}
-Judges t outcome.too_large = (t.kind ≡ kind.Number) × (fits t.text ≡ false)
+abbrev pub Judges : Lexeme → Advance → Type 0
+Judges t (advance.next s) = (t.kind ≡ kind.Number) → fits t.text ≡ true
+Judges t advance.not_taken = Unit {0}
+Judges t advance.too_large = (t.kind ≡ kind.Number) × (fits t.text ≡ false)
 
 -- no number is too large for what doesn't read one
-abbrev IsNotLarge : Outcome → Type 0
-IsNotLarge (outcome.next s) = Unit {0}
-IsNotLarge outcome.not_taken = Unit {0}
-IsNotLarge outcome.too_large = ⊥
+abbrev IsNotLarge : Advance → Type 0
+IsNotLarge (advance.next s) = Unit {0}
+IsNotLarge advance.not_taken = Unit {0}
+IsNotLarge advance.too_large = ⊥
 
 abbrev is_number : TokenKind → Bool
 is_number kind.Number = true
@@ -89,10 +91,10 @@ is_number _ = false
 false_is_true : false ≡ true → ⊥
 false_is_true e = cc
 
-no_number : (t : Lexeme) (o : Outcome) → is_number t.kind ≡ false → IsNotLarge o → Judges t o
-no_number t (outcome.next s) e h = λ f. absurd (false_is_true (sym e ∙ ap is_number f))
-no_number t outcome.not_taken e h = tt
-no_number t outcome.too_large e h = absurd h
+no_number : (t : Lexeme) (o : Advance) → is_number t.kind ≡ false → IsNotLarge o → Judges t o
+no_number t (advance.next s) e h = λ f. absurd (false_is_true (sym e ∙ ap is_number f))
+no_number t advance.not_taken e h = tt
+no_number t advance.too_large e h = absurd h
 
 ended_small : (src : List ℕ) (st : List Frame) (x : Ranged Expr) (c : Closing) (e : Extent) → IsNotLarge (ended_by src st x c e)
 ended_small src [] x c e = tt
@@ -326,12 +328,12 @@ step_judges v src names h st lv (mode.Word p sg s) t = word_read_judges v src na
 step_judges v src names h st lv (mode.Field m d) t = field_judges src st lv m d t.kind t refl
 step_judges v src names h st lv (mode.Have m) t = having_judges v src st lv m t.kind t refl
 
-answers_by : {T : Type 0} (t : Lexeme) (o : Option T) (a : Outcome) → Judges t a → AnswersRightly t (answered o a) o
-answers_by t o (outcome.next s) h = h
-answers_by t None outcome.not_taken h = refl
-answers_by t (Some x) outcome.not_taken h = refl
-answers_by t None outcome.too_large h = h
-answers_by t (Some x) outcome.too_large h = h
+answers_by : {T : Type 0} (t : Lexeme) (o : Option T) (a : Advance) → Judges t a → AnswersRightly t (answered o a) o
+answers_by t o (advance.next s) h = h
+answers_by t None advance.not_taken h = refl
+answers_by t (Some x) advance.not_taken h = refl
+answers_by t None advance.too_large h = h
+answers_by t (Some x) advance.too_large h = h
 
 pub expressions_answer : (src : List ℕ) (names : Names) → Rightly names → (s : State) (t : Lexeme) → AnswersRightly t ((expressions src names).step s t) ((expressions src names).finish s)
 expressions_answer src names h s t = answers_by t (expr_at_end src names s) (step_of form.Expr src names s t) (step_judges form.Expr src names h s.stack s.levels s.mode t)

@@ -5,12 +5,12 @@ use Rattle.std.proofs.lemmas.Bool.{leb-true, leb-false, lt-leb, lt-ltb, le-ltb}
 use Rattle.cedar_lexer.specs.Token.{Lexeme}
 use Rattle.cedar_lexer.specs.declared.token.TokenKind.{TokenKind}
 use Rattle.cedar_syntax.specs.declared.cst.NegOp.TheVariants as neg
-use Rattle.cedar_text.specs.declared.text_to_cst.expression.class.Sign.TheVariants as sign
+use Rattle.cedar_syntax.specs.declared.reading.class.Sign.TheVariants as sign
 use Rattle.cedar_syntax.specs.declared.reading.extent.Extent.{Extent}
 use Rattle.cedar_syntax.specs.Place.{join, extent_of, extent}
 use Rattle.cedar_syntax.specs.Trees.{bangs_of, dashes_of}
 use Rattle.cedar_syntax.specs.Tokens.{Spot, one}
-use Rattle.cedar_text.specs.machines.Wanting.{signed}
+use Rattle.cedar_syntax.specs.machines.Classes.{signed}
 pub use Rattle.cedar_syntax.proofs.machines.Extents.{join-assoc, extent-append, at}
 
 pub chain_extent : (ts us : List Lexeme) (k : TokenKind) (p : Spot) → join (join (extent ts) (Some (at p))) (extent us) ≡ extent (ts ++ one k p ++ us)

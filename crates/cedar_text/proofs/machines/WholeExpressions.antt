@@ -9,7 +9,7 @@ use Rattle.cedar_syntax.specs.Place.{extent, placed, placed_or_start}
 use Rattle.cedar_syntax.specs.Trees.{Cell}
 use Rattle.cedar_text.specs.machines.Closing.{node_of}
 use Rattle.cedar_syntax.specs.machines.Door.{Door, Shapes}
-use Rattle.cedar_text.specs.machines.ExpressionShapes.{expression_shapes, shape_of}
+use Rattle.cedar_text.specs.machines.ExpressionShapes.{expression_shapes, primary_shapes, shape_of}
 use Rattle.cedar_text.specs.machines.Expressions.{expressions}
 use Rattle.cedar_syntax.specs.machines.Judged.{ReadsBy}
 use Rattle.cedar_text.specs.machines.Named.{named_words}
@@ -62,8 +62,11 @@ primary_alone {src = src} {ts = ts} h = subst (λ y. AloneAt src ts y) (sym (h.i
 alone_node : {src : List ℕ} {ts : List Lexeme} {y : Cell Primary} → AloneAt src ts y → IsNodeOf ReadsPrimary src ts y
 alone_node {src = src} {ts = ts} (alone_reads {x = x} r) = record { tree = x; reads = r; is = sym (start_is src ts x (primary_some r)) }
 
-whole_primaries_door : (src : List ℕ) → Door (whole_primaries src) (IsNodeOf ReadsPrimary src)
+pub whole_primaries_door : (src : List ℕ) → Door (whole_primaries src) (IsNodeOf ReadsPrimary src)
 whole_primaries_door src = door_as (λ ts y h. primary_alone h) (λ ts y a. alone_node a) (primaries_door src (named_words src) (named_door src) (named_are_words src))
 
+pub whole_primaries_shaped : (src : List ℕ) → Shapes (whole_primaries src) (primary_shapes named_shapes) (λ s. shape_of words_shape s) no_tree
+whole_primaries_shaped src = primaries_shaped words_shape named_kind src (named_words src) named_shapes (named_alike src)
+
 pub primaries_read : (src : List ℕ) → ReadsBy (whole_primaries src) (IsNodeOf ReadsPrimary src) primary_allows
-primaries_read src = reads_by (λ s. shape_of words_shape s) no_tree (whole_primaries_door src) (primaries_shaped words_shape named_kind src (named_words src) named_shapes (named_alike src))
+primaries_read src = reads_by (λ s. shape_of words_shape s) no_tree (whole_primaries_door src) (whole_primaries_shaped src)

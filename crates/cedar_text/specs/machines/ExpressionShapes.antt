@@ -11,18 +11,18 @@ use Rattle.cedar_syntax.specs.declared.cst.NegOp.TheVariants as neg
 use Rattle.cedar_syntax.specs.declared.cst.Primary.{Primary}
 use Rattle.cedar_syntax.specs.declared.cst.Slot.{Slot}
 use Rattle.cedar_syntax.specs.declared.cst.Ident.{Ident}
-use Rattle.cedar_text.specs.declared.text_to_cst.expression.class.Sign.{Sign}
-use Rattle.cedar_text.specs.declared.text_to_cst.expression.class.Sign.TheVariants as sign
-use Rattle.cedar_text.specs.declared.text_to_cst.expression.class.Beginning.{Beginning}
-use Rattle.cedar_text.specs.declared.text_to_cst.expression.class.Beginning.TheVariants as beginning
-use Rattle.cedar_text.specs.declared.text_to_cst.expression.class.Closing.{Closing}
-use Rattle.cedar_text.specs.declared.text_to_cst.expression.class.Closing.TheVariants as closing
-use Rattle.cedar_text.specs.declared.text_to_cst.expression.class.Access.{Access}
-use Rattle.cedar_text.specs.declared.text_to_cst.expression.class.Access.TheVariants as opens
-use Rattle.cedar_text.specs.declared.text_to_cst.expression.class.Side.{Side}
-use Rattle.cedar_text.specs.declared.text_to_cst.expression.class.Side.TheVariants as side
-use Rattle.cedar_text.specs.declared.text_to_cst.expression.class.Operator.{Operator}
-use Rattle.cedar_text.specs.declared.text_to_cst.expression.class.Operator.TheVariants as operator
+use Rattle.cedar_syntax.specs.declared.reading.class.Sign.{Sign}
+use Rattle.cedar_syntax.specs.declared.reading.class.Sign.TheVariants as sign
+use Rattle.cedar_syntax.specs.declared.reading.class.Beginning.{Beginning}
+use Rattle.cedar_syntax.specs.declared.reading.class.Beginning.TheVariants as beginning
+use Rattle.cedar_syntax.specs.declared.reading.class.Closing.{Closing}
+use Rattle.cedar_syntax.specs.declared.reading.class.Closing.TheVariants as closing
+use Rattle.cedar_syntax.specs.declared.reading.class.Access.{Access}
+use Rattle.cedar_syntax.specs.declared.reading.class.Access.TheVariants as opens
+use Rattle.cedar_syntax.specs.declared.reading.class.Side.{Side}
+use Rattle.cedar_syntax.specs.declared.reading.class.Side.TheVariants as side
+use Rattle.cedar_syntax.specs.declared.reading.class.Operator.{Operator}
+use Rattle.cedar_syntax.specs.declared.reading.class.Operator.TheVariants as operator
 use Rattle.cedar_text.specs.declared.text_to_cst.state.WordsState.{WordsState}
 use Rattle.cedar_text.specs.declared.text_to_cst.expression.state.Left.{Left}
 use Rattle.cedar_text.specs.declared.text_to_cst.expression.state.Left.TheVariants as left
@@ -47,7 +47,7 @@ use Rattle.cedar_text.specs.declared.text_to_cst.expression.state.Reach.{Reach}
 use Rattle.cedar_text.specs.declared.text_to_cst.expression.state.Reach.TheVariants as reach
 use Rattle.cedar_syntax.specs.Tokens.{any_of}
 use Rattle.cedar_syntax.specs.machines.Door.{Machine, Answer, next, ended, refused, too_large}
-use Rattle.cedar_text.specs.machines.ExpressionStates.{class_of, operator_of}
+use Rattle.cedar_syntax.specs.machines.Classes.{class_of, operator_of}
 use Rattle.cedar_text.specs.machines.Having.{side_place}
 
 -- what of a relation's left side decides: nothing is begun, comparisons are, a word with one right side is, `is` is

@@ -11,9 +11,9 @@ use Rattle.cedar_syntax.specs.declared.cst.Ident.{Ident}
 use Rattle.cedar_syntax.specs.declared.cst.Ident.TheVariants as ident
 use Rattle.cedar_syntax.specs.declared.cst.Name.{Name}
 use Rattle.cedar_syntax.specs.declared.cst.Ref.{Ref}
-use Rattle.cedar_text.specs.declared.text_to_cst.expression.class.Closing.TheVariants as closing
-use Rattle.cedar_text.specs.declared.text_to_cst.expression.class.Operator.{Operator}
-use Rattle.cedar_text.specs.declared.text_to_cst.expression.class.Operator.TheVariants as operator
+use Rattle.cedar_syntax.specs.declared.reading.class.Closing.TheVariants as closing
+use Rattle.cedar_syntax.specs.declared.reading.class.Operator.{Operator}
+use Rattle.cedar_syntax.specs.declared.reading.class.Operator.TheVariants as operator
 use Rattle.cedar_text.specs.machines.Named.{Named}
 use Rattle.cedar_text.specs.machines.Named as named
 use Rattle.cedar_text.specs.declared.text_to_cst.state.WordsState.{WordsState}
@@ -33,15 +33,16 @@ use Rattle.cedar_text.specs.declared.text_to_cst.expression.state.Wanted.{Wanted
 use Rattle.cedar_text.specs.declared.text_to_cst.expression.state.Wanted.TheVariants as form
 use Rattle.cedar_text.specs.declared.text_to_cst.expression.state.Alone.{Alone}
 use Rattle.cedar_text.specs.declared.text_to_cst.expression.state.Alone.TheVariants as alone
-use Rattle.cedar_text.specs.machines.Outcome.{Outcome}
-use Rattle.cedar_text.specs.machines.Outcome as outcome
+use Rattle.cedar_text.specs.machines.Advance.{Advance}
+use Rattle.cedar_text.specs.machines.Advance as advance
 use Rattle.cedar_syntax.specs.declared.reading.extent.Extent.{Extent}
 use Rattle.cedar_syntax.specs.Place.{extent_of}
 use Rattle.cedar_syntax.specs.Tokens.{any_of}
 use Rattle.cedar_syntax.specs.Trees.{Cell}
 use Rattle.cedar_syntax.specs.machines.Door.{Machine, Answer, next, ended, refused, too_large, option_image}
 use Rattle.cedar_text.specs.machines.Closing.{ranged, node_of, add_at, whole, fresh, no_signs, operand_of, if_operand, if_key}
-use Rattle.cedar_text.specs.machines.ExpressionStates.{state, opening, operator_of}
+use Rattle.cedar_syntax.specs.machines.Classes.{operator_of}
+use Rattle.cedar_text.specs.machines.ExpressionStates.{state, opening}
 use Rattle.cedar_text.specs.machines.Wanting.{literal_at, wanting}
 use Rattle.cedar_text.specs.machines.Having.{field_read, value_begun, having}
 
@@ -63,32 +64,32 @@ name_at src x = ranged x.extent (primary.Name (node_of src x))
 
 -- `if` alone: the guard of a conditional begins with the token behind it
 abbrev pub guard_begun : List ℕ → Machine Lexeme WordsState Named → List Frame → Levels
-    → Option Extent → Lexeme → Outcome
+    → Option Extent → Lexeme → Advance
 guard_begun src names st lv l t = wanting src names
     (frame.Guard record { branches = lv.branches; opened = l } ∷ st)
     (fresh []) place.Expr no_signs t
 
 -- `if` and a colon where a key is wanted
-abbrev pub if_key_read : List ℕ → List Frame → Option Extent → Extent → Outcome
-if_key_read src (frame.Key f ∷ st) l e = outcome.next (value_begun st f (if_key src l) l e)
-if_key_read src _ l e = outcome.not_taken
+abbrev pub if_key_read : List ℕ → List Frame → Option Extent → Extent → Advance
+if_key_read src (frame.Key f ∷ st) l e = advance.next (value_begun st f (if_key src l) l e)
+if_key_read src _ l e = advance.not_taken
 
 abbrev pub key_or_guard : List ℕ → Machine Lexeme WordsState Named → List Frame → Levels
-    → Option Extent → Lexeme → Operator → Outcome
+    → Option Extent → Lexeme → Operator → Advance
 key_or_guard src names st lv l t (operator.Ends closing.Colon) = if_key_read src st l (extent_of t)
 key_or_guard src names st lv l t _ = guard_begun src names st lv l t
 
 abbrev pub if_alone : Wanted → List ℕ → Machine Lexeme WordsState Named → List Frame → Levels
-    → Place → Option Extent → Lexeme → Outcome
+    → Place → Option Extent → Lexeme → Advance
 if_alone w src names st lv place.Expr l t = guard_begun src names st lv l t
 if_alone w src names st lv place.Item l t = guard_begun src names st lv l t
 if_alone w src names st lv place.Key l t = key_or_guard src names st lv l t (operator_of t.kind)
 if_alone w src names st lv place.Has l t = having w src st lv (if_operand src l) t
-if_alone w src names st lv place.Operand l t = outcome.not_taken
-if_alone w src names st lv place.Primary l t = outcome.not_taken
+if_alone w src names st lv place.Operand l t = advance.not_taken
+if_alone w src names st lv place.Primary l t = advance.not_taken
 
 abbrev pub alone_read : Wanted → List ℕ → Machine Lexeme WordsState Named → List Frame → Levels
-    → Place → Signs → Ranged Name → Alone → Lexeme → Outcome
+    → Place → Signs → Ranged Name → Alone → Lexeme → Advance
 alone_read w src names st lv p sg x alone.True t =
     having w src st lv (operand_of src sg (literal_at src x.extent literal.True)) t
 alone_read w src names st lv p sg x alone.False t =
@@ -98,23 +99,23 @@ alone_read w src names st lv p sg x alone.Name t =
     having w src st lv (operand_of src sg (name_at src x)) t
 
 abbrev pub named_read : Wanted → List ℕ → Machine Lexeme WordsState Named → List Frame → Levels
-    → Place → Signs → Named → Lexeme → Outcome
+    → Place → Signs → Named → Lexeme → Advance
 named_read w src names st lv p sg (named.path x) t =
     alone_read w src names st lv p sg x (alone_of x.tree.path x.tree.name) t
 named_read w src names st lv p sg (named.entity x) t =
     having w src st lv (operand_of src sg (ranged x.extent (primary.Ref x.tree))) t
 
 abbrev pub word_read : Wanted → List ℕ → Machine Lexeme WordsState Named → List Frame → Levels
-    → Place → Signs → Answer WordsState Named → Lexeme → Outcome
-word_read w src names st lv p sg (next s) t = outcome.next (state st lv (mode.Word p sg s))
+    → Place → Signs → Answer WordsState Named → Lexeme → Advance
+word_read w src names st lv p sg (next s) t = advance.next (state st lv (mode.Word p sg s))
 word_read w src names st lv p sg (ended x) t = named_read w src names st lv p sg x t
-word_read w src names st lv p sg refused t = outcome.not_taken
-word_read w src names st lv p sg too_large t = outcome.too_large
+word_read w src names st lv p sg refused t = advance.not_taken
+word_read w src names st lv p sg too_large t = advance.too_large
 
 -- token after token
 
 abbrev pub stepped : Wanted → List ℕ → Machine Lexeme WordsState Named → List Frame → Levels
-    → Mode → Lexeme → Outcome
+    → Mode → Lexeme → Advance
 stepped w src names st lv (mode.Want p sg) t = wanting src names st lv p sg t
 stepped w src names st lv (mode.Word p sg s) t =
     word_read w src names st lv p sg (names.step s t) t
@@ -122,7 +123,7 @@ stepped w src names st lv (mode.Field m d) t =
     field_read src st lv m d (any_of t.kind t.text) (extent_of t)
 stepped w src names st lv (mode.Have m) t = having w src st lv m t
 
-abbrev pub step_of : Wanted → List ℕ → Machine Lexeme WordsState Named → State → Lexeme → Outcome
+abbrev pub step_of : Wanted → List ℕ → Machine Lexeme WordsState Named → State → Lexeme → Advance
 step_of w src names s t = stepped w src names s.stack s.levels s.mode t
 
 -- the end
@@ -169,11 +170,11 @@ abbrev pub primary_at_end : List ℕ → Machine Lexeme WordsState Named → Sta
 primary_at_end src names s = option_image (λ m. m.item) (last_operand src names s.stack s.mode)
 
 -- what is not taken has ended the tree where there is one
-abbrev pub answered : {T : Type 0} → Option T → Outcome → Answer State T
-answered o (outcome.next s) = next s
-answered (Some x) outcome.not_taken = ended x
-answered None outcome.not_taken = refused
-answered o outcome.too_large = too_large
+abbrev pub answered : {T : Type 0} → Option T → Advance → Answer State T
+answered o (advance.next s) = next s
+answered (Some x) advance.not_taken = ended x
+answered None advance.not_taken = refused
+answered o advance.too_large = too_large
 
 abbrev pub expressions : List ℕ → Machine Lexeme WordsState Named
     → Machine Lexeme State (Ranged Expr)

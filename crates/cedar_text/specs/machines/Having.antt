@@ -14,14 +14,14 @@ use Rattle.cedar_syntax.specs.declared.cst.MemAccess.TheVariants as access
 use Rattle.cedar_syntax.specs.declared.cst.Primary.{Primary}
 use Rattle.cedar_syntax.specs.declared.cst.Primary.TheVariants as primary
 use Rattle.cedar_syntax.specs.declared.cst.Ident.{Ident}
-use Rattle.cedar_text.specs.declared.text_to_cst.expression.class.Closing.{Closing}
-use Rattle.cedar_text.specs.declared.text_to_cst.expression.class.Closing.TheVariants as closing
-use Rattle.cedar_text.specs.declared.text_to_cst.expression.class.Access.{Access}
-use Rattle.cedar_text.specs.declared.text_to_cst.expression.class.Access.TheVariants as opens
-use Rattle.cedar_text.specs.declared.text_to_cst.expression.class.Side.{Side}
-use Rattle.cedar_text.specs.declared.text_to_cst.expression.class.Side.TheVariants as side
-use Rattle.cedar_text.specs.declared.text_to_cst.expression.class.Operator.{Operator}
-use Rattle.cedar_text.specs.declared.text_to_cst.expression.class.Operator.TheVariants as operator
+use Rattle.cedar_syntax.specs.declared.reading.class.Closing.{Closing}
+use Rattle.cedar_syntax.specs.declared.reading.class.Closing.TheVariants as closing
+use Rattle.cedar_syntax.specs.declared.reading.class.Access.{Access}
+use Rattle.cedar_syntax.specs.declared.reading.class.Access.TheVariants as opens
+use Rattle.cedar_syntax.specs.declared.reading.class.Side.{Side}
+use Rattle.cedar_syntax.specs.declared.reading.class.Side.TheVariants as side
+use Rattle.cedar_syntax.specs.declared.reading.class.Operator.{Operator}
+use Rattle.cedar_syntax.specs.declared.reading.class.Operator.TheVariants as operator
 use Rattle.cedar_text.specs.declared.text_to_cst.expression.state.Ranged.{Ranged}
 use Rattle.cedar_text.specs.declared.text_to_cst.expression.state.Branch.{Branch}
 use Rattle.cedar_text.specs.declared.text_to_cst.expression.state.Left.{Left}
@@ -45,14 +45,15 @@ use Rattle.cedar_text.specs.declared.text_to_cst.expression.state.State.{State}
 use Rattle.cedar_text.specs.declared.text_to_cst.expression.state.Wanted.{Wanted}
 use Rattle.cedar_text.specs.declared.text_to_cst.expression.state.Reach.{Reach}
 use Rattle.cedar_text.specs.declared.text_to_cst.expression.state.Reach.TheVariants as reach
-use Rattle.cedar_text.specs.machines.Outcome.{Outcome}
-use Rattle.cedar_text.specs.machines.Outcome as outcome
+use Rattle.cedar_text.specs.machines.Advance.{Advance}
+use Rattle.cedar_text.specs.machines.Advance as advance
 use Rattle.cedar_syntax.specs.declared.reading.extent.Extent.{Extent}
 use Rattle.cedar_syntax.specs.Place.{join, extent_of, node_at}
 use Rattle.cedar_syntax.specs.Trees.{Cell, rec_init_of}
 use Rattle.cedar_syntax.specs.machines.Door.{next}
 use Rattle.cedar_text.specs.machines.Closing.{ranged, node_of, linked, marked, onward, pending, unary_at, mult_at, add_at, relation_at, and_at, whole, levels_of, accessed}
-use Rattle.cedar_text.specs.machines.ExpressionStates.{state, wants, opening, going_on, has_operand, has_primary, around, operator_of, reach_of}
+use Rattle.cedar_syntax.specs.machines.Classes.{operator_of}
+use Rattle.cedar_text.specs.machines.ExpressionStates.{state, wants, opening, going_on, has_operand, has_primary, around, reach_of}
 use Rattle.cedar_text.specs.machines.Wanting.{set_with, record_with, set_closed, record_closed, call_closed}
 
 -- behind an operand: operators
@@ -76,23 +77,23 @@ before src x e = ranged (join x.extent (Some e)) (node_of src x)
 
 -- `in` behind `is` and its type
 abbrev pub is_within : List ℕ → List Frame → Levels → Ranged (Cell Add) → Ranged Add → RelOp
-    → Extent → Outcome
-is_within src st lv y x rel.In e = outcome.next
+    → Extent → Advance
+is_within src st lv y x rel.In e = advance.next
     (left_begun st lv (left.IsIn y.tree (node_of src x)
     (join (join y.extent x.extent) (Some e))) place.Operand)
-is_within src st lv y x _ e = outcome.not_taken
+is_within src st lv y x _ e = advance.not_taken
 
 abbrev pub compared : List ℕ → List Frame → Levels → Option Left → Ranged Add → RelOp → Extent
-    → Outcome
+    → Advance
 compared src st lv None x o e =
-    outcome.next (left_begun st lv (left.Common (pending (marked src None x) o e)) place.Operand)
+    advance.next (left_begun st lv (left.Common (pending (marked src None x) o e)) place.Operand)
 compared src st lv (Some (left.Common p)) x o e =
-    outcome.next (left_begun st lv
+    advance.next (left_begun st lv
     (left.Common (pending (marked src (Some p) x) o e)) place.Operand)
 compared src st lv (Some (left.Is y)) x o e = is_within src st lv y x o e
-compared src st lv (Some (left.Has y)) x o e = outcome.not_taken
-compared src st lv (Some (left.Like y)) x o e = outcome.not_taken
-compared src st lv (Some (left.IsIn y z l)) x o e = outcome.not_taken
+compared src st lv (Some (left.Has y)) x o e = advance.not_taken
+compared src st lv (Some (left.Like y)) x o e = advance.not_taken
+compared src st lv (Some (left.IsIn y z l)) x o e = advance.not_taken
 
 abbrev pub side_of : Side → Ranged (Cell Add) → Left
 side_of side.Has y = left.Has y
@@ -105,10 +106,10 @@ side_place side.Like = place.Operand
 side_place side.Is = place.Operand
 
 abbrev pub sided : List ℕ → List Frame → Levels → Option Left → Ranged Add → Side → Extent
-    → Outcome
+    → Advance
 sided src st lv None x s e =
-    outcome.next (left_begun st lv (side_of s (before src x e)) (side_place s))
-sided src st lv (Some l) x s e = outcome.not_taken
+    advance.next (left_begun st lv (side_of s (before src x e)) (side_place s))
+sided src st lv (Some l) x s e = advance.not_taken
 
 abbrev pub conjoined : List ℕ → List Frame → Levels → Operand → Extent → State
 conjoined src st lv m e =
@@ -136,28 +137,28 @@ access_begun st lv m opens.Bracket e = opening
 
 -- behind `.`
 abbrev pub field_read : List ℕ → List Frame → Levels → Operand → Extent → Option Ident → Extent
-    → Outcome
-field_read src st lv m d None e = outcome.not_taken
-field_read src st lv m d (Some i) e = outcome.next
+    → Advance
+field_read src st lv m d None e = advance.not_taken
+field_read src st lv m d (Some i) e = advance.next
     (has_operand st lv (accessed src m (ranged (around d e)
     (access.Field (node_at src (Some e) i)))))
 
 -- what ends an expression inside of brackets
 
-abbrev pub paren_ended : List ℕ → List Frame → Paren → Ranged Expr → Closing → Extent → Outcome
-paren_ended src st f x closing.Paren m = outcome.next
+abbrev pub paren_ended : List ℕ → List Frame → Paren → Ranged Expr → Closing → Extent → Advance
+paren_ended src st f x closing.Paren m = advance.next
     (has_primary src st f.outer f.signs (ranged (around f.opened m)
     (primary.Expr (node_of src x))))
-paren_ended src st f x _ m = outcome.not_taken
+paren_ended src st f x _ m = advance.not_taken
 
 abbrev pub set_more : List ℕ → Set → Ranged Expr → Set
 set_more src f x = set_with f.outer f.signs f.opened (f.items ++ node_of src x ∷ [])
 
-abbrev pub set_ended : List ℕ → List Frame → Set → Ranged Expr → Closing → Extent → Outcome
-set_ended src st f x closing.Comma m = outcome.next
+abbrev pub set_ended : List ℕ → List Frame → Set → Ranged Expr → Closing → Extent → Advance
+set_ended src st f x closing.Comma m = advance.next
     (opening (frame.Set (set_more src f x) ∷ st) [] place.Item)
-set_ended src st f x closing.Bracket m = outcome.next (set_closed src st (set_more src f x) m)
-set_ended src st f x _ m = outcome.not_taken
+set_ended src st f x closing.Bracket m = advance.next (set_closed src st (set_more src f x) m)
+set_ended src st f x _ m = advance.not_taken
 
 abbrev pub call_more : List ℕ → Call → Ranged Expr → Call
 call_more src f x = record {
@@ -167,17 +168,17 @@ call_more src f x = record {
   items = f.items ++ node_of src x ∷ [];
 }
 
-abbrev pub call_ended : List ℕ → List Frame → Call → Ranged Expr → Closing → Extent → Outcome
-call_ended src st f x closing.Comma m = outcome.next
+abbrev pub call_ended : List ℕ → List Frame → Call → Ranged Expr → Closing → Extent → Advance
+call_ended src st f x closing.Comma m = advance.next
     (opening (frame.Call (call_more src f x) ∷ st) [] place.Item)
-call_ended src st f x closing.Paren m = outcome.next (call_closed src st (call_more src f x) m)
-call_ended src st f x _ m = outcome.not_taken
+call_ended src st f x closing.Paren m = advance.next (call_closed src st (call_more src f x) m)
+call_ended src st f x _ m = advance.not_taken
 
-abbrev pub index_ended : List ℕ → List Frame → Index → Ranged Expr → Closing → Extent → Outcome
-index_ended src st f x closing.Bracket m = outcome.next
+abbrev pub index_ended : List ℕ → List Frame → Index → Ranged Expr → Closing → Extent → Advance
+index_ended src st f x closing.Bracket m = advance.next
     (has_operand st f.outer (accessed src f.operand
     (ranged (around f.opened m) (access.Index (node_of src x)))))
-index_ended src st f x _ m = outcome.not_taken
+index_ended src st f x _ m = advance.not_taken
 
 -- a key and its colon: the value begins
 abbrev pub value_begun : List Frame → Record → Cell Expr → Option Extent → Extent → State
@@ -188,30 +189,30 @@ value_begun st f x e m =
       extent = join e (Some m);
     } ∷ st) [] place.Expr
 
-abbrev pub key_ended : List ℕ → List Frame → Record → Ranged Expr → Closing → Extent → Outcome
-key_ended src st f x closing.Colon m = outcome.next (value_begun st f (node_of src x) x.extent m)
-key_ended src st f x _ m = outcome.not_taken
+abbrev pub key_ended : List ℕ → List Frame → Record → Ranged Expr → Closing → Extent → Advance
+key_ended src st f x closing.Colon m = advance.next (value_begun st f (node_of src x) x.extent m)
+key_ended src st f x _ m = advance.not_taken
 
 abbrev pub record_more : List ℕ → Value → Ranged Expr → Record
 record_more src f x = record_with f.pairs.outer f.pairs.signs f.pairs.opened
     (f.pairs.items ++ node_at src (join f.extent x.extent)
     (rec_init_of f.key (node_of src x)) ∷ [])
 
-abbrev pub value_ended : List ℕ → List Frame → Value → Ranged Expr → Closing → Extent → Outcome
-value_ended src st f x closing.Comma m = outcome.next
+abbrev pub value_ended : List ℕ → List Frame → Value → Ranged Expr → Closing → Extent → Advance
+value_ended src st f x closing.Comma m = advance.next
     (opening (frame.Key (record_more src f x) ∷ st) [] place.Key)
-value_ended src st f x closing.Brace m = outcome.next
+value_ended src st f x closing.Brace m = advance.next
     (record_closed src st (record_more src f x) m)
-value_ended src st f x _ m = outcome.not_taken
+value_ended src st f x _ m = advance.not_taken
 
-abbrev pub guard_ended : List ℕ → List Frame → Guard → Ranged Expr → Closing → Extent → Outcome
-guard_ended src st f x closing.Then m = outcome.next
+abbrev pub guard_ended : List ℕ → List Frame → Guard → Ranged Expr → Closing → Extent → Advance
+guard_ended src st f x closing.Then m = advance.next
     (opening (frame.Yes record {
       branches = f.branches;
       guard = node_of src x;
       extent = join (join f.opened x.extent) (Some m);
     } ∷ st) [] place.Expr)
-guard_ended src st f x _ m = outcome.not_taken
+guard_ended src st f x _ m = advance.not_taken
 
 abbrev pub branch_of : List ℕ → Yes → Ranged Expr → Extent → Branch
 branch_of src f x m = record {
@@ -220,13 +221,13 @@ branch_of src f x m = record {
   extent = join (join f.extent x.extent) (Some m);
 }
 
-abbrev pub yes_ended : List ℕ → List Frame → Yes → Ranged Expr → Closing → Extent → Outcome
-yes_ended src st f x closing.Else m = outcome.next
+abbrev pub yes_ended : List ℕ → List Frame → Yes → Ranged Expr → Closing → Extent → Advance
+yes_ended src st f x closing.Else m = advance.next
     (opening st (branch_of src f x m ∷ f.branches) place.Expr)
-yes_ended src st f x _ m = outcome.not_taken
+yes_ended src st f x _ m = advance.not_taken
 
-abbrev pub ended_by : List ℕ → List Frame → Ranged Expr → Closing → Extent → Outcome
-ended_by src [] x c m = outcome.not_taken
+abbrev pub ended_by : List ℕ → List Frame → Ranged Expr → Closing → Extent → Advance
+ended_by src [] x c m = advance.not_taken
 ended_by src (frame.Paren f ∷ st) x c m = paren_ended src st f x c m
 ended_by src (frame.Set f ∷ st) x c m = set_ended src st f x c m
 ended_by src (frame.Call f ∷ st) x c m = call_ended src st f x c m
@@ -238,50 +239,50 @@ ended_by src (frame.Yes f ∷ st) x c m = yes_ended src st f x c m
 
 -- behind an operand, by how far it goes on
 
-abbrev pub access_had : List Frame → Levels → Operand → Reach → Access → Extent → Outcome
-access_had st lv m reach.Primary a e = outcome.not_taken
-access_had st lv m reach.Sum a e = outcome.next (access_begun st lv m a e)
-access_had st lv m reach.If a e = outcome.next (access_begun st lv m a e)
-access_had st lv m reach.Whole a e = outcome.next (access_begun st lv m a e)
+abbrev pub access_had : List Frame → Levels → Operand → Reach → Access → Extent → Advance
+access_had st lv m reach.Primary a e = advance.not_taken
+access_had st lv m reach.Sum a e = advance.next (access_begun st lv m a e)
+access_had st lv m reach.If a e = advance.next (access_begun st lv m a e)
+access_had st lv m reach.Whole a e = advance.next (access_begun st lv m a e)
 
 abbrev pub multiply_had : List ℕ → List Frame → Levels → Operand → Reach → MultOp → Extent
-    → Outcome
-multiply_had src st lv m reach.Primary o e = outcome.not_taken
-multiply_had src st lv m reach.Sum o e = outcome.next (multiplied src st lv m o e)
-multiply_had src st lv m reach.If o e = outcome.not_taken
-multiply_had src st lv m reach.Whole o e = outcome.next (multiplied src st lv m o e)
+    → Advance
+multiply_had src st lv m reach.Primary o e = advance.not_taken
+multiply_had src st lv m reach.Sum o e = advance.next (multiplied src st lv m o e)
+multiply_had src st lv m reach.If o e = advance.not_taken
+multiply_had src st lv m reach.Whole o e = advance.next (multiplied src st lv m o e)
 
-abbrev pub sum_had : List ℕ → List Frame → Levels → Operand → Reach → AddOp → Extent → Outcome
-sum_had src st lv m reach.Primary o e = outcome.not_taken
-sum_had src st lv m reach.Sum o e = outcome.next (summed src st lv m o e)
-sum_had src st lv m reach.If o e = outcome.not_taken
-sum_had src st lv m reach.Whole o e = outcome.next (summed src st lv m o e)
+abbrev pub sum_had : List ℕ → List Frame → Levels → Operand → Reach → AddOp → Extent → Advance
+sum_had src st lv m reach.Primary o e = advance.not_taken
+sum_had src st lv m reach.Sum o e = advance.next (summed src st lv m o e)
+sum_had src st lv m reach.If o e = advance.not_taken
+sum_had src st lv m reach.Whole o e = advance.next (summed src st lv m o e)
 
-abbrev pub compare_had : List ℕ → List Frame → Levels → Operand → Reach → RelOp → Extent → Outcome
-compare_had src st lv m reach.Primary o e = outcome.not_taken
-compare_had src st lv m reach.Sum o e = outcome.not_taken
-compare_had src st lv m reach.If o e = outcome.not_taken
+abbrev pub compare_had : List ℕ → List Frame → Levels → Operand → Reach → RelOp → Extent → Advance
+compare_had src st lv m reach.Primary o e = advance.not_taken
+compare_had src st lv m reach.Sum o e = advance.not_taken
+compare_had src st lv m reach.If o e = advance.not_taken
 compare_had src st lv m reach.Whole o e = compared src st lv lv.relation (add_at src lv m) o e
 
-abbrev pub side_had : List ℕ → List Frame → Levels → Operand → Reach → Side → Extent → Outcome
-side_had src st lv m reach.Primary s e = outcome.not_taken
-side_had src st lv m reach.Sum s e = outcome.not_taken
-side_had src st lv m reach.If s e = outcome.not_taken
+abbrev pub side_had : List ℕ → List Frame → Levels → Operand → Reach → Side → Extent → Advance
+side_had src st lv m reach.Primary s e = advance.not_taken
+side_had src st lv m reach.Sum s e = advance.not_taken
+side_had src st lv m reach.If s e = advance.not_taken
 side_had src st lv m reach.Whole s e = sided src st lv lv.relation (add_at src lv m) s e
 
-abbrev pub and_had : List ℕ → List Frame → Levels → Operand → Reach → Extent → Outcome
-and_had src st lv m reach.Primary e = outcome.not_taken
-and_had src st lv m reach.Sum e = outcome.not_taken
-and_had src st lv m reach.If e = outcome.next (conjoined src st lv m e)
-and_had src st lv m reach.Whole e = outcome.next (conjoined src st lv m e)
+abbrev pub and_had : List ℕ → List Frame → Levels → Operand → Reach → Extent → Advance
+and_had src st lv m reach.Primary e = advance.not_taken
+and_had src st lv m reach.Sum e = advance.not_taken
+and_had src st lv m reach.If e = advance.next (conjoined src st lv m e)
+and_had src st lv m reach.Whole e = advance.next (conjoined src st lv m e)
 
-abbrev pub or_had : List ℕ → List Frame → Levels → Operand → Reach → Extent → Outcome
-or_had src st lv m reach.Primary e = outcome.not_taken
-or_had src st lv m reach.Sum e = outcome.not_taken
-or_had src st lv m reach.If e = outcome.next (disjoined src st lv m e)
-or_had src st lv m reach.Whole e = outcome.next (disjoined src st lv m e)
+abbrev pub or_had : List ℕ → List Frame → Levels → Operand → Reach → Extent → Advance
+or_had src st lv m reach.Primary e = advance.not_taken
+or_had src st lv m reach.Sum e = advance.not_taken
+or_had src st lv m reach.If e = advance.next (disjoined src st lv m e)
+or_had src st lv m reach.Whole e = advance.next (disjoined src st lv m e)
 
-abbrev pub had : List ℕ → List Frame → Levels → Operand → Reach → Operator → Extent → Outcome
+abbrev pub had : List ℕ → List Frame → Levels → Operand → Reach → Operator → Extent → Advance
 had src st lv m r (operator.Access a) e = access_had st lv m r a e
 had src st lv m r (operator.Multiply o) e = multiply_had src st lv m r o e
 had src st lv m r (operator.Sum o) e = sum_had src st lv m r o e
@@ -290,7 +291,7 @@ had src st lv m r (operator.Side s) e = side_had src st lv m r s e
 had src st lv m r operator.And e = and_had src st lv m r e
 had src st lv m r operator.Or e = or_had src st lv m r e
 had src st lv m r (operator.Ends c) e = ended_by src st (whole src lv m) c e
-had src st lv m r operator.Other e = outcome.not_taken
+had src st lv m r operator.Other e = advance.not_taken
 
-abbrev pub having : Wanted → List ℕ → List Frame → Levels → Operand → Lexeme → Outcome
+abbrev pub having : Wanted → List ℕ → List Frame → Levels → Operand → Lexeme → Advance
 having w src st lv m t = had src st lv m (reach_of w st m) (operator_of t.kind) (extent_of t)

@@ -6,8 +6,8 @@ use Rattle.cedar_text.specs.declared.text_to_cst.expression.state.Place.TheVaria
 use Rattle.cedar_text.specs.declared.text_to_cst.expression.state.State.{State}
 use Rattle.cedar_text.specs.declared.text_to_cst.expression.state.Wanted.{Wanted}
 use Rattle.cedar_text.specs.declared.text_to_cst.expression.state.Wanted.TheVariants as form
-use Rattle.cedar_text.specs.machines.Outcome.{Outcome}
-use Rattle.cedar_text.specs.machines.Outcome as outcome
+use Rattle.cedar_text.specs.machines.Advance.{Advance}
+use Rattle.cedar_text.specs.machines.Advance as advance
 use Rattle.cedar_syntax.specs.machines.Door.{Machine}
 use Rattle.cedar_text.specs.machines.ExpressionShapes.{Shape, WordShapes, shapes_from}
 
@@ -21,6 +21,6 @@ abbrev pub shapes_by : {W K : Type 0} → Wanted → WordShapes W K
 shapes_by w n = shapes_from w n (start_place w)
 
 -- a token that is allowed was taken, or is a number that doesn't fit
-abbrev pub outcome_as : Bool → State → Outcome
-outcome_as true s = outcome.next s
-outcome_as false s = outcome.too_large
+abbrev pub outcome_as : Bool → State → Advance
+outcome_as true s = advance.next s
+outcome_as false s = advance.too_large

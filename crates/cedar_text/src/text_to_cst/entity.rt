@@ -11,20 +11,22 @@ ghost use Rattle.cedar_syntax.specs.machines.Judged.{answer_of};
 ghost use Rattle.cedar_text.specs.machines.Words.{as_words, path_begun, path_words, words_more, words_step, entity_of, uid_of, at_inits, inits_closed, item_wanted, key_had, with_value, string_literal, value_wanted, item_had, inits_step, named};
 ghost use Rattle.cedar_text.specs.machines.WordShapes.{any_kind, more_shape, item_shape, init_shape, init_shape_step, words_shapes, words_shape};
 
-use crate::text_to_cst::literal::{as_number, string_node};
+use crate::text_to_cst::literal::string_node;
 use crate::text_to_cst::path::{first_word, with_word};
 use crate::text_to_cst::state::{
     Entity, InitPlace, Inits, OpenEntity, Path, PathState, Word, Words, WordsState,
 };
-use crate::text_to_cst::words::{as_ident, is_any, word_node};
+use crate::text_to_cst::words::word_node;
 use cedar_expressions::{Boxed, Items, Source};
 use cedar_lexer::token::{Token, TokenKind};
 use cedar_syntax::cst::{Literal, Ref, RefInit};
 use cedar_syntax::node::Node;
 use cedar_syntax::reading::driver::Entry;
 use cedar_syntax::reading::extent::Extent;
+use cedar_syntax::reading::literal::as_number;
 use cedar_syntax::reading::place::{node_at, token_extent};
 use cedar_syntax::reading::taken::Taken;
+use cedar_syntax::reading::words::{as_ident, is_any};
 use std::alloc::{AllocError, Global};
 use std::mem;
 

@@ -1,9 +1,9 @@
 //! The machine of expressions: what is begun, and what one token makes of it.
 pub mod allow;
+pub mod alone;
 pub mod begin;
 pub mod call;
 pub mod chain;
-pub mod class;
 pub mod close;
 pub mod conditional;
 pub mod entries;

@@ -1,10 +1,11 @@
 //! What nodes are made with.
 ghost use Rattle.std.specs.Prelude.{◌≡◌, IfOk};
-ghost use Rattle.cedar_syntax.specs.Place.{node_at};
+ghost use Rattle.cedar_syntax.specs.Place.{loc_at, node_at};
 ghost use Rattle.cedar_text.specs.machines.Closing.{node_of};
 
 use crate::text_to_cst::expression::state::Ranged;
 use cedar_expressions::Source;
+use cedar_syntax::loc::Loc;
 use cedar_syntax::node::Node;
 use cedar_syntax::reading::extent::Extent;
 use cedar_syntax::reading::place;
@@ -18,6 +19,14 @@ pub struct Ground<'a> {
 }
 
 impl Ground<'_> {
+    /// The place of these bytes of the source.
+    #[inline(always)]
+    pub fn loc_at(self, extent: Option<Extent>) -> Result<Option<Loc>, AllocError>
+        ensures { IfOk result (λ loc. loc ≡ loc_at self.entry.source.now extent) }
+    {
+        place::loc_at(self.source, extent)
+    }
+
     /// A tree as a node, at the bytes of the source that it takes.
     #[inline(always)]
     pub fn node_at<T: Drop>(

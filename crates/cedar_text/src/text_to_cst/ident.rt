@@ -2,13 +2,14 @@
 ghost use Rattle.std.specs.Prelude.{◌≡◌, Some, IfOk};
 
 use crate::text_to_cst::state::{IdentState, Word};
-use crate::text_to_cst::words::{as_ident, is_any, word_node};
+use crate::text_to_cst::words::word_node;
 use cedar_expressions::Source;
 use cedar_lexer::token::{Token, TokenKind};
 use cedar_syntax::cst::Ident;
 use cedar_syntax::node::Node;
 use cedar_syntax::reading::driver::Entry;
 use cedar_syntax::reading::place::token_extent;
+use cedar_syntax::reading::words::{as_ident, is_any};
 use std::alloc::{AllocError, Global};
 
 impl Entry for IdentState {

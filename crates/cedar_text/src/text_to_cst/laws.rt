@@ -22,6 +22,8 @@ ghost use Rattle.cedar_syntax.specs.Tokens.{any_of};
 ghost use Rattle.cedar_syntax.specs.TreePlaces.{IsPlace, node_places, expr_places, policies_places, policy_places, primary_places};
 ghost use Rattle.cedar_syntax.specs.Trees.{Cell};
 ghost use Rattle.cedar_syntax.specs.machines.Door.{Door, IsOutside, Shapes};
+ghost use Rattle.cedar_text.specs.GoesOn.{GoesOnInText};
+ghost use Rattle.cedar_text.specs.StandsInText.{StandsInText};
 ghost use Rattle.cedar_text.specs.machines.Words.{paths, words_machine};
 ghost use Rattle.cedar_text.specs.machines.WordsRead.{ReadsWholePath, ReadsWords};
 ghost use Rattle.cedar_text.specs.machines.WordShapes.{path_shapes, path_shape, path_kind, words_shapes, words_shape, words_kind};
@@ -29,12 +31,15 @@ ghost use Rattle.cedar_text.specs.machines.WordShapes.{path_shapes, path_shape, 
 use cedar_syntax::reading::expected::Narrowing;
 
 /// Tokens have at most one entity literal. They have one, or a first fault and then just one,
-/// never both.
+/// never both. And each sentence stands in a text: the tokens of some text are of its kinds, and
+/// have one. A text's tokens go on with each sentence that they begin, behind the same bytes.
 pub fn entity_literals()
     ensures one_tree { HasOneTree ReadsRef }
     ensures tree_or_fault { HasTreeOrFault ReadsRef Narrowing.Never }
     ensures one_fault { HasOneFault ReadsRef Narrowing.Never }
     ensures not_both { HasNotBoth ReadsRef Narrowing.Never }
+    ensures stands_in_text { StandsInText ReadsRef }
+    ensures goes_on_in_text { GoesOnInText ReadsRef }
 {}
 
 /// The same of names.
@@ -43,6 +48,8 @@ pub fn names()
     ensures tree_or_fault { HasTreeOrFault ReadsName Narrowing.Never }
     ensures one_fault { HasOneFault ReadsName Narrowing.Never }
     ensures not_both { HasNotBoth ReadsName Narrowing.Never }
+    ensures stands_in_text { StandsInText ReadsName }
+    ensures goes_on_in_text { GoesOnInText ReadsName }
 {}
 
 /// The same of single identifiers.
@@ -51,6 +58,8 @@ pub fn identifiers()
     ensures tree_or_fault { HasTreeOrFault ReadsIdent Narrowing.Never }
     ensures one_fault { HasOneFault ReadsIdent Narrowing.Never }
     ensures not_both { HasNotBoth ReadsIdent Narrowing.Never }
+    ensures stands_in_text { StandsInText ReadsIdent }
+    ensures goes_on_in_text { GoesOnInText ReadsIdent }
 {}
 
 /// The same of expressions.
@@ -59,6 +68,8 @@ pub fn expressions()
     ensures tree_or_fault { HasTreeOrFault ReadsExpr Narrowing.TokensAndEnd }
     ensures one_fault { HasOneFault ReadsExpr Narrowing.TokensAndEnd }
     ensures not_both { HasNotBoth ReadsExpr Narrowing.TokensAndEnd }
+    ensures stands_in_text { StandsInText ReadsExpr }
+    ensures goes_on_in_text { GoesOnInText ReadsExpr }
 {}
 
 /// The same of primaries.
@@ -67,6 +78,8 @@ pub fn primaries()
     ensures tree_or_fault { HasTreeOrFault ReadsPrimary Narrowing.TokensAndEnd }
     ensures one_fault { HasOneFault ReadsPrimary Narrowing.TokensAndEnd }
     ensures not_both { HasNotBoth ReadsPrimary Narrowing.TokensAndEnd }
+    ensures stands_in_text { StandsInText ReadsPrimary }
+    ensures goes_on_in_text { GoesOnInText ReadsPrimary }
 {}
 
 /// The same of policies. And mending comes to an end: tokens have a list of faults, and just one.
@@ -75,6 +88,8 @@ pub fn policies()
     ensures tree_or_fault { HasTreeOrFault ReadsPolicies Narrowing.Tokens }
     ensures one_fault { HasOneFault ReadsPolicies Narrowing.Tokens }
     ensures not_both { HasNotBoth ReadsPolicies Narrowing.Tokens }
+    ensures stands_in_text { StandsInText ReadsPolicies }
+    ensures goes_on_in_text { GoesOnInText ReadsPolicies }
     ensures fault_list { HasFaultList ReadsPolicies PoliciesBefore }
     ensures one_list { HasOneFaultList ReadsPolicies PoliciesBefore }
 {}
@@ -85,6 +100,8 @@ pub fn single_policies()
     ensures tree_or_fault { HasTreeOrFault ReadsPolicy Narrowing.Tokens }
     ensures one_fault { HasOneFault ReadsPolicy Narrowing.Tokens }
     ensures not_both { HasNotBoth ReadsPolicy Narrowing.Tokens }
+    ensures stands_in_text { StandsInText ReadsPolicy }
+    ensures goes_on_in_text { GoesOnInText ReadsPolicy }
     ensures fault_list { HasFaultList ReadsPolicy NothingBefore }
     ensures one_list { HasOneFaultList ReadsPolicy NothingBefore }
 {}

@@ -9,9 +9,9 @@ use crate::text_to_cst::condition::ConditionState;
 use crate::text_to_cst::outlook::{Foresees, Outlook};
 use crate::text_to_cst::scope::ElementState;
 use crate::text_to_cst::sequence::Spanned;
-use crate::text_to_cst::words::is_any;
 use cedar_lexer::token::TokenKind;
 use cedar_syntax::reading::mark::{Mark, as_mark, as_relation};
+use cedar_syntax::reading::words::is_any;
 
 impl Foresees for AnnotationState {
     ghost use Rattle.cedar_text.specs.machines.PolicyShapes.{AnnotationShape, annotation_shape, annotation_shapes};

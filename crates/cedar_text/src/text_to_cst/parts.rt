@@ -10,12 +10,12 @@ ghost use Rattle.cedar_text.specs.machines.WordShapes.{name_shapes, path_shape};
 use crate::text_to_cst::outlook::{Foresees, Outlook};
 use crate::text_to_cst::reader::Reader;
 use crate::text_to_cst::state::{Path, PathState};
-use crate::text_to_cst::words::is_any;
 use cedar_expressions::Source;
 use cedar_lexer::token::{Token, TokenKind};
 use cedar_syntax::cst::Name;
 use cedar_syntax::node::Node;
 use cedar_syntax::reading::taken::Taken;
+use cedar_syntax::reading::words::is_any;
 use std::alloc::{AllocError, Global};
 
 impl Path {

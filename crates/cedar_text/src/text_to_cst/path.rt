@@ -10,7 +10,7 @@ ghost use Rattle.cedar_text.specs.machines.Words.{first_word, with_word, path_ex
 ghost use Rattle.cedar_text.specs.machines.WordShapes.{path_kind, name_kind, path_shapes, path_shape};
 
 use crate::text_to_cst::state::{Path, PathState, Word};
-use crate::text_to_cst::words::{as_ident, is_any, word_node};
+use crate::text_to_cst::words::word_node;
 use cedar_expressions::{Items, Source};
 use cedar_lexer::token::{Token, TokenKind};
 use cedar_syntax::cst::{Ident, Name};
@@ -19,6 +19,7 @@ use cedar_syntax::reading::driver::Entry;
 use cedar_syntax::reading::extent::Extent;
 use cedar_syntax::reading::place::{node_at, token_extent};
 use cedar_syntax::reading::taken::Taken;
+use cedar_syntax::reading::words::{as_ident, is_any};
 use std::alloc::{AllocError, Global};
 use std::mem;
 

@@ -12,7 +12,7 @@ use crate::text_to_cst::condition::ConditionState;
 use crate::text_to_cst::reader::{Reader, put};
 use crate::text_to_cst::scope::ElementState;
 use crate::text_to_cst::sequence::{Sequence, Spanned};
-use crate::text_to_cst::words::{as_ident, token_node};
+use crate::text_to_cst::words::token_node;
 use cedar_expressions::{Items, Source};
 use cedar_lexer::token::Token;
 use cedar_syntax::cst::{
@@ -21,6 +21,7 @@ use cedar_syntax::cst::{
 use cedar_syntax::node::Node;
 use cedar_syntax::reading::mark::{Mark, as_mark};
 use cedar_syntax::reading::taken::Taken;
+use cedar_syntax::reading::words::as_ident;
 use std::alloc::{AllocError, Global};
 use std::mem;
 

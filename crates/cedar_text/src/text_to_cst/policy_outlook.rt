@@ -15,7 +15,6 @@ use crate::text_to_cst::outlook::{Foresees, Outlook};
 use crate::text_to_cst::policies::Whole;
 use crate::text_to_cst::policy::{Annotations, Begun, Conditions, PolicyState, Scope};
 use crate::text_to_cst::sequence::{Sequence, Spanned};
-use crate::text_to_cst::words::is_any;
 use cedar_expressions::{Items, Source};
 use cedar_lexer::token::TokenKind;
 use cedar_syntax::cst::{Policies, Policy};
@@ -23,6 +22,7 @@ use cedar_syntax::node::Node;
 use cedar_syntax::reading::extent::Extent;
 use cedar_syntax::reading::mark::{Mark, as_mark};
 use cedar_syntax::reading::place::node_at;
+use cedar_syntax::reading::words::is_any;
 use std::alloc::AllocError;
 
 impl<S: Foresees, T: Drop> Sequence<S, T> {

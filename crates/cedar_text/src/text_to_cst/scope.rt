@@ -8,13 +8,14 @@ ghost use Rattle.cedar_text.specs.machines.Scope.{at_variable, at_constraint, at
 ghost use Rattle.cedar_syntax.specs.machines.Judged.{answer_of};
 
 use crate::text_to_cst::reader::{Reader, put};
-use crate::text_to_cst::words::{as_ident, token_node};
+use crate::text_to_cst::words::token_node;
 use cedar_expressions::Source;
 use cedar_lexer::token::{Token, TokenKind};
 use cedar_syntax::cst::{Add, Expr, Ident, Name, RelOp, VariableDef};
 use cedar_syntax::node::Node;
 use cedar_syntax::reading::mark::{Mark, as_mark, as_relation};
 use cedar_syntax::reading::taken::Taken;
+use cedar_syntax::reading::words::as_ident;
 use std::alloc::{AllocError, Global};
 use std::mem;
 

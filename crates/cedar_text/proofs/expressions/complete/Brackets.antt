@@ -7,8 +7,8 @@ use Rattle.cedar_syntax.specs.declared.cst.Expr.{Expr}
 use Rattle.cedar_syntax.specs.declared.cst.MemAccess.TheVariants as access
 use Rattle.cedar_syntax.specs.declared.cst.Primary.TheVariants as primary
 use Rattle.cedar_syntax.specs.declared.cst.RecInit.{RecInit}
-use Rattle.cedar_text.specs.declared.text_to_cst.expression.class.Closing.TheVariants as closing
-use Rattle.cedar_text.specs.declared.text_to_cst.expression.class.Access.TheVariants as opens
+use Rattle.cedar_syntax.specs.declared.reading.class.Closing.TheVariants as closing
+use Rattle.cedar_syntax.specs.declared.reading.class.Access.TheVariants as opens
 use Rattle.cedar_text.specs.declared.text_to_cst.expression.state.Levels.{Levels}
 use Rattle.cedar_text.specs.declared.text_to_cst.expression.state.Signs.{Signs}
 use Rattle.cedar_text.specs.declared.text_to_cst.expression.state.Operand.{Operand}

@@ -18,7 +18,7 @@ use Rattle.cedar_syntax.specs.declared.cst.Member.{Member}
 use Rattle.cedar_syntax.specs.declared.cst.MemAccess.{MemAccess}
 use Rattle.cedar_syntax.specs.declared.cst.Primary.{Primary}
 use Rattle.cedar_syntax.specs.declared.cst.RecInit.{RecInit}
-use Rattle.cedar_text.specs.declared.text_to_cst.expression.class.Side.TheVariants as side
+use Rattle.cedar_syntax.specs.declared.reading.class.Side.TheVariants as side
 use Rattle.cedar_text.specs.machines.Named.{Named}
 use Rattle.cedar_text.specs.declared.text_to_cst.state.WordsState.{WordsState}
 use Rattle.cedar_text.specs.declared.text_to_cst.expression.state.Branch.{Branch}

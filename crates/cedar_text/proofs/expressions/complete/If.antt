@@ -28,7 +28,8 @@ use Rattle.cedar_syntax.specs.LooseWords.{any, one_word}
 use Rattle.cedar_syntax.specs.machines.Door.{Machine}
 use Rattle.cedar_text.specs.machines.Named.{a_path, joins_words}
 use Rattle.cedar_text.specs.machines.Closing.{no_signs, if_operand, if_key}
-use Rattle.cedar_text.specs.machines.ExpressionStates.{state, opening, operator_of}
+use Rattle.cedar_syntax.specs.machines.Classes.{operator_of}
+use Rattle.cedar_text.specs.machines.ExpressionStates.{state, opening}
 use Rattle.cedar_text.specs.machines.Having.{value_begun}
 use Rattle.cedar_text.specs.machines.Expressions.{guard_begun, key_or_guard, if_alone, word_read, last_operand}
 use Rattle.cedar_text.proofs.expressions.complete.Runs.{none_some, at, Setting, next_of, from, run, run-none, token, spot_of, StandsAt, is_first}

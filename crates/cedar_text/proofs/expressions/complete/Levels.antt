@@ -29,7 +29,7 @@ use Rattle.cedar_syntax.specs.Trees.{Cell, expr_of, if_of, or_of, and_of}
 use Rattle.cedar_text.specs.machines.Closing.{ranged, Plain, linked, onward, unary_at, made_mult, made_add, made_and, made_or, made_expr, marked, related, branched, whole, levels_of, fresh}
 use Rattle.cedar_text.specs.machines.ExpressionStates.{state, opening, reach_of}
 use Rattle.cedar_text.specs.machines.Having.{conjoined, disjoined, and_had, or_had, branch_of, ended_by}
-use Rattle.cedar_text.specs.declared.text_to_cst.expression.class.Closing.TheVariants as closing
+use Rattle.cedar_syntax.specs.declared.reading.class.Closing.TheVariants as closing
 use Rattle.cedar_text.proofs.expressions.complete.Runs.{extent-append, at, Setting, next_of, run, two, three, StandsAt, met, Joins, an_if, all_joins, is_first}
 use Rattle.cedar_text.proofs.expressions.complete.Words.{closed}
 use Rattle.cedar_text.proofs.expressions.complete.If.{if_runs, guard_frame, guard_runs}

@@ -11,10 +11,10 @@ use Rattle.cedar_syntax.specs.declared.cst.MemAccess.{MemAccess}
 use Rattle.cedar_syntax.specs.declared.cst.MemAccess.TheVariants as access
 use Rattle.cedar_syntax.specs.declared.cst.Primary.{Primary}
 use Rattle.cedar_syntax.specs.declared.cst.Ident.{Ident}
-use Rattle.cedar_text.specs.declared.text_to_cst.expression.class.Sign.{Sign}
-use Rattle.cedar_text.specs.declared.text_to_cst.expression.class.Sign.TheVariants as sign
-use Rattle.cedar_text.specs.declared.text_to_cst.expression.class.Access.{Access}
-use Rattle.cedar_text.specs.declared.text_to_cst.expression.class.Access.TheVariants as opens
+use Rattle.cedar_syntax.specs.declared.reading.class.Sign.{Sign}
+use Rattle.cedar_syntax.specs.declared.reading.class.Sign.TheVariants as sign
+use Rattle.cedar_syntax.specs.declared.reading.class.Access.{Access}
+use Rattle.cedar_syntax.specs.declared.reading.class.Access.TheVariants as opens
 use Rattle.cedar_text.specs.declared.text_to_cst.expression.state.Levels.{Levels}
 use Rattle.cedar_text.specs.declared.text_to_cst.expression.state.Signs.{Signs}
 use Rattle.cedar_text.specs.declared.text_to_cst.expression.state.Operand.{Operand}
@@ -33,7 +33,8 @@ use Rattle.cedar_syntax.specs.LooseWords.{ReadsAny, any}
 use Rattle.cedar_syntax.specs.LooseExpressions.{ReadsSigns, one_sign, more_signs}
 use Rattle.cedar_text.specs.machines.Closing.{ranged, unary_at, signs_of, no_signs, operand_with, accessed}
 use Rattle.cedar_text.specs.machines.ExpressionStates.{state, wants, has_operand, around, edge, reach_of}
-use Rattle.cedar_text.specs.machines.Wanting.{signed, after_signs, sign_read}
+use Rattle.cedar_syntax.specs.machines.Classes.{signed}
+use Rattle.cedar_text.specs.machines.Wanting.{after_signs, sign_read}
 use Rattle.cedar_text.specs.machines.Having.{access_begun, access_had, field_read}
 use Rattle.cedar_text.proofs.expressions.complete.Runs.{join-assoc, join-none, extent-append, at, bang_more, dash_more, Setting, next_of, run, two, StandsAt, stands, met, Accesses, if_accessed, sum_accessed, all_accessed, is_alone}
 use Rattle.cedar_text.proofs.expressions.complete.Words.{closed, PrimaryAt}

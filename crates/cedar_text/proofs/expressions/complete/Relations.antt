@@ -13,8 +13,8 @@ use Rattle.cedar_syntax.specs.declared.cst.Mult.{Mult}
 use Rattle.cedar_syntax.specs.declared.cst.Unary.{Unary}
 use Rattle.cedar_syntax.specs.declared.cst.Member.{Member}
 use Rattle.cedar_syntax.specs.declared.cst.MemAccess.{MemAccess}
-use Rattle.cedar_text.specs.declared.text_to_cst.expression.class.Side.{Side}
-use Rattle.cedar_text.specs.declared.text_to_cst.expression.class.Side.TheVariants as side
+use Rattle.cedar_syntax.specs.declared.reading.class.Side.{Side}
+use Rattle.cedar_syntax.specs.declared.reading.class.Side.TheVariants as side
 use Rattle.cedar_text.specs.declared.text_to_cst.expression.state.Ranged.{Ranged}
 use Rattle.cedar_text.specs.declared.text_to_cst.expression.state.Pending.{Pending}
 use Rattle.cedar_text.specs.declared.text_to_cst.expression.state.Left.{Left}

@@ -5,7 +5,7 @@ use Rattle.std.proofs.lemmas.Bool.{leb-true, leb-false, lt-leb, lt-ltb, le-ltb}
 use Rattle.cedar_lexer.specs.Token.{Lexeme}
 use Rattle.cedar_lexer.specs.declared.token.TokenKind.{TokenKind}
 use Rattle.cedar_syntax.specs.declared.cst.NegOp.TheVariants as neg
-use Rattle.cedar_text.specs.declared.text_to_cst.expression.class.Sign.TheVariants as sign
+use Rattle.cedar_syntax.specs.declared.reading.class.Sign.TheVariants as sign
 pub use Rattle.cedar_syntax.proofs.machines.Laws.{some_is, none_some}
 pub use Rattle.cedar_syntax.proofs.machines.Extents.{join-assoc, extent-append, at}
 pub use Rattle.cedar_text.proofs.expressions.Basics.{chain_extent, bang_more, dash_more}
@@ -22,8 +22,8 @@ use Rattle.cedar_text.specs.declared.text_to_cst.expression.state.State.{State}
 use Rattle.cedar_text.specs.declared.text_to_cst.expression.state.Wanted.{Wanted}
 use Rattle.cedar_text.specs.declared.text_to_cst.expression.state.Reach.{Reach}
 use Rattle.cedar_text.specs.declared.text_to_cst.expression.state.Reach.TheVariants as reach
-use Rattle.cedar_text.specs.machines.Outcome.{Outcome}
-use Rattle.cedar_text.specs.machines.Outcome as outcome
+use Rattle.cedar_text.specs.machines.Advance.{Advance}
+use Rattle.cedar_text.specs.machines.Advance as advance
 use Rattle.cedar_syntax.specs.declared.reading.extent.Extent.{Extent}
 use Rattle.cedar_syntax.specs.Place.{join, extent_of, extent}
 use Rattle.cedar_syntax.specs.Tokens.{Spot, one}
@@ -31,7 +31,7 @@ use Rattle.cedar_syntax.specs.Trees.{bangs_of, dashes_of}
 use Rattle.cedar_syntax.specs.machines.Door.{Machine, taken, Door}
 use Rattle.cedar_text.specs.machines.Named.{ReadsNamed, joins_words, IsWords}
 use Rattle.cedar_text.specs.machines.ExpressionStates.{state, edge, reach_of}
-use Rattle.cedar_text.specs.machines.Wanting.{signed}
+use Rattle.cedar_syntax.specs.machines.Classes.{signed}
 use Rattle.cedar_text.specs.machines.Having.{having}
 use Rattle.cedar_text.specs.machines.Expressions.{stepped, step_of, last_operand, answered}
 
@@ -51,10 +51,10 @@ pub record Setting (src : List ℕ) : Type 0 where
 
 -- runs
 
-abbrev pub next_of : Outcome → Option State
-next_of (outcome.next s) = Some s
-next_of outcome.not_taken = None
-next_of outcome.too_large = None
+abbrev pub next_of : Advance → Option State
+next_of (advance.next s) = Some s
+next_of advance.not_taken = None
+next_of advance.too_large = None
 
 abbrev pub from : {src : List ℕ} → Setting src → Option State → Lexeme → Option State
 from c None t = None
@@ -78,11 +78,11 @@ two c s a b ts us f g = run-append c s ts us ∙ ap (λ q. run c q us) f ∙ g
 pub three : {src : List ℕ} (c : Setting src) (s a b d : Option State) (ts us vs : List Lexeme) → run c s ts ≡ a → run c a us ≡ b → run c b vs ≡ d → run c s (ts ++ us ++ vs) ≡ d
 three c s a b d ts us vs f g h = two c s b d (ts ++ us) vs (two c s a b ts us f g) h
 
-pub taken_next : {T : Type 0} (o : Option T) (a : Outcome) → taken (answered o a) ≡ next_of a
-taken_next o (outcome.next s) = refl
-taken_next (Some x) outcome.not_taken = refl
-taken_next None outcome.not_taken = refl
-taken_next o outcome.too_large = refl
+pub taken_next : {T : Type 0} (o : Option T) (a : Advance) → taken (answered o a) ≡ next_of a
+taken_next o (advance.next s) = refl
+taken_next (Some x) advance.not_taken = refl
+taken_next None advance.not_taken = refl
+taken_next o advance.too_large = refl
 
 -- tokens
 

@@ -13,7 +13,7 @@ use Rattle.cedar_syntax.specs.declared.cst.Ident.{Ident}
 use Rattle.cedar_syntax.specs.declared.cst.Ident.TheVariants as ident
 use Rattle.cedar_syntax.specs.declared.cst.Name.{Name}
 use Rattle.cedar_syntax.specs.declared.cst.Ref.{Ref}
-use Rattle.cedar_text.specs.declared.text_to_cst.expression.class.Beginning.TheVariants as beginning
+use Rattle.cedar_syntax.specs.declared.reading.class.Beginning.TheVariants as beginning
 use Rattle.cedar_text.specs.machines.Named.{Named}
 use Rattle.cedar_text.specs.machines.Named as named_as
 use Rattle.cedar_text.specs.declared.text_to_cst.state.WordsState.{WordsState}
@@ -35,7 +35,8 @@ use Rattle.cedar_syntax.specs.LooseExpressions.{ReadsSlot, principal_slot, resou
 use Rattle.cedar_syntax.specs.machines.Door.{Answer, next, ended, refused, too_large, taken, steps}
 use Rattle.cedar_text.specs.machines.Named.{ReadsNamed, a_path, a_ref}
 use Rattle.cedar_text.specs.machines.Closing.{ranged, operand_of}
-use Rattle.cedar_text.specs.machines.ExpressionStates.{state, class_or_word}
+use Rattle.cedar_syntax.specs.machines.Classes.{class_or_word}
+use Rattle.cedar_text.specs.machines.ExpressionStates.{state}
 use Rattle.cedar_text.specs.machines.Wanting.{wanted_as, word_begun}
 use Rattle.cedar_text.specs.machines.Having.{having}
 use Rattle.cedar_text.specs.machines.Expressions.{word_alone, alone_of, alone_read, named_read, word_read, alone_at_end, named_at_end}

@@ -14,16 +14,16 @@ use Rattle.cedar_syntax.specs.declared.cst.Add.{Add}
 use Rattle.cedar_syntax.specs.declared.cst.NegOp.{NegOp}
 use Rattle.cedar_syntax.specs.declared.cst.NegOp.TheVariants as neg
 use Rattle.cedar_syntax.specs.declared.cst.Primary.{Primary}
-use Rattle.cedar_text.specs.declared.text_to_cst.expression.class.Sign.{Sign}
-use Rattle.cedar_text.specs.declared.text_to_cst.expression.class.Sign.TheVariants as sign
-use Rattle.cedar_text.specs.declared.text_to_cst.expression.class.Closing.{Closing}
-use Rattle.cedar_text.specs.declared.text_to_cst.expression.class.Closing.TheVariants as closing
-use Rattle.cedar_text.specs.declared.text_to_cst.expression.class.Access.{Access}
-use Rattle.cedar_text.specs.declared.text_to_cst.expression.class.Access.TheVariants as opens
-use Rattle.cedar_text.specs.declared.text_to_cst.expression.class.Side.{Side}
-use Rattle.cedar_text.specs.declared.text_to_cst.expression.class.Side.TheVariants as side
-use Rattle.cedar_text.specs.declared.text_to_cst.expression.class.Operator.{Operator}
-use Rattle.cedar_text.specs.declared.text_to_cst.expression.class.Operator.TheVariants as operator
+use Rattle.cedar_syntax.specs.declared.reading.class.Sign.{Sign}
+use Rattle.cedar_syntax.specs.declared.reading.class.Sign.TheVariants as sign
+use Rattle.cedar_syntax.specs.declared.reading.class.Closing.{Closing}
+use Rattle.cedar_syntax.specs.declared.reading.class.Closing.TheVariants as closing
+use Rattle.cedar_syntax.specs.declared.reading.class.Access.{Access}
+use Rattle.cedar_syntax.specs.declared.reading.class.Access.TheVariants as opens
+use Rattle.cedar_syntax.specs.declared.reading.class.Side.{Side}
+use Rattle.cedar_syntax.specs.declared.reading.class.Side.TheVariants as side
+use Rattle.cedar_syntax.specs.declared.reading.class.Operator.{Operator}
+use Rattle.cedar_syntax.specs.declared.reading.class.Operator.TheVariants as operator
 use Rattle.cedar_text.specs.declared.text_to_cst.state.WordsState.{WordsState}
 use Rattle.cedar_text.specs.declared.text_to_cst.expression.state.Ranged.{Ranged}
 use Rattle.cedar_text.specs.declared.text_to_cst.expression.state.Left.{Left}
@@ -47,19 +47,21 @@ use Rattle.cedar_text.specs.declared.text_to_cst.expression.state.Wanted.{Wanted
 use Rattle.cedar_text.specs.declared.text_to_cst.expression.state.Wanted.TheVariants as form
 use Rattle.cedar_text.specs.declared.text_to_cst.expression.state.Reach.{Reach}
 use Rattle.cedar_text.specs.declared.text_to_cst.expression.state.Reach.TheVariants as reach
-use Rattle.cedar_text.specs.machines.Outcome.{Outcome}
-use Rattle.cedar_text.specs.machines.Outcome as outcome
+use Rattle.cedar_text.specs.machines.Advance.{Advance}
+use Rattle.cedar_text.specs.machines.Advance as advance
 use Rattle.cedar_syntax.specs.declared.reading.extent.Extent.{Extent}
-use Rattle.cedar_text.specs.machines.ExpressionStates.{operator_of, edge}
-use Rattle.cedar_text.specs.machines.Wanting.{signed, after_signs, sign_read, list_ended, items_ended, keys_ended, set_ends, call_ends, record_ends}
+use Rattle.cedar_syntax.specs.machines.Classes.{operator_of}
+use Rattle.cedar_text.specs.machines.ExpressionStates.{edge}
+use Rattle.cedar_syntax.specs.machines.Classes.{signed}
+use Rattle.cedar_text.specs.machines.Wanting.{after_signs, sign_read, list_ended, items_ended, keys_ended, set_ends, call_ends, record_ends}
 use Rattle.cedar_text.specs.machines.Having.{is_within, compared, sided, access_begun, paren_ended, set_ended, call_ended, index_ended, key_ended, value_ended, guard_ended, yes_ended, ended_by, had, having}
 use Rattle.cedar_text.specs.machines.ExpressionShapes.{wants, Shape, shape, signed_shape, sign_shape, list_end, items_end, keys_end, access_shape, within_shape, compare_shape, side_shape, paren_shape, set_shape, call_shape, index_shape, key_shape, value_shape, guard_shape, yes_shape, ended_shape, had_step, edge_shape, reach_shape, having_shape, left_shape, stack_shape, op_sign, shape_of}
 
 -- what a step makes of a state has the shape that the kind makes of the state's shape
-abbrev pub Alike : {W : Type 0} → (WordsState → W) → Outcome → Option (Shape W) → Type 0
-Alike f (outcome.next s) o = o ≡ Some (shape_of f s)
-Alike f outcome.not_taken o = o ≡ None
-Alike f outcome.too_large o = is_some o ≡ true
+abbrev pub Alike : {W : Type 0} → (WordsState → W) → Advance → Option (Shape W) → Type 0
+Alike f (advance.next s) o = o ≡ Some (shape_of f s)
+Alike f advance.not_taken o = o ≡ None
+Alike f advance.too_large o = is_some o ≡ true
 
 -- what ends an expression in brackets
 
@@ -111,7 +113,7 @@ ended_alike w src (frame.Yes f ∷ st) x c e = yes_alike w src st f x c e
 
 -- operators
 
-access_alike : {W : Type 0} (w : WordsState → W) (st : List Frame) (lv : Levels) (m : Operand) (a : Access) (e : Extent) → Alike w (outcome.next (access_begun st lv m a e)) (access_shape (stack_shape st) (left_shape lv.relation) m.is_if a)
+access_alike : {W : Type 0} (w : WordsState → W) (st : List Frame) (lv : Levels) (m : Operand) (a : Access) (e : Extent) → Alike w (advance.next (access_begun st lv m a e)) (access_shape (stack_shape st) (left_shape lv.relation) m.is_if a)
 access_alike w st lv m opens.Dot e = refl
 access_alike w st lv m opens.Paren e = refl
 access_alike w st lv m opens.Bracket e = refl

@@ -15,11 +15,11 @@ use Rattle.cedar_syntax.specs.declared.cst.Primary.TheVariants as primary
 use Rattle.cedar_syntax.specs.declared.cst.Literal.TheVariants as literal
 use Rattle.cedar_syntax.specs.declared.cst.Name.{Name}
 use Rattle.cedar_syntax.specs.declared.cst.Ref.{Ref}
-use Rattle.cedar_text.specs.declared.text_to_cst.expression.class.Sign.TheVariants as sign
-use Rattle.cedar_text.specs.declared.text_to_cst.expression.class.Beginning.TheVariants as beginning
-use Rattle.cedar_text.specs.declared.text_to_cst.expression.class.Closing.TheVariants as closing
-use Rattle.cedar_text.specs.declared.text_to_cst.expression.class.Operator.{Operator}
-use Rattle.cedar_text.specs.declared.text_to_cst.expression.class.Operator.TheVariants as operator
+use Rattle.cedar_syntax.specs.declared.reading.class.Sign.TheVariants as sign
+use Rattle.cedar_syntax.specs.declared.reading.class.Beginning.TheVariants as beginning
+use Rattle.cedar_syntax.specs.declared.reading.class.Closing.TheVariants as closing
+use Rattle.cedar_syntax.specs.declared.reading.class.Operator.{Operator}
+use Rattle.cedar_syntax.specs.declared.reading.class.Operator.TheVariants as operator
 use Rattle.cedar_text.specs.machines.Named.{Named}
 use Rattle.cedar_text.specs.machines.Named as words_read
 use Rattle.cedar_text.specs.declared.text_to_cst.state.WordsState.{WordsState}
@@ -38,10 +38,10 @@ use Rattle.cedar_text.specs.declared.text_to_cst.expression.state.Wanted.{Wanted
 use Rattle.cedar_text.specs.declared.text_to_cst.expression.state.Wanted.TheVariants as form
 use Rattle.cedar_text.specs.declared.text_to_cst.expression.state.Alone.{Alone}
 use Rattle.cedar_text.specs.declared.text_to_cst.expression.state.Alone.TheVariants as alone
-use Rattle.cedar_text.specs.machines.Outcome.{Outcome}
-use Rattle.cedar_text.specs.machines.Outcome as outcome
+use Rattle.cedar_text.specs.machines.Advance.{Advance}
+use Rattle.cedar_text.specs.machines.Advance as advance
 use Rattle.cedar_syntax.specs.declared.reading.extent.Extent.{Extent}
-use Rattle.cedar_text.specs.machines.ExpressionStates.{class_of, operator_of}
+use Rattle.cedar_syntax.specs.machines.Classes.{class_of, operator_of}
 use Rattle.cedar_text.specs.machines.Wanting.{literal_at, word_begun, wanted_as, wanting}
 use Rattle.cedar_text.specs.machines.Having.{field_read}
 use Rattle.cedar_text.specs.machines.Expressions.{alone_of, name_at, if_key_read, key_or_guard, if_alone, alone_read, named_read, word_read, stepped, step_of, if_at_end, alone_at_end, named_at_end, last_operand, expr_at_end, sum_at_end, primary_at_end, answered, expressions, sums, primaries}
@@ -227,14 +227,14 @@ last_alike f g src names n h (q ∷ st) m = refl
 
 -- the machines
 
-told_alike : {W T : Type 0} (f : WordsState → W) (o : Option T) (a : Outcome) (q : Option (Shape W)) (b : Bool) → Alike f a q → b ≡ is_some o → IsShape (λ s. shape_of f s) no_tree (answered o a) (told b q)
-told_alike f o (outcome.next s) q b h e = ap (λ q. told b q) h
-told_alike f None outcome.not_taken q b h e = ap (λ q. told b q) h ∙ ap (λ b. told b None) e
-told_alike f (Some x) outcome.not_taken q b h e = ap (λ q. told b q) h ∙ ap (λ b. told b None) e
-told_alike f None outcome.too_large (Some s) b h e = refl
-told_alike f (Some x) outcome.too_large (Some s) b h e = refl
-told_alike f None outcome.too_large None b h e = absurd (false_is_true h)
-told_alike f (Some x) outcome.too_large None b h e = absurd (false_is_true h)
+told_alike : {W T : Type 0} (f : WordsState → W) (o : Option T) (a : Advance) (q : Option (Shape W)) (b : Bool) → Alike f a q → b ≡ is_some o → IsShape (λ s. shape_of f s) no_tree (answered o a) (told b q)
+told_alike f o (advance.next s) q b h e = ap (λ q. told b q) h
+told_alike f None advance.not_taken q b h e = ap (λ q. told b q) h ∙ ap (λ b. told b None) e
+told_alike f (Some x) advance.not_taken q b h e = ap (λ q. told b q) h ∙ ap (λ b. told b None) e
+told_alike f None advance.too_large (Some s) b h e = refl
+told_alike f (Some x) advance.too_large (Some s) b h e = refl
+told_alike f None advance.too_large None b h e = absurd (false_is_true h)
+told_alike f (Some x) advance.too_large None b h e = absurd (false_is_true h)
 
 mapped_some : {X Y : Type 0} (g : X → Y) (o : Option X) → is_some (option_image g o) ≡ is_some o
 mapped_some g None = refl

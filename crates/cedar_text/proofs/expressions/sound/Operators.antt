@@ -27,8 +27,8 @@ use Rattle.cedar_text.specs.declared.text_to_cst.expression.state.State.{State}
 use Rattle.cedar_text.specs.declared.text_to_cst.expression.state.Wanted.{Wanted}
 use Rattle.cedar_text.specs.declared.text_to_cst.expression.state.Reach.{Reach}
 use Rattle.cedar_text.specs.declared.text_to_cst.expression.state.Reach.TheVariants as reach
-use Rattle.cedar_text.specs.machines.Outcome.{Outcome}
-use Rattle.cedar_text.specs.machines.Outcome as outcome
+use Rattle.cedar_text.specs.machines.Advance.{Advance}
+use Rattle.cedar_text.specs.machines.Advance as advance
 use Rattle.cedar_syntax.specs.Place.{extent, placed}
 use Rattle.cedar_syntax.specs.Tokens.{Spot, one}
 use Rattle.cedar_syntax.specs.LooseExpressions.{ReadsAddOp, ReadsMultOp, ReadsRelation, has_if, ReadsAdd, no_access, ReadsPrimary}
@@ -40,18 +40,18 @@ use Rattle.cedar_text.proofs.expressions.Basics.{chain_extent}
 use Rattle.cedar_text.proofs.expressions.sound.Begun.{at, closed, Reading, no_mult, no_add, BegunLeft, no_left, BegunAnd, no_and, BegunOr, BegunBranches, no_branch, BegunSum, in_sum, BegunLevels, levels, BegunHas, has_begun, BegunSigns, no_sign, BegunOperand, begun_operand, BegunIf, begun_if, Opens, opens_whole, opens_sum, Leads, leads, leads_primary, whole_longer, sum_longer, if_longer, Holds, holds, holds_primary, BegunStack, Wants, at_expr, at_item, at_key, at_has, at_operand, at_primary, Begun, is_wanting, is_had}
 use Rattle.cedar_text.proofs.expressions.sound.Closing.{at_extent, mult_link, mult_close, mult_onward, add_link, add_close, add_onward, relation_close, and_link, and_close, and_onward, or_link, or_onward, operand_close, has_levels, fresh_levels}
 
-abbrev pub kept : Outcome → Option State
-kept (outcome.next s) = Some s
-kept outcome.not_taken = None
-kept outcome.too_large = None
+abbrev pub kept : Advance → Option State
+kept (advance.next s) = Some s
+kept advance.not_taken = None
+kept advance.too_large = None
 
-abbrev pub After : List ℕ → Machine Lexeme WordsState Named → Wanted → List Lexeme → Outcome → Type 0
+abbrev pub After : List ℕ → Machine Lexeme WordsState Named → Wanted → List Lexeme → Advance → Type 0
 After src names w ts o = IfSome (kept o) (λ s. Begun src names w ts s)
 
 pub moved : {src : List ℕ} {names : Machine Lexeme WordsState Named} {w : Wanted} {ts us : List Lexeme} {s : State} → ts ≡ us → Begun src names w ts s → Begun src names w us s
 moved {src = src} {names = names} {w = w} {s = s} e h = subst (λ q. Begun src names w q s) e h
 
-pub after_moved : (src : List ℕ) (names : Machine Lexeme WordsState Named) (w : Wanted) {ts us : List Lexeme} (o : Outcome) → ts ≡ us → After src names w ts o → After src names w us o
+pub after_moved : (src : List ℕ) (names : Machine Lexeme WordsState Named) (w : Wanted) {ts us : List Lexeme} (o : Advance) → ts ≡ us → After src names w ts o → After src names w us o
 after_moved src names w o e h = subst (λ q. After src names w q o) e h
 
 -- an operand without accesses

@@ -12,7 +12,7 @@ use Rattle.cedar_syntax.specs.declared.cst.Add.{Add}
 use Rattle.cedar_syntax.specs.declared.cst.MultOp.{MultOp}
 use Rattle.cedar_syntax.specs.declared.cst.Mult.{Mult}
 use Rattle.cedar_syntax.specs.declared.cst.Unary.{Unary}
-use Rattle.cedar_text.specs.declared.text_to_cst.expression.class.Side.TheVariants as side
+use Rattle.cedar_syntax.specs.declared.reading.class.Side.TheVariants as side
 use Rattle.cedar_text.specs.machines.Named.{Named}
 use Rattle.cedar_text.specs.declared.text_to_cst.state.WordsState.{WordsState}
 use Rattle.cedar_text.specs.declared.text_to_cst.expression.state.Ranged.{Ranged}

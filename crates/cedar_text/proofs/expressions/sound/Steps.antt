@@ -27,7 +27,8 @@ use Rattle.cedar_syntax.specs.LooseWords.{common as common_name, truth, falsity,
 use Rattle.cedar_text.specs.machines.Closing.{fresh, operand_of, if_operand}
 use Rattle.cedar_syntax.specs.machines.Door.{Machine, Answer, next, ended, refused, too_large, Comes, steps, step_from, taken, Door, AnswersRightly}
 use Rattle.cedar_text.specs.machines.Named.{ReadsNamed, a_path, a_ref}
-use Rattle.cedar_text.specs.machines.ExpressionStates.{operator_of, edge}
+use Rattle.cedar_syntax.specs.machines.Classes.{operator_of}
+use Rattle.cedar_text.specs.machines.ExpressionStates.{edge}
 use Rattle.cedar_text.specs.machines.Wanting.{wanting}
 use Rattle.cedar_text.specs.machines.Having.{field_read, having}
 use Rattle.cedar_text.specs.machines.Expressions.{word_alone, alone_of, guard_begun, if_key_read, key_or_guard, if_alone, alone_read, named_read, word_read, step_of}

@@ -5,12 +5,12 @@ use Rattle.cedar_lexer.specs.Token.{Lexeme}
 use Rattle.cedar_lexer.specs.declared.token.TokenKind.{TokenKind}
 use Rattle.cedar_lexer.specs.declared.token.TokenKind.TheVariants as kind
 use Rattle.cedar_syntax.specs.declared.cst.NegOp.{NegOp}
-use Rattle.cedar_text.specs.declared.text_to_cst.expression.class.Sign.{Sign}
-use Rattle.cedar_text.specs.declared.text_to_cst.expression.class.Sign.TheVariants as sign
-use Rattle.cedar_text.specs.declared.text_to_cst.expression.class.Beginning.TheVariants as beginning
-use Rattle.cedar_text.specs.declared.text_to_cst.expression.class.Closing.TheVariants as closing
-use Rattle.cedar_text.specs.declared.text_to_cst.expression.class.Access.{Access}
-use Rattle.cedar_text.specs.declared.text_to_cst.expression.class.Access.TheVariants as opens
+use Rattle.cedar_syntax.specs.declared.reading.class.Sign.{Sign}
+use Rattle.cedar_syntax.specs.declared.reading.class.Sign.TheVariants as sign
+use Rattle.cedar_syntax.specs.declared.reading.class.Beginning.TheVariants as beginning
+use Rattle.cedar_syntax.specs.declared.reading.class.Closing.TheVariants as closing
+use Rattle.cedar_syntax.specs.declared.reading.class.Access.{Access}
+use Rattle.cedar_syntax.specs.declared.reading.class.Access.TheVariants as opens
 use Rattle.cedar_text.specs.machines.Named.{Named}
 use Rattle.cedar_text.specs.declared.text_to_cst.state.WordsState.{WordsState}
 use Rattle.cedar_text.specs.declared.text_to_cst.expression.state.Levels.{Levels}
@@ -30,8 +30,10 @@ use Rattle.cedar_syntax.specs.LooseExpressions.{less, less_eq, greater_eq, great
 use Rattle.cedar_syntax.specs.LooseWords.{number, string}
 use Rattle.cedar_text.specs.machines.Closing.{signs_of}
 use Rattle.cedar_syntax.specs.machines.Door.{Machine, Answer, next, ended, refused, too_large, Comes}
-use Rattle.cedar_text.specs.machines.ExpressionStates.{number_class, class_of, operator_of, edge}
-use Rattle.cedar_text.specs.machines.Wanting.{signed, after_signs, sign_read, list_ended, word_begun, wanted_as}
+use Rattle.cedar_syntax.specs.machines.Classes.{number_class, class_of, operator_of}
+use Rattle.cedar_text.specs.machines.ExpressionStates.{edge}
+use Rattle.cedar_syntax.specs.machines.Classes.{signed}
+use Rattle.cedar_text.specs.machines.Wanting.{after_signs, sign_read, list_ended, word_begun, wanted_as}
 use Rattle.cedar_text.specs.machines.Having.{access_begun, access_had, had}
 use Rattle.cedar_text.proofs.expressions.Basics.{extent-append, bang_more, dash_more, bang_dash, dash_bang}
 use Rattle.cedar_text.proofs.expressions.sound.Begun.{at, no_branch, BegunSigns, no_sign, begun_bangs, begun_dashes, begun_operand, begun_if, Opens, opens_whole, opens_sum, Longer, whole_longer, sum_longer, if_longer, Holds, holds, holds_primary, no_expr_yet, no_init_yet, BegunStack, in_paren, in_set, in_call, in_index, in_key, Wants, at_expr, at_item, at_key, at_has, at_operand, at_primary, Begun, is_wanting, is_worded, is_dotted}

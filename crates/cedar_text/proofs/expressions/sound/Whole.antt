@@ -23,8 +23,8 @@ use Rattle.cedar_text.specs.declared.text_to_cst.expression.state.Wanted.{Wanted
 use Rattle.cedar_text.specs.declared.text_to_cst.expression.state.Wanted.TheVariants as form
 use Rattle.cedar_text.specs.declared.text_to_cst.expression.state.Reach.{Reach}
 use Rattle.cedar_text.specs.declared.text_to_cst.expression.state.Reach.TheVariants as reach
-use Rattle.cedar_text.specs.machines.Outcome.{Outcome}
-use Rattle.cedar_text.specs.machines.Outcome as outcome
+use Rattle.cedar_text.specs.machines.Advance.{Advance}
+use Rattle.cedar_text.specs.machines.Advance as advance
 use Rattle.cedar_syntax.specs.Place.{placed}
 use Rattle.cedar_syntax.specs.Tokens.{Spot, one, any_of}
 use Rattle.cedar_syntax.specs.Trees.{Cell, name_of}
@@ -123,12 +123,12 @@ last_begun names d (is_dotted i (in_yes l m e a x y) b) = tt
 
 -- a run over tokens
 
-taken_is_kept : {T : Type 0} (o : Option T) (a : Outcome) → taken (answered o a) ≡ kept a
-taken_is_kept o (outcome.next s) = refl
-taken_is_kept None outcome.not_taken = refl
-taken_is_kept (Some x) outcome.not_taken = refl
-taken_is_kept None outcome.too_large = refl
-taken_is_kept (Some x) outcome.too_large = refl
+taken_is_kept : {T : Type 0} (o : Option T) (a : Advance) → taken (answered o a) ≡ kept a
+taken_is_kept o (advance.next s) = refl
+taken_is_kept None advance.not_taken = refl
+taken_is_kept (Some x) advance.not_taken = refl
+taken_is_kept None advance.too_large = refl
+taken_is_kept (Some x) advance.too_large = refl
 
 run_on : (src : List ℕ) (names : Names) (w : Wanted) {T : Type 0} (m : Machine Lexeme State T) (ts : List Lexeme) (u : Lexeme) (us : List Lexeme) (r : State) (o : Option State) → IfSome o (λ q. Begun src names w (ts ++ u ∷ []) q) →
     steps m o us ≡ Some r → ((q : State) → Begun src names w (ts ++ u ∷ []) q → steps m (Some q) us ≡ Some r → Begun src names w ((ts ++ u ∷ []) ++ us) r) → Begun src names w (ts ++ u ∷ us) r

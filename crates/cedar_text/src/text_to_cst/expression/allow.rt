@@ -2,21 +2,21 @@
 ghost use Rattle.std.specs.Prelude.{◌≡◌, [], ◌∷◌, List, Bool, None};
 ghost use Rattle.cedar_text.specs.declared.text_to_cst.expression.state.Place.TheVariants as place;
 ghost use Rattle.cedar_syntax.specs.machines.Door.{Answer, is_some, is_taken};
-ghost use Rattle.cedar_text.specs.machines.ExpressionStates.{operator_of};
+ghost use Rattle.cedar_syntax.specs.machines.Classes.{operator_of};
 ghost use Rattle.cedar_text.specs.machines.NamedShapes.{named_shapes};
 ghost use Rattle.cedar_text.specs.machines.WordShapes.{WordsShape, WordsKind, words_shape};
 ghost use Rattle.cedar_text.specs.machines.ExpressionShapes.{FrameShape, LeftShape, left_shape, frame_shape, stack_shape, op_sign, has_access, has_sum, has_relation, has_and, compare_shape, side_shape, ended_shape, had_step, having_shape, signed_shape, sign_shape, guard_begins, if_key_shape, list_end, wanted_shape, wanting_shape, key_or_guard_shape, if_shape, after_words, word_shape, mode_shape, step_shape, if_ends, words_end, ends};
 
-use crate::text_to_cst::expression::class::{
-    Beginning, Closing, Operator, Side, Sign, as_operator, kind_class,
-};
 use crate::text_to_cst::expression::state::{Frame, Gap, Left, Mode, Place, Reach, State, Wanted};
 use crate::text_to_cst::expression::words::{self, Goes, begins_words};
 use crate::text_to_cst::state::WordsState;
-use crate::text_to_cst::words::is_any;
 use cedar_expressions::Boxed;
 use cedar_lexer::token::TokenKind;
 use cedar_syntax::cst::{NegOp, RelOp};
+use cedar_syntax::reading::class::{
+    Beginning, Closing, Operator, Side, Sign, as_operator, kind_class,
+};
+use cedar_syntax::reading::words::is_any;
 
 impl Reach {
     /// Whether an access may follow.

@@ -1,11 +1,10 @@
 //! What a state becomes where something begins.
 ghost use Rattle.std.specs.Prelude.{◌≡◌, [], ◌∷◌, OnOk, IfOk};
-ghost use Rattle.cedar_text.specs.machines.Outcome as outcome;
+ghost use Rattle.cedar_text.specs.machines.Advance as advance;
 ghost use Rattle.cedar_text.specs.machines.Closing.{fresh, no_signs, operand_of};
 ghost use Rattle.cedar_text.specs.machines.ExpressionStates.{opening, wants, has_operand, has_primary};
-ghost use Rattle.cedar_text.specs.machines.Stepped.{outcome_of};
+ghost use Rattle.cedar_text.specs.machines.Stepped.{advance_of};
 
-use crate::stack::Stack;
 use crate::text_to_cst::expression::state::{
     Branch, Frame, Levels, Mode, Operand, Place, Ranged, Signs, State, Taken,
 };
@@ -13,6 +12,7 @@ use crate::text_to_cst::ground::Ground;
 use crate::text_to_cst::reader::put;
 use cedar_expressions::Items;
 use cedar_syntax::cst::Primary;
+use cedar_syntax::reading::stack::Stack;
 use std::alloc::{AllocError, Global};
 
 /// Nothing but these `if`s is begun.
@@ -79,8 +79,8 @@ impl State {
 
     /// An expression begins, inside of this bracket.
     pub fn open(&mut self, alloc: Global, frame: Frame, place: Place) -> Result<Taken, AllocError>
-        ensures { IfOk result (λ taken. outcome_of taken self.new
-            ≡ outcome.next (opening (frame ∷ self.old.stack) [] place)) }
+        ensures { IfOk result (λ taken. advance_of taken self.new
+            ≡ advance.next (opening (frame ∷ self.old.stack) [] place)) }
     {
         self.stack.push(frame)?;
         self.begin(Stack::new(alloc), place);
@@ -89,7 +89,7 @@ impl State {
 
     /// Behind an operand, which these levels wait for.
     pub fn go_back(&mut self, levels: Levels, operand: Operand) -> Taken
-        ensures { outcome_of result self.new ≡ outcome.next
+        ensures { advance_of result self.new ≡ advance.next
             (has_operand self.old.stack levels operand) }
     {
         put(&mut self.levels, levels);
@@ -105,8 +105,8 @@ impl State {
         signs: Signs,
         item: Ranged<Primary>,
     ) -> Result<Taken, AllocError>
-        ensures { IfOk result (λ taken. outcome_of taken self.new
-            ≡ outcome.next (has_primary ground.entry.source.now self.old.stack self.old.levels
+        ensures { IfOk result (λ taken. advance_of taken self.new
+            ≡ advance.next (has_primary ground.entry.source.now self.old.stack self.old.levels
             signs item)) }
     {
         let operand = operand_of(ground, signs, item)?;

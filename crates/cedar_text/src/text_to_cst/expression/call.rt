@@ -3,29 +3,29 @@ ghost use Rattle.std.specs.Prelude.{◌≡◌, Some, IfOk};
 ghost use Rattle.cedar_lexer.specs.Token.{lexeme_of};
 ghost use Rattle.cedar_syntax.specs.Place.{extent_of};
 ghost use Rattle.cedar_syntax.specs.Tokens.{any_of};
-ghost use Rattle.cedar_text.specs.declared.text_to_cst.expression.class.Access.TheVariants as opens;
-ghost use Rattle.cedar_text.specs.declared.text_to_cst.expression.class.Closing.TheVariants as closing;
-ghost use Rattle.cedar_text.specs.machines.Outcome as outcome;
+ghost use Rattle.cedar_syntax.specs.declared.reading.class.Access.TheVariants as opens;
+ghost use Rattle.cedar_syntax.specs.declared.reading.class.Closing.TheVariants as closing;
+ghost use Rattle.cedar_text.specs.machines.Advance as advance;
 ghost use Rattle.cedar_text.specs.machines.Closing.{accessed};
 ghost use Rattle.cedar_text.specs.machines.Wanting.{call_closed};
 ghost use Rattle.cedar_text.specs.machines.Having.{call_more, call_ended, index_ended, access_begun, access_had, field_read};
-ghost use Rattle.cedar_text.specs.machines.Stepped.{outcome_of};
+ghost use Rattle.cedar_text.specs.machines.Stepped.{advance_of};
 
-use crate::stack::Stack;
 use crate::text_to_cst::expression::begin::fresh_levels;
-use crate::text_to_cst::expression::class::{Access, Closing};
 use crate::text_to_cst::expression::paren::around;
 use crate::text_to_cst::expression::state::{
     Call, Frame, Index, Mark, Mode, Operand, Place, Ranged, Reach, State, Taken,
 };
 use crate::text_to_cst::ground::Ground;
 use crate::text_to_cst::reader::put;
-use crate::text_to_cst::words::as_ident;
 use cedar_expressions::Items;
 use cedar_lexer::token::Token;
 use cedar_syntax::cst::{Expr, Ident, MemAccess};
+use cedar_syntax::reading::class::{Access, Closing};
 use cedar_syntax::reading::extent::{Extent, joined};
 use cedar_syntax::reading::place::token_extent;
+use cedar_syntax::reading::stack::Stack;
+use cedar_syntax::reading::words::as_ident;
 use std::alloc::{AllocError, Global};
 use std::mem;
 
@@ -61,8 +61,8 @@ impl State {
         operand: Operand,
         opened: Extent,
     ) -> Result<Taken, AllocError>
-        ensures { IfOk result (λ taken. outcome_of taken self.new
-            ≡ outcome.next (access_begun self.old.stack self.old.levels operand opens.Paren
+        ensures { IfOk result (λ taken. advance_of taken self.new
+            ≡ advance.next (access_begun self.old.stack self.old.levels operand opens.Paren
             opened)) }
     {
         let outer = mem::replace(&mut self.levels, fresh_levels(Stack::new(alloc)));
@@ -82,8 +82,8 @@ impl State {
         operand: Operand,
         opened: Extent,
     ) -> Result<Taken, AllocError>
-        ensures { IfOk result (λ taken. outcome_of taken self.new
-            ≡ outcome.next (access_begun self.old.stack self.old.levels operand opens.Bracket
+        ensures { IfOk result (λ taken. advance_of taken self.new
+            ≡ advance.next (access_begun self.old.stack self.old.levels operand opens.Bracket
             opened)) }
     {
         let outer = mem::replace(&mut self.levels, fresh_levels(Stack::new(alloc)));
@@ -102,8 +102,8 @@ impl State {
         operand: Operand,
         mark: Mark<Access>,
     ) -> Result<Taken, AllocError>
-        ensures { IfOk result (λ taken. outcome_of taken self.new
-            ≡ outcome.next (access_begun self.old.stack self.old.levels operand mark.op
+        ensures { IfOk result (λ taken. advance_of taken self.new
+            ≡ advance.next (access_begun self.old.stack self.old.levels operand mark.op
             mark.extent)) }
     {
         match mark.op {
@@ -125,7 +125,7 @@ impl State {
         reach: Reach,
         mark: Mark<Access>,
     ) -> Result<Taken, AllocError>
-        ensures { IfOk result (λ taken. outcome_of taken self.new
+        ensures { IfOk result (λ taken. advance_of taken self.new
             ≡ access_had self.old.stack self.old.levels operand reach mark.op mark.extent) }
     {
         match reach {
@@ -141,8 +141,8 @@ impl State {
         frame: Call,
         end: Extent,
     ) -> Result<Taken, AllocError>
-        ensures { IfOk result (λ taken. outcome_of taken self.new
-            ≡ outcome.next (call_closed ground.entry.source.now self.old.stack frame end)) }
+        ensures { IfOk result (λ taken. advance_of taken self.new
+            ≡ advance.next (call_closed ground.entry.source.now self.old.stack frame end)) }
     {
         let Call {
             outer,
@@ -164,7 +164,7 @@ impl State {
         item: Ranged<Expr>,
         mark: Mark<Closing>,
     ) -> Result<Taken, AllocError>
-        ensures { IfOk result (λ taken. outcome_of taken self.new
+        ensures { IfOk result (λ taken. advance_of taken self.new
             ≡ call_ended ground.entry.source.now self.old.stack frame item mark.op mark.extent) }
     {
         match mark.op {
@@ -189,7 +189,7 @@ impl State {
         item: Ranged<Expr>,
         end: Extent,
     ) -> Result<Taken, AllocError>
-        ensures { IfOk result (λ taken. outcome_of taken self.new
+        ensures { IfOk result (λ taken. advance_of taken self.new
             ≡ index_ended ground.entry.source.now self.old.stack frame item closing.Bracket end) }
     {
         let Index {
@@ -211,7 +211,7 @@ impl State {
         item: Ranged<Expr>,
         mark: Mark<Closing>,
     ) -> Result<Taken, AllocError>
-        ensures { IfOk result (λ taken. outcome_of taken self.new
+        ensures { IfOk result (λ taken. advance_of taken self.new
             ≡ index_ended ground.entry.source.now self.old.stack frame item mark.op mark.extent) }
     {
         match mark.op {
@@ -233,7 +233,7 @@ impl State {
         dot: Extent,
         field: Mark<Ident>,
     ) -> Result<Taken, AllocError>
-        ensures { IfOk result (λ taken. outcome_of taken self.new
+        ensures { IfOk result (λ taken. advance_of taken self.new
             ≡ field_read ground.entry.source.now self.old.stack self.old.levels operand dot
             (Some field.op) field.extent) }
     {
@@ -252,7 +252,7 @@ impl State {
         dot: Extent,
         token: Token<'_>,
     ) -> Result<Taken, AllocError>
-        ensures { IfOk result (λ taken. outcome_of taken self.new
+        ensures { IfOk result (λ taken. advance_of taken self.new
             ≡ field_read ground.entry.source.now self.old.stack self.old.levels operand dot
             (any_of token.entry.kind token.entry.text.now) (extent_of (lexeme_of token.entry))) }
     {

@@ -1,12 +1,12 @@
 //! Closes what is begun: a level is taken out of its slot, and becomes a tree with its last operand.
-ghost use Rattle.std.specs.Prelude.{◌≡◌, [], None, Some, IfOk, OnOk};
+ghost use Rattle.std.specs.Prelude.{◌≡◌, [], None, Some, IfOk, OnOk, IsTrue};
 ghost use Rattle.cedar_text.specs.machines.Closing.{unary_at, mult_at, add_at, relation_at, and_at, or_at, related, made_expr, branched, whole, levels_of};
 ghost use Rattle.cedar_syntax.specs.Trees.{if_of};
 ghost use Rattle.cedar_syntax.specs.Place.{join};
 ghost use Rattle.cedar_text.specs.machines.Closing.{ranged, node_of, made_common};
 ghost use Rattle.cedar_text.specs.declared.text_to_cst.expression.state.Left.TheVariants as left;
 
-use crate::stack::Stack;
+use crate::text_to_cst::expression::alone::{alone_add, alone_expr, alone_relation};
 use crate::text_to_cst::expression::chain::{close_pending, close_plain};
 use crate::text_to_cst::expression::state::{
     Branch, Chain, Left, Levels, Operand, Pending, Ranged,
@@ -18,6 +18,7 @@ use cedar_syntax::cst::{
 };
 use cedar_syntax::node::Node;
 use cedar_syntax::reading::extent::joined;
+use cedar_syntax::reading::stack::Stack;
 use std::alloc::AllocError;
 
 /// The operand with its signs and accesses.
@@ -232,6 +233,33 @@ fn close_branches(
 }
 
 impl Levels {
+    /// Whether no level of a sum is begun.
+    #[inline(always)]
+    fn has_no_sum(&self) -> bool
+        ensures { IsTrue result → (self.now.mult ≡ None) × (self.now.add ≡ None) }
+    {
+        self.mult.is_none() && self.add.is_none()
+    }
+
+    /// Whether no level of a relation is begun.
+    #[inline(always)]
+    fn has_no_relation(&self) -> bool
+        ensures sum { IsTrue result → (self.now.mult ≡ None) × (self.now.add ≡ None) }
+        ensures relation { IsTrue result → self.now.relation ≡ None }
+    {
+        self.relation.is_none() && self.has_no_sum()
+    }
+
+    /// Whether no level of an expression is begun, but for the `if`s around it.
+    #[inline(always)]
+    fn has_no_operator(&self) -> bool
+        ensures sum { IsTrue result → (self.now.mult ≡ None) × (self.now.add ≡ None) }
+        ensures relation { IsTrue result → self.now.relation ≡ None }
+        ensures chain { IsTrue result → (self.now.and ≡ None) × (self.now.or ≡ None) }
+    {
+        self.or.is_none() && self.and.is_none() && self.has_no_relation()
+    }
+
     /// The product that ends with the operand.
     #[inline(always)]
     pub fn close_mult(
@@ -270,6 +298,9 @@ impl Levels {
             (self.new ≡ levels_of self.old.branches self.old.or self.old.and self.old.relation
             None None) }
     {
+        if self.has_no_sum() {
+            return alone_add(ground, operand);
+        }
         let mult = self.close_mult(ground, operand)?;
         let Chain {
             initial,
@@ -313,6 +344,9 @@ impl Levels {
         ensures after { OnOk result
             (self.new ≡ levels_of self.old.branches self.old.or self.old.and None None None) }
     {
+        if self.has_no_relation() {
+            return alone_relation(ground, operand);
+        }
         let add = self.close_add(ground, operand)?;
         self.relate(ground, add)
     }
@@ -361,6 +395,24 @@ impl Levels {
         })
     }
 
+    /// The expression without `if` that ends with the operand.
+    fn close_expr(
+        &mut self,
+        ground: Ground<'_>,
+        operand: Operand,
+    ) -> Result<Ranged<Expr>, AllocError>
+        ensures closed { IfOk result (λ closed. closed
+            ≡ made_expr ground.entry.source.now (or_at ground.entry.source.now self.old operand)) }
+        ensures after { OnOk result
+            (self.new ≡ levels_of self.old.branches None None None None None) }
+    {
+        if self.has_no_operator() {
+            return alone_expr(ground, operand);
+        }
+        let or = self.close_or(ground, operand)?;
+        as_expr(ground, or)
+    }
+
     /// The whole expression that ends with the operand.
     pub fn close(
         &mut self,
@@ -371,8 +423,7 @@ impl Levels {
             ≡ whole ground.entry.source.now self.old operand) }
         ensures after { OnOk result (self.new ≡ levels_of [] None None None None None) }
     {
-        let or = self.close_or(ground, operand)?;
-        let item = as_expr(ground, or)?;
+        let item = self.close_expr(ground, operand)?;
         close_branches(ground, &mut self.branches, item)
     }
 }

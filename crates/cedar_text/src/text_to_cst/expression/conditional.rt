@@ -1,15 +1,15 @@
 //! `if`, `then` and `else`.
 ghost use Rattle.std.specs.Prelude.{◌≡◌, IfOk};
-ghost use Rattle.cedar_text.specs.declared.text_to_cst.expression.class.Closing.TheVariants as closing;
+ghost use Rattle.cedar_syntax.specs.declared.reading.class.Closing.TheVariants as closing;
 ghost use Rattle.cedar_text.specs.machines.Having.{guard_ended, branch_of, yes_ended};
-ghost use Rattle.cedar_text.specs.machines.Stepped.{outcome_of};
+ghost use Rattle.cedar_text.specs.machines.Stepped.{advance_of};
 
-use crate::text_to_cst::expression::class::Closing;
 use crate::text_to_cst::expression::state::{
     Branch, Frame, Guard, Mark, Place, Ranged, State, Taken, Yes,
 };
 use crate::text_to_cst::ground::Ground;
 use cedar_syntax::cst::Expr;
+use cedar_syntax::reading::class::Closing;
 use cedar_syntax::reading::extent::{Extent, joined};
 use std::alloc::AllocError;
 
@@ -22,7 +22,7 @@ impl State {
         item: Ranged<Expr>,
         word: Extent,
     ) -> Result<Taken, AllocError>
-        ensures { IfOk result (λ taken. outcome_of taken self.new
+        ensures { IfOk result (λ taken. advance_of taken self.new
             ≡ guard_ended ground.entry.source.now self.old.stack frame item closing.Then word) }
     {
         let Guard { branches, opened } = frame;
@@ -43,7 +43,7 @@ impl State {
         item: Ranged<Expr>,
         mark: Mark<Closing>,
     ) -> Result<Taken, AllocError>
-        ensures { IfOk result (λ taken. outcome_of taken self.new
+        ensures { IfOk result (λ taken. advance_of taken self.new
             ≡ guard_ended ground.entry.source.now self.old.stack frame item mark.op mark.extent) }
     {
         match mark.op {
@@ -65,7 +65,7 @@ impl State {
         item: Ranged<Expr>,
         word: Extent,
     ) -> Result<Taken, AllocError>
-        ensures { IfOk result (λ taken. outcome_of taken self.new
+        ensures { IfOk result (λ taken. advance_of taken self.new
             ≡ yes_ended ground.entry.source.now self.old.stack frame item closing.Else word) }
     {
         let Yes {
@@ -88,7 +88,7 @@ impl State {
         item: Ranged<Expr>,
         mark: Mark<Closing>,
     ) -> Result<Taken, AllocError>
-        ensures { IfOk result (λ taken. outcome_of taken self.new
+        ensures { IfOk result (λ taken. advance_of taken self.new
             ≡ yes_ended ground.entry.source.now self.old.stack frame item mark.op mark.extent) }
     {
         match mark.op {

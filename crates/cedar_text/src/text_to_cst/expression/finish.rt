@@ -7,7 +7,6 @@ ghost use Rattle.cedar_text.specs.machines.Expressions.{alone_of, name_at, if_at
 ghost use Rattle.cedar_text.specs.machines.Named.{named_words};
 ghost use Rattle.cedar_text.specs.machines.WordsAhead.{named_end};
 
-use crate::stack::Stack;
 use crate::text_to_cst::expression::begin::operand_of;
 use crate::text_to_cst::expression::literal::literal_at;
 use crate::text_to_cst::expression::state::{
@@ -20,6 +19,7 @@ use crate::text_to_cst::state::Words;
 use cedar_syntax::cst::{Add, Expr, Literal, Name, Primary};
 use cedar_syntax::node::Node;
 use cedar_syntax::reading::extent::Extent;
+use cedar_syntax::reading::stack::Stack;
 use std::alloc::AllocError;
 
 /// The word `if` at the end: an operand right of `has` alone.

@@ -5,15 +5,15 @@ ghost use Rattle.cedar_text.specs.declared.text_to_cst.expression.state.Reach.Th
 ghost use Rattle.cedar_text.specs.machines.Closing.{whole};
 ghost use Rattle.cedar_text.specs.machines.ExpressionStates.{alone_reach, edge, reach_of};
 ghost use Rattle.cedar_text.specs.machines.Having.{ended_by, had, having};
-ghost use Rattle.cedar_text.specs.machines.Stepped.{outcome_of};
+ghost use Rattle.cedar_text.specs.machines.Stepped.{advance_of};
 
-use crate::text_to_cst::expression::class::{Closing, Operator, as_operator};
 use crate::text_to_cst::expression::state::{
     Frame, Mark, Operand, Ranged, Reach, State, Taken, Wanted,
 };
 use crate::text_to_cst::ground::Ground;
 use cedar_lexer::token::Token;
 use cedar_syntax::cst::Expr;
+use cedar_syntax::reading::class::{Closing, Operator, as_operator};
 use cedar_syntax::reading::place::token_extent;
 use std::alloc::AllocError;
 
@@ -56,7 +56,7 @@ impl State {
         item: Ranged<Expr>,
         mark: Mark<Closing>,
     ) -> Result<Taken, AllocError>
-        ensures { IfOk result (λ taken. outcome_of taken self.new
+        ensures { IfOk result (λ taken. advance_of taken self.new
             ≡ ended_by ground.entry.source.now self.old.stack item mark.op mark.extent) }
     {
         match self.stack.pop() {
@@ -79,7 +79,7 @@ impl State {
         operand: Operand,
         mark: Mark<Closing>,
     ) -> Result<Taken, AllocError>
-        ensures { IfOk result (λ taken. outcome_of taken self.new
+        ensures { IfOk result (λ taken. advance_of taken self.new
             ≡ ended_by ground.entry.source.now self.old.stack
             (whole ground.entry.source.now self.old.levels operand) mark.op mark.extent) }
     {
@@ -95,7 +95,7 @@ impl State {
         reach: Reach,
         mark: Mark<Operator>,
     ) -> Result<Taken, AllocError>
-        ensures { IfOk result (λ taken. outcome_of taken self.new
+        ensures { IfOk result (λ taken. advance_of taken self.new
             ≡ had ground.entry.source.now self.old.stack self.old.levels operand reach mark.op
             mark.extent) }
     {
@@ -129,7 +129,7 @@ impl State {
         operand: Operand,
         token: Token<'_>,
     ) -> Result<Taken, AllocError>
-        ensures { IfOk result (λ taken. outcome_of taken self.new
+        ensures { IfOk result (λ taken. advance_of taken self.new
             ≡ having wanted ground.entry.source.now self.old.stack self.old.levels operand
             (lexeme_of token.entry)) }
     {

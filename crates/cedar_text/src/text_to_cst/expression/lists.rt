@@ -1,18 +1,18 @@
 //! What ends a list where an item may begin.
 ghost use Rattle.std.specs.Prelude.{◌≡◌, IfOk};
 ghost use Rattle.cedar_text.specs.machines.Wanting.{set_ends, call_ends, record_ends, items_ended, keys_ended, list_ended};
-ghost use Rattle.cedar_text.specs.machines.Stepped.{outcome_of};
+ghost use Rattle.cedar_text.specs.machines.Stepped.{advance_of};
 
-use crate::text_to_cst::expression::class::Closing;
 use crate::text_to_cst::expression::state::{Frame, Mark, Place, State, Taken};
 use crate::text_to_cst::ground::Ground;
+use cedar_syntax::reading::class::Closing;
 use cedar_syntax::reading::extent::Extent;
 use std::alloc::AllocError;
 
 impl State {
     /// `]` where an element may begin.
     fn end_elements(&mut self, ground: Ground<'_>, end: Extent) -> Result<Taken, AllocError>
-        ensures { IfOk result (λ taken. outcome_of taken self.new
+        ensures { IfOk result (λ taken. advance_of taken self.new
             ≡ set_ends ground.entry.source.now self.old.stack end) }
     {
         match self.stack.pop() {
@@ -23,7 +23,7 @@ impl State {
 
     /// `)` where an argument may begin.
     fn end_arguments(&mut self, ground: Ground<'_>, end: Extent) -> Result<Taken, AllocError>
-        ensures { IfOk result (λ taken. outcome_of taken self.new
+        ensures { IfOk result (λ taken. advance_of taken self.new
             ≡ call_ends ground.entry.source.now self.old.stack end) }
     {
         match self.stack.pop() {
@@ -34,7 +34,7 @@ impl State {
 
     /// `}` where a key may begin.
     fn end_pairs(&mut self, ground: Ground<'_>, end: Extent) -> Result<Taken, AllocError>
-        ensures { IfOk result (λ taken. outcome_of taken self.new
+        ensures { IfOk result (λ taken. advance_of taken self.new
             ≡ record_ends ground.entry.source.now self.old.stack end) }
     {
         match self.stack.pop() {
@@ -45,7 +45,7 @@ impl State {
 
     /// What ends a list of expressions.
     fn end_items(&mut self, ground: Ground<'_>, mark: Mark<Closing>) -> Result<Taken, AllocError>
-        ensures { IfOk result (λ taken. outcome_of taken self.new
+        ensures { IfOk result (λ taken. advance_of taken self.new
             ≡ items_ended ground.entry.source.now self.old.stack mark.op mark.extent) }
     {
         match mark.op {
@@ -59,7 +59,7 @@ impl State {
 
     /// What ends a record.
     fn end_keys(&mut self, ground: Ground<'_>, mark: Mark<Closing>) -> Result<Taken, AllocError>
-        ensures { IfOk result (λ taken. outcome_of taken self.new
+        ensures { IfOk result (λ taken. advance_of taken self.new
             ≡ keys_ended ground.entry.source.now self.old.stack mark.op mark.extent) }
     {
         match mark.op {
@@ -80,7 +80,7 @@ impl State {
         place: Place,
         mark: Mark<Closing>,
     ) -> Result<Taken, AllocError>
-        ensures { IfOk result (λ taken. outcome_of taken self.new
+        ensures { IfOk result (λ taken. advance_of taken self.new
             ≡ list_ended ground.entry.source.now self.old.stack place mark.op mark.extent) }
     {
         match place {

@@ -4,13 +4,13 @@ ghost use Rattle.cedar_lexer.specs.declared.token.TokenKind.TheVariants as kind;
 ghost use Rattle.cedar_syntax.specs.WrittenTokens.{Written};
 ghost use Rattle.cedar_text.specs.machines.Wanting.{literal_at, string_at, slot_of, slot_at};
 
-use crate::text_to_cst::expression::class::SlotToken;
 use crate::text_to_cst::expression::state::Ranged;
 use crate::text_to_cst::ground::Ground;
-use crate::text_to_cst::literal::between_quotes;
 use cedar_expressions::Text;
 use cedar_syntax::cst::{Literal, Primary, Slot, Str};
+use cedar_syntax::reading::class::SlotToken;
 use cedar_syntax::reading::extent::Extent;
+use cedar_syntax::reading::literal::between_quotes;
 use std::alloc::{AllocError, Global};
 
 /// A literal as an operand.

@@ -1,10 +1,10 @@
 //! An operator behind an operand: it closes the levels that bind tighter, and goes on the level that is its own.
 ghost use Rattle.std.specs.Prelude.{◌≡◌, Some, None, OnOk, IfOk};
-ghost use Rattle.cedar_text.specs.machines.Outcome as outcome;
+ghost use Rattle.cedar_text.specs.machines.Advance as advance;
 ghost use Rattle.cedar_text.specs.declared.text_to_cst.expression.state.Reach.TheVariants as reach;
 ghost use Rattle.cedar_text.specs.machines.Closing.{marked, linked, unary_at, mult_at, add_at, relation_at, and_at, onward, pending};
 ghost use Rattle.cedar_text.specs.machines.Having.{multiplied, summed, conjoined, disjoined, multiply_had, sum_had, and_had, or_had};
-ghost use Rattle.cedar_text.specs.machines.Stepped.{outcome_of};
+ghost use Rattle.cedar_text.specs.machines.Stepped.{advance_of};
 
 use crate::text_to_cst::expression::begin::want_at;
 use crate::text_to_cst::expression::chain::{push_pending, push_plain};
@@ -24,8 +24,8 @@ impl State {
         operand: Operand,
         mark: Mark<MultOp>,
     ) -> Result<Taken, AllocError>
-        ensures { IfOk result (λ taken. outcome_of taken self.new
-            ≡ outcome.next (multiplied ground.entry.source.now self.old.stack self.old.levels
+        ensures { IfOk result (λ taken. advance_of taken self.new
+            ≡ advance.next (multiplied ground.entry.source.now self.old.stack self.old.levels
             operand mark.op mark.extent)) }
     {
         let unary = close_unary(ground, operand)?;
@@ -41,8 +41,8 @@ impl State {
         operand: Operand,
         mark: Mark<AddOp>,
     ) -> Result<Taken, AllocError>
-        ensures { IfOk result (λ taken. outcome_of taken self.new
-            ≡ outcome.next (summed ground.entry.source.now self.old.stack self.old.levels operand
+        ensures { IfOk result (λ taken. advance_of taken self.new
+            ≡ advance.next (summed ground.entry.source.now self.old.stack self.old.levels operand
             mark.op mark.extent)) }
     {
         let mult = self.levels.close_mult(ground, operand)?;
@@ -58,8 +58,8 @@ impl State {
         operand: Operand,
         operator: Extent,
     ) -> Result<Taken, AllocError>
-        ensures { IfOk result (λ taken. outcome_of taken self.new
-            ≡ outcome.next (conjoined ground.entry.source.now self.old.stack self.old.levels
+        ensures { IfOk result (λ taken. advance_of taken self.new
+            ≡ advance.next (conjoined ground.entry.source.now self.old.stack self.old.levels
             operand operator)) }
     {
         let relation = self.levels.close_relation(ground, operand)?;
@@ -75,8 +75,8 @@ impl State {
         operand: Operand,
         operator: Extent,
     ) -> Result<Taken, AllocError>
-        ensures { IfOk result (λ taken. outcome_of taken self.new
-            ≡ outcome.next (disjoined ground.entry.source.now self.old.stack self.old.levels
+        ensures { IfOk result (λ taken. advance_of taken self.new
+            ≡ advance.next (disjoined ground.entry.source.now self.old.stack self.old.levels
             operand operator)) }
     {
         let and = self.levels.close_and(ground, operand)?;
@@ -93,7 +93,7 @@ impl State {
         reach: Reach,
         mark: Mark<MultOp>,
     ) -> Result<Taken, AllocError>
-        ensures { IfOk result (λ taken. outcome_of taken self.new
+        ensures { IfOk result (λ taken. advance_of taken self.new
             ≡ multiply_had ground.entry.source.now self.old.stack self.old.levels operand reach
             mark.op mark.extent) }
     {
@@ -111,7 +111,7 @@ impl State {
         reach: Reach,
         mark: Mark<AddOp>,
     ) -> Result<Taken, AllocError>
-        ensures { IfOk result (λ taken. outcome_of taken self.new
+        ensures { IfOk result (λ taken. advance_of taken self.new
             ≡ sum_had ground.entry.source.now self.old.stack self.old.levels operand reach mark.op
             mark.extent) }
     {
@@ -129,7 +129,7 @@ impl State {
         reach: Reach,
         operator: Extent,
     ) -> Result<Taken, AllocError>
-        ensures { IfOk result (λ taken. outcome_of taken self.new
+        ensures { IfOk result (λ taken. advance_of taken self.new
             ≡ and_had ground.entry.source.now self.old.stack self.old.levels operand reach
             operator) }
     {
@@ -147,7 +147,7 @@ impl State {
         reach: Reach,
         operator: Extent,
     ) -> Result<Taken, AllocError>
-        ensures { IfOk result (λ taken. outcome_of taken self.new
+        ensures { IfOk result (λ taken. advance_of taken self.new
             ≡ or_had ground.entry.source.now self.old.stack self.old.levels operand reach
             operator) }
     {

@@ -1,23 +1,23 @@
 //! An expression in parentheses.
 ghost use Rattle.std.specs.Prelude.{◌≡◌, IfOk};
-ghost use Rattle.cedar_text.specs.declared.text_to_cst.expression.class.Closing.TheVariants as closing;
-ghost use Rattle.cedar_text.specs.machines.Outcome as outcome;
+ghost use Rattle.cedar_syntax.specs.declared.reading.class.Closing.TheVariants as closing;
+ghost use Rattle.cedar_text.specs.machines.Advance as advance;
 ghost use Rattle.cedar_text.specs.machines.Closing.{ranged, node_of};
 ghost use Rattle.cedar_text.specs.machines.ExpressionStates.{around};
 ghost use Rattle.cedar_text.specs.machines.Wanting.{paren_opened};
 ghost use Rattle.cedar_text.specs.machines.Having.{paren_ended};
-ghost use Rattle.cedar_text.specs.machines.Stepped.{outcome_of};
+ghost use Rattle.cedar_text.specs.machines.Stepped.{advance_of};
 
-use crate::stack::Stack;
 use crate::text_to_cst::expression::begin::fresh_levels;
-use crate::text_to_cst::expression::class::Closing;
 use crate::text_to_cst::expression::state::{
     Frame, Mark, Paren, Place, Ranged, Signs, State, Taken,
 };
 use crate::text_to_cst::ground::Ground;
 use crate::text_to_cst::reader::put;
 use cedar_syntax::cst::{Expr, Primary};
+use cedar_syntax::reading::class::Closing;
 use cedar_syntax::reading::extent::{Extent, joined};
+use cedar_syntax::reading::stack::Stack;
 use std::alloc::{AllocError, Global};
 use std::mem;
 
@@ -36,8 +36,8 @@ impl State {
         signs: Signs,
         opened: Extent,
     ) -> Result<Taken, AllocError>
-        ensures { IfOk result (λ taken. outcome_of taken self.new
-            ≡ outcome.next (paren_opened self.old.stack self.old.levels signs opened)) }
+        ensures { IfOk result (λ taken. advance_of taken self.new
+            ≡ advance.next (paren_opened self.old.stack self.old.levels signs opened)) }
     {
         let outer = mem::replace(&mut self.levels, fresh_levels(Stack::new(alloc)));
         let frame = Paren {
@@ -56,7 +56,7 @@ impl State {
         item: Ranged<Expr>,
         end: Extent,
     ) -> Result<Taken, AllocError>
-        ensures { IfOk result (λ taken. outcome_of taken self.new
+        ensures { IfOk result (λ taken. advance_of taken self.new
             ≡ paren_ended ground.entry.source.now self.old.stack frame item closing.Paren end) }
     {
         let Paren {
@@ -78,7 +78,7 @@ impl State {
         item: Ranged<Expr>,
         mark: Mark<Closing>,
     ) -> Result<Taken, AllocError>
-        ensures { IfOk result (λ taken. outcome_of taken self.new
+        ensures { IfOk result (λ taken. advance_of taken self.new
             ≡ paren_ended ground.entry.source.now self.old.stack frame item mark.op mark.extent) }
     {
         match mark.op {

@@ -1,14 +1,12 @@
 //! A record in braces: keys and values.
 ghost use Rattle.std.specs.Prelude.{◌≡◌, IfOk};
-ghost use Rattle.cedar_text.specs.declared.text_to_cst.expression.class.Closing.TheVariants as closing;
-ghost use Rattle.cedar_text.specs.machines.Outcome as outcome;
+ghost use Rattle.cedar_syntax.specs.declared.reading.class.Closing.TheVariants as closing;
+ghost use Rattle.cedar_text.specs.machines.Advance as advance;
 ghost use Rattle.cedar_text.specs.machines.Wanting.{record_opened, record_closed};
 ghost use Rattle.cedar_text.specs.machines.Having.{value_begun, key_ended, record_more, value_ended};
-ghost use Rattle.cedar_text.specs.machines.Stepped.{outcome_of};
+ghost use Rattle.cedar_text.specs.machines.Stepped.{advance_of};
 
-use crate::stack::Stack;
 use crate::text_to_cst::expression::begin::fresh_levels;
-use crate::text_to_cst::expression::class::Closing;
 use crate::text_to_cst::expression::paren::around;
 use crate::text_to_cst::expression::state::{
     Frame, Mark, Place, Ranged, Record, Signs, State, Taken, Value,
@@ -18,7 +16,9 @@ use crate::text_to_cst::reader::put;
 use cedar_expressions::Items;
 use cedar_syntax::cst::{Expr, Primary, RecInit};
 use cedar_syntax::node::Node;
+use cedar_syntax::reading::class::Closing;
 use cedar_syntax::reading::extent::{Extent, joined};
+use cedar_syntax::reading::stack::Stack;
 use std::alloc::{AllocError, Global};
 use std::mem;
 
@@ -47,8 +47,8 @@ impl State {
         signs: Signs,
         opened: Extent,
     ) -> Result<Taken, AllocError>
-        ensures { IfOk result (λ taken. outcome_of taken self.new
-            ≡ outcome.next (record_opened self.old.stack self.old.levels signs opened)) }
+        ensures { IfOk result (λ taken. advance_of taken self.new
+            ≡ advance.next (record_opened self.old.stack self.old.levels signs opened)) }
     {
         let outer = mem::replace(&mut self.levels, fresh_levels(Stack::new(alloc)));
         let frame = Record {
@@ -67,8 +67,8 @@ impl State {
         frame: Record,
         end: Extent,
     ) -> Result<Taken, AllocError>
-        ensures { IfOk result (λ taken. outcome_of taken self.new
-            ≡ outcome.next (record_closed ground.entry.source.now self.old.stack frame end)) }
+        ensures { IfOk result (λ taken. advance_of taken self.new
+            ≡ advance.next (record_closed ground.entry.source.now self.old.stack frame end)) }
     {
         let Record {
             outer,
@@ -90,8 +90,8 @@ impl State {
         key: Ranged<Node<Option<Expr>>>,
         colon: Extent,
     ) -> Result<Taken, AllocError>
-        ensures { IfOk result (λ taken. outcome_of taken self.new
-            ≡ outcome.next (value_begun self.old.stack pairs key.tree key.extent colon)) }
+        ensures { IfOk result (λ taken. advance_of taken self.new
+            ≡ advance.next (value_begun self.old.stack pairs key.tree key.extent colon)) }
     {
         let extent = joined(key.extent, Some(colon));
         let frame = Value {
@@ -110,7 +110,7 @@ impl State {
         item: Ranged<Expr>,
         colon: Extent,
     ) -> Result<Taken, AllocError>
-        ensures { IfOk result (λ taken. outcome_of taken self.new
+        ensures { IfOk result (λ taken. advance_of taken self.new
             ≡ key_ended ground.entry.source.now self.old.stack frame item closing.Colon colon) }
     {
         let extent = item.extent;
@@ -126,7 +126,7 @@ impl State {
         item: Ranged<Expr>,
         mark: Mark<Closing>,
     ) -> Result<Taken, AllocError>
-        ensures { IfOk result (λ taken. outcome_of taken self.new
+        ensures { IfOk result (λ taken. advance_of taken self.new
             ≡ key_ended ground.entry.source.now self.old.stack frame item mark.op mark.extent) }
     {
         match mark.op {
@@ -148,7 +148,7 @@ impl State {
         item: Ranged<Expr>,
         mark: Mark<Closing>,
     ) -> Result<Taken, AllocError>
-        ensures { IfOk result (λ taken. outcome_of taken self.new
+        ensures { IfOk result (λ taken. advance_of taken self.new
             ≡ value_ended ground.entry.source.now self.old.stack frame item mark.op mark.extent) }
     {
         match mark.op {

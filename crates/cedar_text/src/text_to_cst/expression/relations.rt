@@ -2,14 +2,13 @@
 ghost use Rattle.std.specs.Prelude.{◌≡◌, Some, None, OnOk, IfOk};
 ghost use Rattle.cedar_syntax.specs.declared.cst.RelOp.TheVariants as rel;
 ghost use Rattle.cedar_text.specs.declared.text_to_cst.expression.state.Left.TheVariants as left;
-ghost use Rattle.cedar_text.specs.machines.Outcome as outcome;
+ghost use Rattle.cedar_text.specs.machines.Advance as advance;
 ghost use Rattle.cedar_text.specs.machines.Closing.{add_at};
 ghost use Rattle.cedar_text.specs.machines.Having.{left_begun, before, is_within, compared, side_of, side_place, sided, compare_had, side_had};
-ghost use Rattle.cedar_text.specs.machines.Stepped.{outcome_of};
+ghost use Rattle.cedar_text.specs.machines.Stepped.{advance_of};
 
 use crate::text_to_cst::expression::begin::want_at;
 use crate::text_to_cst::expression::chain::begin_pending;
-use crate::text_to_cst::expression::class::Side;
 use crate::text_to_cst::expression::state::{
     Left, Mark, Operand, Pending, Place, Ranged, Reach, State, Taken,
 };
@@ -18,6 +17,7 @@ use crate::text_to_cst::reader::put;
 use cedar_expressions::Boxed;
 use cedar_syntax::cst::{Add, RelOp};
 use cedar_syntax::node::Node;
+use cedar_syntax::reading::class::Side;
 use cedar_syntax::reading::extent::{Extent, joined};
 use std::alloc::{AllocError, Global};
 
@@ -61,8 +61,8 @@ fn side_place(side: Side) -> Place
 impl State {
     /// The right side begins.
     fn begin_right(&mut self, alloc: Global, left: Left, place: Place) -> Result<Taken, AllocError>
-        ensures { IfOk result (λ taken. outcome_of taken self.new
-            ≡ outcome.next (left_begun self.old.stack self.old.levels left place)) }
+        ensures { IfOk result (λ taken. advance_of taken self.new
+            ≡ advance.next (left_begun self.old.stack self.old.levels left place)) }
     {
         let left = Boxed::new(alloc, left)?;
         put(&mut self.levels.relation, Some(left));
@@ -80,7 +80,7 @@ impl State {
         item: Ranged<Add>,
         mark: Mark<RelOp>,
     ) -> Result<Taken, AllocError>
-        ensures { IfOk result (λ taken. outcome_of taken self.new
+        ensures { IfOk result (λ taken. advance_of taken self.new
             ≡ compared ground.entry.source.now self.old.stack self.old.levels
             (Some (left.Common begun)) item mark.op mark.extent) }
     {
@@ -96,7 +96,7 @@ impl State {
         item: Ranged<Add>,
         mark: Mark<RelOp>,
     ) -> Result<Taken, AllocError>
-        ensures { IfOk result (λ taken. outcome_of taken self.new
+        ensures { IfOk result (λ taken. advance_of taken self.new
             ≡ compared ground.entry.source.now self.old.stack self.old.levels None item mark.op
             mark.extent) }
     {
@@ -112,7 +112,7 @@ impl State {
         item: Ranged<Add>,
         word: Extent,
     ) -> Result<Taken, AllocError>
-        ensures { IfOk result (λ taken. outcome_of taken self.new
+        ensures { IfOk result (λ taken. advance_of taken self.new
             ≡ is_within ground.entry.source.now self.old.stack self.old.levels left item rel.In
             word) }
     {
@@ -138,7 +138,7 @@ impl State {
         item: Ranged<Add>,
         mark: Mark<RelOp>,
     ) -> Result<Taken, AllocError>
-        ensures { IfOk result (λ taken. outcome_of taken self.new
+        ensures { IfOk result (λ taken. advance_of taken self.new
             ≡ is_within ground.entry.source.now self.old.stack self.old.levels left item mark.op
             mark.extent) }
     {
@@ -162,7 +162,7 @@ impl State {
         item: Ranged<Add>,
         mark: Mark<RelOp>,
     ) -> Result<Taken, AllocError>
-        ensures { IfOk result (λ taken. outcome_of taken self.new
+        ensures { IfOk result (λ taken. advance_of taken self.new
             ≡ compared ground.entry.source.now self.old.stack self.old.levels
             (Some begun) item mark.op mark.extent) }
     {
@@ -180,7 +180,7 @@ impl State {
         operand: Operand,
         mark: Mark<RelOp>,
     ) -> Result<Taken, AllocError>
-        ensures { IfOk result (λ taken. outcome_of taken self.new
+        ensures { IfOk result (λ taken. advance_of taken self.new
             ≡ compared ground.entry.source.now self.old.stack self.old.levels
             self.old.levels.relation
             (add_at ground.entry.source.now self.old.levels operand) mark.op mark.extent) }
@@ -199,7 +199,7 @@ impl State {
         operand: Operand,
         mark: Mark<Side>,
     ) -> Result<Taken, AllocError>
-        ensures { IfOk result (λ taken. outcome_of taken self.new
+        ensures { IfOk result (λ taken. advance_of taken self.new
             ≡ sided ground.entry.source.now self.old.stack self.old.levels
             self.old.levels.relation
             (add_at ground.entry.source.now self.old.levels operand) mark.op mark.extent) }
@@ -217,7 +217,7 @@ impl State {
         operand: Operand,
         mark: Mark<Side>,
     ) -> Result<Taken, AllocError>
-        ensures { IfOk result (λ taken. outcome_of taken self.new
+        ensures { IfOk result (λ taken. advance_of taken self.new
             ≡ sided ground.entry.source.now self.old.stack self.old.levels None
             (add_at ground.entry.source.now self.old.levels operand) mark.op mark.extent) }
     {
@@ -234,7 +234,7 @@ impl State {
         reach: Reach,
         mark: Mark<RelOp>,
     ) -> Result<Taken, AllocError>
-        ensures { IfOk result (λ taken. outcome_of taken self.new
+        ensures { IfOk result (λ taken. advance_of taken self.new
             ≡ compare_had ground.entry.source.now self.old.stack self.old.levels operand reach
             mark.op mark.extent) }
     {
@@ -252,7 +252,7 @@ impl State {
         reach: Reach,
         mark: Mark<Side>,
     ) -> Result<Taken, AllocError>
-        ensures { IfOk result (λ taken. outcome_of taken self.new
+        ensures { IfOk result (λ taken. advance_of taken self.new
             ≡ side_had ground.entry.source.now self.old.stack self.old.levels operand reach
             mark.op mark.extent) }
     {

@@ -1,21 +1,21 @@
 //! A set in brackets.
 ghost use Rattle.std.specs.Prelude.{◌≡◌, IfOk};
-ghost use Rattle.cedar_text.specs.declared.text_to_cst.expression.class.Closing.TheVariants as closing;
-ghost use Rattle.cedar_text.specs.machines.Outcome as outcome;
+ghost use Rattle.cedar_syntax.specs.declared.reading.class.Closing.TheVariants as closing;
+ghost use Rattle.cedar_text.specs.machines.Advance as advance;
 ghost use Rattle.cedar_text.specs.machines.Wanting.{set_opened, set_closed};
 ghost use Rattle.cedar_text.specs.machines.Having.{set_more, set_ended};
-ghost use Rattle.cedar_text.specs.machines.Stepped.{outcome_of};
+ghost use Rattle.cedar_text.specs.machines.Stepped.{advance_of};
 
-use crate::stack::Stack;
 use crate::text_to_cst::expression::begin::fresh_levels;
-use crate::text_to_cst::expression::class::Closing;
 use crate::text_to_cst::expression::paren::around;
 use crate::text_to_cst::expression::state::{Frame, Mark, Place, Ranged, Set, Signs, State, Taken};
 use crate::text_to_cst::ground::Ground;
 use crate::text_to_cst::reader::put;
 use cedar_expressions::Items;
 use cedar_syntax::cst::{Expr, Primary};
+use cedar_syntax::reading::class::Closing;
 use cedar_syntax::reading::extent::Extent;
+use cedar_syntax::reading::stack::Stack;
 use std::alloc::{AllocError, Global};
 use std::mem;
 
@@ -38,8 +38,8 @@ impl State {
         signs: Signs,
         opened: Extent,
     ) -> Result<Taken, AllocError>
-        ensures { IfOk result (λ taken. outcome_of taken self.new
-            ≡ outcome.next (set_opened self.old.stack self.old.levels signs opened)) }
+        ensures { IfOk result (λ taken. advance_of taken self.new
+            ≡ advance.next (set_opened self.old.stack self.old.levels signs opened)) }
     {
         let outer = mem::replace(&mut self.levels, fresh_levels(Stack::new(alloc)));
         let frame = Set {
@@ -58,8 +58,8 @@ impl State {
         frame: Set,
         end: Extent,
     ) -> Result<Taken, AllocError>
-        ensures { IfOk result (λ taken. outcome_of taken self.new
-            ≡ outcome.next (set_closed ground.entry.source.now self.old.stack frame end)) }
+        ensures { IfOk result (λ taken. advance_of taken self.new
+            ≡ advance.next (set_closed ground.entry.source.now self.old.stack frame end)) }
     {
         let Set {
             outer,
@@ -81,7 +81,7 @@ impl State {
         item: Ranged<Expr>,
         mark: Mark<Closing>,
     ) -> Result<Taken, AllocError>
-        ensures { IfOk result (λ taken. outcome_of taken self.new
+        ensures { IfOk result (λ taken. advance_of taken self.new
             ≡ set_ended ground.entry.source.now self.old.stack frame item mark.op mark.extent) }
     {
         match mark.op {

@@ -1,18 +1,19 @@
 //! Signs before an operand.
 ghost use Rattle.std.specs.Prelude.{◌≡◌};
-ghost use Rattle.cedar_text.specs.machines.Wanting.{signed, after_signs, sign_read};
-ghost use Rattle.cedar_text.specs.machines.Stepped.{outcome_of};
+ghost use Rattle.cedar_syntax.specs.machines.Classes.{signed};
+ghost use Rattle.cedar_text.specs.machines.Wanting.{after_signs, sign_read};
+ghost use Rattle.cedar_text.specs.machines.Stepped.{advance_of};
 
-use crate::text_to_cst::expression::class::{Sign, signed};
 use crate::text_to_cst::expression::state::{Gap, Mode, Place, Signs, State, Taken};
 use crate::text_to_cst::reader::put;
 use cedar_syntax::cst::NegOp;
+use cedar_syntax::reading::class::{Sign, signed};
 use cedar_syntax::reading::extent::{Extent, joined};
 
 impl State {
     /// Behind signs that begin here.
     fn want_signed(&mut self, before: Option<Extent>, op: Option<NegOp>, extent: Extent) -> Taken
-        ensures { outcome_of result self.new
+        ensures { advance_of result self.new
             ≡ after_signs self.old.stack self.old.levels before op extent }
     {
         match op {
@@ -32,7 +33,7 @@ impl State {
 
     /// One sign more.
     pub fn read_sign(&mut self, gap: Gap, sign: Sign, extent: Extent) -> Taken
-        ensures { outcome_of result self.new
+        ensures { advance_of result self.new
             ≡ sign_read self.old.stack self.old.levels gap.place gap.signs sign extent }
     {
         match gap.place {

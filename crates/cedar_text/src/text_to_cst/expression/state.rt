@@ -3,7 +3,6 @@
 ghost use Rattle.std.specs.Prelude.{◌≡◌};
 ghost use Rattle.cedar_text.specs.declared.text_to_cst.expression.state.Taken.TheVariants as taken;
 
-use crate::stack::Stack;
 use crate::text_to_cst::state::WordsState;
 use cedar_expressions::{Boxed, Items};
 use cedar_syntax::cst::{
@@ -11,6 +10,7 @@ use cedar_syntax::cst::{
 };
 use cedar_syntax::node::Node;
 use cedar_syntax::reading::extent::Extent;
+use cedar_syntax::reading::stack::Stack;
 
 /// A tree that isn't a node yet, and the bytes of its tokens.
 #[derive(Drop)]

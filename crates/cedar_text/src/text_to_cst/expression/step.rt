@@ -4,7 +4,7 @@ ghost use Rattle.cedar_lexer.specs.Token.{lexeme_of};
 ghost use Rattle.cedar_syntax.specs.WrittenTokens.{IsWritten};
 ghost use Rattle.cedar_text.specs.machines.Expressions.{stepped, step_of};
 ghost use Rattle.cedar_text.specs.machines.Named.{named_words};
-ghost use Rattle.cedar_text.specs.machines.Stepped.{outcome_of};
+ghost use Rattle.cedar_text.specs.machines.Stepped.{advance_of};
 
 use crate::text_to_cst::expression::begin::want_at;
 use crate::text_to_cst::expression::state::{Gap, Mode, Place, State, Taken, Wanted};
@@ -23,7 +23,7 @@ impl State {
         ahead: Ahead<'_>,
     ) -> Result<Taken, AllocError>
         requires { IsWritten (lexeme_of ahead.token) }
-        ensures { IfOk result (λ taken. outcome_of taken self.new
+        ensures { IfOk result (λ taken. advance_of taken self.new
             ≡ stepped ahead.entry.wanted ground.entry.source.now
             (named_words ground.entry.source.now) self.old.stack self.old.levels mode
             (lexeme_of ahead.entry.token)) }
@@ -49,7 +49,7 @@ impl State {
         token: Token<'_>,
     ) -> Result<Taken, AllocError>
         requires { IsWritten (lexeme_of token) }
-        ensures { IfOk result (λ taken. outcome_of taken self.new
+        ensures { IfOk result (λ taken. advance_of taken self.new
             ≡ step_of wanted ground.entry.source.now
             (named_words ground.entry.source.now) self.old (lexeme_of token.entry)) }
     {

@@ -2,17 +2,16 @@
 ghost use Rattle.std.specs.Prelude.{◌≡◌, Some, IfOk};
 ghost use Rattle.cedar_lexer.specs.Token.{lexeme_of};
 ghost use Rattle.cedar_syntax.specs.declared.cst.Literal.TheVariants as literal;
-ghost use Rattle.cedar_text.specs.machines.Begins.{IsBeginningOf};
+ghost use Rattle.cedar_syntax.specs.machines.Begins.{IsBeginningOf};
 ghost use Rattle.cedar_syntax.specs.Place.{extent_of};
 ghost use Rattle.cedar_lexer.specs.declared.token.TokenKind.TheVariants as kind;
 ghost use Rattle.cedar_syntax.specs.WrittenTokens.{IsWritten, Written};
-ghost use Rattle.cedar_text.specs.machines.Outcome as outcome;
+ghost use Rattle.cedar_text.specs.machines.Advance as advance;
 ghost use Rattle.cedar_text.specs.machines.ExpressionStates.{has_primary};
 ghost use Rattle.cedar_text.specs.machines.Wanting.{literal_at, string_at, slot_at, slot_of, word_begun, wanted_as, wanting};
 ghost use Rattle.cedar_text.specs.machines.Named.{named_words};
-ghost use Rattle.cedar_text.specs.machines.Stepped.{outcome_of};
+ghost use Rattle.cedar_text.specs.machines.Stepped.{advance_of};
 
-use crate::text_to_cst::expression::class::{Beginning, SlotToken, as_beginning};
 use crate::text_to_cst::expression::literal::{literal_at, slot_at, string_at};
 use crate::text_to_cst::expression::state::{Gap, Mark, Mode, Signs, State, Taken};
 use crate::text_to_cst::expression::words;
@@ -20,6 +19,7 @@ use crate::text_to_cst::ground::Ground;
 use crate::text_to_cst::reader::put;
 use cedar_lexer::token::Token;
 use cedar_syntax::cst::Literal;
+use cedar_syntax::reading::class::{Beginning, SlotToken, as_beginning};
 use cedar_syntax::reading::place::token_extent;
 use cedar_syntax::reading::taken::Taken as Given;
 use std::alloc::AllocError;
@@ -33,7 +33,7 @@ impl State {
         token: Token<'_>,
     ) -> Result<Taken, AllocError>
         requires { IsWritten (lexeme_of token) }
-        ensures { IfOk result (λ taken. outcome_of taken self.new
+        ensures { IfOk result (λ taken. advance_of taken self.new
             ≡ word_begun self.old.stack self.old.levels gap.place gap.signs
             ((named_words ground.entry.source.now).step
             (named_words ground.entry.source.now).start (lexeme_of token.entry))) }
@@ -67,8 +67,8 @@ impl State {
         number: u64,
         token: Token<'_>,
     ) -> Result<Taken, AllocError>
-        ensures { IfOk result (λ taken. outcome_of taken self.new
-            ≡ outcome.next (has_primary ground.entry.source.now self.old.stack self.old.levels
+        ensures { IfOk result (λ taken. advance_of taken self.new
+            ≡ advance.next (has_primary ground.entry.source.now self.old.stack self.old.levels
             signs (literal_at ground.entry.source.now (Some (extent_of (lexeme_of token.entry)))
             (literal.Num number)))) }
     {
@@ -85,8 +85,8 @@ impl State {
         token: Token<'_>,
     ) -> Result<Taken, AllocError>
         requires { Written kind.StringLit token.text.now }
-        ensures { IfOk result (λ taken. outcome_of taken self.new
-            ≡ outcome.next (has_primary ground.entry.source.now self.old.stack self.old.levels
+        ensures { IfOk result (λ taken. advance_of taken self.new
+            ≡ advance.next (has_primary ground.entry.source.now self.old.stack self.old.levels
             signs (string_at ground.entry.source.now (Some
             (extent_of (lexeme_of token.entry))) token.entry.text.now))) }
     {
@@ -102,8 +102,8 @@ impl State {
         slot: SlotToken,
         token: Token<'_>,
     ) -> Result<Taken, AllocError>
-        ensures { IfOk result (λ taken. outcome_of taken self.new
-            ≡ outcome.next (has_primary ground.entry.source.now self.old.stack self.old.levels
+        ensures { IfOk result (λ taken. advance_of taken self.new
+            ≡ advance.next (has_primary ground.entry.source.now self.old.stack self.old.levels
             signs (slot_at ground.entry.source.now (Some (extent_of (lexeme_of token.entry)))
             (slot_of slot token.entry.text.now)))) }
     {
@@ -121,7 +121,7 @@ impl State {
     ) -> Result<Taken, AllocError>
         requires written { IsWritten (lexeme_of token) }
         requires text { IsBeginningOf class token.text.now }
-        ensures { IfOk result (λ taken. outcome_of taken self.new
+        ensures { IfOk result (λ taken. advance_of taken self.new
             ≡ wanted_as ground.entry.source.now self.old.stack self.old.levels gap.place gap.signs
             class ((named_words ground.entry.source.now).step
             (named_words ground.entry.source.now).start (lexeme_of token.entry))
@@ -151,7 +151,7 @@ impl State {
         token: Token<'_>,
     ) -> Result<Taken, AllocError>
         requires { IsWritten (lexeme_of token) }
-        ensures { IfOk result (λ taken. outcome_of taken self.new
+        ensures { IfOk result (λ taken. advance_of taken self.new
             ≡ wanting ground.entry.source.now
             (named_words ground.entry.source.now) self.old.stack self.old.levels gap.place
             gap.signs (lexeme_of token.entry)) }

@@ -13,7 +13,6 @@ ghost use Rattle.cedar_text.specs.machines.WordShapes.{words_shape};
 ghost use Rattle.cedar_text.specs.machines.ExpressionShapes.{shape_of};
 ghost use Rattle.cedar_text.specs.machines.Whole.{start_place, shapes_by, outcome_as};
 
-use crate::stack::Stack;
 use crate::text_to_cst::expression::begin::{fresh_levels, want_at};
 use crate::text_to_cst::expression::state::{Place, State, Taken, Wanted};
 use crate::text_to_cst::ground::Ground;
@@ -21,6 +20,7 @@ use cedar_expressions::Source;
 use cedar_lexer::token::{Token, TokenKind};
 use cedar_syntax::cst::{Add, Expr, Primary};
 use cedar_syntax::node::Node;
+use cedar_syntax::reading::stack::Stack;
 use std::alloc::{AllocError, Global};
 
 /// Where the first operand is wanted.

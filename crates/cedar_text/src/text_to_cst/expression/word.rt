@@ -5,17 +5,15 @@ ghost use Rattle.cedar_syntax.specs.declared.cst.Literal.TheVariants as literal;
 ghost use Rattle.cedar_syntax.specs.declared.cst.Primary.TheVariants as primary;
 ghost use Rattle.cedar_syntax.specs.Place.{extent_of};
 ghost use Rattle.cedar_syntax.specs.WrittenTokens.{IsWritten};
-ghost use Rattle.cedar_text.specs.declared.text_to_cst.expression.class.Operator.TheVariants as operator;
+ghost use Rattle.cedar_syntax.specs.declared.reading.class.Operator.TheVariants as operator;
 ghost use Rattle.cedar_text.specs.machines.Closing.{ranged, node_of, no_signs, operand_of, if_primary, if_operand, if_key};
 ghost use Rattle.cedar_text.specs.machines.Wanting.{literal_at};
 ghost use Rattle.cedar_text.specs.machines.Having.{having};
 ghost use Rattle.cedar_text.specs.machines.Expressions.{name_at, word_alone, alone_of, guard_begun, if_key_read, key_or_guard, if_alone, alone_read, named_read, word_read};
 ghost use Rattle.cedar_text.specs.machines.Named.{named_of, named_words};
-ghost use Rattle.cedar_text.specs.machines.Stepped.{outcome_of};
+ghost use Rattle.cedar_text.specs.machines.Stepped.{advance_of};
 
-use crate::stack::Stack;
 use crate::text_to_cst::expression::begin::{fresh_levels, no_signs, operand_of};
-use crate::text_to_cst::expression::class::{Closing, Operator, as_operator};
 use crate::text_to_cst::expression::literal::literal_at;
 use crate::text_to_cst::expression::state::{
     Alone, Frame, Gap, Guard, Mode, Operand, Place, Ranged, Signs, State, Taken, Wanted,
@@ -28,8 +26,10 @@ use cedar_expressions::Items;
 use cedar_lexer::token::Token;
 use cedar_syntax::cst::{Expr, Ident, Literal, Name, Primary};
 use cedar_syntax::node::Node;
+use cedar_syntax::reading::class::{Closing, Operator, as_operator};
 use cedar_syntax::reading::extent::Extent;
 use cedar_syntax::reading::place::token_extent;
+use cedar_syntax::reading::stack::Stack;
 use cedar_syntax::reading::taken::Taken as Given;
 use std::alloc::{AllocError, Global};
 use std::mem;
@@ -105,7 +105,7 @@ impl State {
         item: Ranged<Primary>,
         ahead: Ahead<'_>,
     ) -> Result<Taken, AllocError>
-        ensures { IfOk result (λ taken. outcome_of taken self.new
+        ensures { IfOk result (λ taken. advance_of taken self.new
             ≡ having ahead.entry.wanted ground.entry.source.now self.old.stack self.old.levels
             (operand_of ground.entry.source.now signs item) (lexeme_of ahead.entry.token)) }
     {
@@ -121,7 +121,7 @@ impl State {
         token: Token<'_>,
     ) -> Result<Taken, AllocError>
         requires { IsWritten (lexeme_of token) }
-        ensures { IfOk result (λ taken. outcome_of taken self.new
+        ensures { IfOk result (λ taken. advance_of taken self.new
             ≡ guard_begun ground.entry.source.now
             (named_words ground.entry.source.now) self.old.stack self.old.levels opened
             (lexeme_of token.entry)) }
@@ -143,7 +143,7 @@ impl State {
         extent: Option<Extent>,
         colon: Extent,
     ) -> Result<Taken, AllocError>
-        ensures { IfOk result (λ taken. outcome_of taken self.new
+        ensures { IfOk result (λ taken. advance_of taken self.new
             ≡ if_key_read ground.entry.source.now self.old.stack extent colon) }
     {
         match self.stack.pop() {
@@ -164,7 +164,7 @@ impl State {
         token: Token<'_>,
     ) -> Result<Taken, AllocError>
         requires { IsWritten (lexeme_of token) }
-        ensures { IfOk result (λ taken. outcome_of taken self.new
+        ensures { IfOk result (λ taken. advance_of taken self.new
             ≡ key_or_guard ground.entry.source.now
             (named_words ground.entry.source.now) self.old.stack self.old.levels extent
             (lexeme_of token.entry) operator) }
@@ -199,7 +199,7 @@ impl State {
         extent: Option<Extent>,
         ahead: Ahead<'_>,
     ) -> Result<Taken, AllocError>
-        ensures { IfOk result (λ taken. outcome_of taken self.new
+        ensures { IfOk result (λ taken. advance_of taken self.new
             ≡ having ahead.entry.wanted ground.entry.source.now self.old.stack self.old.levels
             (if_operand ground.entry.source.now extent) (lexeme_of ahead.entry.token)) }
     {
@@ -216,7 +216,7 @@ impl State {
         ahead: Ahead<'_>,
     ) -> Result<Taken, AllocError>
         requires { IsWritten (lexeme_of ahead.token) }
-        ensures { IfOk result (λ taken. outcome_of taken self.new
+        ensures { IfOk result (λ taken. advance_of taken self.new
             ≡ if_alone ahead.entry.wanted ground.entry.source.now
             (named_words ground.entry.source.now) self.old.stack self.old.levels place extent
             (lexeme_of ahead.entry.token)) }
@@ -239,7 +239,7 @@ impl State {
         word: Ranged<Literal>,
         ahead: Ahead<'_>,
     ) -> Result<Taken, AllocError>
-        ensures { IfOk result (λ taken. outcome_of taken self.new
+        ensures { IfOk result (λ taken. advance_of taken self.new
             ≡ having ahead.entry.wanted ground.entry.source.now self.old.stack self.old.levels
             (operand_of ground.entry.source.now signs
             (literal_at ground.entry.source.now word.extent word.tree))
@@ -257,7 +257,7 @@ impl State {
         name: Ranged<Name>,
         ahead: Ahead<'_>,
     ) -> Result<Taken, AllocError>
-        ensures { IfOk result (λ taken. outcome_of taken self.new
+        ensures { IfOk result (λ taken. advance_of taken self.new
             ≡ having ahead.entry.wanted ground.entry.source.now self.old.stack self.old.levels
             (operand_of ground.entry.source.now signs (name_at ground.entry.source.now name))
             (lexeme_of ahead.entry.token)) }
@@ -274,7 +274,7 @@ impl State {
         entity: Entity,
         ahead: Ahead<'_>,
     ) -> Result<Taken, AllocError>
-        ensures { IfOk result (λ taken. outcome_of taken self.new
+        ensures { IfOk result (λ taken. advance_of taken self.new
             ≡ having ahead.entry.wanted ground.entry.source.now self.old.stack self.old.levels
             (operand_of ground.entry.source.now signs (ranged (Some entity.extent)
             (primary.Ref entity.node))) (lexeme_of ahead.entry.token)) }
@@ -291,7 +291,7 @@ impl State {
         ahead: Ahead<'_>,
     ) -> Result<Taken, AllocError>
         requires { IsWritten (lexeme_of ahead.token) }
-        ensures { IfOk result (λ taken. outcome_of taken self.new
+        ensures { IfOk result (λ taken. advance_of taken self.new
             ≡ alone_read ahead.entry.wanted ground.entry.source.now
             (named_words ground.entry.source.now) self.old.stack self.old.levels gap.place
             gap.signs name (alone_of name.tree.path name.tree.name)
@@ -321,7 +321,7 @@ impl State {
         ahead: Ahead<'_>,
     ) -> Result<Taken, AllocError>
         requires { IsWritten (lexeme_of ahead.token) }
-        ensures { IfOk result (λ taken. outcome_of taken self.new
+        ensures { IfOk result (λ taken. advance_of taken self.new
             ≡ named_read ahead.entry.wanted ground.entry.source.now
             (named_words ground.entry.source.now) self.old.stack self.old.levels gap.place
             gap.signs (named_of ground.entry.source.now words) (lexeme_of ahead.entry.token)) }
@@ -341,7 +341,7 @@ impl State {
         ahead: Ahead<'_>,
     ) -> Result<Taken, AllocError>
         requires { IsWritten (lexeme_of ahead.token) }
-        ensures { IfOk result (λ taken. outcome_of taken self.new
+        ensures { IfOk result (λ taken. advance_of taken self.new
             ≡ word_read ahead.entry.wanted ground.entry.source.now
             (named_words ground.entry.source.now) self.old.stack self.old.levels gap.place
             gap.signs ((named_words ground.entry.source.now).step words

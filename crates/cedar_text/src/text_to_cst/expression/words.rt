@@ -15,11 +15,12 @@ ghost use Rattle.cedar_text.specs.machines.WordsAhead.{goes_from, goes_of, ends_
 use crate::text_to_cst::expression::state::{Alone, Ranged};
 use crate::text_to_cst::ground::Ground;
 use crate::text_to_cst::state::{Path, PathState, Words, WordsState};
-use crate::text_to_cst::words::{is_any, word_node};
+use crate::text_to_cst::words::word_node;
 use cedar_lexer::token::{Token, TokenKind};
 use cedar_syntax::cst::{Ident, Name};
 use cedar_syntax::reading::extent::Extent;
 use cedar_syntax::reading::taken::Taken;
+use cedar_syntax::reading::words::is_any;
 use std::alloc::AllocError;
 
 /// How words go on with a kind of token.

@@ -1,5 +1,11 @@
+use Rattle.cedar_text.specs.machines.WordShapes.{no_tree, name_shapes, path_shape}
+use Rattle.cedar_text.specs.machines.Words as words
 use Rattle.cedar_text.proofs.machines.Entries.{names_read}
 use Rattle.cedar_syntax.proofs.machines.Told.{follows, one_tree, tree_or_fault, one_fault, not_both_of}
+use Rattle.cedar_text.proofs.machines.Names.{names_door}
+use Rattle.cedar_text.proofs.machines.GoesOn.{goes_on}
+use Rattle.cedar_text.proofs.machines.StandsInText.{stands}
+use Rattle.cedar_text.proofs.machines.WordShapes.{names_shaped}
 use Rattle.cedar_text.proofs.text_to_cst.laws.names.Goals as goal
 
 pub returns-clause-one_tree : goal.returns-clause-one_tree
@@ -13,3 +19,9 @@ returns-clause-one_fault c = λ src ts bad f g a b. one_fault (follows _ _ src _
 
 pub returns-clause-not_both : goal.returns-clause-not_both
 returns-clause-not_both c = λ src ts raw t h. not_both_of (follows _ _ src _ (names_read src)) _ ts raw t h
+
+pub returns-clause-stands_in_text : goal.returns-clause-stands_in_text
+returns-clause-stands_in_text c = stands (λ src. words.names src) name_shapes path_shape no_tree names_door names_shaped
+
+pub returns-clause-goes_on_in_text : goal.returns-clause-goes_on_in_text
+returns-clause-goes_on_in_text c = goes_on (λ src. words.names src) name_shapes path_shape no_tree names_door names_shaped

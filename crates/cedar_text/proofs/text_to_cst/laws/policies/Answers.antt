@@ -1,7 +1,13 @@
 use Rattle.cedar_syntax.specs.MendedFaults.{PoliciesBefore}
+use Rattle.cedar_text.specs.machines.Policies.{all_policies_shapes, all_policies_shape}
+use Rattle.cedar_text.specs.machines.PolicyParts.{policy_part_shapes, whole_policies}
+use Rattle.cedar_text.specs.machines.WholeExpressions.{state_shape}
+use Rattle.cedar_text.specs.machines.WordShapes.{no_tree, path_shape}
 use Rattle.cedar_text.proofs.machines.MendedClauses.{has_list, one_fault_list}
 use Rattle.cedar_text.proofs.machines.PolicyParts.{all_policies_read, policies_mend}
 use Rattle.cedar_syntax.proofs.machines.Told.{follows, one_tree, tree_or_fault, one_fault, not_both_of}
+use Rattle.cedar_text.proofs.machines.GoesOn.{goes_on}
+use Rattle.cedar_text.proofs.machines.StandsInText.{stands}
 use Rattle.cedar_text.proofs.text_to_cst.laws.policies.Goals as goal
 
 pub returns-clause-one_tree : goal.returns-clause-one_tree
@@ -21,3 +27,9 @@ returns-clause-fault_list c = λ src ts. has_list PoliciesBefore (policies_mend 
 
 pub returns-clause-one_list : goal.returns-clause-one_list
 returns-clause-one_list c = λ src ts xs ys x y h g. one_fault_list PoliciesBefore (policies_mend src) ts xs ys x y h g
+
+pub returns-clause-stands_in_text : goal.returns-clause-stands_in_text
+returns-clause-stands_in_text c = stands (λ src. whole_policies src) (all_policies_shapes policy_part_shapes) (λ s. all_policies_shape path_shape state_shape state_shape s.state) no_tree (λ src. (policies_mend src).door) (λ src. (policies_mend src).shaped)
+
+pub returns-clause-goes_on_in_text : goal.returns-clause-goes_on_in_text
+returns-clause-goes_on_in_text c = goes_on (λ src. whole_policies src) (all_policies_shapes policy_part_shapes) (λ s. all_policies_shape path_shape state_shape state_shape s.state) no_tree (λ src. (policies_mend src).door) (λ src. (policies_mend src).shaped)

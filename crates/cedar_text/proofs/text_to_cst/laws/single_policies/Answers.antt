@@ -1,7 +1,13 @@
 use Rattle.cedar_syntax.specs.MendedFaults.{NothingBefore}
+use Rattle.cedar_text.specs.machines.Policies.{one_policy_shapes, one_policy_shape}
+use Rattle.cedar_text.specs.machines.PolicyParts.{policy_part_shapes, whole_policy}
+use Rattle.cedar_text.specs.machines.WholeExpressions.{state_shape}
+use Rattle.cedar_text.specs.machines.WordShapes.{no_tree, path_shape}
 use Rattle.cedar_text.proofs.machines.MendedClauses.{has_list, one_fault_list}
 use Rattle.cedar_text.proofs.machines.PolicyParts.{one_policy_read, policy_mends}
 use Rattle.cedar_syntax.proofs.machines.Told.{follows, one_tree, tree_or_fault, one_fault, not_both_of}
+use Rattle.cedar_text.proofs.machines.GoesOn.{goes_on}
+use Rattle.cedar_text.proofs.machines.StandsInText.{stands}
 use Rattle.cedar_text.proofs.text_to_cst.laws.single_policies.Goals as goal
 
 pub returns-clause-one_tree : goal.returns-clause-one_tree
@@ -21,3 +27,9 @@ returns-clause-fault_list c = λ src ts. has_list NothingBefore (policy_mends sr
 
 pub returns-clause-one_list : goal.returns-clause-one_list
 returns-clause-one_list c = λ src ts xs ys x y h g. one_fault_list NothingBefore (policy_mends src) ts xs ys x y h g
+
+pub returns-clause-stands_in_text : goal.returns-clause-stands_in_text
+returns-clause-stands_in_text c = stands (λ src. whole_policy src) (one_policy_shapes policy_part_shapes) (λ s. one_policy_shape path_shape state_shape state_shape s) no_tree (λ src. (policy_mends src).door) (λ src. (policy_mends src).shaped)
+
+pub returns-clause-goes_on_in_text : goal.returns-clause-goes_on_in_text
+returns-clause-goes_on_in_text c = goes_on (λ src. whole_policy src) (one_policy_shapes policy_part_shapes) (λ s. one_policy_shape path_shape state_shape state_shape s) no_tree (λ src. (policy_mends src).door) (λ src. (policy_mends src).shaped)

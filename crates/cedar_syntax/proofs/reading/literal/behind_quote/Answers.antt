@@ -1,7 +1,7 @@
 use Rattle.std.proofs.Common.{◌≡◌, None, Some, lit<}
 use Rattle.std.proofs.lemmas.Str.Pattern.{strip_prefix_char}
 use Rattle.cedar_syntax.proofs.Quotes.{begins_so}
-use Rattle.cedar_text.proofs.text_to_cst.literal.behind_quote.Goals as goal
+use Rattle.cedar_syntax.proofs.reading.literal.behind_quote.Goals as goal
 
 pub unreachable-requires : goal.unreachable-requires
 unreachable-requires c =

@@ -1,5 +1,5 @@
 use Rattle.cedar_syntax.proofs.Quotes.{ends_so, inside_is}
-use Rattle.cedar_text.proofs.text_to_cst.literal.between_quotes.Goals as goal
+use Rattle.cedar_syntax.proofs.reading.literal.between_quotes.Goals as goal
 
 pub before_quote-requires : goal.before_quote-requires
 before_quote-requires c = ends_so _ _ c.requires c.behind_quote.ensures

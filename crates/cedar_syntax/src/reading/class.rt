@@ -2,14 +2,14 @@
 
 ghost use Rattle.std.specs.Prelude.{◌≡◌, []};
 ghost use Rattle.std.specs.Str.Parse.{IsNumeral};
-ghost use Rattle.cedar_text.specs.machines.Begins.{IsBeginningOf};
+ghost use Rattle.cedar_syntax.specs.machines.Begins.{IsBeginningOf};
 ghost use Rattle.cedar_syntax.specs.WrittenTokens.{Written};
-ghost use Rattle.cedar_text.specs.machines.ExpressionStates.{class_of, number_class, operator_of};
-ghost use Rattle.cedar_text.specs.machines.Wanting.{signed};
+ghost use Rattle.cedar_syntax.specs.machines.Classes.{class_of, number_class, operator_of};
+ghost use Rattle.cedar_syntax.specs.machines.Classes.{signed};
 
-use crate::text_to_cst::words::is_any;
+use crate::cst::{AddOp, MultOp, NegOp, RelOp, SIGN_LIMIT};
+use crate::reading::words::is_any;
 use cedar_lexer::token::TokenKind;
-use cedar_syntax::cst::{AddOp, MultOp, NegOp, RelOp, SIGN_LIMIT};
 
 /// What may stand before an operand, once or more.
 #[derive(Drop, Clone, Copy)]
