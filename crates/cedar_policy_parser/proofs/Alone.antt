@@ -1,6 +1,6 @@
 -- Where the parts have values, a relation is refused for its operators alone, a product for its quotients and remainders, in order, a record for a key that
--- it has twice; and a name that is no variable is refused as an expression.
-use Rattle.std.proofs.Common.{◌≡◌, ℕ, zero, true, List, [], ◌∷◌, ◌++◌, Option, Some, None, Ok, Err, refl, sym, ap, ◌∙◌}
+-- it has twice; and a name that is no variable is refused as an expression. So is a whole expression that is one of these alone.
+use Rattle.std.proofs.Common.{◌≡◌, ℕ, zero, suc, true, List, [], ◌∷◌, ◌++◌, Option, Some, None, Ok, Err, refl, sym, ap, ◌∙◌}
 use Rattle.cedar_expressions.specs.Keys.{repeats_key}
 use Rattle.cedar_expressions.specs.Path.{Path}
 use Rattle.cedar_expressions.specs.Value.{Value}
@@ -8,22 +8,73 @@ use Rattle.cedar_syntax.specs.declared.loc.Loc.{Loc}
 use Rattle.cedar_syntax.specs.declared.node.Node.{Node}
 use Rattle.cedar_syntax.specs.declared.cst.MultOp.TheVariants as mul
 use Rattle.cedar_syntax.specs.declared.cst.Name.{Name}
+use Rattle.cedar_syntax.specs.declared.cst.NegOp.{NegOp}
 use Rattle.cedar_syntax.specs.declared.cst.NegOp.TheVariants as sign
 use Rattle.cedar_syntax.specs.declared.cst.RelOp.TheVariants as rel
 use Rattle.cedar_syntax.specs.Located as f
-use Rattle.cedar_syntax.specs.Located.{Located, Form, Parts, at}
+use Rattle.cedar_syntax.specs.Located.{Located, Parts, at}
 use Rattle.cedar_syntax.specs.Tree as t
 use Rattle.cedar_syntax.specs.Tree.{Level, Operator, disjunction, conjunction, relation, sum, product}
-use Rattle.cedar_policy_parser.specs.Alone.{HasValue, HaveValues, OperandsHaveValues, quotient, quotients, IsPair, ArePairs, IsBareName}
-use Rattle.cedar_policy_parser.specs.Conversion.{Part, outcome, formed, operands, pairs_given, pair_outcome, pair_formed, value_outcome, accesses_given, place_of, made, chained, keys, record_held, factor, with_part}
+use Rattle.cedar_policy_parser.specs.Alone as way
+use Rattle.cedar_policy_parser.specs.Alone.{HasValue, HaveValues, OperandsHaveValues, quotient, quotients, IsPair, ArePairs, ComesTo, IsAlone, IsBareName}
+use Rattle.cedar_policy_parser.specs.Conversion.{Part, outcome, formed, operands, pairs_given, pair_outcome, pair_formed, value_outcome, accesses_given, place_of, made, chained, keys, record_held, factor, with_part, signed, number_in, lone_literal}
 use Rattle.cedar_policy_parser.specs.Extensions.{Extensions}
+use Rattle.cedar_policy_parser.specs.HasSide.{no_sign}
 use Rattle.cedar_policy_parser.specs.Held.{Held, bare_name, as_expression, as_attribute}
 use Rattle.cedar_policy_parser.specs.Leaves.{named, variable_or_name}
 use Rattle.cedar_policy_parser.specs.Members.{member_outcome}
 use Rattle.cedar_policy_parser.specs.Names.{name_outcome, named_variable}
 use Rattle.cedar_policy_parser.specs.Outcome.{Told, Outcome, refused, both, next, ambiguous_operators, invalid_single_eq, unary_op_limit, expression_construction_error, arbitrary_variable}
-use Rattle.cedar_policy_parser.specs.References.{lone, lone_form}
 use Rattle.cedar_policy_parser.proofs.Inverted.{next_ok}
+
+-- ---- a node alone
+
+chain_alone : (level : Level) (place : Option Loc) (o : Outcome Held) → chained level place f.none o (Ok []) ≡ o
+chain_alone disjunction place (Ok h) = refl
+chain_alone conjunction place (Ok h) = refl
+chain_alone relation place (Ok h) = refl
+chain_alone sum place (Ok h) = refl
+chain_alone product place (Ok h) = refl
+chain_alone disjunction place (Err fs) = refl
+chain_alone conjunction place (Err fs) = refl
+chain_alone relation place (Err fs) = refl
+chain_alone sum place (Err fs) = refl
+chain_alone product place (Err fs) = refl
+
+unary_alone : (place : Option Loc) (op : Option NegOp) (number : Option ℕ) (o : Outcome Held) → no_sign op ≡ true → signed place op number o ≡ o
+unary_alone place None number o h = refl
+unary_alone place (Some (sign.Bang zero)) number o h = refl
+unary_alone place (Some (sign.Dash zero)) number o h = refl
+unary_alone place (Some (sign.Bang (suc n))) number o h = cc
+unary_alone place (Some (sign.Dash (suc n))) number o h = cc
+unary_alone place (Some sign.OverBang) number o h = cc
+unary_alone place (Some sign.OverDash) number o h = cc
+
+member_alone : (e : Extensions) (place : Option Loc) (o : Outcome Held) → next (both o (Ok [])) (λ p. member_outcome e place p.0 p.1) ≡ o
+member_alone e place (Ok h) = refl
+member_alone e place (Err fs) = refl
+
+parens_alone : (place : Option Loc) (o : Outcome Value) → next (next o (made place)) as_expression ≡ o
+parens_alone place (Ok w) = refl
+parens_alone place (Err fs) = refl
+
+-- it gives what the node gives
+comes_to : {tree node : Located} (e : Extensions) → ComesTo tree node → outcome e tree ≡ outcome e node
+unfolding outcome formed operands accesses_given
+comes_to e way.itself = refl
+comes_to e (way.through_only c) = comes_to e c
+comes_to e (way.through_chain {place = place} {level = level} {part = n} c) = chain_alone level place (outcome e n) ∙ comes_to e c
+comes_to e (way.through_unary {place = place} {op = op} {part = n} h c) = unary_alone place op (number_in (lone_literal n)) (outcome e n) h ∙ comes_to e c
+comes_to e (way.through_member {place = place} {part = n} c) = member_alone e place (outcome e n) ∙ comes_to e c
+
+-- and as an expression also in parentheses
+pub alone : {tree node : Located} (e : Extensions) → IsAlone tree node → value_outcome e tree ≡ value_outcome e node
+unfolding outcome formed
+alone e (way.bare c) = ap (λ o. next o as_expression) (comes_to e c)
+alone e (way.in_parens {part = n} c i) = ap (λ o. next o as_expression) (comes_to e c) ∙ parens_alone (place_of n) (value_outcome e n) ∙ alone e i
+
+refused_alone : (e : Extensions) (tree node : Located) (fs : List Told) → IsAlone tree node → outcome e node ≡ Err fs → value_outcome e tree ≡ Err fs
+refused_alone e tree node fs i h = alone e i ∙ ap (λ o. next o as_expression) h
 
 -- ---- a product
 
@@ -74,6 +125,10 @@ pub refused_quotients : (e : Extensions) (place : Option Loc) (a : Located) (res
 unfolding outcome formed
 refused_quotients e place a rest h k some = let d = held (outcome e a) h.0 h.1 in refused_parts place rest (outcome e a) d.0 (operands e place rest) (quotients place rest) d.1 (told_all e place rest k) some
 
+pub quotients_alone : (e : Extensions) (tree : Located) (place : Option Loc) (a : Located) (rest : Parts) → IsAlone tree (at place (f.chain product a rest)) → HasValue e a → OperandsHaveValues e rest → ¬ (quotients place rest ≡ [])
+    → value_outcome e tree ≡ Err (quotients place rest)
+quotients_alone e tree place a rest i h k some = refused_alone e tree (at place (f.chain product a rest)) (quotients place rest) i (refused_quotients e place a rest h k some)
+
 -- ---- a relation
 
 both_given : (place : Option Loc) (op oq : Operator) (b c : Located) (rest : Parts) (x : Outcome Held) (s : Held) (r : Outcome (List Part)) (ps : List Part) → x ≡ Ok s → r ≡ Ok ps
@@ -86,6 +141,10 @@ unfolding outcome formed
 ambiguous e place a b c op oq rest h k =
     let d = held (outcome e a) h.0 h.1 in
     both_given place op oq b c rest (outcome e a) d.0 (operands e place (f.more op b (f.more oq c rest))) k.0 d.1 k.1
+
+pub ambiguous_alone : (e : Extensions) (tree : Located) (place : Option Loc) (a b c : Located) (op oq : Operator) (rest : Parts) → IsAlone tree (at place (f.chain relation a (f.more op b (f.more oq c rest))))
+    → HasValue e a → HaveValues e place (f.more op b (f.more oq c rest)) → value_outcome e tree ≡ refused ambiguous_operators place
+ambiguous_alone e tree place a b c op oq rest i h k = refused_alone e tree (at place (f.chain relation a (f.more op b (f.more oq c rest)))) _ i (ambiguous e place a b c op oq rest h k)
 
 equals : (place : Option Loc) (b : Located) (x : Outcome Held) (s : Held) (v w : Value) (r : Outcome (List Part)) → x ≡ Ok s → as_expression s ≡ Ok v → r ≡ Ok ((t.compare rel.InvalidSingleEq, w) ∷ [])
     → chained relation place (f.more (t.compare rel.InvalidSingleEq) b f.none) x r ≡ refused invalid_single_eq place
@@ -102,6 +161,10 @@ single_eq e place a b h k =
     let d = held (outcome e a) h.0 h.1 in
     equals place b (outcome e a) d.0 h.0 k.0 (operands e place (f.more (t.compare rel.InvalidSingleEq) b f.none)) d.1 d.2 (only_operand e place b k.0 k.1)
 
+pub single_eq_alone : (e : Extensions) (tree : Located) (place : Option Loc) (a b : Located) → IsAlone tree (at place (f.chain relation a (f.more (t.compare rel.InvalidSingleEq) b f.none))) → HasValue e a → HasValue e b
+    → value_outcome e tree ≡ refused invalid_single_eq place
+single_eq_alone e tree place a b i h k = refused_alone e tree (at place (f.chain relation a (f.more (t.compare rel.InvalidSingleEq) b f.none))) _ i (single_eq e place a b h k)
+
 -- ---- signs
 
 pub bangs : (e : Extensions) (place : Option Loc) (a : Located) → outcome e (at place (f.unary (Some sign.OverBang) a)) ≡ refused unary_op_limit place
@@ -111,6 +174,12 @@ bangs e place a = refl
 pub dashes : (e : Extensions) (place : Option Loc) (a : Located) → outcome e (at place (f.unary (Some sign.OverDash) a)) ≡ refused unary_op_limit place
 unfolding outcome formed
 dashes e place a = refl
+
+pub bangs_alone : (e : Extensions) (tree : Located) (place : Option Loc) (a : Located) → IsAlone tree (at place (f.unary (Some sign.OverBang) a)) → value_outcome e tree ≡ refused unary_op_limit place
+bangs_alone e tree place a i = refused_alone e tree (at place (f.unary (Some sign.OverBang) a)) _ i (bangs e place a)
+
+pub dashes_alone : (e : Extensions) (tree : Located) (place : Option Loc) (a : Located) → IsAlone tree (at place (f.unary (Some sign.OverDash) a)) → value_outcome e tree ≡ refused unary_op_limit place
+dashes_alone e tree place a i = refused_alone e tree (at place (f.unary (Some sign.OverDash) a)) _ i (dashes e place a)
 
 -- ---- a record
 
@@ -137,57 +206,18 @@ pub repeated_key : (e : Extensions) (place : Option Loc) (inits : Parts) (pairs 
 unfolding outcome formed
 repeated_key e place inits pairs h k = repeats place (pairs_given e inits) pairs (all_pairs e inits pairs h) k
 
+pub repeated_key_alone : (e : Extensions) (tree : Located) (place : Option Loc) (inits : Parts) (pairs : List (List ℕ × Value)) → IsAlone tree (at place (f.record_of inits)) → ArePairs e inits pairs → repeats_key (keys pairs) ≡ true
+    → value_outcome e tree ≡ refused expression_construction_error place
+repeated_key_alone e tree place inits pairs i h k = refused_alone e tree (at place (f.record_of inits)) _ i (repeated_key e place inits pairs h k)
+
 -- ---- a name
 
 bare : (place : Option Loc) (n : Node (Option Name)) (path : Path) → named_variable n.node ≡ None → name_outcome n ≡ Ok path → next (named place n) as_expression ≡ refused arbitrary_variable place
 bare place n path h k = ap (λ o. next (variable_or_name place o n) as_expression) h ∙ ap (λ o. next (next o (λ name. Ok (bare_name place name))) as_expression) k
 
--- the tree that is found
-abbrev found : Located → Outcome Located
-found n = Ok n
-
-same_place : (p place : Option Loc) (m n : Node (Option Name)) → found (at p (f.name m)) ≡ found (at place (f.name n)) → p ≡ place
-same_place p place m n e = cc
-
-same_name : (p place : Option Loc) (m n : Node (Option Name)) → found (at p (f.name m)) ≡ found (at place (f.name n)) → m ≡ n
-same_name p place m n e = cc
-
-bare_at : (p place : Option Loc) (m n : Node (Option Name)) (path : Path) → found (at p (f.name m)) ≡ found (at place (f.name n)) → named_variable n.node ≡ None → name_outcome n ≡ Ok path → next (named p m) as_expression ≡ refused arbitrary_variable place
-bare_at p place m n path e h k = ap (λ q. next (named q m) as_expression) (same_place p place m n e) ∙ ap (λ r. next (named place r) as_expression) (same_name p place m n e) ∙ bare place n path h k
-
-chain_alone : (level : Level) (place : Option Loc) (o : Outcome Held) → chained level place f.none o (Ok []) ≡ o
-chain_alone disjunction place (Ok h) = refl
-chain_alone conjunction place (Ok h) = refl
-chain_alone relation place (Ok h) = refl
-chain_alone sum place (Ok h) = refl
-chain_alone product place (Ok h) = refl
-chain_alone disjunction place (Err fs) = refl
-chain_alone conjunction place (Err fs) = refl
-chain_alone relation place (Err fs) = refl
-chain_alone sum place (Err fs) = refl
-chain_alone product place (Err fs) = refl
-
-member_alone : (e : Extensions) (place : Option Loc) (o : Outcome Held) → next (both o (Ok [])) (λ p. member_outcome e place p.0 p.1) ≡ o
-member_alone e place (Ok h) = refl
-member_alone e place (Err fs) = refl
-
-mutual
-  unfolding outcome formed operands accesses_given lone lone_form
-
-  refused_name : (e : Extensions) (tree : Located) (place : Option Loc) (n : Node (Option Name)) (path : Path) → lone tree ≡ found (at place (f.name n)) → named_variable n.node ≡ None → name_outcome n ≡ Ok path → value_outcome e tree ≡ refused arbitrary_variable place
-  refused_name e (f.missing p) place n path i h k = cc
-  refused_name e (f.at p form) place n path i h k = refused_form e p form place n path i h k
-
-  refused_form : (e : Extensions) (p : Option Loc) (form : Form) (place : Option Loc) (n : Node (Option Name)) (path : Path) → lone_form p form ≡ found (at place (f.name n)) → named_variable n.node ≡ None → name_outcome n ≡ Ok path → next (formed e p form) as_expression ≡ refused arbitrary_variable place
-  refused_form e p (f.only m) place n path i h k = refused_name e m place n path i h k
-  refused_form e p (f.chain level m f.none) place n path i h k = ap (λ o. next o as_expression) (chain_alone level p (outcome e m)) ∙ refused_name e m place n path i h k
-  refused_form e p (f.unary None m) place n path i h k = refused_name e m place n path i h k
-  refused_form e p (f.unary (Some (sign.Bang zero)) m) place n path i h k = refused_name e m place n path i h k
-  refused_form e p (f.unary (Some (sign.Dash zero)) m) place n path i h k = refused_name e m place n path i h k
-  refused_form e p (f.member m f.none) place n path i h k = ap (λ o. next o as_expression) (member_alone e p (outcome e m)) ∙ refused_name e m place n path i h k
-  refused_form e p (f.parens m) place n path i h k = ap (λ o. next (next o (made (place_of m))) as_expression) (refused_name e m place n path i h k)
-  refused_form e p (f.name m) place n path i h k = bare_at p place m n path i h k
-  refused_form e p form place n path i h k = cc
+name_node : (e : Extensions) (place : Option Loc) (n : Node (Option Name)) (path : Path) → named_variable n.node ≡ None → name_outcome n ≡ Ok path → value_outcome e (at place (f.name n)) ≡ refused arbitrary_variable place
+unfolding outcome formed
+name_node e place n path h k = bare place n path h k
 
 pub lone_name : (e : Extensions) (tree : Located) (place : Option Loc) → IsBareName tree place → value_outcome e tree ≡ refused arbitrary_variable place
-lone_name e tree place h = refused_name e tree place h.name h.path h.is h.no_variable h.converts
+lone_name e tree place h = alone e h.is ∙ name_node e place h.name h.path h.no_variable h.converts

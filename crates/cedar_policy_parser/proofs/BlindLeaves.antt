@@ -23,7 +23,7 @@ use Rattle.cedar_policy_parser.specs.Alike.{Alike, Same}
 use Rattle.cedar_policy_parser.specs.Entities.{id_text, id_outcome, reference_outcome, slot_id}
 use Rattle.cedar_policy_parser.specs.Held.{Held, expression, variable, bare_name, bare_truth, bare_string, as_expression, as_pattern, as_entity_type, as_string, as_attribute, text_value, unqualified}
 use Rattle.cedar_policy_parser.specs.Leaves.{named, variable_or_name, slot_held, entity_held}
-use Rattle.cedar_policy_parser.specs.Literals.{quoted, literal_outcome}
+use Rattle.cedar_policy_parser.specs.Literals.{held_string, literal_outcome}
 use Rattle.cedar_policy_parser.specs.Names.{filled, all_of, valid_ident_of, valid_ident, unreserved_ident, path_outcome, name_outcome, named_variable}
 use Rattle.cedar_policy_parser.specs.Outcome.{Outcome, both, next}
 use Rattle.cedar_policy_parser.specs.Strict.{largest}
@@ -223,7 +223,7 @@ slot_alike n = then_alike Same _ _ _ _ (then_alike Equal _ _ _ _ (filled_alike n
 
 -- ---- literals
 
-quoted_alike : (p q r s : Option Loc) (o : Option Str) → Alike Same (quoted p r o) (quoted q s o)
+quoted_alike : (p q r s : Option Loc) (o : Option Str) → Alike Same (held_string p r o) (held_string q s o)
 quoted_alike p q r s None = tt
 quoted_alike p q r s (Some (str.String raw)) = refl
 quoted_alike p q r s (Some (str.Invalid raw)) = tt

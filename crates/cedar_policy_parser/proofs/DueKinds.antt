@@ -1,5 +1,5 @@
 -- What the effect, the conditions and the scope of a policy are refused with, and how often.
-use Rattle.std.proofs.Common.{◌≡◌, ℕ, suc, ◌+◌, ◌-◌, Bool, true, false, cond, List, [], ◌∷◌, ◌++◌, map, length, Option, Some, None, Ok, Err, refl, ◌∙◌, ap, arith}
+use Rattle.std.proofs.Common.{◌≡◌, ◌≢◌, ℕ, suc, ◌+◌, ◌-◌, Bool, true, false, cond, List, [], ◌∷◌, ◌++◌, map, length, Option, Some, None, Ok, Err, refl, ◌∙◌, ap, arith}
 use Rattle.std.specs.List.{All, filter}
 use Rattle.std.proofs.lemmas.List.Elements.{All-nil, All-head, All-tail, All-weaker}
 use Rattle.cedar_expressions.specs.Value.{Value}
@@ -17,9 +17,9 @@ use Rattle.cedar_syntax.specs.declared.loc.Loc.{Loc}
 use Rattle.cedar_syntax.specs.declared.node.Node.{Node}
 use Rattle.cedar_syntax.specs.Forms.{located, expr_form}
 use Rattle.cedar_syntax.specs.Grammar.{IsTreeOf}
-use Rattle.cedar_syntax.specs.LoosePolicies.{ReadsPolicies, ReadsPolicy}
+use Rattle.cedar_syntax.specs.LoosePolicies.{ReadsPolicy}
 use Rattle.cedar_syntax.specs.Trees.{Cell}
-use Rattle.cedar_policy_parser.specs.Blocks.{faults_in}
+use Rattle.cedar_policy_parser.specs.Blocks.{told_in}
 use Rattle.cedar_policy_parser.specs.Conditions.{Found, is_when_of, meant, slots_told, slots_outcome, without_slots, condition_of, condition_outcome}
 use Rattle.cedar_policy_parser.specs.Conversion.{Converts}
 use Rattle.cedar_policy_parser.specs.Due.{IsCondition, IsWhenOrUnless, is_missing_variable, is_extra_element, count, IsOfNoName}
@@ -29,11 +29,12 @@ use Rattle.cedar_policy_parser.specs.Outcome.{Kind, Told, Outcome, refused, both
 use Rattle.cedar_policy_parser.specs.Policies.{effect_of, effect_outcome, template_outcome, policies_outcome}
 use Rattle.cedar_policy_parser.specs.Scope.{principal_outcome, action_outcome, resource_outcome, place_behind, if_there, extra_told, unless_told, no_extra, scope_of, elements_outcome, scope_outcome}
 use Rattle.cedar_policy_parser.specs.ValueSlots.{slots_of}
+use Rattle.cedar_policy_parser.proofs.ByHand.{any_policy_stands, any_set_stands}
 use Rattle.cedar_policy_parser.proofs.InBlocks.{made_told, joined_told}
-use Rattle.cedar_policy_parser.proofs.Standing.{IsTold, IsPlain, KindWithin, Stands, Anything, no_policy_name, no_template_name}
+use Rattle.cedar_policy_parser.proofs.Standing.{Origin, by_hand, parsed, IsTold, IsPlain, KindWithin, Stands, Anything, no_policy_name, no_template_name, some_told}
 use Rattle.cedar_policy_parser.proofs.StandingScopes.{principal_stands, action_stands, resource_stands}
-use Rattle.cedar_policy_parser.proofs.StandingTexts.{policy_stands, set_stands, parsed_tidy}
-use Rattle.cedar_policy_parser.proofs.Tidy.{Holding, NodeTidy, Each}
+use Rattle.cedar_policy_parser.proofs.StandingTexts.{parsed_tidy}
+use Rattle.cedar_policy_parser.proofs.Tidy.{Holding, NodeTidy, Each, IdentHeld}
 use Rattle.cedar_policy_parser.proofs.TidyPolicies.{IfThere, ElementTidy}
 
 -- ---- the effect
@@ -43,12 +44,12 @@ effect_of_alone p words.Permit faults e = cc
 effect_of_alone p words.Forbid faults e = cc
 effect_of_alone p word faults e = cc
 
-effect_in : (p : Option Loc) (c : Option Ident) (faults : List Told) → Holding Anything c → next (filled p c) (effect_of p) ≡ Err faults → faults ≡ (invalid_effect, p) ∷ []
-effect_in p None faults h e = absurd h
-effect_in p (Some word) faults h e = effect_of_alone p word faults e
+effect_in : (w p : Option Loc) (c : Option Ident) (faults : List Told) → Holding (parsed w) (IdentHeld (parsed w)) c → next (filled p c) (effect_of p) ≡ Err faults → faults ≡ (invalid_effect, p) ∷ []
+effect_in w p None faults h e = absurd h
+effect_in w p (Some word) faults h e = effect_of_alone p word faults e
 
 pub effect_alone : (text : List ℕ) (tree : Cell Policy) (p : PolicyImpl) (faults : List Told) → IsTreeOf ReadsPolicy text tree → tree.node ≡ Some (trees.Policy p) → effect_outcome p.effect ≡ Err faults → faults ≡ (invalid_effect, p.effect.loc) ∷ []
-effect_alone text tree p faults g e h = let d = parsed_tidy text tree (trees.Policy p) g e in effect_in p.effect.loc p.effect.node faults d.1.1.1 h
+effect_alone text tree p faults g e h = let d = parsed_tidy text tree (trees.Policy p) g e in effect_in d.0 p.effect.loc p.effect.node faults d.1.1.1 h
 
 -- ---- conditions
 
@@ -77,21 +78,21 @@ slot_kinds p [] found = refl
 slot_kinds p (id ∷ ids) [] = ap (λ ks. slots_in_condition_clause ∷ ks) (slot_kinds p ids [])
 slot_kinds p (id ∷ ids) (q ∷ found) = ap (λ ks. slots_in_condition_clause ∷ ks) (slot_kinds p ids found)
 
-unless_is : (fs : List Told) → faults_in (unless_told fs) ≡ fs
+unless_is : (fs : List Told) → told_in (unless_told fs) ≡ fs
 unless_is [] = refl
 unless_is (f ∷ fs) = refl
 
-slots_alone : (p : Option Loc) (found : Found) (when : Bool) (x : Value) → map (λ f. f.0) (faults_in (without_slots p found when x)) ≡ map (λ id. slots_in_condition_clause) (slots_of x)
+slots_alone : (p : Option Loc) (found : Found) (when : Bool) (x : Value) → map (λ f. f.0) (told_in (without_slots p found when x)) ≡ map (λ id. slots_in_condition_clause) (slots_of x)
 slots_alone p found when x = ap (λ fs. map (λ f. f.0) fs) (made_told (slots_outcome p found x) (λ _. meant when x) ∙ unless_is (slots_told p (slots_of x) found)) ∙ slot_kinds p (slots_of x) found
 
 joined_clause : (p : Option Loc) (found : Found) (b : Bool) (o : Outcome Bool) (c : Outcome Value) (x : Value) → o ≡ Ok b → c ≡ Ok x → next o (λ when. next c (without_slots p found when)) ≡ without_slots p found b x
 joined_clause p found b o c x h k = rw (h, k) refl
 
 pub clause_slots : (e : Extensions) (found : Found) (n : Node (Option Cond)) (word : Ident) (place : Option Loc) (expr : Node (Option Expr)) (x : Value) → IsCondition n word place (Some expr) → IsWhenOrUnless word → Converts e (located expr_form expr) x
-    → map (λ f. f.0) (faults_in (condition_outcome e (found, n))) ≡ map (λ id. slots_in_condition_clause) (slots_of x)
+    → map (λ f. f.0) (told_in (condition_outcome e (found, n))) ≡ map (λ id. slots_in_condition_clause) (slots_of x)
 clause_slots e found n word place expr x i h k =
     let d = one_is_given place word h in
-    ap (λ o. map (λ f. f.0) (faults_in o)) (condition_is e found n _ i ∙ joined_clause n.loc found d.0 (is_when_of place word) _ x d.1 k) ∙ slots_alone n.loc found d.0 x
+    ap (λ o. map (λ f. f.0) (told_in o)) (condition_is e found n _ i ∙ joined_clause n.loc found d.0 (is_when_of place word) _ x d.1 k) ∙ slots_alone n.loc found d.0 x
 
 -- ---- counts
 
@@ -119,22 +120,22 @@ four_counted is_one fs gs hs ks =
 
 -- a kind that no plain fault has
 abbrev IsNotPlain : (Kind → Bool) → Type 0
-IsNotPlain is_one = (kind : Kind) → IsPlain kind → is_one kind ≡ false
+IsNotPlain is_one = (w : Option Loc) (kind : Kind) → IsPlain (parsed w) kind → is_one kind ≡ false
 
 missing_not_plain : IsNotPlain is_missing_variable
-missing_not_plain missing_scope_variable h = absurd h
-missing_not_plain kind h = refl
+missing_not_plain w missing_scope_variable h = absurd h
+missing_not_plain w kind h = refl
 
 extra_not_plain : IsNotPlain is_extra_element
-extra_not_plain extra_scope_element h = absurd h
-extra_not_plain kind h = refl
+extra_not_plain w extra_scope_element h = absurd h
+extra_not_plain w kind h = refl
 
-none_plain : (is_one : Kind → Bool) → IsNotPlain is_one → (w : Option Loc) (fs : List Told) → All (KindWithin IsPlain w) fs → count is_one fs ≡ 0
+none_plain : (is_one : Kind → Bool) → IsNotPlain is_one → (w : Option Loc) (fs : List Told) → All (KindWithin IsPlain (parsed w)) fs → count is_one fs ≡ 0
 none_plain is_one h w [] all = refl
 none_plain is_one h w (f ∷ fs) all =
-    ap (λ b. length (cond b (f ∷ filter (λ g. is_one g.0) fs) (filter (λ g. is_one g.0) fs))) (h f.0 (All-head (KindWithin IsPlain w) f fs all).0) ∙ none_plain is_one h w fs (All-tail (KindWithin IsPlain w) f fs all)
+    ap (λ b. length (cond b (f ∷ filter (λ g. is_one g.0) fs) (filter (λ g. is_one g.0) fs))) (h w f.0 (All-head (KindWithin IsPlain (parsed w)) f fs all).0) ∙ none_plain is_one h w fs (All-tail (KindWithin IsPlain (parsed w)) f fs all)
 
-none_in : {X : Type 0} (is_one : Kind → Bool) → IsNotPlain is_one → (w : Option Loc) (x : Outcome X) → Stands IsPlain w Anything x → count is_one (faults_in x) ≡ 0
+none_in : {X : Type 0} (is_one : Kind → Bool) → IsNotPlain is_one → (w : Option Loc) (x : Outcome X) → Stands IsPlain (parsed w) Anything x → count is_one (told_in x) ≡ 0
 none_in is_one h w (Ok x) s = refl
 none_in is_one h w (Err fs) s = none_plain is_one h w fs s.1
 
@@ -144,25 +145,25 @@ abbrev Element : Type 0
 Element = Node (Option VariableDef)
 
 abbrev Tidied : Option Loc → Element → Type 0
-Tidied w n = NodeTidy w (ElementTidy w) n
+Tidied w n = NodeTidy (parsed w) (ElementTidy (parsed w)) n
 
 -- one where there is no element
 abbrev absent : Option Element → ℕ
 absent None = 1
 absent (Some n) = 0
 
-missing_there : {X : Type 0} (w : Option Loc) (g : Element → Outcome X) (before : Option Loc) (c : Option Element) → IfThere (Tidied w) c → ((n : Element) → Tidied w n → Stands IsPlain w Anything (g n)) → count is_missing_variable (faults_in (if_there g before c)) ≡ absent c
+missing_there : {X : Type 0} (w : Option Loc) (g : Element → Outcome X) (before : Option Loc) (c : Option Element) → IfThere (Tidied w) c → ((n : Element) → Tidied w n → Stands IsPlain (parsed w) Anything (g n)) → count is_missing_variable (told_in (if_there g before c)) ≡ absent c
 missing_there w g before None h s = refl
 missing_there w g before (Some n) h s = none_in is_missing_variable missing_not_plain w (g n) (s n h)
 
-extra_there : {X : Type 0} (w : Option Loc) (g : Element → Outcome X) (before : Option Loc) (c : Option Element) → IfThere (Tidied w) c → ((n : Element) → Tidied w n → Stands IsPlain w Anything (g n)) → count is_extra_element (faults_in (if_there g before c)) ≡ 0
+extra_there : {X : Type 0} (w : Option Loc) (g : Element → Outcome X) (before : Option Loc) (c : Option Element) → IfThere (Tidied w) c → ((n : Element) → Tidied w n → Stands IsPlain (parsed w) Anything (g n)) → count is_extra_element (told_in (if_there g before c)) ≡ 0
 extra_there w g before None h s = refl
 extra_there w g before (Some n) h s = none_in is_extra_element extra_not_plain w (g n) (s n h)
 
 abbrev extras : List Element → List Told
 extras ns = map (λ n. extra_told n.loc n.node) ns
 
-missing_one : (w p : Option Loc) (c : Option VariableDef) (fs : List Told) → Holding (ElementTidy w) c → count is_missing_variable (extra_told p c ∷ fs) ≡ count is_missing_variable fs
+missing_one : (w p : Option Loc) (c : Option VariableDef) (fs : List Told) → Holding (parsed w) (ElementTidy (parsed w)) c → count is_missing_variable (extra_told p c ∷ fs) ≡ count is_missing_variable fs
 missing_one w p None fs h = absurd h
 missing_one w p (Some d) fs h = refl
 
@@ -170,7 +171,7 @@ missing_extras : (w : Option Loc) (ns : List Element) → Each (Tidied w) ns →
 missing_extras w [] h = refl
 missing_extras w (n ∷ ns) h = missing_one w n.loc n.node (extras ns) h.0.1 ∙ missing_extras w ns h.1
 
-extra_one : (w p : Option Loc) (c : Option VariableDef) (fs : List Told) → Holding (ElementTidy w) c → count is_extra_element (extra_told p c ∷ fs) ≡ suc (count is_extra_element fs)
+extra_one : (w p : Option Loc) (c : Option VariableDef) (fs : List Told) → Holding (parsed w) (ElementTidy (parsed w)) c → count is_extra_element (extra_told p c ∷ fs) ≡ suc (count is_extra_element fs)
 extra_one w p None fs h = absurd h
 extra_one w p (Some d) fs h = refl
 
@@ -178,33 +179,33 @@ extra_extras : (w : Option Loc) (ns : List Element) → Each (Tidied w) ns → c
 extra_extras w [] h = refl
 extra_extras w (n ∷ ns) h = extra_one w n.loc n.node (extras ns) h.0.1 ∙ ap suc (extra_extras w ns h.1)
 
-scope_told : (e : Extensions) (before : Option Loc) (a b c : Option Element) (ns : List Element) → faults_in (scope_of e before a b c ns)
-    ≡ faults_in (if_there (principal_outcome e) before a) ++ faults_in (if_there (action_outcome e) (place_behind before a) b) ++ faults_in (if_there (resource_outcome e) (place_behind (place_behind before a) b) c) ++ extras ns
+scope_told : (e : Extensions) (before : Option Loc) (a b c : Option Element) (ns : List Element) → told_in (scope_of e before a b c ns)
+    ≡ told_in (if_there (principal_outcome e) before a) ++ told_in (if_there (action_outcome e) (place_behind before a) b) ++ told_in (if_there (resource_outcome e) (place_behind (place_behind before a) b) c) ++ extras ns
 scope_told e before a b c ns =
     made_told (both (both (if_there (principal_outcome e) before a) (if_there (action_outcome e) (place_behind before a) b)) (both (if_there (resource_outcome e) (place_behind (place_behind before a) b) c) (no_extra ns))) (λ p. (p.0.0, p.0.1, p.1.0))
     ∙ joined_told (if_there (principal_outcome e) before a) (if_there (action_outcome e) (place_behind before a) b) (if_there (resource_outcome e) (place_behind (place_behind before a) b) c) (no_extra ns)
-    ∙ ap (λ fs. faults_in (if_there (principal_outcome e) before a) ++ faults_in (if_there (action_outcome e) (place_behind before a) b) ++ faults_in (if_there (resource_outcome e) (place_behind (place_behind before a) b) c) ++ fs) (unless_is (extras ns))
+    ∙ ap (λ fs. told_in (if_there (principal_outcome e) before a) ++ told_in (if_there (action_outcome e) (place_behind before a) b) ++ told_in (if_there (resource_outcome e) (place_behind (place_behind before a) b) c) ++ fs) (unless_is (extras ns))
 
-scope_counted : (is_one : Kind → Bool) (e : Extensions) (before : Option Loc) (a b c : Option Element) (ns : List Element) → count is_one (faults_in (scope_of e before a b c ns))
-    ≡ count is_one (faults_in (if_there (principal_outcome e) before a)) + count is_one (faults_in (if_there (action_outcome e) (place_behind before a) b)) + count is_one (faults_in (if_there (resource_outcome e) (place_behind (place_behind before a) b) c)) + count is_one (extras ns)
+scope_counted : (is_one : Kind → Bool) (e : Extensions) (before : Option Loc) (a b c : Option Element) (ns : List Element) → count is_one (told_in (scope_of e before a b c ns))
+    ≡ count is_one (told_in (if_there (principal_outcome e) before a)) + count is_one (told_in (if_there (action_outcome e) (place_behind before a) b)) + count is_one (told_in (if_there (resource_outcome e) (place_behind (place_behind before a) b) c)) + count is_one (extras ns)
 scope_counted is_one e before a b c ns =
     ap (count is_one) (scope_told e before a b c ns)
-    ∙ four_counted is_one (faults_in (if_there (principal_outcome e) before a)) (faults_in (if_there (action_outcome e) (place_behind before a) b)) (faults_in (if_there (resource_outcome e) (place_behind (place_behind before a) b) c)) (extras ns)
+    ∙ four_counted is_one (told_in (if_there (principal_outcome e) before a)) (told_in (if_there (action_outcome e) (place_behind before a) b)) (told_in (if_there (resource_outcome e) (place_behind (place_behind before a) b) c)) (extras ns)
 
 sums : (n m k l a b c d s : ℕ) → s ≡ n + m + k + l → n ≡ a → m ≡ b → k ≡ c → l ≡ d → s ≡ a + b + c + d
 sums n m k l a b c d s h i j o p = omega arith
 
 missing_of : (e : Extensions) (w before : Option Loc) (a b c : Option Element) (ns : List Element) → IfThere (Tidied w) a → IfThere (Tidied w) b → IfThere (Tidied w) c → Each (Tidied w) ns
-    → count is_missing_variable (faults_in (scope_of e before a b c ns)) ≡ absent a + absent b + absent c + 0
+    → count is_missing_variable (told_in (scope_of e before a b c ns)) ≡ absent a + absent b + absent c + 0
 missing_of e w before a b c ns h i j k =
-    sums _ _ _ _ (absent a) (absent b) (absent c) 0 _ (scope_counted is_missing_variable e before a b c ns) (missing_there w (principal_outcome e) before a h (principal_stands e w)) (missing_there w (action_outcome e) (place_behind before a) b i (action_stands e w))
-    (missing_there w (resource_outcome e) (place_behind (place_behind before a) b) c j (resource_stands e w)) (missing_extras w ns k)
+    sums _ _ _ _ (absent a) (absent b) (absent c) 0 _ (scope_counted is_missing_variable e before a b c ns) (missing_there w (principal_outcome e) before a h (principal_stands e (parsed w))) (missing_there w (action_outcome e) (place_behind before a) b i (action_stands e (parsed w)))
+    (missing_there w (resource_outcome e) (place_behind (place_behind before a) b) c j (resource_stands e (parsed w))) (missing_extras w ns k)
 
 extra_of : (e : Extensions) (w before : Option Loc) (a b c : Option Element) (ns : List Element) → IfThere (Tidied w) a → IfThere (Tidied w) b → IfThere (Tidied w) c → Each (Tidied w) ns
-    → count is_extra_element (faults_in (scope_of e before a b c ns)) ≡ 0 + 0 + 0 + length ns
+    → count is_extra_element (told_in (scope_of e before a b c ns)) ≡ 0 + 0 + 0 + length ns
 extra_of e w before a b c ns h i j k =
-    sums _ _ _ _ 0 0 0 (length ns) _ (scope_counted is_extra_element e before a b c ns) (extra_there w (principal_outcome e) before a h (principal_stands e w)) (extra_there w (action_outcome e) (place_behind before a) b i (action_stands e w))
-    (extra_there w (resource_outcome e) (place_behind (place_behind before a) b) c j (resource_stands e w)) (extra_extras w ns k)
+    sums _ _ _ _ 0 0 0 (length ns) _ (scope_counted is_extra_element e before a b c ns) (extra_there w (principal_outcome e) before a h (principal_stands e (parsed w))) (extra_there w (action_outcome e) (place_behind before a) b i (action_stands e (parsed w)))
+    (extra_there w (resource_outcome e) (place_behind (place_behind before a) b) c j (resource_stands e (parsed w))) (extra_extras w ns k)
 
 no_more : (s n : ℕ) → s ≡ 0 + 0 + 0 + 0 → s ≡ 3 - suc (suc (suc n))
 no_more s n h = omega arith
@@ -212,32 +213,40 @@ no_more s n h = omega arith
 so_many : (s n : ℕ) → s ≡ 0 + 0 + 0 + n → s ≡ suc (suc (suc n)) - 3
 so_many s n h = omega arith
 
-missing_elements : (e : Extensions) (w before : Option Loc) (ns : List Element) → Each (Tidied w) ns → count is_missing_variable (faults_in (elements_outcome e before ns)) ≡ 3 - length ns
+missing_elements : (e : Extensions) (w before : Option Loc) (ns : List Element) → Each (Tidied w) ns → count is_missing_variable (told_in (elements_outcome e before ns)) ≡ 3 - length ns
 missing_elements e w before [] h = missing_of e w before None None None [] tt tt tt tt
 missing_elements e w before (a ∷ []) h = missing_of e w before (Some a) None None [] h.0 tt tt tt
 missing_elements e w before (a ∷ b ∷ []) h = missing_of e w before (Some a) (Some b) None [] h.0 h.1.0 tt tt
 missing_elements e w before (a ∷ b ∷ c ∷ ns) h = no_more _ (length ns) (missing_of e w before (Some a) (Some b) (Some c) ns h.0 h.1.0 h.1.1.0 h.1.1.1)
 
-extra_elements : (e : Extensions) (w before : Option Loc) (ns : List Element) → Each (Tidied w) ns → count is_extra_element (faults_in (elements_outcome e before ns)) ≡ length ns - 3
+extra_elements : (e : Extensions) (w before : Option Loc) (ns : List Element) → Each (Tidied w) ns → count is_extra_element (told_in (elements_outcome e before ns)) ≡ length ns - 3
 extra_elements e w before [] h = extra_of e w before None None None [] tt tt tt tt
 extra_elements e w before (a ∷ []) h = extra_of e w before (Some a) None None [] h.0 tt tt tt
 extra_elements e w before (a ∷ b ∷ []) h = extra_of e w before (Some a) (Some b) None [] h.0 h.1.0 tt tt
 extra_elements e w before (a ∷ b ∷ c ∷ ns) h = so_many _ (length ns) (extra_of e w before (Some a) (Some b) (Some c) ns h.0 h.1.0 h.1.1.0 h.1.1.1)
 
-pub missing_due : (e : Extensions) (text : List ℕ) (tree : Cell Policy) (p : PolicyImpl) → IsTreeOf ReadsPolicy text tree → tree.node ≡ Some (trees.Policy p) → count is_missing_variable (faults_in (scope_outcome e p)) ≡ 3 - length p.variables
+pub missing_due : (e : Extensions) (text : List ℕ) (tree : Cell Policy) (p : PolicyImpl) → IsTreeOf ReadsPolicy text tree → tree.node ≡ Some (trees.Policy p) → count is_missing_variable (told_in (scope_outcome e p)) ≡ 3 - length p.variables
 missing_due e text tree p g h = let d = parsed_tidy text tree (trees.Policy p) g h in missing_elements e d.0 p.effect.loc p.variables d.1.2
 
-pub extra_due : (e : Extensions) (text : List ℕ) (tree : Cell Policy) (p : PolicyImpl) → IsTreeOf ReadsPolicy text tree → tree.node ≡ Some (trees.Policy p) → count is_extra_element (faults_in (scope_outcome e p)) ≡ length p.variables - 3
+pub extra_due : (e : Extensions) (text : List ℕ) (tree : Cell Policy) (p : PolicyImpl) → IsTreeOf ReadsPolicy text tree → tree.node ≡ Some (trees.Policy p) → count is_extra_element (told_in (scope_outcome e p)) ≡ length p.variables - 3
 extra_due e text tree p g h = let d = parsed_tidy text tree (trees.Policy p) g h in extra_elements e d.0 p.effect.loc p.variables d.1.2
 
 -- ---- names of policies
 
-no_names : {X : Type 0} (w : Option Loc) (x : Outcome X) → Stands IsTold w Anything x → All IsOfNoName (faults_in x)
-no_names w (Ok x) h = All-nil IsOfNoName
-no_names w (Err fs) h = All-weaker (KindWithin IsTold w) IsOfNoName (λ f i. (no_policy_name f.0 i.0, no_template_name f.0 i.0)) fs h.1
+no_names : {X : Type 0} (o : Origin) (x : Outcome X) → Stands IsTold o Anything x → All IsOfNoName (told_in x)
+no_names o (Ok x) h = All-nil IsOfNoName
+no_names o (Err fs) h = All-weaker (KindWithin IsTold o) IsOfNoName (λ f i. (no_policy_name o f.0 i.0, no_template_name o f.0 i.0)) fs h.1
 
-pub policy_names : (e : Extensions) (found : List Found) (text id : List ℕ) (tree : Cell Policy) → IsTreeOf ReadsPolicy text tree → All IsOfNoName (faults_in (template_outcome e found id tree))
-policy_names e found text id tree g = no_names tree.loc (template_outcome e found id tree) (policy_stands e found text id tree g)
+pub policy_names : (e : Extensions) (found : List Found) (id : List ℕ) (tree : Cell Policy) → All IsOfNoName (told_in (template_outcome e found id tree))
+policy_names e found id tree = no_names by_hand (template_outcome e found id tree) (any_policy_stands e found id tree)
 
-pub set_names : (e : Extensions) (found : List (List Found)) (text : List ℕ) (tree : Cell Policies) → IsTreeOf ReadsPolicies text tree → All IsOfNoName (faults_in (policies_outcome e found tree))
-set_names e found text tree g = no_names tree.loc (policies_outcome e found tree) (set_stands e found text tree g)
+pub set_names : (e : Extensions) (found : List (List Found)) (tree : Cell Policies) → All IsOfNoName (told_in (policies_outcome e found tree))
+set_names e found tree = no_names by_hand (policies_outcome e found tree) (any_set_stands e found tree)
+
+-- ---- what is refused is told
+
+pub policy_refused : (e : Extensions) (found : List Found) (id : List ℕ) (tree : Cell Policy) (faults : List Told) → template_outcome e found id tree ≡ Err faults → faults ≢ []
+policy_refused e found id tree faults h = some_told by_hand (template_outcome e found id tree) faults (any_policy_stands e found id tree) h
+
+pub set_refused : (e : Extensions) (found : List (List Found)) (tree : Cell Policies) (faults : List Told) → policies_outcome e found tree ≡ Err faults → faults ≢ []
+set_refused e found tree faults h = some_told by_hand (policies_outcome e found tree) faults (any_set_stands e found tree) h

@@ -4,6 +4,7 @@ pub mod Bare
 pub mod Blind
 pub mod BlindLeaves
 pub mod BlindMembers
+pub mod ByHand
 pub mod ConditionFree
 pub mod DueKinds
 pub mod FaultLists
@@ -28,6 +29,7 @@ pub mod Meaning
 pub mod Nodes
 pub mod OneSet
 pub mod Outcomes
+pub mod OwnPlaces
 pub mod Parsed
 pub mod ParsedSets
 pub mod Parts
@@ -42,12 +44,14 @@ pub mod Signed
 pub mod SlotsMeant
 pub mod Spellings
 pub mod Standing
+pub mod StandingAlone
 pub mod StandingLeaves
 pub mod StandingMembers
 pub mod StandingPolicies
 pub mod StandingScopes
 pub mod StandingTexts
 pub mod StandingTrees
+pub mod StaticMeaning
 pub mod StringLiterals
 pub mod Tidy
 pub mod TidyPolicies

@@ -25,7 +25,7 @@ use Rattle.cedar_policy_parser.specs.Extensions.{Extensions}
 use Rattle.cedar_policy_parser.specs.HasSide.{Attributes, right_side}
 use Rattle.cedar_policy_parser.specs.Held.{Held, expression, as_expression, as_pattern, as_entity_type, as_string, as_attribute}
 use Rattle.cedar_policy_parser.specs.Leaves.{named, slot_held, entity_held}
-pub use Rattle.cedar_policy_parser.specs.Literals.{number_in, literal_alone, lone_literal, number_outcome, written, quoted, literal_outcome}
+pub use Rattle.cedar_policy_parser.specs.Literals.{number_in, literal_alone, lone_literal, number_outcome, written, held_string, literal_outcome}
 use Rattle.cedar_policy_parser.specs.Members.{Access, field, call, index, member_outcome}
 use Rattle.cedar_policy_parser.specs.Names.{unreserved_ident}
 use Rattle.cedar_policy_parser.specs.Outcome.{Outcome, refused, both, next, empty_node, ambiguous_operators, invalid_single_eq, unary_op_limit, integer_literal_too_large, unsupported_division, unsupported_modulo, expression_construction_error}

@@ -37,15 +37,15 @@ abbrev pub written : Option Loc → Option Loc → Str → Outcome Held
 written place own (str.String raw) = Ok (bare_string place raw)
 written place own (str.Invalid raw) = refused invalid_string own
 
-abbrev pub quoted : Option Loc → Option Loc → Option Str → Outcome Held
-quoted place own (Some s) = written place own s
-quoted place own None = refused empty_node own
+abbrev pub held_string : Option Loc → Option Loc → Option Str → Outcome Held
+held_string place own (Some s) = written place own s
+held_string place own None = refused empty_node own
 
 abbrev pub literal_outcome : Option Loc → Option Literal → Outcome Held
 literal_outcome place (Some lit.True) = Ok (bare_truth place true)
 literal_outcome place (Some lit.False) = Ok (bare_truth place false)
 literal_outcome place (Some (lit.Num n)) = number_outcome place n
-literal_outcome place (Some (lit.Str s)) = quoted place s.loc s.node
+literal_outcome place (Some (lit.Str s)) = held_string place s.loc s.node
 literal_outcome place None = refused empty_node place
 
 -- what a primary gives where a string is wanted and nothing else

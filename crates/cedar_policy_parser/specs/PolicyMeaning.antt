@@ -1,6 +1,6 @@
 -- What policies and sets mean beside their parts: how conditions are joined, how policies are named,
 -- and how a set is made of them. No tree is named here: the strict grammar uses it too.
-use Rattle.std.specs.Prelude.{ℕ, List, [], ◌∷◌, ◌++◌, Option, Some, None, Bool, true, false, codes}
+use Rattle.std.specs.Prelude.{◌≡◌, ℕ, List, [], ◌∷◌, ◌++◌, Option, Some, None, Bool, true, false, codes}
 use Rattle.std.specs.Fmt.{decimal}
 use Rattle.std.specs.FinMap.{empty, insert}
 use Rattle.cedar_expressions.specs.Value as v
@@ -31,3 +31,8 @@ added_by false set p = record set { policies = insert set.policies p.id p }
 -- as a template where a slot stands in its scope, else as a static policy
 abbrev pub with_policy : Policies → Policy → Policies
 with_policy set p = added_by (has_slot_in_scope p) set p
+
+-- a static policy has no slot in its scope, as Cedar's `StaticPolicy` has none; none stands in the
+-- condition of any
+abbrev pub IsStatic : Policy → Type 0
+IsStatic p = has_slot_in_scope p ≡ false

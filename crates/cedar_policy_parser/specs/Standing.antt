@@ -3,7 +3,7 @@ use Rattle.std.specs.Prelude.{◌≢◌, ◌≤◌, [], Option, Some, Ok, Err, �
 use Rattle.std.specs.List.{All}
 use Rattle.cedar_syntax.specs.declared.loc.Loc.{Loc}
 use Rattle.cedar_syntax.specs.Span.{end_of}
-use Rattle.cedar_policy_parser.specs.Outcome.{Outcome, Told, empty_node}
+use Rattle.cedar_policy_parser.specs.Outcome.{Outcome, Told, empty_node, invalid_identifier}
 
 -- both places are known and of the same text, and the bytes of the second are some of the first's
 abbrev pub LiesWithin : Option Loc → Option Loc → Type 0
@@ -12,9 +12,11 @@ LiesWithin (Some outer) (Some loc) =
     × (end_of loc.span ≤ end_of outer.span)
 LiesWithin _ _ = ⊥
 
--- a fault of a node that isn't empty, at a place within another
+-- a fault at a place within another; a node that is read is never empty, and an identifier that is
+-- read is spelled as one
 abbrev pub FaultWithin : Option Loc → Told → Type 0
-FaultWithin outer fault = (fault.0 ≢ empty_node) × LiesWithin outer fault.1
+FaultWithin outer fault =
+    (fault.0 ≢ empty_node) × (fault.0 ≢ invalid_identifier) × LiesWithin outer fault.1
 
 -- where nothing is given there are faults, each within a place
 abbrev pub StandWithin : {Y : Type 0} → Option Loc → Outcome Y → Type 0

@@ -10,7 +10,7 @@ use Rattle.cedar_syntax.proofs.Layouts.{laid_out}
 use Rattle.cedar_policy_parser.specs.Outcome.{Outcome, Told, unescape}
 
 -- the pieces that a raw text is laid out of: there are such, and no others (the law `one_layout`
--- of `cedar_text`)
+-- of `cedar_syntax`)
 unfoldable pub layout : List ℕ → List Placed
 layout raw = (laid_out 0 (chars raw)).0
 

@@ -1,5 +1,6 @@
 //! Laws that join the definitions: what a text's tree is converted to is what its tokens mean.
-ghost use Rattle.std.specs.Prelude.{◌≡◌, ◌↔◌, ℕ, List, [], Option, Some, Ok, Err, true};
+ghost use Rattle.std.specs.Prelude.{◌≡◌, ◌↔◌, ℕ, List, [], ◌∷◌, Option, Some, Ok, Err, true};
+ghost use Rattle.cedar_lexer.specs.Cut.{Cuts};
 ghost use Rattle.cedar_lexer.specs.Spelling.{IsIdentifier};
 ghost use Rattle.cedar_lexer.specs.Token.{Lexeme};
 ghost use Rattle.cedar_expressions.specs.Keys.{repeats_key};
@@ -7,21 +8,28 @@ ghost use Rattle.cedar_expressions.specs.Path.{is_identifier};
 ghost use Rattle.cedar_expressions.specs.Value.{Value};
 ghost use Rattle.cedar_syntax.specs.declared.loc.Loc.{Loc};
 ghost use Rattle.cedar_syntax.specs.declared.cst.Expr.{Expr as Tree};
+ghost use Rattle.cedar_syntax.specs.declared.cst.Ident.{Ident};
 ghost use Rattle.cedar_syntax.specs.declared.cst.NegOp.TheVariants as sign;
+ghost use Rattle.cedar_syntax.specs.declared.cst.Primary.{Primary};
+ghost use Rattle.cedar_syntax.specs.declared.cst.Ref.{Ref};
 ghost use Rattle.cedar_syntax.specs.declared.cst.RelOp.TheVariants as rel;
 ghost use Rattle.cedar_syntax.specs.declared.cst.TheConstants.{SIGN_LIMIT};
-ghost use Rattle.cedar_syntax.specs.Forms.{located, expr_form};
+ghost use Rattle.cedar_syntax.specs.Forms.{located, expr_form, primary_form};
 ghost use Rattle.cedar_syntax.specs.Located as f;
-ghost use Rattle.cedar_syntax.specs.Located.{Located, Parts};
+ghost use Rattle.cedar_syntax.specs.Located.{Located, Form, Parts};
 ghost use Rattle.cedar_syntax.specs.Tree as t;
 ghost use Rattle.cedar_syntax.specs.Unlocated.{unlocated};
 ghost use Rattle.cedar_syntax.specs.Grammar.{IsTreeOf};
-ghost use Rattle.cedar_syntax.specs.LooseExpressions.{ReadsExpr};
+ghost use Rattle.cedar_syntax.specs.LooseExpressions.{ReadsExpr, ReadsPrimary};
+ghost use Rattle.cedar_syntax.specs.LooseWords.{ReadsIdent, ReadsRef};
 ghost use Rattle.cedar_syntax.specs.Place.{placed};
 ghost use Rattle.cedar_syntax.specs.Trees.{Cell};
-ghost use Rattle.cedar_policy_parser.specs.Alone.{HasValue, HaveValues, OperandsHaveValues, quotients, ArePairs, IsBareName};
+ghost use Rattle.cedar_policy_parser.specs.Alone.{HasValue, HaveValues, OperandsHaveValues, quotients, ArePairs, ComesTo, IsAlone, IsBareName};
 ghost use Rattle.cedar_policy_parser.specs.Conversion.{Converts, keys, outcome, value_outcome};
+ghost use Rattle.cedar_policy_parser.specs.Entities.{entity_outcome};
 ghost use Rattle.cedar_policy_parser.specs.Extensions.{Extensions};
+ghost use Rattle.cedar_policy_parser.specs.Literals.{string_outcome};
+ghost use Rattle.cedar_policy_parser.specs.Names.{any_ident, valid_ident};
 ghost use Rattle.cedar_policy_parser.specs.Outcome.{given, refused, ambiguous_operators, arbitrary_variable, expression_construction_error, invalid_single_eq, unary_op_limit};
 ghost use Rattle.cedar_policy_parser.specs.Standing.{StandWithin};
 ghost use Rattle.cedar_policy_parser.specs.Strict.{Means, expression};
@@ -73,6 +81,10 @@ pub fn values_see_no_place()
 /// operand with its signs, whatever the operand is. A record of which each key is an attribute and each value a value, with a
 /// key twice, is `ExpressionConstructionError` alone, at its place. A name that is no variable is `ArbitraryVariable` alone
 /// where an expression is wanted, in parentheses or not, at its place.
+///
+/// So is a whole expression that is one of these and no more, bare or in parentheses (`IsAlone`): an `Expr` node's tree is
+/// `located expr_form` of the node, and `to_expr` gives its `value_outcome`. Where an expression that is read from tokens is
+/// one of these bare (`ComesTo`), wherever it stands in a text, that place is the expression's own.
 pub fn refused_alone()
     ensures ambiguous { (table : Extensions) (place : Option Loc) (a b c : Located)
         (op next : t.Operator)
@@ -80,39 +92,92 @@ pub fn refused_alone()
         (f.more op b (f.more next c rest))
         → outcome table (f.at place (f.chain t.relation a (f.more op b (f.more next c rest))))
         ≡ refused ambiguous_operators place }
+    ensures ambiguous_alone { (table : Extensions) (tree : Located) (place : Option Loc)
+        (a b c : Located) (op next : t.Operator) (rest : Parts)
+        → IsAlone tree (f.at place (f.chain t.relation a (f.more op b (f.more next c rest))))
+        → HasValue table a → HaveValues table place (f.more op b (f.more next c rest))
+        → value_outcome table tree ≡ refused ambiguous_operators place }
     ensures single_eq { (table : Extensions) (place : Option Loc) (a b : Located)
         → HasValue table a → HasValue table b
         → outcome table (f.at place (f.chain t.relation a
         (f.more (t.compare rel.InvalidSingleEq) b f.none)))
         ≡ refused invalid_single_eq place }
+    ensures single_eq_alone { (table : Extensions) (tree : Located) (place : Option Loc)
+        (a b : Located)
+        → IsAlone tree (f.at place (f.chain t.relation a
+        (f.more (t.compare rel.InvalidSingleEq) b f.none)))
+        → HasValue table a → HasValue table b
+        → value_outcome table tree ≡ refused invalid_single_eq place }
     ensures quotients { (table : Extensions) (place : Option Loc) (a : Located) (rest : Parts)
         → HasValue table a → OperandsHaveValues table rest → ¬ (quotients place rest ≡ [])
         → outcome table (f.at place (f.chain t.product a rest)) ≡ Err (quotients place rest) }
+    ensures quotients_alone { (table : Extensions) (tree : Located) (place : Option Loc)
+        (a : Located) (rest : Parts)
+        → IsAlone tree (f.at place (f.chain t.product a rest))
+        → HasValue table a → OperandsHaveValues table rest → ¬ (quotients place rest ≡ [])
+        → value_outcome table tree ≡ Err (quotients place rest) }
     ensures bangs { (table : Extensions) (place : Option Loc) (a : Located)
         → outcome table (f.at place (f.unary (Some sign.OverBang) a))
         ≡ refused unary_op_limit place }
+    ensures bangs_alone { (table : Extensions) (tree : Located) (place : Option Loc)
+        (a : Located)
+        → IsAlone tree (f.at place (f.unary (Some sign.OverBang) a))
+        → value_outcome table tree ≡ refused unary_op_limit place }
     ensures dashes { (table : Extensions) (place : Option Loc) (a : Located)
         → outcome table (f.at place (f.unary (Some sign.OverDash) a))
         ≡ refused unary_op_limit place }
+    ensures dashes_alone { (table : Extensions) (tree : Located) (place : Option Loc)
+        (a : Located)
+        → IsAlone tree (f.at place (f.unary (Some sign.OverDash) a))
+        → value_outcome table tree ≡ refused unary_op_limit place }
     ensures repeated_key { (table : Extensions) (place : Option Loc) (inits : Parts)
         (pairs : List (List ℕ × Value))
         → ArePairs table inits pairs → repeats_key (keys pairs) ≡ true
         → outcome table (f.at place (f.record_of inits))
         ≡ refused expression_construction_error place }
+    ensures repeated_key_alone { (table : Extensions) (tree : Located) (place : Option Loc)
+        (inits : Parts) (pairs : List (List ℕ × Value))
+        → IsAlone tree (f.at place (f.record_of inits))
+        → ArePairs table inits pairs → repeats_key (keys pairs) ≡ true
+        → value_outcome table tree ≡ refused expression_construction_error place }
     ensures lone_name { (table : Extensions) (tree : Located) (place : Option Loc)
         → IsBareName tree place
         → value_outcome table tree ≡ refused arbitrary_variable place }
+    ensures own_place { (src : List ℕ) (ts : List Lexeme) (x : Tree) (place : Option Loc)
+        (form : Form)
+        → ReadsExpr src ts x → ComesTo (located expr_form (placed src ts x)) (f.at place form)
+        → place ≡ (placed src ts x).loc }
+    ensures text_place { (text : List ℕ) (tree : Cell Tree) (place : Option Loc) (form : Form)
+        → IsTreeOf ReadsExpr text tree → ComesTo (located expr_form tree) (f.at place form)
+        → place ≡ tree.loc }
 {}
 
 /// What a text's tree is refused with stands within the tree's place, each fault at a known place of the same text; it is never
-/// of an empty node, and there is a fault.
+/// of an empty node nor of an identifier's spelling, and there is a fault.
 pub fn faults_stand_within()
     ensures { (table : Extensions) (text : List ℕ) (tree : Cell Tree)
         → IsTreeOf ReadsExpr text tree
         → StandWithin tree.loc (value_outcome table (located expr_form tree)) }
 {}
 
+/// The same of the tree of a primary's text where a string is wanted, of an entity's, and of an identifier's where a name is to
+/// hold it.
+pub fn faults_of_leaves_stand_within()
+    ensures strings { (text : List ℕ) (tree : Cell Primary) → IsTreeOf ReadsPrimary text tree
+        → StandWithin tree.loc (string_outcome (located primary_form tree)) }
+    ensures entities { (text : List ℕ) (tree : Cell Ref) → IsTreeOf ReadsRef text tree
+        → StandWithin tree.loc (entity_outcome tree) }
+    ensures identifiers { (text : List ℕ) (tree : Cell Ident) → IsTreeOf ReadsIdent text tree
+        → StandWithin tree.loc (valid_ident tree) }
+{}
+
 /// What is spelled as an identifier is one for tokens and for names.
 pub fn one_spelling()
     ensures { (text : List ℕ) → IsIdentifier text ↔ (is_identifier text ≡ true) }
+{}
+
+/// The identifier of a text, a word of the language too, is any identifier: its node gives the text of the one token.
+pub fn identifier_is_any()
+    ensures { (text : List ℕ) (tree : Cell Ident) → IsTreeOf ReadsIdent text tree
+        → (token : Lexeme) × Cuts text (token ∷ []) × (any_ident tree ≡ Ok token.text) }
 {}

@@ -3,7 +3,7 @@ ghost use Rattle.std.specs.Prelude.{◌≡◌, Ok};
 ghost use Rattle.std.specs.Option.{option_copied};
 ghost use Rattle.cedar_expressions.specs.Value.{Value};
 ghost use Rattle.cedar_syntax.specs.Forms.{located, primary_form, member_form};
-ghost use Rattle.cedar_policy_parser.specs.Conversion.{literal_outcome, quoted as quoted_at, number_outcome, number_in, literal_alone, lone_literal};
+ghost use Rattle.cedar_policy_parser.specs.Conversion.{literal_outcome, held_string, number_outcome, number_in, literal_alone, lone_literal};
 ghost use Rattle.cedar_policy_parser.specs.Held.{bare_truth};
 ghost use Rattle.cedar_policy_parser.specs.Outcome.{invalid_string};
 ghost use Rattle.cedar_policy_parser.specs.Seen.{Gives, TellsAlone, plain};
@@ -50,7 +50,7 @@ fn quoted<E>(
     node: &Node<Option<cst::Str>>,
 ) -> Result<ExprOrSpecial<E>, Failure>
     ensures { (meaning : E → Value)
-        → Gives (plain meaning) result (quoted_at loc.now node.now.loc node.now.node) }
+        → Gives (plain meaning) result (held_string loc.now node.now.loc node.now.node) }
 {
     match &node.node {
         Some(cst::Str::String(raw)) => {

@@ -1,6 +1,7 @@
 //! Laws that join the definitions: what the trees of policies are converted to is what their tokens mean.
-ghost use Rattle.std.specs.Prelude.{◌≡◌, ℕ, ◌-◌, List, [], ◌∷◌, map, length, Option, Some, None, Ok, Err};
+ghost use Rattle.std.specs.Prelude.{◌≡◌, ◌≢◌, ◌↔◌, ℕ, ◌-◌, List, [], ◌∷◌, map, length, Option, Some, None, Ok, Err};
 ghost use Rattle.std.specs.List.{All};
+ghost use Rattle.either.specs.declared.Either.TheVariants.{Left, Right};
 ghost use Rattle.cedar_expressions.specs.Value.{Value};
 ghost use Rattle.cedar_lexer.specs.Token.{Lexeme};
 ghost use Rattle.cedar_policy_store.specs.PlaceFree as free;
@@ -19,7 +20,7 @@ ghost use Rattle.cedar_syntax.specs.Grammar.{IsTreeOf};
 ghost use Rattle.cedar_syntax.specs.LoosePolicies.{ReadsPolicies, ReadsPolicy};
 ghost use Rattle.cedar_syntax.specs.Place.{placed};
 ghost use Rattle.cedar_syntax.specs.Trees.{Cell};
-ghost use Rattle.cedar_policy_parser.specs.Blocks.{faults_in, policy_faults, set_faults};
+ghost use Rattle.cedar_policy_parser.specs.Blocks.{PartsStandWithin, told_in, policy_faults, set_faults};
 ghost use Rattle.cedar_policy_parser.specs.Conditions.{Found, condition_outcome};
 ghost use Rattle.cedar_policy_parser.specs.Conversion.{Converts};
 ghost use Rattle.cedar_policy_parser.specs.Due.{IsCondition, IsWhenOrUnless, IsOfNoName, count, is_extra_element, is_missing_variable};
@@ -27,6 +28,7 @@ ghost use Rattle.cedar_policy_parser.specs.Extensions.{Extensions};
 ghost use Rattle.cedar_policy_parser.specs.Outcome.{Told, refused, empty_clause, invalid_condition, invalid_effect, slots_in_condition_clause};
 ghost use Rattle.cedar_policy_parser.specs.Policies as k;
 ghost use Rattle.cedar_policy_parser.specs.Policies.{Parts, meaning_of};
+ghost use Rattle.cedar_policy_parser.specs.PolicyMeaning.{IsStatic};
 ghost use Rattle.cedar_policy_parser.specs.Scope.{scope_outcome};
 ghost use Rattle.cedar_policy_parser.specs.Standing.{StandWithin};
 ghost use Rattle.cedar_policy_parser.specs.StrictPolicy.{IsPolicy, IsPolicySet};
@@ -49,6 +51,55 @@ pub fn meant_is_policy()
         → (x : PolicyTree) × (parts : Parts) × ReadsPolicy src ts x
         × ((found : List Found)
         → k.template_outcome table found id (placed src ts x) ≡ Ok parts)
+        × (meaning_of parts ≡ policy) }
+{}
+
+/// A policy's tree is converted where a static policy is wanted exactly where it is converted and what its tokens mean has no
+/// slot in its scope, and to the same. Tokens that mean such a policy have a tree that is converted to it there.
+pub fn static_policy_is_meant()
+    ensures converted { (table : Extensions) (found : List Found) (src id : List ℕ)
+        (ts : List Lexeme) (x : PolicyTree) (parts : Parts)
+        → ReadsPolicy src ts x
+        → (k.static_outcome table found id (placed src ts x) ≡ Ok parts)
+        ↔ ((k.template_outcome table found id (placed src ts x) ≡ Ok parts)
+        × IsPolicy table SIGN_LIMIT id ts (meaning_of parts) × IsStatic (meaning_of parts)) }
+    ensures meant { (table : Extensions) (src id : List ℕ) (ts : List Lexeme)
+        (policy : free.Policy)
+        → IsPolicy table SIGN_LIMIT id ts policy → IsStatic policy
+        → (x : PolicyTree) × (parts : Parts) × ReadsPolicy src ts x
+        × ((found : List Found)
+        → k.static_outcome table found id (placed src ts x) ≡ Ok parts)
+        × (meaning_of parts ≡ policy) }
+{}
+
+/// Where either is wanted, a policy's tree is converted to a static policy exactly where what its tokens mean has no slot in
+/// its scope, and else to a template. Tokens that mean one or the other have a tree that is converted to it as such.
+pub fn side_is_meant()
+    ensures static_policies { (table : Extensions) (found : List Found) (src id : List ℕ)
+        (ts : List Lexeme) (x : PolicyTree) (parts : Parts)
+        → ReadsPolicy src ts x
+        → (k.either_outcome table found id (placed src ts x) ≡ Ok (Left parts))
+        ↔ ((k.template_outcome table found id (placed src ts x) ≡ Ok parts)
+        × IsPolicy table SIGN_LIMIT id ts (meaning_of parts) × IsStatic (meaning_of parts)) }
+    ensures templates { (table : Extensions) (found : List Found) (src id : List ℕ)
+        (ts : List Lexeme) (x : PolicyTree) (parts : Parts)
+        → ReadsPolicy src ts x
+        → (k.either_outcome table found id (placed src ts x) ≡ Ok (Right parts))
+        ↔ ((k.template_outcome table found id (placed src ts x) ≡ Ok parts)
+        × IsPolicy table SIGN_LIMIT id ts (meaning_of parts) × ¬ (IsStatic (meaning_of parts))) }
+    ensures meant_static { (table : Extensions) (src id : List ℕ) (ts : List Lexeme)
+        (policy : free.Policy)
+        → IsPolicy table SIGN_LIMIT id ts policy → IsStatic policy
+        → (x : PolicyTree) × (parts : Parts) × ReadsPolicy src ts x
+        × ((found : List Found)
+        → k.either_outcome table found id (placed src ts x) ≡ Ok (Left parts))
+        × (meaning_of parts ≡ policy) }
+    ensures meant_template { (table : Extensions) (src id : List ℕ) (ts : List Lexeme)
+        (policy : free.Policy)
+        → IsPolicy table SIGN_LIMIT id ts policy → ¬ (IsStatic policy)
+        → (x : PolicyTree) × (parts : Parts) × ReadsPolicy src ts x
+        × ((found : List Found)
+        → k.either_outcome table found id (placed src ts x) ≡ Ok (Right parts))
         × (meaning_of parts ≡ policy) }
 {}
 
@@ -86,8 +137,9 @@ pub fn one_set()
 }
 
 /// What the tree of a policy, or of a set, is refused with stands within its place, each fault at a known place of the same
-/// text, wherever slots were found; it is never of an empty node, and there is a fault. What a policy of a set is refused with
-/// stands within that policy's place.
+/// text, wherever slots were found; it is never of an empty node nor of an identifier's spelling, and there is a fault. What a
+/// policy of a set is refused with stands within that policy's place; what its effect, an annotation or a condition is refused
+/// with within its own place, and what its scope is refused with within the policy's.
 pub fn policy_faults_stand_within()
     ensures policies { (table : Extensions) (found : List Found) (text id : List ℕ)
         (tree : Cell PolicyTree)
@@ -101,6 +153,15 @@ pub fn policy_faults_stand_within()
         (tree : Cell SetTree) (set : SetTree)
         → IsTreeOf ReadsPolicies text tree → tree.node ≡ Some set
         → All (λ node. StandWithin node.loc (k.template_outcome table found id node)) set.0 }
+    ensures parts { (table : Extensions) (found : Found) (text : List ℕ) (tree : Cell PolicyTree)
+        (parts : PolicyImpl)
+        → IsTreeOf ReadsPolicy text tree → tree.node ≡ Some (trees.Policy parts)
+        → PartsStandWithin table found tree.loc parts }
+    ensures member_parts { (table : Extensions) (found : Found) (text : List ℕ)
+        (tree : Cell SetTree) (set : SetTree)
+        → IsTreeOf ReadsPolicies text tree → tree.node ≡ Some set
+        → All (λ node. (parts : PolicyImpl) → node.node ≡ Some (trees.Policy parts)
+        → PartsStandWithin table found node.loc parts) set.0 }
 {}
 
 /// The faults of a set are those of its policies, one after another, whatever name each has. Those of a policy are those of its
@@ -108,18 +169,18 @@ pub fn policy_faults_stand_within()
 pub fn blocks()
     ensures set { (table : Extensions) (found : List (List Found)) (id : List ℕ)
         (nodes : List (Node (Option PolicyTree)))
-        → faults_in (k.set_outcome table found nodes) ≡ set_faults table found id nodes }
+        → told_in (k.set_outcome table found nodes) ≡ set_faults table found id nodes }
     ensures policy { (table : Extensions) (found : List Found) (id : List ℕ) (place : Option Loc)
         (parts : PolicyImpl)
-        → faults_in (k.template_of table found id place (trees.Policy parts))
+        → told_in (k.template_of table found id place (trees.Policy parts))
         ≡ policy_faults table found parts }
 {}
 
 /// In a parsed policy a refused effect is `InvalidEffect` alone; its scope has a `MissingScopeVariable` just for each element
-/// that is missing, and an `ExtraScopeElement` just for each beyond three; and no fault of a parsed policy or set is of a name
-/// that two policies have. A condition whose word is neither `when` nor `unless` is `InvalidCondition` alone; with one of them
-/// it is `EmptyClause` alone if it has no expression, and, if its expression converts, just a `SlotsInConditionClause` for
-/// each slot.
+/// that is missing, and an `ExtraScopeElement` just for each beyond three. A condition whose word is neither `when` nor
+/// `unless` is `InvalidCondition` alone; with one of them it is `EmptyClause` alone if it has no expression, and, if its
+/// expression converts, just a `SlotsInConditionClause` for each slot. No fault of a policy's or a set's tree, by hand too, is
+/// of a name that two policies have; and where such a tree is refused there is a fault.
 pub fn due()
     ensures effect { (text : List ℕ) (tree : Cell PolicyTree) (parts : PolicyImpl)
         (faults : List Told)
@@ -129,21 +190,24 @@ pub fn due()
     ensures missing { (table : Extensions) (text : List ℕ) (tree : Cell PolicyTree)
         (parts : PolicyImpl)
         → IsTreeOf ReadsPolicy text tree → tree.node ≡ Some (trees.Policy parts)
-        → count is_missing_variable (faults_in (scope_outcome table parts))
+        → count is_missing_variable (told_in (scope_outcome table parts))
         ≡ 3 - length parts.variables }
     ensures extra { (table : Extensions) (text : List ℕ) (tree : Cell PolicyTree)
         (parts : PolicyImpl)
         → IsTreeOf ReadsPolicy text tree → tree.node ≡ Some (trees.Policy parts)
-        → count is_extra_element (faults_in (scope_outcome table parts))
+        → count is_extra_element (told_in (scope_outcome table parts))
         ≡ length parts.variables - 3 }
-    ensures policy_names { (table : Extensions) (found : List Found) (text id : List ℕ)
+    ensures policy_names { (table : Extensions) (found : List Found) (id : List ℕ)
         (tree : Cell PolicyTree)
-        → IsTreeOf ReadsPolicy text tree
-        → All IsOfNoName (faults_in (k.template_outcome table found id tree)) }
-    ensures set_names { (table : Extensions) (found : List (List Found)) (text : List ℕ)
-        (tree : Cell SetTree)
-        → IsTreeOf ReadsPolicies text tree
-        → All IsOfNoName (faults_in (k.policies_outcome table found tree)) }
+        → All IsOfNoName (told_in (k.template_outcome table found id tree)) }
+    ensures set_names { (table : Extensions) (found : List (List Found)) (tree : Cell SetTree)
+        → All IsOfNoName (told_in (k.policies_outcome table found tree)) }
+    ensures policy_refused { (table : Extensions) (found : List Found) (id : List ℕ)
+        (tree : Cell PolicyTree) (faults : List Told)
+        → k.template_outcome table found id tree ≡ Err faults → faults ≢ [] }
+    ensures set_refused { (table : Extensions) (found : List (List Found)) (tree : Cell SetTree)
+        (faults : List Told)
+        → k.policies_outcome table found tree ≡ Err faults → faults ≢ [] }
     ensures other_word { (table : Extensions) (found : Found) (node : Node (Option Cond))
         (word : Ident) (place : Option Loc) (expr : Option (Node (Option Expr)))
         → IsCondition node word place expr → ¬ (IsWhenOrUnless word)
@@ -156,6 +220,6 @@ pub fn due()
         (word : Ident) (place : Option Loc) (expr : Node (Option Expr)) (value : Value)
         → IsCondition node word place (Some expr) → IsWhenOrUnless word
         → Converts table (located expr_form expr) value
-        → map (λ fault. fault.0) (faults_in (condition_outcome table (found, node)))
+        → map (λ fault. fault.0) (told_in (condition_outcome table (found, node)))
         ≡ map (λ slot. slots_in_condition_clause) (slots_of value) }
 {}

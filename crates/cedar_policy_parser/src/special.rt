@@ -64,7 +64,7 @@ pub(crate) fn refusal(alloc: Global, kind: ToASTErrorKind, loc: &Option<Loc>) ->
     }
 }
 
-/// A node with nothing in it, or with a form that isn't converted yet.
+/// A node with nothing in it, or with a form that its caller has another call for.
 pub(crate) fn unreached(alloc: Global, loc: &Option<Loc>) -> Failure
     ensures { TellsAlone result empty_node loc.now }
 {

@@ -80,12 +80,12 @@ some_parts : (ps : List (Operator × Located)) (p : Operator × Located) → par
 some_parts [] p h = cc
 some_parts (q ∷ ps) p h = cc
 
-some_behind : {X : Type 0} (g : X → Operator × Located) (xs : List X) (x : X) → parts_of (map g (xs ++ x ∷ [])) ≡ f.none → ⊥
+pub some_behind : {X : Type 0} (g : X → Operator × Located) (xs : List X) (x : X) → parts_of (map g (xs ++ x ∷ [])) ≡ f.none → ⊥
 some_behind g xs x h = some_parts (map g xs) (g x) (ap parts_of (sym (map_snoc g xs x)) ∙ h)
 
 -- ---- signs
 
-signs_some : {k : TokenKind} {ts : List Lexeme} {n : ℕ} → ReadsSigns k ts n → 0 < n
+pub signs_some : {k : TokenKind} {ts : List Lexeme} {n : ℕ} → ReadsSigns k ts n → 0 < n
 signs_some (l.one_sign p) = omega arith
 signs_some (l.more_signs p r) = omega arith
 
@@ -97,11 +97,11 @@ dash_sign : (n : ℕ) (b : Bool) → no_sign (Some (cond b (sign.Dash (suc n)) s
 dash_sign n true = refl
 dash_sign n false = refl
 
-bangs_sign : (n : ℕ) → 0 < n → no_sign (Some (bangs_of n)) ≡ false
+pub bangs_sign : (n : ℕ) → 0 < n → no_sign (Some (bangs_of n)) ≡ false
 bangs_sign zero h = absurd (omega arith)
 bangs_sign (suc n) h = bang_sign n (nat_le (suc n) sign_limit)
 
-dashes_sign : (n : ℕ) → 0 < n → no_sign (Some (dashes_of n)) ≡ false
+pub dashes_sign : (n : ℕ) → 0 < n → no_sign (Some (dashes_of n)) ≡ false
 dashes_sign zero h = absurd (omega arith)
 dashes_sign (suc n) h = dash_sign n (nat_le (suc n) sign_limit)
 

@@ -16,6 +16,12 @@ returns-clause-policy_names c = kinds.policy_names
 pub returns-clause-set_names : goal.returns-clause-set_names
 returns-clause-set_names c = kinds.set_names
 
+pub returns-clause-policy_refused : goal.returns-clause-policy_refused
+returns-clause-policy_refused c = kinds.policy_refused
+
+pub returns-clause-set_refused : goal.returns-clause-set_refused
+returns-clause-set_refused c = kinds.set_refused
+
 pub returns-clause-other_word : goal.returns-clause-other_word
 returns-clause-other_word c = kinds.other_word
 

@@ -1,0 +1,157 @@
+-- Any tree is tidy by hand, where nothing is asked of it; so its faults are of the kinds of a policy, and there are some.
+use Rattle.std.proofs.Common.{ℕ, List, [], ◌∷◌, Option, Some, None}
+use Rattle.cedar_syntax.specs.declared.node.Node.{Node}
+use Rattle.cedar_syntax.specs.declared.cst.Annotation.{Annotation}
+use Rattle.cedar_syntax.specs.declared.cst.Cond.{Cond}
+use Rattle.cedar_syntax.specs.declared.cst.Ident.{Ident}
+use Rattle.cedar_syntax.specs.declared.cst.Ident.TheVariants as words
+use Rattle.cedar_syntax.specs.declared.cst.Literal.{Literal}
+use Rattle.cedar_syntax.specs.declared.cst.Literal.TheVariants as lit
+use Rattle.cedar_syntax.specs.declared.cst.Name.{Name}
+use Rattle.cedar_syntax.specs.declared.cst.Policies.{Policies}
+use Rattle.cedar_syntax.specs.declared.cst.Policy.{Policy}
+use Rattle.cedar_syntax.specs.declared.cst.Policy.TheVariants as trees
+use Rattle.cedar_syntax.specs.declared.cst.Ref.{Ref}
+use Rattle.cedar_syntax.specs.declared.cst.Ref.TheVariants as refs
+use Rattle.cedar_syntax.specs.declared.cst.VariableDef.{VariableDef}
+use Rattle.cedar_syntax.specs.Forms.{located, add_form, expr_form}
+use Rattle.cedar_syntax.specs.Located.{Located, Form, Parts, missing, at, only, ite, chain, has, like, is, is_in, unary, member, field, call, index, literal, name, slot, reference, parens, set, record_of, init, none, more}
+use Rattle.cedar_policy_parser.specs.Conditions.{Found}
+use Rattle.cedar_policy_parser.specs.Extensions.{Extensions}
+use Rattle.cedar_policy_parser.specs.Policies.{template_outcome, policies_outcome}
+use Rattle.cedar_policy_parser.proofs.Standing.{by_hand, IsTold, Stands, Anything}
+use Rattle.cedar_policy_parser.proofs.StandingPolicies.{template_stands, policies_stand}
+use Rattle.cedar_policy_parser.proofs.Tidy.{Holding, NodeTidy, Each, IdentHeld, IdentTidy, NameTidy, LiteralTidy, RefTidy, Tidy, FormTidy, PartsTidy, AccessesTidy, AccessTidy, AccessFormTidy, PairsTidy, PairTidy, PairFormTidy}
+use Rattle.cedar_policy_parser.proofs.TidyPolicies.{IfThere, AddTidy, ConstraintTidy, ExprTidy, AnnotationTidy, ElementTidy, CondTidy, PolicyTidy, PoliciesTidy}
+
+-- ---- nodes
+
+any_held : {X : Type 0} (P : X → Type 0) → ((x : X) → P x) → (c : Option X) → Holding by_hand P c
+any_held P k None = tt
+any_held P k (Some x) = k x
+
+any_node : {X : Type 0} (P : X → Type 0) → ((x : X) → P x) → (n : Node (Option X)) → NodeTidy by_hand P n
+any_node P k n = (tt, any_held P k n.node)
+
+any_each : {X : Type 0} (P : X → Type 0) → ((x : X) → P x) → (xs : List X) → Each P xs
+any_each P k [] = tt
+any_each P k (x ∷ xs) = (k x, any_each P k xs)
+
+any_there : {X : Type 0} (P : X → Type 0) → ((x : X) → P x) → (c : Option X) → IfThere P c
+any_there P k None = tt
+any_there P k (Some x) = k x
+
+-- ---- leaves
+
+any_ident_held : (i : Ident) → IdentHeld by_hand i
+any_ident_held (words.Ident text) = tt
+any_ident_held (words.Invalid text) = tt
+any_ident_held i = tt
+
+any_ident : (n : Node (Option Ident)) → IdentTidy by_hand n
+any_ident n = any_node (IdentHeld by_hand) any_ident_held n
+
+any_name : (m : Name) → NameTidy by_hand m
+any_name m = (any_each (IdentTidy by_hand) any_ident m.path, any_ident m.name)
+
+any_literal : (x : Literal) → LiteralTidy by_hand x
+any_literal lit.True = tt
+any_literal lit.False = tt
+any_literal (lit.Num n) = tt
+any_literal (lit.Str s) = any_node Anything (λ x. tt) s
+
+any_ref : (r : Ref) → RefTidy by_hand r
+any_ref (refs.Uid path eid) = (any_node (NameTidy by_hand) any_name path, any_node Anything (λ x. tt) eid)
+any_ref (refs.Ref path inits) = tt
+
+-- ---- expressions
+
+mutual
+  any_tree : (n : Located) → Tidy by_hand n
+  any_tree (missing place) = tt
+  any_tree (at place form) = (tt, any_form form)
+
+  any_form : (u : Form) → FormTidy by_hand u
+  any_form (only n) = any_tree n
+  any_form (ite a b c) = (any_tree a, any_tree b, any_tree c)
+  any_form (chain level first others) = (any_tree first, any_parts others)
+  any_form (has target right) = (any_tree target, any_tree right)
+  any_form (like target pattern) = (any_tree target, any_tree pattern)
+  any_form (is target type) = (any_tree target, any_tree type)
+  any_form (is_in target type within) = (any_tree target, any_tree type, any_tree within)
+  any_form (unary op item) = any_tree item
+  any_form (member item accesses) = (any_tree item, any_accesses accesses)
+  any_form (field n) = tt
+  any_form (call items) = tt
+  any_form (index n) = tt
+  any_form (literal n) = any_node (LiteralTidy by_hand) any_literal n
+  any_form (name n) = any_node (NameTidy by_hand) any_name n
+  any_form (slot n) = any_node Anything (λ x. tt) n
+  any_form (reference n) = any_node (RefTidy by_hand) any_ref n
+  any_form (parens n) = any_tree n
+  any_form (set items) = any_parts items
+  any_form (record_of items) = any_pairs items
+  any_form (init key value) = tt
+
+  any_parts : (ps : Parts) → PartsTidy by_hand ps
+  any_parts none = tt
+  any_parts (more op n others) = (any_tree n, any_parts others)
+
+  any_accesses : (ps : Parts) → AccessesTidy by_hand ps
+  any_accesses none = tt
+  any_accesses (more op n others) = (any_access n, any_accesses others)
+
+  any_access : (n : Located) → AccessTidy by_hand n
+  any_access (missing place) = tt
+  any_access (at place form) = (tt, any_access_form form)
+
+  any_access_form : (u : Form) → AccessFormTidy by_hand u
+  any_access_form (field n) = any_ident n
+  any_access_form (call items) = any_parts items
+  any_access_form (index n) = any_tree n
+  any_access_form u = tt
+
+  any_pairs : (ps : Parts) → PairsTidy by_hand ps
+  any_pairs none = tt
+  any_pairs (more op n others) = (any_pair n, any_pairs others)
+
+  any_pair : (n : Located) → PairTidy by_hand n
+  any_pair (missing place) = tt
+  any_pair (at place form) = (tt, any_pair_form form)
+
+  any_pair_form : (u : Form) → PairFormTidy by_hand u
+  any_pair_form (init key value) = (any_tree key, any_tree value)
+  any_pair_form u = tt
+
+-- ---- policies
+
+any_annotation : (a : Annotation) → AnnotationTidy by_hand a
+any_annotation a = (any_ident a.key, any_there (NodeTidy by_hand Anything) (any_node Anything (λ x. tt)) a.value)
+
+any_element : (d : VariableDef) → ElementTidy by_hand d
+any_element d = (
+  any_ident d.variable,
+  any_there (NodeTidy by_hand (NameTidy by_hand)) (any_node (NameTidy by_hand) any_name) d.unused_type_name,
+  any_there (AddTidy by_hand) (λ n. any_tree (located add_form n)) d.entity_type,
+  any_there (ConstraintTidy by_hand) (λ p. any_tree (located expr_form p.1)) d.ineq,
+)
+
+any_cond : (c : Cond) → CondTidy by_hand c
+any_cond c = (any_ident c.cond, any_there (ExprTidy by_hand) (λ n. any_tree (located expr_form n)) c.expr)
+
+any_policy : (x : Policy) → PolicyTidy by_hand x
+any_policy (trees.Policy p) = (
+  any_each (NodeTidy by_hand (AnnotationTidy by_hand)) (any_node (AnnotationTidy by_hand) any_annotation) p.annotations,
+  any_ident p.effect,
+  any_each (NodeTidy by_hand (ElementTidy by_hand)) (any_node (ElementTidy by_hand) any_element) p.variables,
+  any_each (NodeTidy by_hand (CondTidy by_hand)) (any_node (CondTidy by_hand) any_cond) p.conds,
+)
+
+any_policies : (ps : Policies) → PoliciesTidy by_hand ps
+any_policies ps = any_each (NodeTidy by_hand (PolicyTidy by_hand)) (any_node (PolicyTidy by_hand) any_policy) ps.0
+
+pub any_policy_stands : (e : Extensions) (found : List Found) (id : List ℕ) (n : Node (Option Policy)) → Stands IsTold by_hand Anything (template_outcome e found id n)
+any_policy_stands e found id n = template_stands e by_hand found id n (any_node (PolicyTidy by_hand) any_policy n)
+
+pub any_set_stands : (e : Extensions) (found : List (List Found)) (n : Node (Option Policies)) → Stands IsTold by_hand Anything (policies_outcome e found n)
+any_set_stands e found n = policies_stand e by_hand found n (any_node (PoliciesTidy by_hand) any_policies n)
