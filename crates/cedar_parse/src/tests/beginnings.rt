@@ -1,72 +1,52 @@
 //! Beginnings of a text of policies: where they end too early, and what is told of it.
-use super::held::{holds_for, made, refusal};
+use super::held::made;
+use super::told::tells;
+use super::words::prints;
 use cedar_syntax::cst::Policies;
-use cedar_syntax::err::{Failure, ParseError};
-use cedar_syntax::loc::SourceSpan;
-use cedar_syntax::node::Node;
 use cedar_text::text_to_cst::parse_policies;
 use std::process::Abort;
 
-/// A beginning of `permit(principal, action, resource);`, where its last token ends, and the label of the one fault.
-type Beginning = (&'static str, usize, &'static str);
+/// A policy but its end.
+const TEXT: &str = "permit(principal, action, resource)";
 
-const REFUSED: [Beginning; 11] = [
-    ("p", 1, "expected `(`"),
-    ("pe", 2, "expected `(`"),
-    ("per", 3, "expected `(`"),
-    ("perm", 4, "expected `(`"),
-    ("permi", 5, "expected `(`"),
-    ("permit", 6, "expected `(`"),
-    ("permit(", 7, "expected `)` or identifier"),
-    (
-        "permit(principal",
-        16,
-        "expected `!=`, `)`, `,`, `:`, `<`, `<=`, `==`, `>`, `>=`, `in`, or `is`",
-    ),
-    ("permit(principal,", 17, "expected `)` or identifier"),
-    ("permit(principal, ", 17, "expected `)` or identifier"),
-    (
-        "permit(principal, action, resource)",
-        35,
-        "expected `;` or identifier",
-    ),
-];
-
-/// It is refused for its early end alone, with this label.
-fn ends_early(rt: &(impl Abort + AllocGlobal), failure: &Failure, row: &Beginning) {
-    let Failure::Errors(faults) = failure else {
-        return holds_for(rt, false, &"want of memory");
-    };
-    let ParseError::ToCST(fault) = faults.first() else {
-        return holds_for(rt, false, &"not a fault of the text");
-    };
-    let (text, end, wanted) = row;
-    let span = SourceSpan::between(*end, *end);
-    holds_for(
-        rt,
-        faults.len() == 1 && fault.primary_source_span() == Some(span),
-        text,
-    );
-    match made(rt, fault.label(rt.alloc())) {
-        Some(label) => holds_for(rt, label.as_str() == *wanted, text),
-        None => holds_for(rt, false, text),
+/// Where the last token of a beginning of this length ends, and what is told there, as the rows in `told` have it. Most beginnings
+/// end in or behind one of the three variables.
+fn wanted(length: usize) -> (usize, &'static str) {
+    match length {
+        1 | 2 | 3 | 4 | 5 | 6 => (length, "expected `(`; \"(\""),
+        7 | 17 | 25 => (length, "expected `)` or identifier; \")\" WORDS"),
+        18 => (17, "expected `)` or identifier; \")\" WORDS"),
+        26 => (25, "expected `)` or identifier; \")\" WORDS"),
+        35 => (35, "expected `;` or identifier; \";\" WORDS"),
+        _ => (
+            length,
+            "expected `!=`, `)`, `,`, `:`, `<`, `<=`, `==`, `>`, `>=`, `in`, or `is`; BEHIND_VARIABLE",
+        ),
     }
 }
 
-/// The text is refused so.
-fn is_refused<T: Drop>(
-    rt: &(impl Abort + AllocGlobal),
-    answer: Result<Node<Option<T>>, Failure>,
-    row: &Beginning,
-) {
-    let failure = refusal(rt, answer);
-    ends_early(rt, &failure, row);
-    drop(failure);
+/// It is refused for its early end alone.
+fn ends_early(rt: &(impl Abort + AllocGlobal), beginning: &str) {
+    let (end, told) = wanted(beginning.len());
+    let wanted = made(
+        rt,
+        format!(in rt.alloc(); "{end}..{end}: unexpected end of input; {told}"),
+    );
+    tells::<Policies>(rt, parse_policies(rt.alloc(), beginning), wanted.as_str());
 }
 
 #[test]
-fn a_beginning_of_a_policy_ends_early(rt: HostRuntime) {
-    for row in &REFUSED {
-        is_refused::<Policies>(&rt, parse_policies(rt.alloc(), row.0), row);
+fn each_beginning_of_a_policy_ends_early(rt: HostRuntime) {
+    prints::<Policies>(&rt, parse_policies(rt.alloc(), ""), "");
+    let mut text = String::new(rt.alloc());
+    for letter in TEXT.chars() {
+        made(&rt, text.push(letter));
+        ends_early(&rt, text.as_str());
     }
+    made(&rt, text.push(';'));
+    prints::<Policies>(
+        &rt,
+        parse_policies(rt.alloc(), text.as_str()),
+        "permit ( principal , action , resource ) ;",
+    );
 }

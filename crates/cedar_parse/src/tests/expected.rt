@@ -1,6 +1,7 @@
 //! Expected tokens as the faults of a text tell them, and the hints of such faults.
 use super::faults::in_text;
 use super::held::{holds_for, made};
+use super::words::WORDS;
 use cedar_expressions::Items;
 use cedar_lexer::token::TokenKind;
 use cedar_syntax::err::{
@@ -8,12 +9,13 @@ use cedar_syntax::err::{
 };
 use std::process::Abort;
 
-/// The names of all words and of the identifiers, each of which can stand where an identifier can.
-const WORDS: &str =
-    "ACTION CONTEXT ELSE FALSE FORBID HAS IDENTIFIER IF IN IS LIKE PERMIT PRINCIPAL RESOURCE THEN TRUE UNLESS WHEN";
+/// The names of the kinds that can follow an expression's operand.
+pub(super) const AFTER_AN_OPERAND: &str =
+    "\"!=\" \"%\" \"&&\" \"(\" \"*\" \"+\" \"-\" \".\" \"/\" \"::\" \"<\" \"<=\" \"=\" \"==\" \">\" \">=\" \"[\" \"||\" HAS IN IS LIKE";
 
-/// Names with a space between two, where `WORDS` stands for those above, and what is said of them: nothing, or the text.
-const SAID: [(&str, &str); 20] = [
+/// Names with a space between two, where `WORDS` stands for those of all words and of the identifiers, and what is said of them:
+/// nothing, or the text.
+const SAID: [(&str, &str); 21] = [
     ("", ""),
     ("\"/\" OTHER_SLOT", ""),
     ("NUMBER NUMBER", "expected number"),
@@ -32,6 +34,10 @@ const SAID: [(&str, &str); 20] = [
     (
         "\"!=\" \"%\" \"&&\" \"(\" \"*\" \"+\" \"-\" \".\" \"/\" \"::\" \"<\" \"<=\" \"=\" \"==\" \">\" \">=\" \"[\" \"||\" \"}\" HAS IN IS LIKE",
         "expected `!=`, `&&`, `(`, `*`, `+`, `-`, `.`, `::`, `<`, `<=`, `==`, `>`, `>=`, `[`, `||`, `}`, `has`, `in`, `is`, or `like`",
+    ),
+    (
+        AFTER_AN_OPERAND,
+        "expected `!=`, `&&`, `(`, `*`, `+`, `-`, `.`, `::`, `<`, `<=`, `==`, `>`, `>=`, `[`, `||`, `has`, `in`, `is`, or `like`",
     ),
     ("\";\" WORDS", "expected `;` or identifier"),
     ("\")\" WORDS", "expected `)` or identifier"),
@@ -93,32 +99,6 @@ fn expected_names_are_told(rt: HostRuntime) {
     drop(config);
 }
 
-/// The kinds that can follow an expression's operand.
-const AFTER_AN_OPERAND: [TokenKind; 22] = [
-    TokenKind::NotEq,
-    TokenKind::Percent,
-    TokenKind::AndAnd,
-    TokenKind::OpenParen,
-    TokenKind::Star,
-    TokenKind::Plus,
-    TokenKind::Minus,
-    TokenKind::Dot,
-    TokenKind::Slash,
-    TokenKind::ColonColon,
-    TokenKind::Less,
-    TokenKind::LessEq,
-    TokenKind::Eq,
-    TokenKind::EqEq,
-    TokenKind::Greater,
-    TokenKind::GreaterEq,
-    TokenKind::OpenBracket,
-    TokenKind::OrOr,
-    TokenKind::Has,
-    TokenKind::In,
-    TokenKind::Is,
-    TokenKind::Like,
-];
-
 /// The fault of a text that ends too early, at its end.
 fn ends(rt: &(impl Abort + AllocGlobal), text: &str, kinds: &[TokenKind]) -> ToCSTError {
     let expected = Items::from(made(rt, Vec::from_slice(rt.alloc(), kinds)));
@@ -139,11 +119,6 @@ fn a_label_tells_what_was_expected(rt: HostRuntime) {
         &rt,
         ends(&rt, "if(true)", &[TokenKind::Then]),
         "expected `then`",
-    );
-    is_labeled(
-        &rt,
-        ends(&rt, "principal", &AFTER_AN_OPERAND),
-        "expected `!=`, `&&`, `(`, `*`, `+`, `-`, `.`, `::`, `<`, `<=`, `==`, `>`, `>=`, `[`, `||`, `has`, `in`, `is`, or `like`",
     );
 }
 

@@ -1,7 +1,12 @@
 //! What `parse_expr` answers: trees, and the first fault with the kinds that were expected.
+use super::held::{holds_for, made};
+use super::texts::{inside, tree};
 use super::words::{END, Refused, TOO_LARGE, WORDS, WORDS_AND_STRINGS, is_refused, prints};
-use cedar_syntax::cst::Expr;
+use cedar_syntax::cst::{Expr, ExprData, Or, Relation};
+use cedar_syntax::node::Node;
 use cedar_text::text_to_cst::parse_expr;
+use std::fmt::Write;
+use std::process::Abort;
 
 /// Texts with operators, signs and `if`, and their trees' texts.
 const OPERATORS: [(&str, &str); 16] = [
@@ -39,11 +44,12 @@ const OPERATORS: [(&str, &str); 16] = [
 ];
 
 /// Texts with names, members and right sides, and their trees' texts.
-const NAMES: [(&str, &str); 12] = [
+const NAMES: [(&str, &str); 13] = [
     ("a in b", "a in b"),
     ("a in in in b", "a in in in b"),
     ("if then then then else else", "if then then then else else"),
     ("if::then::else", "if :: then :: else"),
+    ("{ if : true }", "{ if : true }"),
     ("{ if : true } has if", "{ if : true } has if"),
     ("principal has if.if", "principal has if . if"),
     ("true(true)", "true ( true )"),
@@ -68,16 +74,58 @@ fn names_and_right_sides_are_read(rt: HostRuntime) {
     }
 }
 
+/// The operands and operators of a chain of comparisons that stands alone, with bars between them.
+fn compared(rt: &(impl Abort + AllocGlobal), or: &Node<Option<Or>>) -> String {
+    let mut shown = String::new(rt.alloc());
+    let relation = &inside(rt, &inside(rt, or).initial).initial;
+    let Relation::Common { initial, extended } = inside(rt, relation) else {
+        return shown;
+    };
+    let sum = inside(rt, initial);
+    made(rt, write!(shown, "{sum}"));
+    for (op, sum) in extended.iter() {
+        let sum = inside(rt, sum);
+        made(rt, write!(shown, " | {op} | {sum}"));
+    }
+    shown
+}
+
+/// The same, or the guard and the two parts of an `if`.
+fn parts(rt: &(impl Abort + AllocGlobal), tree: &Node<Option<Expr>>) -> String {
+    let Expr::Expr(whole) = inside(rt, tree);
+    match whole.expr.as_ref() {
+        ExprData::Or(or) => compared(rt, or),
+        ExprData::If(guard, first, other) => {
+            let guard = inside(rt, guard);
+            let (first, other) = (inside(rt, first), inside(rt, other));
+            made(rt, format!(in rt.alloc(); "if {guard} | {first} | {other}"))
+        }
+    }
+}
+
+/// Texts, and the parts of their trees.
+const PARTS: [(&str, &str); 2] = [
+    ("a in in in b", "a | in | in | in | b"),
+    ("if then then then else else", "if then | then | else"),
+];
+
+#[test]
+fn words_have_their_parts(rt: HostRuntime) {
+    for (text, wanted) in &PARTS {
+        let tree = tree(&rt, text);
+        let shown = parts(&rt, &tree);
+        holds_for(&rt, shown.as_str() == *wanted, text);
+        drop((tree, shown));
+    }
+}
+
 /// The names of the kinds that begin an expression, or an operand.
 const OPERAND: &str =
     "\"!\" \"(\" \"-\" \"[\" \"{\" ACTION CONTEXT ELSE FALSE FORBID HAS IDENTIFIER IF IN IS LIKE NUMBER OTHER_SLOT PERMIT PRINCIPAL PRINCIPAL_SLOT RESOURCE RESOURCE_SLOT STRINGLIT THEN TRUE UNLESS WHEN";
 
-/// The same behind a `!`, and behind an `if`, which may also begin a path.
+/// The same behind a `!`.
 const BEHIND_BANG: &str =
     "\"!\" \"(\" \"[\" \"{\" ACTION CONTEXT ELSE FALSE FORBID HAS IDENTIFIER IF IN IS LIKE NUMBER OTHER_SLOT PERMIT PRINCIPAL PRINCIPAL_SLOT RESOURCE RESOURCE_SLOT STRINGLIT THEN TRUE UNLESS WHEN";
-
-const BEHIND_IF: &str =
-    "\"!\" \"(\" \"-\" \"::\" \"[\" \"{\" ACTION CONTEXT ELSE FALSE FORBID HAS IDENTIFIER IF IN IS LIKE NUMBER OTHER_SLOT PERMIT PRINCIPAL PRINCIPAL_SLOT RESOURCE RESOURCE_SLOT STRINGLIT THEN TRUE UNLESS WHEN";
 
 /// Those with which an expression goes on behind a number, and behind a word that is the right side of `has`.
 const BEHIND_NUMBER: &str =
@@ -85,19 +133,17 @@ const BEHIND_NUMBER: &str =
 
 const BEHIND_SIDE: &str = "\"%\" \"&&\" \"(\" \"*\" \"+\" \"-\" \".\" \"/\" \"::\" \"[\" \"||\"";
 
-const EARLY_ENDS: [Refused; 15] = [
+const EARLY_ENDS: [Refused; 13] = [
     ("", 0, 0, END, OPERAND),
     ("  // nothing", 0, 0, END, OPERAND),
     ("1 +", 3, 3, END, OPERAND),
     ("1 + ", 3, 3, END, OPERAND),
-    ("(1", 2, 2, END, "\")\""),
     ("[1", 2, 2, END, "\",\" \"]\""),
     ("{a:1", 4, 4, END, "\",\" \"}\""),
     ("f(1", 3, 3, END, "\")\" \",\""),
     ("a[1", 3, 3, END, "\"]\""),
     ("a.", 2, 2, END, WORDS),
     ("a::", 3, 3, END, WORDS_AND_STRINGS),
-    ("if", 2, 2, END, BEHIND_IF),
     ("if true", 7, 7, END, "THEN"),
     ("if a then b", 11, 11, END, "ELSE"),
     ("a has", 5, 5, END, OPERAND),

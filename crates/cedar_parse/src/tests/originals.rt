@@ -6,7 +6,9 @@ use cedar_expressions::{Expr, ExprKind, PatternElem, UnaryCall};
 use std::process::Abort;
 
 /// Texts that have a tree.
-const TREES: [&str; 40] = [
+const TREES: [&str; 42] = [
+    "\"string\"",
+    "{ if : true }",
     "\"string\".foo == !7",
     "5 < 3 || -7 == 2 && 3 >= 6",
     "if 7 then 6 > 5 else !5 || \"thursday\"",

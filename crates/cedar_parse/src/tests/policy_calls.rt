@@ -31,7 +31,7 @@ pub(super) fn policy(rt: &(impl Abort + AllocGlobal), text: &str) -> Node<Option
 }
 
 /// The set that a text means.
-fn set(rt: &(impl Abort + AllocGlobal), text: &str) -> PolicySet {
+pub(super) fn set(rt: &(impl Abort + AllocGlobal), text: &str) -> PolicySet {
     let styles = no_styles(rt);
     let set = parse_policyset(rt.alloc(), text, &styles);
     drop(styles);

@@ -3,11 +3,18 @@ use super::held::{holds, holds_for, made, refusal};
 use super::names::text;
 use super::places::place;
 use super::policy_calls::{id, no_styles, policy, spans};
-use cedar_policy_parser::cst_to_ast::{PoliciesAst, PolicyAst, PolicyImplAst};
+use super::policy_values::{asks, tells};
+use super::trees::{expr, sum};
+use super::values::tells_sides;
+use cedar_policy_parser::cst_to_ast::{PoliciesAst, PolicyAst, PolicyImplAst, Scope};
 use cedar_syntax::Items;
-use cedar_syntax::cst::{Cond, Ident, Policies, Policy, PolicyImpl};
+use cedar_syntax::cst::{
+    Add, Cond, Expr, Ident, Literal, Name, NegOp, Policies, Policy, PolicyImpl, Primary, RelOp,
+    VariableDef,
+};
 use cedar_syntax::err::{Failure, ParseError, ToASTErrorKind};
 use cedar_syntax::node::Node;
+use cedar_text::text_to_cst::parse_primary;
 use std::process::Abort;
 
 /// A policy that asks for nothing.
@@ -139,4 +146,67 @@ fn an_empty_annotation_is_refused(rt: HostRuntime) {
     let failure = refusal(&rt, tree(parts).to_policy(rt.alloc(), id(&rt), &styles));
     is_empty_node(&rt, &failure, 3, 5);
     drop((styles, failure));
+}
+
+/// What a policy asks whose resource has this name behind `:`, this type, and this operator with its right side.
+fn asked(
+    rt: &(impl Abort + AllocGlobal),
+    unused_type_name: Option<Node<Option<Name>>>,
+    entity_type: Option<Node<Option<Add>>>,
+    ineq: Option<(RelOp, Node<Option<Expr>>)>,
+) -> Result<Scope, Failure> {
+    let resource = VariableDef {
+        variable: Node::with_source_loc(Some(Ident::Resource), place(rt, 26, 34)),
+        unused_type_name,
+        entity_type,
+        ineq,
+    };
+    let mut parts = parts(rt, PERMIT);
+    drop(parts.variables.pop());
+    made(rt, parts.variables.push(Node::new(Some(resource))));
+    let styles = no_styles(rt);
+    let scope = parts.extract_scope(rt.alloc(), &styles);
+    drop((styles, parts));
+    scope
+}
+
+#[test]
+fn an_empty_type_name_and_no_signs_ask_nothing(rt: HostRuntime) {
+    let scope = asked(&rt, Some(empty(&rt, 7, 9)), None, None);
+    asks(&rt, scope, "principal any, action any, resource any");
+    for op in &[NegOp::Bang(0), NegOp::Dash(0)] {
+        let entity = made(&rt, parse_primary(rt.alloc(), "User::\"a\""));
+        let right = expr(&rt, sum(&rt, Some(*op), entity));
+        let scope = asked(&rt, None, None, Some((RelOp::Eq, right)));
+        let wanted = "principal any, action any, resource == User::\"a\"";
+        asks(&rt, scope, wanted);
+    }
+}
+
+#[test]
+fn a_type_outside_of_its_source_is_told_as_invalid(rt: HostRuntime) {
+    let number = Node::with_source_loc(Some(Literal::Num(1)), place(&rt, 43, 103));
+    let primary = Node::with_source_loc(Some(Primary::Literal(number)), place(&rt, 43, 103));
+    let failure = refusal(&rt, asked(&rt, None, Some(sum(&rt, None, primary)), None));
+    spans(&rt, &failure, &[(43, 103)]);
+    tells_sides(&rt, &failure, "resource", "<invalid>");
+    drop(failure);
+}
+
+#[test]
+fn a_slot_is_told_within_its_condition_or_at_it(rt: HostRuntime) {
+    let styles = no_styles(&rt);
+    let text = "permit(principal, action, resource) when { ?principal == 1 };";
+    let read = policy(&rt, text);
+    let failure = refusal(&rt, read.to_template(rt.alloc(), id(&rt), &styles));
+    let told = "43..53: found template slot ?principal in a `when` clause";
+    tells(&rt, failure, told);
+    let mut parts = parts(&rt, text);
+    let mut cond = parts.conds.pop().expect(&rt, "no condition");
+    cond.loc = Some(place(&rt, 0, 3));
+    made(&rt, parts.conds.push(cond));
+    let failure = refusal(&rt, tree(parts).to_template(rt.alloc(), id(&rt), &styles));
+    let told = "0..3: found template slot ?principal in a `when` clause";
+    tells(&rt, failure, told);
+    drop((styles, read));
 }

@@ -41,7 +41,7 @@ const ENDED_EARLY: [Row; 9] = [
 ];
 
 /// Texts that mean something.
-const ACCEPTED: [Row; 9] = [
+const ACCEPTED: [Row; 10] = [
     (
         EXPR,
         b"1 + 2 == 3 && !true",
@@ -56,6 +56,7 @@ const ACCEPTED: [Row; 9] = [
         "! ! ! ! true && 9223372036854775807 > 0\nok\n",
         "",
     ),
+    (EXPR, b"!!!!true", 0, "! ! ! ! true\nok\n", ""),
     (EXPR, b"1 - -1", 0, "1 - - 1\nok\n", ""),
     (
         EXPR,

@@ -119,11 +119,13 @@ pub(super) fn means(rt: &(impl Abort + AllocGlobal), text: &str, wanted: Value) 
     agrees(rt, value(rt, text), wanted, text);
 }
 
-/// `!!true`.
-fn negated_twice(rt: &(impl Abort + AllocGlobal)) -> Value {
-    let truth = made(rt, build(rt).val(Literal::Bool(true)));
-    let once = made(rt, build(rt).not(truth));
-    made(rt, build(rt).not(once))
+/// `true` behind so many `!`.
+fn negated(rt: &(impl Abort + AllocGlobal), times: usize) -> Value {
+    let mut value = made(rt, build(rt).val(Literal::Bool(true)));
+    for _ in 0..times {
+        value = made(rt, build(rt).not(value));
+    }
+    value
 }
 
 /// A constant.
@@ -148,7 +150,8 @@ fn numbers_and_their_signs_have_values(rt: HostRuntime) {
 
 #[test]
 fn other_operands_have_values(rt: HostRuntime) {
-    means(&rt, "!!true", negated_twice(&rt));
+    means(&rt, "!!true", negated(&rt, 2));
+    means(&rt, "!!!!true", negated(&rt, 4));
     means(&rt, "(false)", constant(&rt, Literal::Bool(false)));
     means(&rt, "principal", variable(&rt, Var::Principal));
     means(&rt, "context", variable(&rt, Var::Context));

@@ -3,7 +3,8 @@
 use super::held::{holds_for, made, refusal, says, shows_alike_and_copies};
 use super::names::text;
 use super::texts::{built, tree};
-use cedar_expressions::{ExprBuilder, TryClone};
+use cedar_expressions::{ExprBuilder, TryClone, Var};
+use cedar_policy_parser::cst_to_ast::ExprAst;
 use cedar_syntax::cst::{
     Add, And, Annotation, Cond, Expr, ExprData, ExprImpl, Ident, Literal, MemAccess, Member, Mult,
     MultOp, Name, NegOp, Or, Policies, Policy, PolicyImpl, Primary, RecInit, Ref, RefInit, RelOp,
@@ -205,26 +206,34 @@ fn policies_are_copied(rt: HostRuntime) {
     copies(&rt, Policies(one(&rt, policy)));
 }
 
-/// The expression that is this primary alone.
-fn expr(rt: &(impl Abort + AllocGlobal), primary: Node<Option<Primary>>) -> Node<Option<Expr>> {
+/// The sum that is this primary alone, with this sign.
+pub(super) fn sum(
+    rt: &(impl Abort + AllocGlobal),
+    op: Option<NegOp>,
+    primary: Node<Option<Primary>>,
+) -> Node<Option<Add>> {
     let member = Member {
         item: primary,
         access: Items::new(rt.alloc()),
     };
     let unary = Unary {
-        op: None,
+        op,
         item: node(member),
     };
     let mult = Mult {
         initial: node(unary),
         extended: Items::new(rt.alloc()),
     };
-    let add = Add {
+    node(Add {
         initial: node(mult),
         extended: Items::new(rt.alloc()),
-    };
+    })
+}
+
+/// The expression that is this sum alone.
+pub(super) fn expr(rt: &(impl Abort + AllocGlobal), sum: Node<Option<Add>>) -> Node<Option<Expr>> {
     let relation = Relation::Common {
-        initial: node(add),
+        initial: sum,
         extended: Items::new(rt.alloc()),
     };
     let and = And {
@@ -241,7 +250,7 @@ fn expr(rt: &(impl Abort + AllocGlobal), primary: Node<Option<Primary>>) -> Node
 
 /// The conversion of the expression that is this primary alone is refused, and says this.
 fn hinders(rt: &(impl Abort + AllocGlobal), primary: Node<Option<Primary>>, message: &str) {
-    let expr = expr(rt, primary);
+    let expr = expr(rt, sum(rt, None, primary));
     let answer = built::<ExprBuilder<()>>(rt.alloc(), &expr);
     drop(expr);
     says(rt, refusal(rt, answer), message);
@@ -256,4 +265,14 @@ fn what_no_text_has_is_told(rt: HostRuntime) {
     let string = Str::Invalid(text(&rt, "a\"b"));
     let literal = Primary::Literal(node(Literal::Str(node(string))));
     hinders(&rt, node(literal), "invalid string literal: a\"b");
+}
+
+#[test]
+fn an_empty_name_is_told_as_a_name(rt: HostRuntime) {
+    let name = node(Primary::Name(Node::new(None)));
+    let expr = expr(&rt, sum(&rt, None, name));
+    let failure = refusal(&rt, expr.to_ref_or_slot(rt.alloc(), Var::Principal));
+    drop(expr);
+    let told = "expected an entity uid or matching template slot, found name";
+    says(&rt, failure, told);
 }

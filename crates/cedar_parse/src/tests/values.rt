@@ -1,13 +1,16 @@
 //! What members, names, calls, sets, records and right sides mean, and how texts of them are refused that mean nothing.
 use super::builder::{build, long};
 use super::calls::table;
-use super::held::{agrees, made};
+use super::held::{agrees, holds_for, made, refusal};
 use super::kinds::function;
 use super::names::{name, text};
 use super::program::{EXPR, Row, ends_so};
-use super::texts::{constant, means, variable};
-use cedar_expressions::{EntityType, Expr, ExprBuilderInfallibleBuild, Literal, PatternElem, Var};
+use super::texts::{built, constant, means, tree, variable};
+use cedar_expressions::{
+    EntityType, Expr, ExprBuilder, ExprBuilderInfallibleBuild, Literal, PatternElem, Var,
+};
 use cedar_policy_parser::parse_expression;
+use cedar_syntax::err::{Failure, ParseError, ToASTErrorKind};
 use std::process::Abort;
 
 /// Texts that mean something.
@@ -241,11 +244,12 @@ fn members_have_values(rt: HostRuntime) {
     means(&rt, "principal is A::B in 1", is_in_one(&rt));
 }
 
-/// Whether `principal` is any text with a star behind it.
-fn ends_in_star(rt: &(impl Abort + AllocGlobal)) -> Expr {
+/// Whether `principal` is a text of this pattern.
+fn like(rt: &(impl Abort + AllocGlobal), elements: &[PatternElem]) -> Expr {
     let mut pattern = Vec::new(rt.alloc());
-    made(rt, pattern.push(PatternElem::Wildcard));
-    made(rt, pattern.push(PatternElem::Char('*')));
+    for element in elements {
+        made(rt, pattern.push(*element));
+    }
     made(rt, build(rt).like(variable(rt, Var::Principal), pattern))
 }
 
@@ -258,7 +262,10 @@ fn is_principal(rt: &(impl Abort + AllocGlobal)) -> Expr {
 
 #[test]
 fn right_sides_have_values(rt: HostRuntime) {
-    means(&rt, "principal like \"\\x2a\\*\"", ends_in_star(&rt));
+    let ends_in_star = like(&rt, &[PatternElem::Wildcard, PatternElem::Char('*')]);
+    means(&rt, "principal like \"\\x2a\\*\"", ends_in_star);
+    let is_star = like(&rt, &[PatternElem::Char('*')]);
+    means(&rt, "principal like \"\\*\"", is_star);
     means(&rt, "principal is principal", is_principal(&rt));
 }
 
@@ -280,4 +287,35 @@ fn calls_of_extensions_have_values(rt: HostRuntime) {
     let given = parse_expression(rt.alloc(), "ip(\"1.2.3.4\").isIpv4()", &table);
     agrees(&rt, made(&rt, given), wanted, "the object first");
     drop(table);
+}
+
+/// Texts with an `is` of no type, and the sides that their last fault has.
+const NO_TYPES: [(&str, &str, &str); 3] = [
+    ("principal is \"User\"", "principal", "\"User\""),
+    ("1+2 is 3", "1+2", "3"),
+    ("a is 1", "..", "1"),
+];
+
+/// The last fault is of an `is` of no type, and has these sides.
+pub(super) fn tells_sides(rt: &impl Abort, failure: &Failure, left: &str, right: &str) {
+    let Failure::Errors(faults) = failure else {
+        return holds_for(rt, false, &"want of memory");
+    };
+    let Some(ParseError::ToAST(fault)) = faults.iter().last() else {
+        return holds_for(rt, false, &"not a fault of the tree");
+    };
+    let ToASTErrorKind::InvalidIsType { lhs, rhs } = fault.kind() else {
+        return holds_for(rt, false, fault);
+    };
+    holds_for(rt, lhs.as_str() == left && rhs.as_str() == right, fault);
+}
+
+#[test]
+fn both_sides_of_an_is_are_told(rt: HostRuntime) {
+    for (text, left, right) in &NO_TYPES {
+        let tree = tree(&rt, text);
+        let failure = refusal(&rt, built::<ExprBuilder<()>>(rt.alloc(), &tree));
+        tells_sides(&rt, &failure, left, right);
+        drop((tree, failure));
+    }
 }

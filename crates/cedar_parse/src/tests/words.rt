@@ -1,7 +1,7 @@
 //! What `parse_ref`, `parse_name` and `parse_ident` answer: trees, and the first fault with the kinds that were expected.
 use super::held::{holds_for, made, refusal, shows};
 use cedar_syntax::cst::{Ident, Name, Ref};
-use cedar_syntax::err::{Failure, ParseError};
+use cedar_syntax::err::{Failure, ParseError, ToCSTError};
 use cedar_syntax::loc::SourceSpan;
 use cedar_syntax::node::Node;
 use cedar_text::text_to_cst::{parse_ident, parse_name, parse_ref};
@@ -131,6 +131,16 @@ const NO_IDENTS: [Refused; 4] = [
     ("1", 0, 1, "unexpected token `1`", WORDS),
 ];
 
+/// The names of the kinds that a fault says were expected, a space behind each.
+pub(super) fn names_of(rt: &(impl Abort + AllocGlobal), fault: &ToCSTError) -> String {
+    let mut names = String::new(rt.alloc());
+    for kind in fault.expected_kinds() {
+        made(rt, names.push_str(kind.name()));
+        made(rt, names.push(' '));
+    }
+    names
+}
+
 /// The failure is this one fault.
 fn is_told(rt: &(impl Abort + AllocGlobal), failure: &Failure, row: &Refused) {
     let Failure::Errors(faults) = failure else {
@@ -147,11 +157,7 @@ fn is_told(rt: &(impl Abort + AllocGlobal), failure: &Failure, row: &Refused) {
         text,
     );
     shows(rt, fault, message);
-    let mut told = String::new(rt.alloc());
-    for kind in fault.expected_kinds() {
-        made(rt, told.push_str(kind.name()));
-        made(rt, told.push(' '));
-    }
+    let told = names_of(rt, fault);
     holds_for(rt, told.as_str().trim_end() == *names, text);
 }
 
