@@ -1,3 +1,4 @@
+//! A value in memory of its own, which contracts see as the value.
 ghost use Rattle.std.specs.Prelude.{◌≡◌, IfOk};
 
 use std::alloc::{AllocError, Global};

@@ -1,3 +1,4 @@
+//! The calls by which an expression is made, and what each means.
 ghost use Rattle.std.specs.Prelude.{◌≡◌, None, Option, IfOk, IfErr, map, false};
 ghost use Rattle.cedar_expressions.specs.Value as v;
 ghost use Rattle.cedar_expressions.specs.Keys.{repeats_key, IsDue};

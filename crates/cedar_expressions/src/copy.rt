@@ -1,3 +1,4 @@
+//! Copies of expressions, which can be refused memory.
 ghost use Rattle.std.specs.Prelude.{◌≡◌, IfOk, IsOkAnd};
 
 use crate::{AddOp, Boxed, Expr, ExprKind, Items, Text, TryClone};

@@ -1,3 +1,4 @@
+//! Entities: a type, which is a name, and an id.
 ghost use Rattle.std.specs.Prelude.{◌≡◌};
 
 use crate::{Name, Text, TryClone};

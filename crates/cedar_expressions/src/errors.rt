@@ -1,3 +1,4 @@
+//! What a call of the builder refuses.
 ghost use Rattle.std.specs.Prelude.{◌≡◌};
 
 use crate::{Text, TryClone};

@@ -1,3 +1,4 @@
+//! An expression: its kind and its place.
 ghost use Rattle.std.specs.Prelude.{◌≡◌};
 ghost use Rattle.cedar_expressions.specs.Placed.{place_of};
 

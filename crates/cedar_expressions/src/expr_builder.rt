@@ -1,3 +1,4 @@
+//! The builder that makes an `Expr`, each node at the builder's place.
 ghost use Rattle.std.specs.Prelude.{◌≡◌, None, IfOk, IfErr, map, false};
 ghost use Rattle.cedar_expressions.specs.Value as v;
 ghost use Rattle.cedar_expressions.specs.Keys.{repeats_key, IsDue};

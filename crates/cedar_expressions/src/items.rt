@@ -1,3 +1,4 @@
+//! A list that contracts see as its elements.
 ghost use Rattle.std.specs.Prelude.{◌≡◌, [], ◌∷◌, ◌++◌, length, ◌↔◌, IsTrue, OnOk, OnErr, MatchOption};
 ghost use Rattle.std.specs.Slice.Iter.{iter_rest};
 ghost use Rattle.std.specs.List.{AllZip};
@@ -59,6 +60,7 @@ impl<T> Items<T> {
         self.items.len()
     }
 
+    /// Whether there is no element.
     pub fn is_empty(&self) -> bool
         ensures { IsTrue result ↔ (self.now ≡ []) }
     {

@@ -1,3 +1,4 @@
+//! Laws of values: what equality of expressions looks at.
 ghost use Rattle.std.specs.Prelude.{◌≡◌, ◌↔◌, IsTrue};
 ghost use Rattle.cedar_expressions.specs.Meaning.{unplaced};
 

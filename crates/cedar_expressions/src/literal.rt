@@ -1,3 +1,4 @@
+//! Constants, variables, slots' names and the elements of patterns.
 ghost use Rattle.std.specs.Prelude.{◌≡◌};
 
 use crate::{EntityUID, Text, TryClone};

@@ -1,3 +1,4 @@
+//! Names: an identifier behind others, parted by `::`.
 ghost use Rattle.std.specs.Prelude.{◌≡◌, [], MatchResult, false, true};
 ghost use Rattle.std.specs.List.{list_any};
 ghost use Rattle.cedar_expressions.specs.Path.{Path, is_reserved_namespace, has_reserved_namespace, name_text};

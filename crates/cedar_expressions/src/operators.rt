@@ -1,3 +1,4 @@
+//! The operators of one operand and of two.
 use crate::TryClone;
 use std::alloc::AllocError;
 use std::fmt;

@@ -1,3 +1,4 @@
+//! Where a value stands, which its meaning doesn't see.
 ghost use Rattle.std.specs.Prelude.{◌≡◌, true};
 ghost use Rattle.cedar_expressions.specs.Placed.{marked_place};
 ghost use Rattle.std.specs.Cmp.Rules.{comparing};

@@ -1,3 +1,4 @@
+//! The first key of a record that stands twice.
 ghost use Rattle.std.specs.Prelude.{◌≡◌, IfOk, IfErr, OnOk, map, false};
 ghost use Rattle.cedar_expressions.specs.Keys.{IsRepeatedKey, IsDue, repeats_key};
 

@@ -1,3 +1,4 @@
+//! The slots of an expression, from the left.
 ghost use Rattle.std.specs.Prelude.{◌≡◌, ◌++◌, IfOk, OnOk, map};
 ghost use Rattle.cedar_expressions.specs.Slots.{slots_in, slots_of_kind, slots_in_row, term_slots, pair_slots};
 

@@ -1,3 +1,4 @@
+//! A text that is shared by a count, which contracts see as its bytes.
 ghost use Rattle.std.specs.Prelude.{◌≡◌, IfOk, nat_eq, length, ◌↔◌, IsTrue, []};
 ghost use Rattle.std.specs.Cmp.Lexicographic.{pointwise, slice_cmp, nat_list_eq_equiv, nat_list_cmp_total, texts_ties, texts_po};
 ghost use Rattle.std.specs.Cmp;
@@ -56,6 +57,7 @@ impl Source {
         self.as_str().len()
     }
 
+    /// Whether the text has no byte.
     pub fn is_empty(&self) -> bool
         ensures { IsTrue result ↔ (self.now ≡ []) }
     {

@@ -1,3 +1,4 @@
+//! Copies that can be refused memory.
 ghost use Rattle.std.specs.Prelude.{◌≡◌, IfOk};
 
 use crate::{Boxed, Items, Source, Text};

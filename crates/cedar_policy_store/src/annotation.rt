@@ -137,6 +137,7 @@ impl Annotations {
         self.by_key.len()
     }
 
+    /// Whether there is no annotation.
     pub fn is_empty(&self) -> bool
         ensures { IsTrue result ↔ (map.len self.now ≡ 0) }
     {

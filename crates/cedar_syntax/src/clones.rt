@@ -1,3 +1,4 @@
+//! `Clone` of the trees, by their copies.
 ghost use Rattle.std.specs.Prelude.{◌≡◌};
 
 use crate::cst::{

@@ -1,3 +1,4 @@
+//! Copies of expressions: a ring of calls along the ring of the trees' types.
 ghost use Rattle.std.specs.Prelude.{◌≡◌, IfOk, IsOkAnd};
 
 use crate::cst::{

@@ -1,3 +1,4 @@
+//! Copies of the trees that hold no expression, and of policies.
 ghost use Rattle.std.specs.Prelude.{◌≡◌, IfOk};
 
 use crate::cst::{

@@ -1,3 +1,4 @@
+//! `TryClone` of the trees, by their copies.
 use crate::cst::{
     Add, And, Expr, ExprData, ExprImpl, MemAccess, Member, Mult, Or, Primary, RecInit, Relation,
     Unary,

@@ -1,3 +1,4 @@
+//! The syntax trees. A node is `Node<Option<T>>`: empty where a fault was found.
 use crate::node::Node;
 pub use cedar_expressions::AddOp;
 use cedar_expressions::{Boxed, Items, Text};
@@ -6,18 +7,21 @@ use cedar_expressions::{Boxed, Items, Text};
 #[derive(Debug, Drop, PartialEq, Eq)]
 pub struct Policies(pub Items<Node<Option<Policy>>>);
 
+/// `@key` or `@key("value")` before a policy.
 #[derive(Debug, Drop, PartialEq, Eq)]
 pub struct Annotation {
     pub key: Node<Option<Ident>>,
     pub value: Option<Node<Option<Str>>>,
 }
 
+/// A string as it is written, without its quotes. `Invalid` is made by hand alone.
 #[derive(Debug, Drop, PartialEq, Eq)]
 pub enum Str {
     String(Text),
     Invalid(Text),
 }
 
+/// A policy: its annotations, `permit` or `forbid` as it is written, the elements of its scope and its conditions.
 #[derive(Debug, Drop, PartialEq, Eq)]
 pub struct PolicyImpl {
     pub annotations: Items<Node<Option<Annotation>>>,
@@ -26,11 +30,13 @@ pub struct PolicyImpl {
     pub conds: Items<Node<Option<Cond>>>,
 }
 
+/// A policy.
 #[derive(Debug, Drop, PartialEq, Eq)]
 pub enum Policy {
     Policy(PolicyImpl),
 }
 
+/// An element of a scope: a variable; a name behind `:`, which has no meaning; a type behind `is`; an operator and what stands right of it.
 #[derive(Debug, Drop, PartialEq, Eq)]
 pub struct VariableDef {
     pub variable: Node<Option<Ident>>,
@@ -39,6 +45,7 @@ pub struct VariableDef {
     pub ineq: Option<(RelOp, Node<Option<Expr>>)>,
 }
 
+/// An identifier: one of the words, or another text. `Invalid` is made by hand alone.
 #[derive(Debug, Drop, PartialEq, Eq, Hash)]
 pub enum Ident {
     Principal,
@@ -62,24 +69,28 @@ pub enum Ident {
     Invalid(Text),
 }
 
+/// A condition: its word, and what its braces hold.
 #[derive(Debug, Drop, PartialEq, Eq)]
 pub struct Cond {
     pub cond: Node<Option<Ident>>,
     pub expr: Option<Node<Option<Expr>>>,
 }
 
+/// What an expression holds, in memory of its own.
 #[cycle(cst)]
 #[derive(Debug, Drop, PartialEq, Eq)]
 pub struct ExprImpl {
     pub expr: Boxed<ExprData>,
 }
 
+/// An expression.
 #[cycle(cst)]
 #[derive(Debug, Drop, PartialEq, Eq)]
 pub enum Expr {
     Expr(ExprImpl),
 }
 
+/// A chain of `||`, or `if` with its guard and its two parts.
 #[cycle(cst)]
 #[derive(Debug, Drop, PartialEq, Eq)]
 pub enum ExprData {
@@ -87,6 +98,7 @@ pub enum ExprData {
     If(Node<Option<Expr>>, Node<Option<Expr>>, Node<Option<Expr>>),
 }
 
+/// Operands of `||`, one or more.
 #[cycle(cst)]
 #[derive(Debug, Drop, PartialEq, Eq)]
 pub struct Or {
@@ -94,6 +106,7 @@ pub struct Or {
     pub extended: Items<Node<Option<And>>>,
 }
 
+/// Operands of `&&`, one or more.
 #[cycle(cst)]
 #[derive(Debug, Drop, PartialEq, Eq)]
 pub struct And {
@@ -101,6 +114,7 @@ pub struct And {
     pub extended: Items<Node<Option<Relation>>>,
 }
 
+/// A sum alone or with others behind comparisons; or `has`, `like` or `is` with their right sides.
 #[cycle(cst)]
 #[derive(Debug, Drop, PartialEq, Eq)]
 pub enum Relation {
@@ -123,6 +137,7 @@ pub enum Relation {
     },
 }
 
+/// Comparisons. `InvalidSingleEq` is a lone `=`, which has no meaning.
 #[derive(Debug, Clone, Copy, PartialEq, Eq)]
 pub enum RelOp {
     Less,
@@ -135,6 +150,7 @@ pub enum RelOp {
     InvalidSingleEq,
 }
 
+/// The operators of products; only `*` has a meaning.
 #[derive(Debug, Clone, Copy, PartialEq, Eq)]
 pub enum MultOp {
     Times,
@@ -145,6 +161,7 @@ pub enum MultOp {
 /// So many signs before an operand are counted; more are one form, whatever their number.
 pub const SIGN_LIMIT: u8 = 4;
 
+/// The signs before an operand, which are counted up to the limit.
 #[derive(Debug, Clone, Copy, PartialEq, Eq)]
 pub enum NegOp {
     Bang(u8),
@@ -153,6 +170,7 @@ pub enum NegOp {
     OverDash,
 }
 
+/// Operands of `+` and `-`, one or more.
 #[cycle(cst)]
 #[derive(Debug, Drop, PartialEq, Eq)]
 pub struct Add {
@@ -160,6 +178,7 @@ pub struct Add {
     pub extended: Items<(AddOp, Node<Option<Mult>>)>,
 }
 
+/// Operands of `*`, `/` and `%`, one or more.
 #[cycle(cst)]
 #[derive(Debug, Drop, PartialEq, Eq)]
 pub struct Mult {
@@ -167,6 +186,7 @@ pub struct Mult {
     pub extended: Items<(MultOp, Node<Option<Unary>>)>,
 }
 
+/// An operand behind its signs.
 #[cycle(cst)]
 #[derive(Debug, Drop, PartialEq, Eq)]
 pub struct Unary {
@@ -174,6 +194,7 @@ pub struct Unary {
     pub item: Node<Option<Member>>,
 }
 
+/// A primary and its accesses.
 #[cycle(cst)]
 #[derive(Debug, Drop, PartialEq, Eq)]
 pub struct Member {
@@ -181,6 +202,7 @@ pub struct Member {
     pub access: Items<Node<Option<MemAccess>>>,
 }
 
+/// `.field`, `(arguments)` or `["index"]` behind a primary.
 #[cycle(cst)]
 #[derive(Debug, Drop, PartialEq, Eq)]
 pub enum MemAccess {
@@ -189,6 +211,7 @@ pub enum MemAccess {
     Index(Node<Option<Expr>>),
 }
 
+/// What an operand begins with: a literal, an entity, a name, a slot, an expression in parentheses, a set or a record.
 #[cycle(cst)]
 #[derive(Debug, Drop, PartialEq, Eq)]
 pub enum Primary {
@@ -201,12 +224,14 @@ pub enum Primary {
     RInits(Items<Node<Option<RecInit>>>),
 }
 
+/// An identifier behind others, parted by `::`.
 #[derive(Debug, Drop, PartialEq, Eq, Hash)]
 pub struct Name {
     pub path: Items<Node<Option<Ident>>>,
     pub name: Node<Option<Ident>>,
 }
 
+/// An entity: a type and an id, or a type and a record, which has no meaning.
 #[derive(Debug, Drop, PartialEq, Eq)]
 pub enum Ref {
     Uid {
@@ -219,13 +244,16 @@ pub enum Ref {
     },
 }
 
+/// A pair of an entity's record.
 #[derive(Debug, Drop, PartialEq, Eq)]
 pub struct RefInit(pub Node<Option<Ident>>, pub Node<Option<Literal>>);
 
+/// A pair of a record: its key and its value.
 #[cycle(cst)]
 #[derive(Debug, Drop, PartialEq, Eq)]
 pub struct RecInit(pub Node<Option<Expr>>, pub Node<Option<Expr>>);
 
+/// `true`, `false`, a number or a string.
 #[derive(Debug, Drop, PartialEq, Eq)]
 pub enum Literal {
     True,
@@ -234,6 +262,7 @@ pub enum Literal {
     Str(Node<Option<Str>>),
 }
 
+/// `?principal`, `?resource`, or another slot as it is written, which has no meaning.
 #[derive(Debug, Drop, PartialEq, Eq)]
 pub enum Slot {
     Principal,

@@ -1,3 +1,4 @@
+//! The tokens of the trees that hold no expression.
 #![tactic(auto, unfolding(crate::specs::Printed::printed))]
 
 ghost use Rattle.cedar_syntax.specs.Printed.{printed, rel_op_texts, add_op_texts, mult_op_texts, neg_op_texts};

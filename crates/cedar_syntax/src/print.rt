@@ -1,3 +1,4 @@
+//! The tokens of expressions.
 ghost use Rattle.std.specs.Prelude.{◌≡◌};
 ghost use Rattle.cedar_syntax.specs.declared.cst.Expr.TheVariants as variants;
 ghost use Rattle.cedar_syntax.specs.Printed.{printed};

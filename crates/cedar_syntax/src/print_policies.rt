@@ -1,3 +1,4 @@
+//! The tokens of policies and their parts.
 ghost use Rattle.std.specs.Prelude.{◌≡◌};
 ghost use Rattle.cedar_syntax.specs.declared.cst.Policy.TheVariants as variants;
 ghost use Rattle.cedar_syntax.specs.Printed.{printed};

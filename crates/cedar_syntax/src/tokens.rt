@@ -1,3 +1,4 @@
+//! Writes tokens with one space between two.
 ghost use Rattle.std.specs.Prelude.{◌≡◌, [], ◌∷◌, ◌++◌, codes, decimal, IfOk, List, ℕ, replicate};
 ghost use Rattle.cedar_syntax.specs.Printed.{Texts, option_texts, quoted};
 ghost use Rattle.cedar_syntax.specs.Printing.{Prints, marked, in_row, between, opt_marked, followed, node_texts, pair_texts};
@@ -10,6 +11,7 @@ use std::fmt;
 pub trait Tokens {
     ghost tokens: { Self → Texts };
 
+    /// Writes the tokens' texts, one space between two, and before the first unless it is fresh.
     fn write_tokens<W: fmt::Write>(
         &self,
         fresh: bool,

@@ -10,6 +10,7 @@ use std::fmt;
 pub trait Listed {
     ghost text: { Self → List ℕ };
 
+    /// Writes the text that is listed.
     fn write_listed<W: fmt::Write>(&self, f: &mut fmt::Formatter<W>) -> fmt::Result
     where
         ensures { WritesOnOk W.write_str_gives f.old result (text self.now) f.new };
