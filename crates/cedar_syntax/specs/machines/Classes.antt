@@ -1,4 +1,5 @@
--- The classes of tokens that the machine of expressions tells apart, and signs before an operand.
+-- The classes of tokens that Cedar's grammar of expressions tells apart, where an operand is wanted
+-- and behind one; and the signs before an operand.
 use Rattle.std.specs.Prelude.{ℕ, ◌+◌, List, Option, Some, None, cond, nat_lt}
 use Rattle.cedar_lexer.specs.declared.token.TokenKind.{TokenKind}
 use Rattle.cedar_lexer.specs.declared.token.TokenKind.TheVariants as kind
@@ -21,6 +22,7 @@ use Rattle.cedar_syntax.specs.declared.reading.class.Operator.TheVariants as ope
 use Rattle.cedar_syntax.specs.Tokens.{number_of, fits, any_of}
 use Rattle.cedar_syntax.specs.Trees.{sign_limit}
 
+-- digits: a number, or too large a one for 64 bits
 abbrev pub number_class : List ℕ → Beginning
 number_class text = cond (fits text) (beginning.Number (number_of text)) beginning.TooLarge
 
@@ -41,10 +43,12 @@ mark_class kind.CloseBracket text = beginning.Ends closing.Bracket
 mark_class kind.CloseBrace text = beginning.Ends closing.Brace
 mark_class _ text = beginning.Other
 
+-- a word of the language, too, is a word where an operand is wanted
 abbrev pub class_or_word : TokenKind → List ℕ → Option Ident → Beginning
 class_or_word k text (Some i) = beginning.Word
 class_or_word k text None = mark_class k text
 
+-- what a token is where an operand is wanted
 abbrev pub class_of : TokenKind → List ℕ → Beginning
 class_of k text = class_or_word k text (any_of k text)
 
