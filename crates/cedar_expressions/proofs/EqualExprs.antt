@@ -7,7 +7,7 @@ use denote.Enum.Compared.{Each, by}
 use denote.Enum.Declared.{Choice}
 use Rattle.cedar_expressions.proofs.Deciding.{both, through, bare, place, Against, against}
 use Rattle.cedar_expressions.proofs.EqualParts.{text_eq, text, literals, unary_calls, binary_calls, list_calls}
-use Rattle.cedar_expressions.proofs.Opened.{same_layer}
+use Rattle.cedar_expressions.proofs.Opened.{free_call, free_expr, same_layer}
 use Rattle.cedar_expressions.specs.declared.operators.AddOp.{AddOp}
 use Rattle.cedar_expressions.specs.declared.literal.Literal.{Literal}
 use Rattle.cedar_expressions.specs.declared.literal.Var.{Var}
@@ -35,17 +35,18 @@ use Rattle.cedar_expressions.specs.contracts.literal.Var as var
 use Rattle.cedar_expressions.specs.contracts.literal.SlotId as slot
 use Rattle.cedar_expressions.specs.contracts.expr.NaryOp as nary
 use Rattle.cedar_expressions.specs.contracts.operators.AddOp as add
-use Rattle.cedar_expressions.specs.Meaning.{kind_call, expr_call, unplaced}
+use Rattle.cedar_expressions.specs.Meaning.{unplaced}
+use Rattle.cedar_expressions.proofs.PlacesAside.{unplaced_is}
 use Rattle.cedar_expressions.specs.Value.{Value}
 
 abbrev equal : Expr → Expr → Bool
 equal = expr_eq.ghosts.eq
 
 abbrev value_of_kind : ExprKind → Value
-value_of_kind = fold-ExprKind Value Value kind_call expr_call
+value_of_kind = fold-ExprKind Value Value free_call free_expr
 
 abbrev value_of : Expr → Value
-value_of = fold-Expr Value Value kind_call expr_call
+value_of = fold-Expr Value Value free_call free_expr
 
 -- the comparison of the lists' items, and that at each variant
 abbrev term_eq : AddOp × Expr → AddOp × Expr → Bool
@@ -97,10 +98,10 @@ Layer = ExprKind-F Value Value
 abbrev shown : Choice the_parts → Layer
 shown c = map-ExprKind ExprKind Expr Value Value value_of_kind value_of (join-ExprKind the_family c)
 
-shows : (k : ExprKind) → value_of_kind k ≡ kind_call (shown (as_values k))
+shows : (k : ExprKind) → value_of_kind k ≡ free_call (shown (as_values k))
 shows k =
-    fold_out-ExprKind Value Value kind_call expr_call k
-    ∙ ap (λ z. kind_call (map-ExprKind ExprKind Expr Value Value value_of_kind value_of z)) (sym (join-split-ExprKind the_family (out-ExprKind k)))
+    fold_out-ExprKind Value Value free_call free_expr k
+    ∙ ap (λ z. free_call (map-ExprKind ExprKind Expr Value Value value_of_kind value_of z)) (sym (join-split-ExprKind the_family (out-ExprKind k)))
 
 abbrev number : Layer → ℕ
 number (ExprKind-F.Val l) = 0
@@ -251,8 +252,8 @@ sides (ExprKind-F.Record xs) = λ m.
     (of_record (map pair_value (map known_pair xs)) (map pair_value m.0))
     (pairs xs m.0)
 
-settle : {r s : Bool} {a b : Layer} {p q : Value} → r ≡ s → Decides s (a ≡ b) → p ≡ kind_call a → q ≡ kind_call b → Decides r (p ≡ q)
-settle {a} {b} rs d pa qb = (λ h. pa ∙ ap kind_call (d.0 (sym rs ∙ h)) ∙ sym qb, λ e. rs ∙ d.1 (same_layer a b (sym pa ∙ e ∙ qb)))
+settle : {r s : Bool} {a b : Layer} {p q : Value} → r ≡ s → Decides s (a ≡ b) → p ≡ free_call a → q ≡ free_call b → Decides r (p ≡ q)
+settle {a} {b} rs d pa qb = (λ h. pa ∙ ap free_call (d.0 (sym rs ∙ h)) ∙ sym qb, λ e. rs ∙ d.1 (same_layer a b (sym pa ∙ e ∙ qb)))
 
 kind_step : (x : ExprKind-F ExprKind Expr) (y : ExprKind-F KnownKind Known) → map-ExprKind KnownKind Known ExprKind Expr (λ p. p.0) (λ p. p.0) y ≡ x → KindHolds (roll-ExprKind x)
 kind_step x y is l =
@@ -260,11 +261,11 @@ kind_step x y is l =
     settle
     (kind_is (roll-ExprKind x) l ∙ ap (λ z. by false false the_parts each (split-ExprKind the_family z) (as_values l)) (out-roll-ExprKind x))
     (against the_parts each shown apart (split-ExprKind the_family x) at (as_values l))
-    (shows (roll-ExprKind x) ∙ ap (λ z. kind_call (shown (split-ExprKind the_family z))) (out-roll-ExprKind x))
+    (shows (roll-ExprKind x) ∙ ap (λ z. free_call (shown (split-ExprKind the_family z))) (out-roll-ExprKind x))
     (shows l)
 
 value_is : (x : Expr) → value_of x ≡ value_of_kind x.kind
-value_is = fold_out-Expr Value Value kind_call expr_call
+value_is = fold_out-Expr Value Value free_call free_expr
 
 expr_step : (x : Expr-F ExprKind Expr) (y : Expr-F KnownKind Known) → map-Expr KnownKind Known ExprKind Expr (λ p. p.0) (λ p. p.0) y ≡ x → Holds (roll-Expr x)
 expr_step x y is f =
@@ -274,6 +275,12 @@ expr_step x y is f =
       λ e. same ∙ ap (λ b. b && true) (at.1 (sym (value_is (roll-Expr x)) ∙ e ∙ value_is f)),
     )
 
+settled : (x y : Expr) → Decides (equal x y) (value_of x ≡ value_of y)
+settled = ind-Expr KindHolds Holds kind_step expr_step
+
 pub equal_exprs : (x y : Expr) → Decides (equal x y) (unplaced x ≡ unplaced y)
-unfolding unplaced
-equal_exprs = ind-Expr KindHolds Holds kind_step expr_step
+equal_exprs x y =
+    let d = settled x y in (
+      λ h. unplaced_is x ∙ d.0 h ∙ sym (unplaced_is y),
+      λ e. d.1 (sym (unplaced_is x) ∙ e ∙ unplaced_is y),
+    )

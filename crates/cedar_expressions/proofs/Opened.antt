@@ -1,5 +1,5 @@
 -- A value opens to the one call that makes it, so calls of different parts differ.
-use Rattle.std.proofs.Common.{◌≡◌, ℕ, List, [], ◌∷◌, refl, sym, ap, ◌∙◌}
+use Rattle.std.proofs.Common.{◌≡◌, ℕ, List, [], ◌∷◌, None, refl, sym, ap, ◌∙◌}
 use Rattle.cedar_expressions.specs.declared.operators.AddOp.{AddOp}
 use Rattle.cedar_expressions.specs.declared.operators.UnaryOp.TheVariants as operator
 use Rattle.cedar_expressions.specs.declared.expr.UnaryCall.TheVariants as unary
@@ -7,7 +7,7 @@ use Rattle.cedar_expressions.specs.declared.expr.BinaryOp.TheVariants as between
 use Rattle.cedar_expressions.specs.declared.expr.BinaryCall.TheVariants as binary
 use Rattle.cedar_expressions.specs.declared.expr.NaryOp.TheVariants as nary
 use Rattle.cedar_expressions.specs.declared.expr.ListCall.TheVariants as list
-use Rattle.cedar_expressions.specs.declared.expr.ExprKind.TheOpen.{ExprKind-F}
+use Rattle.cedar_expressions.specs.declared.expr.ExprKind.TheOpen.{ExprKind-F, Expr-F}
 use Rattle.cedar_expressions.specs.Meaning.{kind_call}
 use Rattle.cedar_expressions.specs.Value as v
 use Rattle.cedar_expressions.specs.Value.{Value, Values, values, Terms, terms, Fields, fields}
@@ -36,13 +36,20 @@ pairs_is : (xs : List (List ℕ × Value)) → as_pairs (fields xs) ≡ xs
 pairs_is [] = refl
 pairs_is (x ∷ xs) = ap (λ ys. x ∷ ys) (pairs_is xs)
 
-abbrev Layer : Type 0
+abbrev pub Layer : Type 0
 Layer = ExprKind-F Value Value
+
+-- a call of parts whose slots stand nowhere
+abbrev pub free_call : Layer → Value
+free_call layer = kind_call Value layer None
+
+abbrev pub free_expr : Expr-F Value Value → Value
+free_expr e = e.kind
 
 abbrev opened : Value → Layer
 opened (v.val l) = ExprKind-F.Val l
 opened (v.var x) = ExprKind-F.Var x
-opened (v.slot s) = ExprKind-F.Slot s
+opened (v.slot s) = ExprKind-F.Slot s.id
 opened (v.ite a b c) = ExprKind-F.Ite (a, b, c)
 opened (v.not a) = ExprKind-F.Unary (unary.Op operator.Not) a
 opened (v.neg a) = ExprKind-F.Unary (unary.Op operator.Neg) a
@@ -73,7 +80,7 @@ opened (v.call_extension_fn function items) = ExprKind-F.List (list.Extension fu
 opened (v.set items) = ExprKind-F.List list.Set (as_list items)
 opened (v.«record» pairs) = ExprKind-F.Record (as_pairs pairs)
 
-opens : (layer : Layer) → opened (kind_call layer) ≡ layer
+opens : (layer : Layer) → opened (free_call layer) ≡ layer
 opens (ExprKind-F.Val l) = refl
 opens (ExprKind-F.Var x) = refl
 opens (ExprKind-F.Slot s) = refl
@@ -107,5 +114,5 @@ opens (ExprKind-F.List list.Set items) = ap (ExprKind-F.List list.Set) (list_is 
 opens (ExprKind-F.List (list.Extension function) items) = ap (ExprKind-F.List (list.Extension function)) (list_is items)
 opens (ExprKind-F.Record pairs) = ap ExprKind-F.Record (pairs_is pairs)
 
-pub same_layer : (x y : ExprKind-F Value Value) → kind_call x ≡ kind_call y → x ≡ y
+pub same_layer : (x y : ExprKind-F Value Value) → free_call x ≡ free_call y → x ≡ y
 same_layer x y e = sym (opens x) ∙ ap opened e ∙ opens y

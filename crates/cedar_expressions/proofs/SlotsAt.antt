@@ -9,36 +9,98 @@ use Rattle.cedar_expressions.specs.declared.literal.Literal.{Literal}
 use Rattle.cedar_expressions.specs.declared.literal.Var.{Var}
 use Rattle.cedar_expressions.specs.declared.literal.SlotId.{SlotId}
 use Rattle.cedar_expressions.specs.declared.expr.Expr.{Expr}
+use Rattle.cedar_expressions.specs.declared.operators.UnaryOp.TheVariants as operator
 use Rattle.cedar_expressions.specs.declared.expr.UnaryCall.{UnaryCall}
+use Rattle.cedar_expressions.specs.declared.expr.UnaryCall.TheVariants as unary
 use Rattle.cedar_expressions.specs.declared.expr.BinaryCall.{BinaryCall}
+use Rattle.cedar_expressions.specs.declared.expr.BinaryCall.TheVariants as binary
+use Rattle.cedar_expressions.specs.declared.expr.BinaryOp.TheVariants as between
 use Rattle.cedar_expressions.specs.declared.expr.NaryOp.{NaryOp}
+use Rattle.cedar_expressions.specs.declared.expr.NaryOp.TheVariants as nary
 use Rattle.cedar_expressions.specs.declared.expr.ListCall.{ListCall}
+use Rattle.cedar_expressions.specs.declared.expr.ListCall.TheVariants as list
 use Rattle.cedar_expressions.specs.declared.expr.ExprKind.{ExprKind}
 use Rattle.cedar_expressions.specs.declared.expr.ExprKind.TheOpen.{ExprKind-F}
 use Rattle.cedar_expressions.specs.declared.expr.ExprKind.TheFolds.{fold_out-Expr, fold-roll-ExprKind}
 use Rattle.cedar_expressions.specs.declared.expr.ExprKind.TheVariants as kind
-use Rattle.cedar_expressions.specs.Slots.{Slots, slots_in, slots_of_kind, slots_in_row, term_slots, pair_slots, as_they_are, behind_operator, behind_key, kind_slots, expr_slots}
+use Rattle.cedar_expressions.specs.Meaning.{AtPlace, kind_call, expr_call, unary_call, binary_call, nary_call, list_call, expr_meaning, kind_meaning}
+use Rattle.cedar_expressions.specs.Slots.{Slots, slots_of, slots_of_all, slots_of_terms, slots_of_fields, slots_in, slots_of_kind, slots_in_row, term_slots, pair_slots}
+use Rattle.cedar_expressions.specs.Value.{Value, values, terms, fields}
 
--- a row of what a list was made into
-fused : {T U : Type 0} (g : U → Slots) (f : T → U) (xs : List T) → slots_in_row g (map f xs) ≡ slots_in_row (λ x. g (f x)) xs
-fused g f [] = refl
-fused g f (x ∷ xs) = ap (λ z. g (f x) ++ z) (fused g f xs)
+-- ---- calls
+
+of_unary : (call : UnaryCall) (a : Value) → slots_of (unary_call call a) ≡ slots_of a
+unfolding slots_of
+of_unary (unary.Op operator.Not) a = refl
+of_unary (unary.Op operator.Neg) a = refl
+of_unary unary.IsEmpty a = refl
+of_unary (unary.Like pattern) a = refl
+of_unary (unary.Is entity_type) a = refl
+of_unary (unary.GetAttr attr) a = refl
+of_unary (unary.ExtendedHasAttr first rest) a = refl
+
+of_binary : (call : BinaryCall) (a b : Value) → slots_of (binary_call call a b) ≡ slots_of a ++ slots_of b
+unfolding slots_of
+of_binary (binary.Op between.And) a b = refl
+of_binary (binary.Op between.Less) a b = refl
+of_binary (binary.Op between.LessEq) a b = refl
+of_binary (binary.Op between.Greater) a b = refl
+of_binary (binary.Op between.GreaterEq) a b = refl
+of_binary (binary.Op between.Eq) a b = refl
+of_binary (binary.Op between.NotEq) a b = refl
+of_binary (binary.Op between.In) a b = refl
+of_binary (binary.Op between.Contains) a b = refl
+of_binary (binary.Op between.ContainsAll) a b = refl
+of_binary (binary.Op between.ContainsAny) a b = refl
+of_binary (binary.Op between.GetTag) a b = refl
+of_binary (binary.Op between.HasTag) a b = refl
+of_binary (binary.IsIn entity_type) a b = refl
+
+of_nary : (op : NaryOp) (a : Value) (bs : List Value) → slots_of (nary_call op a (values bs)) ≡ slots_of a ++ slots_of_all (values bs)
+unfolding slots_of
+of_nary nary.Or a bs = refl
+of_nary nary.And a bs = refl
+of_nary nary.Mul a bs = refl
+
+of_list : (call : ListCall) (bs : List Value) → slots_of (list_call call (values bs)) ≡ slots_of_all (values bs)
+unfolding slots_of
+of_list list.Set bs = refl
+of_list (list.Extension function) bs = refl
+
+-- ---- rows
+
+of_row : (xs : List Expr) → slots_of_all (values (map expr_meaning xs)) ≡ slots_in_row slots_in xs
+unfolding slots_of_all slots_in
+of_row [] = refl
+of_row (x ∷ xs) = ap (λ z. slots_of (expr_meaning x) ++ z) (of_row xs)
+
+of_terms : (xs : List (AddOp × Expr)) → slots_of_terms (terms (map (λ t. (t.0, expr_meaning t.1)) xs)) ≡ slots_in_row term_slots xs
+unfolding slots_of_terms slots_in
+of_terms [] = refl
+of_terms (x ∷ xs) = ap (λ z. slots_of (expr_meaning x.1) ++ z) (of_terms xs)
+
+of_fields : (xs : List (Text × Expr)) → slots_of_fields (fields (map (λ t. (t.0, expr_meaning t.1)) xs)) ≡ slots_in_row pair_slots xs
+unfolding slots_of_fields slots_in
+of_fields [] = refl
+of_fields (x ∷ xs) = ap (λ z. slots_of (expr_meaning x.1) ++ z) (of_fields xs)
+
+-- ---- nodes
 
 pub at_expr : (e : Expr) → slots_in e ≡ slots_of_kind e.kind e.place.place
-unfolding slots_in slots_of_kind
-at_expr e = fold_out-Expr (Option Place → Slots) Slots kind_slots expr_slots e
+unfolding slots_in slots_of_kind expr_meaning kind_meaning
+at_expr e = ap slots_of (fold_out-Expr AtPlace Value (kind_call AtPlace) expr_call e)
 
 module _ (place : Option Place) where
-  here : {f g : Option Place → Slots} → f ≡ g → f place ≡ g place
-  here e = ap (λ (h : Option Place → Slots). h place) e
+  here : {f g : Option Place → Value} → f ≡ g → slots_of (f place) ≡ slots_of (g place)
+  here e = ap (λ (h : Option Place → Value). slots_of (h place)) e
 
   pub at_val : (l : Literal) → slots_of_kind (kind.Val l) place ≡ []
-  unfolding slots_of_kind
-  at_val l = here (ap slots_of_kind (sym (kind.rolls-Val l)) ∙ fold-roll-ExprKind (Option Place → Slots) Slots kind_slots expr_slots (ExprKind-F.Val l))
+  unfolding slots_in slots_of_kind expr_meaning kind_meaning slots_of
+  at_val l = here (ap kind_meaning (sym (kind.rolls-Val l)) ∙ fold-roll-ExprKind AtPlace Value (kind_call AtPlace) expr_call (ExprKind-F.Val l))
 
   pub at_var : (x : Var) → slots_of_kind (kind.Var x) place ≡ []
-  unfolding slots_of_kind
-  at_var x = here (ap slots_of_kind (sym (kind.rolls-Var x)) ∙ fold-roll-ExprKind (Option Place → Slots) Slots kind_slots expr_slots (ExprKind-F.Var x))
+  unfolding slots_in slots_of_kind expr_meaning kind_meaning slots_of
+  at_var x = here (ap kind_meaning (sym (kind.rolls-Var x)) ∙ fold-roll-ExprKind AtPlace Value (kind_call AtPlace) expr_call (ExprKind-F.Var x))
 
   -- constants and variables have none
   pub at_leaf : (k : ExprKind) → ((l : Literal) × (k ≡ kind.Val l)) ⊎ ((x : Var) × (k ≡ kind.Var x)) → slots_of_kind k place ≡ []
@@ -46,40 +108,39 @@ module _ (place : Option Place) where
   at_leaf k (inr h) = ap (λ (j : ExprKind). slots_of_kind j place) h.1 ∙ at_var h.0
 
   pub at_slot : (s : SlotId) → slots_of_kind (kind.Slot s) place ≡ record { id = s; place = place } ∷ []
-  unfolding slots_of_kind
-  at_slot s = here (ap slots_of_kind (sym (kind.rolls-Slot s)) ∙ fold-roll-ExprKind (Option Place → Slots) Slots kind_slots expr_slots (ExprKind-F.Slot s))
+  unfolding slots_in slots_of_kind expr_meaning kind_meaning slots_of
+  at_slot s = here (ap kind_meaning (sym (kind.rolls-Slot s)) ∙ fold-roll-ExprKind AtPlace Value (kind_call AtPlace) expr_call (ExprKind-F.Slot s))
 
   pub at_ite : (parts : Expr × Expr × Expr) → slots_of_kind (kind.Ite parts) place ≡ (slots_in parts.0 ++ slots_in parts.1) ++ slots_in parts.2
-  unfolding slots_in slots_of_kind
-  at_ite parts = here (ap slots_of_kind (sym (kind.rolls-Ite parts)) ∙ fold-roll-ExprKind (Option Place → Slots) Slots kind_slots expr_slots (ExprKind-F.Ite parts))
+  unfolding slots_in slots_of_kind expr_meaning kind_meaning slots_of
+  at_ite parts = here (ap kind_meaning (sym (kind.rolls-Ite parts)) ∙ fold-roll-ExprKind AtPlace Value (kind_call AtPlace) expr_call (ExprKind-F.Ite parts))
 
   pub at_unary : (call : UnaryCall) (a : Expr) → slots_of_kind (kind.Unary call a) place ≡ slots_in a
-  unfolding slots_in slots_of_kind
-  at_unary call a = here (ap slots_of_kind (sym (kind.rolls-Unary call a)) ∙ fold-roll-ExprKind (Option Place → Slots) Slots kind_slots expr_slots (ExprKind-F.Unary call a))
+  unfolding slots_in slots_of_kind expr_meaning kind_meaning slots_of
+  at_unary call a = here (ap kind_meaning (sym (kind.rolls-Unary call a)) ∙ fold-roll-ExprKind AtPlace Value (kind_call AtPlace) expr_call (ExprKind-F.Unary call a)) ∙ of_unary call (expr_meaning a)
 
   pub at_binary : (call : BinaryCall) (parts : Expr × Expr) → slots_of_kind (kind.Binary call parts) place ≡ slots_in parts.0 ++ slots_in parts.1
-  unfolding slots_in slots_of_kind
-  at_binary call parts = here (ap slots_of_kind (sym (kind.rolls-Binary call parts)) ∙ fold-roll-ExprKind (Option Place → Slots) Slots kind_slots expr_slots (ExprKind-F.Binary call parts))
+  unfolding slots_in slots_of_kind expr_meaning kind_meaning slots_of
+  at_binary call parts = here (ap kind_meaning (sym (kind.rolls-Binary call parts)) ∙ fold-roll-ExprKind AtPlace Value (kind_call AtPlace) expr_call (ExprKind-F.Binary call parts)) ∙ of_binary call (expr_meaning parts.0) (expr_meaning parts.1)
 
   pub at_nary : (op : NaryOp) (a : Expr) (rest : List Expr) → slots_of_kind (kind.Nary op a rest) place ≡ slots_in a ++ slots_in_row slots_in rest
-  unfolding slots_in slots_of_kind
-  at_nary op a rest = here (ap slots_of_kind (sym (kind.rolls-Nary op a rest)) ∙ fold-roll-ExprKind (Option Place → Slots) Slots kind_slots expr_slots (ExprKind-F.Nary op a rest))
-      ∙ ap (λ z. slots_in a ++ z) (fused as_they_are slots_in rest)
+  unfolding slots_in slots_of_kind expr_meaning kind_meaning slots_of
+  at_nary op a rest = here (ap kind_meaning (sym (kind.rolls-Nary op a rest)) ∙ fold-roll-ExprKind AtPlace Value (kind_call AtPlace) expr_call (ExprKind-F.Nary op a rest))
+      ∙ of_nary op (expr_meaning a) (map expr_meaning rest) ∙ ap (λ z. slots_in a ++ z) (of_row rest)
 
   pub at_sum : (a : Expr) (rest : List (AddOp × Expr)) → slots_of_kind (kind.Sum a rest) place ≡ slots_in a ++ slots_in_row term_slots rest
-  unfolding slots_in slots_of_kind
-  at_sum a rest = here (ap slots_of_kind (sym (kind.rolls-Sum a rest)) ∙ fold-roll-ExprKind (Option Place → Slots) Slots kind_slots expr_slots (ExprKind-F.Sum a rest))
-      ∙ ap (λ z. slots_in a ++ z) (fused behind_operator _ rest)
+  unfolding slots_in slots_of_kind expr_meaning kind_meaning slots_of
+  at_sum a rest = here (ap kind_meaning (sym (kind.rolls-Sum a rest)) ∙ fold-roll-ExprKind AtPlace Value (kind_call AtPlace) expr_call (ExprKind-F.Sum a rest))
+      ∙ ap (λ z. slots_in a ++ z) (of_terms rest)
 
   pub at_list : (call : ListCall) (items : List Expr) → slots_of_kind (kind.List call items) place ≡ slots_in_row slots_in items
-  unfolding slots_in slots_of_kind
-  at_list call items = here (ap slots_of_kind (sym (kind.rolls-List call items)) ∙ fold-roll-ExprKind (Option Place → Slots) Slots kind_slots expr_slots (ExprKind-F.List call items))
-      ∙ fused as_they_are slots_in items
+  unfolding slots_in slots_of_kind expr_meaning kind_meaning slots_of
+  at_list call items = here (ap kind_meaning (sym (kind.rolls-List call items)) ∙ fold-roll-ExprKind AtPlace Value (kind_call AtPlace) expr_call (ExprKind-F.List call items))
+      ∙ of_list call (map expr_meaning items) ∙ of_row items
 
   pub at_record : (pairs : List (Text × Expr)) → slots_of_kind (kind.Record pairs) place ≡ slots_in_row pair_slots pairs
-  unfolding slots_in slots_of_kind
-  at_record pairs = here (ap slots_of_kind (sym (kind.rolls-Record pairs)) ∙ fold-roll-ExprKind (Option Place → Slots) Slots kind_slots expr_slots (ExprKind-F.Record pairs))
-      ∙ fused behind_key _ pairs
+  unfolding slots_in slots_of_kind expr_meaning kind_meaning slots_of
+  at_record pairs = here (ap kind_meaning (sym (kind.rolls-Record pairs)) ∙ fold-roll-ExprKind AtPlace Value (kind_call AtPlace) expr_call (ExprKind-F.Record pairs)) ∙ of_fields pairs
 
 -- what follows from the answer of a call, if it is no refusal
 pub on_ok : {A E P Q : Type 0} (r : Result A E) → (P → Q) → OnOk r P → OnOk r Q

@@ -7,3 +7,4 @@ pub mod Placed
 pub mod Value
 pub mod Slots
 pub mod Written
+pub mod WithoutPlaces

@@ -1,4 +1,6 @@
--- An expression without its places: the builder calls that made it.
+-- What an expression means: the builder calls that made it, a slot with its node's place; and the
+-- same, places aside, at which equality looks.
+use Rattle.std.specs.Prelude.{Option}
 use Rattle.cedar_expressions.specs.declared.operators.UnaryOp.{UnaryOp}
 use Rattle.cedar_expressions.specs.declared.operators.UnaryOp.TheVariants as operator
 use Rattle.cedar_expressions.specs.declared.expr.UnaryCall.{UnaryCall}
@@ -11,11 +13,14 @@ use Rattle.cedar_expressions.specs.declared.expr.NaryOp.{NaryOp}
 use Rattle.cedar_expressions.specs.declared.expr.NaryOp.TheVariants as nary
 use Rattle.cedar_expressions.specs.declared.expr.ListCall.{ListCall}
 use Rattle.cedar_expressions.specs.declared.expr.ListCall.TheVariants as list
+use Rattle.cedar_expressions.specs.declared.place.Place.{Place}
 use Rattle.cedar_expressions.specs.declared.expr.Expr.{Expr}
+use Rattle.cedar_expressions.specs.declared.expr.ExprKind.{ExprKind}
 use Rattle.cedar_expressions.specs.declared.expr.ExprKind.TheOpen.{ExprKind-F, Expr-F}
-use Rattle.cedar_expressions.specs.declared.expr.ExprKind.TheFolds.{fold-Expr}
+use Rattle.cedar_expressions.specs.declared.expr.ExprKind.TheFolds.{fold-Expr, fold-ExprKind}
 use Rattle.cedar_expressions.specs.Value as v
 use Rattle.cedar_expressions.specs.Value.{Value, Values, values, terms, fields}
+use Rattle.cedar_expressions.specs.WithoutPlaces.{without_places}
 
 -- a call of one expression
 abbrev pub operator_call : UnaryOp → Value → Value
@@ -61,21 +66,34 @@ abbrev pub list_call : ListCall → Values → Value
 list_call list.Set = v.set
 list_call (list.Extension function) = v.call_extension_fn function
 
--- one call, of parts that are done
-abbrev pub kind_call : ExprKind-F Value Value → Value
-kind_call (ExprKind-F.Val literal) = v.val literal
-kind_call (ExprKind-F.Var x) = v.var x
-kind_call (ExprKind-F.Slot slot) = v.slot slot
-kind_call (ExprKind-F.Ite parts) = v.ite parts.0 parts.1 parts.2
-kind_call (ExprKind-F.Unary call a) = unary_call call a
-kind_call (ExprKind-F.Binary call parts) = binary_call call parts.0 parts.1
-kind_call (ExprKind-F.Nary op a rest) = nary_call op a (values rest)
-kind_call (ExprKind-F.Sum a rest) = v.add_nary a (terms rest)
-kind_call (ExprKind-F.List call items) = list_call call (values items)
-kind_call (ExprKind-F.Record pairs) = v.«record» (fields pairs)
+-- one call, of parts that are done, whose node stands at a place; no kind holds another, so `K`,
+-- what a kind would be made into, is of no account
+abbrev pub kind_call : (K : Type 0) → ExprKind-F K Value → Option Place → Value
+kind_call K (ExprKind-F.Val literal) place = v.val literal
+kind_call K (ExprKind-F.Var x) place = v.var x
+kind_call K (ExprKind-F.Slot slot) place = v.slot (record { id = slot; place = place })
+kind_call K (ExprKind-F.Ite parts) place = v.ite parts.0 parts.1 parts.2
+kind_call K (ExprKind-F.Unary call a) place = unary_call call a
+kind_call K (ExprKind-F.Binary call parts) place = binary_call call parts.0 parts.1
+kind_call K (ExprKind-F.Nary op a rest) place = nary_call op a (values rest)
+kind_call K (ExprKind-F.Sum a rest) place = v.add_nary a (terms rest)
+kind_call K (ExprKind-F.List call items) place = list_call call (values items)
+kind_call K (ExprKind-F.Record pairs) place = v.«record» (fields pairs)
 
-abbrev pub expr_call : Expr-F Value Value → Value
-expr_call e = e.kind
+-- a kind is a call once its node's place is known
+abbrev pub AtPlace : Type 0
+AtPlace = Option Place → Value
 
+abbrev pub expr_call : Expr-F AtPlace Value → Value
+expr_call e = e.kind e.place.place
+
+-- what an expression means, and what its kind does at a place
+unfoldable pub expr_meaning : Expr → Value
+expr_meaning = fold-Expr AtPlace Value (kind_call AtPlace) expr_call
+
+unfoldable pub kind_meaning : ExprKind → Option Place → Value
+kind_meaning = fold-ExprKind AtPlace Value (kind_call AtPlace) expr_call
+
+-- the same, places aside
 unfoldable pub unplaced : Expr → Value
-unplaced = fold-Expr Value Value kind_call expr_call
+unplaced e = without_places (expr_meaning e)

@@ -1,9 +1,10 @@
--- What an expression means: the builder calls that make it, without places.
+-- What an expression means: the builder calls that make it, without the places of its nodes. A
+-- slot alone has its place, since it is refused there where none may stand.
 use Rattle.std.specs.Prelude.{ℕ, List, [], ◌∷◌}
 use Rattle.cedar_expressions.specs.declared.operators.AddOp.{AddOp}
 use Rattle.cedar_expressions.specs.declared.literal.Literal.{Literal}
 use Rattle.cedar_expressions.specs.declared.literal.Var.{Var}
-use Rattle.cedar_expressions.specs.declared.literal.SlotId.{SlotId}
+use Rattle.cedar_expressions.specs.declared.place.Slot.{Slot}
 use Rattle.cedar_expressions.specs.declared.literal.PatternElem.{PatternElem}
 use Rattle.cedar_expressions.specs.declared.entity.EntityType.{EntityType}
 use Rattle.cedar_expressions.specs.Path.{Path}
@@ -13,7 +14,7 @@ mutual
   pub data Value : Type 0 where
     val : Literal → Value
     var : Var → Value
-    slot : SlotId → Value
+    slot : Slot → Value
     ite : Value → Value → Value → Value
     not : Value → Value
     neg : Value → Value

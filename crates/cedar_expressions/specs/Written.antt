@@ -1,5 +1,5 @@
--- How values are written. The original fixes the words of variables and slots, names, truth values, and an entity's text; the rest is this
--- repository's own (docs/DECISIONS.md).
+-- How values are written. The original fixes the words of variables and slots, names, truth
+-- values, and an entity's text; the rest is this repository's own (docs/DECISIONS.md).
 use Rattle.std.specs.Prelude.{ℕ, List, ◌++◌, if◌then◌else◌, codes}
 use Rattle.std.specs.Fmt.{signed_decimal, decimal}
 use Rattle.std.specs.Char.{encode_utf8}

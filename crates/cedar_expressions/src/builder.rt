@@ -13,7 +13,7 @@ pub trait ExprBuilderInfallibleBuild: Drop {
     ghost use Rattle.cedar_expressions.specs.Value.{Value};
     ghost use Rattle.cedar_expressions.specs.declared.place.Place.{Place as NodesPlace};
 
-    /// The calls that made an expression, places aside.
+    /// The calls that made an expression; of the places of its nodes a slot's alone.
     ghost meaning: { Self.Expr → Value };
 
     /// Where the node will stand that the builder makes.
@@ -35,9 +35,10 @@ pub trait ExprBuilderInfallibleBuild: Drop {
     fn var(self, var: Var) -> Result<Self::Expr, AllocError>
         ensures { IfOk result (λ e. meaning e ≡ v.var var) };
 
-    /// A slot of a template.
+    /// A slot of a template, which stands at the builder's place.
     fn slot(self, slot: SlotId) -> Result<Self::Expr, AllocError>
-        ensures { IfOk result (λ e. meaning e ≡ v.slot slot) };
+        ensures { IfOk result (λ e. meaning e
+            ≡ v.slot (record { id = slot; place = node_place self })) };
 
     /// `if guard then consequent else alternative`.
     fn ite(

@@ -8,7 +8,7 @@ use Rattle.std.proofs.lemmas.List.{take_at}
 use Rattle.std.proofs.lemmas.List.Elements.{All-nil, All-cons, All-head, All-tail, All-from_get_or}
 use Rattle.std.proofs.lemmas.List.Sums.{take_while-cons}
 use Rattle.std.proofs.lemmas.Str.{inside_one}
-use Rattle.cedar_lexer.specs.Spelling.{begins_identifier, continues_identifier}
+use Rattle.cedar_lexer.specs.Spelling.{is_identifier_start, is_identifier_part}
 
 -- the bytes that pass, all of them, and how many they are
 pub take_while-passes : (p : ℕ → Bool) (bs : List ℕ) → AllPass p (take_while p bs)
@@ -36,16 +36,16 @@ encode_high c big = All-from_get_or (λ b. 128 ≤ b) (encode_utf8 c) 0 (λ k be
 ])
 
 -- a first byte of an identifier also continues one, and is no digit
-pub begins_continues : (b : ℕ) → begins_identifier b ≡ true → continues_identifier b ≡ true
+pub begins_continues : (b : ℕ) → is_identifier_start b ≡ true → is_identifier_part b ≡ true
 begins_continues b h = grind (arith, nat_tests)
 
-pub digit_begins_none : (b : ℕ) → is_ascii_digit b ≡ true → begins_identifier b ≡ false
+pub digit_begins_none : (b : ℕ) → is_ascii_digit b ≡ true → is_identifier_start b ≡ false
 digit_begins_none b h = grind (arith, nat_tests)
 
-pub continues_ascii : (b : ℕ) → continues_identifier b ≡ true → b < 128
+pub continues_ascii : (b : ℕ) → is_identifier_part b ≡ true → b < 128
 continues_ascii b h = grind (arith, nat_tests)
 
-pub begins_visible : (b : ℕ) → begins_identifier b ≡ true → (32 < b) × (b < 127)
+pub begins_visible : (b : ℕ) → is_identifier_start b ≡ true → (32 < b) × (b < 127)
 begins_visible b h = grind (arith, nat_tests)
 
 pub digit_visible : (b : ℕ) → is_ascii_digit b ≡ true → (32 < b) × (b < 127)

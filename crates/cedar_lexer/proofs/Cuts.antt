@@ -8,7 +8,7 @@ use Rattle.cedar_lexer.specs.declared.token.TokenKind.{TokenKind}
 use Rattle.cedar_lexer.specs.Token.{Lexeme}
 use Rattle.cedar_lexer.specs.Spelling.{Spells}
 use Rattle.cedar_lexer.specs.Cut.{IsSpelled, NothingStarts, IsSkipAt, IsTokenAt, Layout, nothing, skip, token}
-use Rattle.cedar_lexer.specs.Scan.{spelling, Found}
+use Rattle.cedar_lexer.specs.Scan.{spelling, KindAndLength}
 use Rattle.cedar_lexer.proofs.Bytes.{same_front}
 use Rattle.cedar_lexer.proofs.Marks.{found_same}
 use Rattle.cedar_lexer.proofs.Fronts.{reaches, one_kind}
@@ -137,7 +137,7 @@ none_starts bs e kind text after stands s =
     let f : spelling (text ++ after) ≡ None = ap spelling (sym stands) ∙ e in
     no_find (sym h.finds ∙ f)
   where
-    no_find : {x : Found} → Some x ≡ None → ⊥
+    no_find : {x : KindAndLength} → Some x ≡ None → ⊥
     no_find e = absurd (cc)
 
 -- where it finds a spelling, that is the token
@@ -186,7 +186,7 @@ stops_behind_token source i t s h = record { tokens = t ∷ h.tokens; place = h.
 
 stops_on : (fuel : ℕ) (source : List ℕ) (i : ℕ) → length source ≤ i + suc fuel → i ≤ length source → IsUtf8 (drop i source) →
     ((j : ℕ) → length source ≤ j + fuel → j ≤ length source → IsUtf8 (drop j source) → Stopped source j) →
-    SkipOrNone (drop i source) → (o : Option Found) → spelling (drop i source) ≡ o → Stopped source i
+    SkipOrNone (drop i source) → (o : Option KindAndLength) → spelling (drop i source) ≡ o → Stopped source i
 stops_on fuel source i enough l u more (skip_here text after stands s) o e =
     let at : IsSkipAt source i (i + length text) = record { text = text; after = after; stands = stands; skips = s; ends = refl } in
     let h = behind_skip source i (i + length text) u at in

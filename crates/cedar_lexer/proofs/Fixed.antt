@@ -11,8 +11,8 @@ use Rattle.std.proofs.lemmas.Str.{IsUtf8-from_ascii}
 use Rattle.std.proofs.lemmas.Str.Ascii.{IsAscii-from_all}
 use Rattle.cedar_lexer.specs.declared.token.TokenKind.{TokenKind}
 use Rattle.cedar_lexer.specs.declared.token.TokenKind.TheVariants.{True, False, If, Permit, Forbid, When, Unless, In, Has, Like, Is, Then, Else, Principal, Action, Resource, Context, PrincipalSlot, ResourceSlot, OtherSlot, Identifier, Number, StringLit, At, Dot, Comma, Semicolon, Colon, ColonColon, OpenParen, CloseParen, OpenBrace, CloseBrace, OpenBracket, CloseBracket, EqEq, NotEq, Less, LessEq, GreaterEq, Greater, Eq, OrOr, AndAnd, Plus, Minus, Star, Slash, Percent, Bang}
-use Rattle.cedar_lexer.specs.Spelling.{begins_identifier, continues_identifier, one_text, IsIdentifier, IsSlot}
-use Rattle.cedar_lexer.specs.Scan.{spelling, kind_among, words, slots}
+use Rattle.cedar_lexer.specs.Spelling.{is_identifier_start, is_identifier_part, one_text, IsIdentifierText, IsSlot}
+use Rattle.cedar_lexer.specs.Scan.{spelling, kind_with_text, words, slots}
 use Rattle.cedar_lexer.proofs.Bytes.{prefix_len-passed, begins_continues}
 
 -- the scan finds a spelling of at least so many bytes
@@ -23,13 +23,13 @@ pub record FindsAtLeast (bs : List ℕ) (least : ℕ) : Type 0 where
   pub enough : least ≤ size
 
 -- an identifier, and a slot, at the front of a text
-pub reaches_identifier : (text after : List ℕ) → IsIdentifier text → FindsAtLeast (text ++ after) (length text)
+pub reaches_identifier : (text after : List ℕ) → IsIdentifierText text → FindsAtLeast (text ++ after) (length text)
 reaches_identifier [] after h = absurd h
 reaches_identifier (b ∷ bs) after (begins, continues) = record {
-  kind = kind_among words (take (prefix_len continues_identifier (b ∷ bs ++ after)) (b ∷ bs ++ after)) Identifier;
-  size = prefix_len continues_identifier (b ∷ bs ++ after);
+  kind = kind_with_text words (take (prefix_len is_identifier_part (b ∷ bs ++ after)) (b ∷ bs ++ after)) Identifier;
+  size = prefix_len is_identifier_part (b ∷ bs ++ after);
   finds = rw begins refl;
-  enough = prefix_len-passed continues_identifier (b ∷ bs) after (All-cons (λ x. continues_identifier x ≡ true) b bs (begins_continues b begins) continues);
+  enough = prefix_len-passed is_identifier_part (b ∷ bs) after (All-cons (λ x. is_identifier_part x ≡ true) b bs (begins_continues b begins) continues);
 }
 
 -- what the scan makes of the one text of a kind: alone, and with more behind it
@@ -44,11 +44,11 @@ some_same e = cc
 ascii_text : (text : List ℕ) → list_all is_ascii text ≡ true → IsUtf8 text
 ascii_text text h = IsUtf8-from_ascii text (IsAscii-from_all text (All-weaker (λ b. is_ascii b ≡ true) (λ b. b < 128) (λ b t. ltb-true b 128 t) text (AllPass-from_list_all is_ascii text h)))
 
-word : (kind : TokenKind) (b : ℕ) (bs text : List ℕ) → Some (b ∷ bs) ≡ Some text → begins_identifier b ≡ true → list_all continues_identifier bs ≡ true →
+word : (kind : TokenKind) (b : ℕ) (bs text : List ℕ) → Some (b ∷ bs) ≡ Some text → is_identifier_start b ≡ true → list_all is_identifier_part bs ≡ true →
     list_all is_ascii (b ∷ bs) ≡ true → spelling (b ∷ bs) ≡ Some (kind, length (b ∷ bs)) → Fixed kind text
 word kind b bs text e begins continues ascii exact = subst (Fixed kind) (some_same e) record {
   exact = exact;
-  reaches = λ after apart. reaches_identifier (b ∷ bs) after (begins, AllPass-from_list_all continues_identifier bs continues);
+  reaches = λ after apart. reaches_identifier (b ∷ bs) after (begins, AllPass-from_list_all is_identifier_part bs continues);
   ascii = ascii_text (b ∷ bs) ascii;
 }
 
@@ -58,17 +58,17 @@ reaches_slot [] after h = absurd h
 reaches_slot (b ∷ []) after h = absurd h.1
 reaches_slot (b ∷ c ∷ cs) after (mark, (begins, continues)) =
     subst (λ x. FindsAtLeast (x ∷ c ∷ cs ++ after) (length (x ∷ c ∷ cs))) (sym mark) record {
-      kind = kind_among slots (take (1 + prefix_len continues_identifier (c ∷ cs ++ after)) (63 ∷ c ∷ cs ++ after)) OtherSlot;
-      size = 1 + prefix_len continues_identifier (c ∷ cs ++ after);
+      kind = kind_with_text slots (take (1 + prefix_len is_identifier_part (c ∷ cs ++ after)) (63 ∷ c ∷ cs ++ after)) OtherSlot;
+      size = 1 + prefix_len is_identifier_part (c ∷ cs ++ after);
       finds = rw begins refl;
-      enough = omega (arith, prefix_len-passed continues_identifier (c ∷ cs) after (All-cons (λ x. continues_identifier x ≡ true) c cs (begins_continues c begins) continues));
+      enough = omega (arith, prefix_len-passed is_identifier_part (c ∷ cs) after (All-cons (λ x. is_identifier_part x ≡ true) c cs (begins_continues c begins) continues));
     }
 
-slot : (kind : TokenKind) (c : ℕ) (cs text : List ℕ) → Some (63 ∷ c ∷ cs) ≡ Some text → begins_identifier c ≡ true → list_all continues_identifier cs ≡ true →
+slot : (kind : TokenKind) (c : ℕ) (cs text : List ℕ) → Some (63 ∷ c ∷ cs) ≡ Some text → is_identifier_start c ≡ true → list_all is_identifier_part cs ≡ true →
     list_all is_ascii (63 ∷ c ∷ cs) ≡ true → spelling (63 ∷ c ∷ cs) ≡ Some (kind, length (63 ∷ c ∷ cs)) → Fixed kind text
 slot kind c cs text e begins continues ascii exact = subst (Fixed kind) (some_same e) record {
   exact = exact;
-  reaches = λ after apart. reaches_slot (63 ∷ c ∷ cs) after (refl, (begins, AllPass-from_list_all continues_identifier cs continues));
+  reaches = λ after apart. reaches_slot (63 ∷ c ∷ cs) after (refl, (begins, AllPass-from_list_all is_identifier_part cs continues));
   ascii = ascii_text (63 ∷ c ∷ cs) ascii;
 }
 

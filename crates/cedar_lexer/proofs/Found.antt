@@ -13,9 +13,9 @@ use Rattle.std.proofs.lemmas.Str.{IsUtf8-from_ascii, char_from_byte, IsUtf8-appe
 use Rattle.std.proofs.lemmas.Str.Ascii.{IsAscii-from_all}
 use Rattle.cedar_lexer.specs.declared.token.TokenKind.{TokenKind}
 use Rattle.cedar_lexer.specs.declared.token.TokenKind.TheVariants.{OtherSlot, Identifier, Number, StringLit}
-use Rattle.cedar_lexer.specs.Spelling.{begins_identifier, continues_identifier, one_text, IsIdentifier, IsNumber, IsSlot, IsString, Spells}
+use Rattle.cedar_lexer.specs.Spelling.{is_identifier_start, is_identifier_part, one_text, IsIdentifierText, IsNumber, IsSlot, IsString, Spells}
 use Rattle.cedar_lexer.specs.Cut.{IsSpelled}
-use Rattle.cedar_lexer.specs.Scan.{spelling, Found, word, number, slot, kind_among, words, slots, string_len, string_of, mark}
+use Rattle.cedar_lexer.specs.Scan.{spelling, KindAndLength, word, number, slot, kind_with_text, words, slots, string_len, string_of, mark}
 use Rattle.cedar_lexer.proofs.Bytes.{take_while-passes, begins_continues, begins_visible, digit_visible, continues_ascii}
 use Rattle.cedar_lexer.proofs.Strings.{read_closed, tail_utf8}
 use Rattle.cedar_lexer.proofs.Fixed.{fixed}
@@ -47,13 +47,13 @@ by_front b bs kind n within apart spells = record {
     first_same xs x y ys zs p q = cc
 
 -- the kind that the scan gives an identifier, and a slot, is one that it spells
-word_spelled : (text : List ℕ) → IsIdentifier text → Spells (kind_among words text Identifier) text
+word_spelled : (text : List ℕ) → IsIdentifierText text → Spells (kind_with_text words text Identifier) text
 word_spelled text i = elim (among words text Identifier) [
-  | inl e ↦ spells_own (kind_among words text Identifier) text e
+  | inl e ↦ spells_own (kind_with_text words text Identifier) text e
   | inr same ↦ subst (λ k. Spells k text) (sym same) (
     i,
     (λ (kind, e).
-        let h = (found_same kind (kind_among words text Identifier) _ _ (sym (fixed kind text e).exact ∙ identifier_scan text i)).0 in
+        let h = (found_same kind (kind_with_text words text Identifier) _ _ (sym (fixed kind text e).exact ∙ identifier_scan text i)).0 in
         absurd (none_own (h ∙ same) e)),
   )
 ]
@@ -61,13 +61,13 @@ word_spelled text i = elim (among words text Identifier) [
     none_own : {kind : TokenKind} {t : List ℕ} → kind ≡ Identifier → one_text kind ≡ Some t → ⊥
     none_own same e = let none : None ≡ Some _ = sym (ap one_text same) ∙ e in absurd (cc)
 
-slot_spelled : (text : List ℕ) → IsSlot text → Spells (kind_among slots text OtherSlot) text
+slot_spelled : (text : List ℕ) → IsSlot text → Spells (kind_with_text slots text OtherSlot) text
 slot_spelled text i = elim (among slots text OtherSlot) [
-  | inl e ↦ spells_own (kind_among slots text OtherSlot) text e
+  | inl e ↦ spells_own (kind_with_text slots text OtherSlot) text e
   | inr same ↦ subst (λ k. Spells k text) (sym same) (
     i,
     (λ (kind, e).
-        let h = (found_same kind (kind_among slots text OtherSlot) _ _ (sym (fixed kind text e).exact ∙ slot_scan text i)).0 in
+        let h = (found_same kind (kind_with_text slots text OtherSlot) _ _ (sym (fixed kind text e).exact ∙ slot_scan text i)).0 in
         absurd (none_own (h ∙ same) e)),
   )
 ]
@@ -76,25 +76,25 @@ slot_spelled text i = elim (among slots text OtherSlot) [
     none_own same e = let none : None ≡ Some _ = sym (ap one_text same) ∙ e in absurd (cc)
 
 -- the bytes of an identifier at the front of a text are one
-identifier_front : (b : ℕ) (bs : List ℕ) → begins_identifier b ≡ true → IsIdentifier (take_while continues_identifier (b ∷ bs))
+identifier_front : (b : ℕ) (bs : List ℕ) → is_identifier_start b ≡ true → IsIdentifierText (take_while is_identifier_part (b ∷ bs))
 identifier_front b bs begins =
-    subst IsIdentifier (sym (take_while-cons continues_identifier b bs ∙ cond-true (continues_identifier b) (b ∷ take_while continues_identifier bs) [] (begins_continues b begins)))
-    (begins, take_while-passes continues_identifier bs)
+    subst IsIdentifierText (sym (take_while-cons is_identifier_part b bs ∙ cond-true (is_identifier_part b) (b ∷ take_while is_identifier_part bs) [] (begins_continues b begins)))
+    (begins, take_while-passes is_identifier_part bs)
 
 number_text : (b : ℕ) (bs : List ℕ) → is_ascii_digit b ≡ true → IsNumber (take_while is_ascii_digit (b ∷ bs))
 number_text b bs digit =
     subst IsNumber (sym (take_while-cons is_ascii_digit b bs ∙ cond-true (is_ascii_digit b) (b ∷ take_while is_ascii_digit bs) [] digit))
     (digit, take_while-passes is_ascii_digit bs)
 
-front_word : (b : ℕ) (bs : List ℕ) → begins_identifier b ≡ true →
-    Front (b ∷ bs) (kind_among words (take_while continues_identifier (b ∷ bs)) Identifier) (prefix_len continues_identifier (b ∷ bs))
+front_word : (b : ℕ) (bs : List ℕ) → is_identifier_start b ≡ true →
+    Front (b ∷ bs) (kind_with_text words (take_while is_identifier_part (b ∷ bs)) Identifier) (prefix_len is_identifier_part (b ∷ bs))
 front_word b bs begins =
-    by_front b bs (kind_among words (take_while continues_identifier (b ∷ bs)) Identifier) (prefix_len continues_identifier (b ∷ bs))
-    (prefix_len-le-length continues_identifier (b ∷ bs))
-    (λ e. absurd (no_slash (subst (λ x. begins_identifier x ≡ true) e begins)))
-    (word_spelled (take_while continues_identifier (b ∷ bs)) (identifier_front b bs begins))
+    by_front b bs (kind_with_text words (take_while is_identifier_part (b ∷ bs)) Identifier) (prefix_len is_identifier_part (b ∷ bs))
+    (prefix_len-le-length is_identifier_part (b ∷ bs))
+    (λ e. absurd (no_slash (subst (λ x. is_identifier_start x ≡ true) e begins)))
+    (word_spelled (take_while is_identifier_part (b ∷ bs)) (identifier_front b bs begins))
   where
-    no_slash : begins_identifier 47 ≡ true → ⊥
+    no_slash : is_identifier_start 47 ≡ true → ⊥
     no_slash e = absurd (cc)
 
 front_number : (b : ℕ) (bs : List ℕ) → is_ascii_digit b ≡ true → Front (b ∷ bs) Number (prefix_len is_ascii_digit (b ∷ bs))
@@ -107,20 +107,20 @@ front_number b bs digit =
     no_slash : is_ascii_digit 47 ≡ true → ⊥
     no_slash e = absurd (cc)
 
-front_slot : (c : ℕ) (cs : List ℕ) → begins_identifier c ≡ true →
-    Front (63 ∷ c ∷ cs) (kind_among slots (take (1 + prefix_len continues_identifier (c ∷ cs)) (63 ∷ c ∷ cs)) OtherSlot) (1 + prefix_len continues_identifier (c ∷ cs))
+front_slot : (c : ℕ) (cs : List ℕ) → is_identifier_start c ≡ true →
+    Front (63 ∷ c ∷ cs) (kind_with_text slots (take (1 + prefix_len is_identifier_part (c ∷ cs)) (63 ∷ c ∷ cs)) OtherSlot) (1 + prefix_len is_identifier_part (c ∷ cs))
 front_slot c cs begins =
-    by_front 63 (c ∷ cs) (kind_among slots (take (1 + prefix_len continues_identifier (c ∷ cs)) (63 ∷ c ∷ cs)) OtherSlot) (1 + prefix_len continues_identifier (c ∷ cs))
-    (omega (arith, prefix_len-le-length continues_identifier (c ∷ cs)))
+    by_front 63 (c ∷ cs) (kind_with_text slots (take (1 + prefix_len is_identifier_part (c ∷ cs)) (63 ∷ c ∷ cs)) OtherSlot) (1 + prefix_len is_identifier_part (c ∷ cs))
+    (omega (arith, prefix_len-le-length is_identifier_part (c ∷ cs)))
     (λ e. omega arith)
-    (slot_spelled (take (1 + prefix_len continues_identifier (c ∷ cs)) (63 ∷ c ∷ cs))
-    (subst IsSlot (sym (more 63 (c ∷ cs) (prefix_len continues_identifier (c ∷ cs)))) (refl, identifier_front c cs begins)))
+    (slot_spelled (take (1 + prefix_len is_identifier_part (c ∷ cs)) (63 ∷ c ∷ cs))
+    (subst IsSlot (sym (more 63 (c ∷ cs) (prefix_len is_identifier_part (c ∷ cs)))) (refl, identifier_front c cs begins)))
   where
     more : (x : ℕ) (xs : List ℕ) (n : ℕ) → take (1 + n) (x ∷ xs) ≡ x ∷ take n xs
     more x xs n = rw one-add refl
 
 -- the same find at an equal kind and length
-moved : (bs : List ℕ) (j k : TokenKind) (m n : ℕ) → Front bs j m → ◌≡◌ {A = Option Found} (Some (j, m)) (Some (k, n)) → Front bs k n
+moved : (bs : List ℕ) (j k : TokenKind) (m n : ℕ) → Front bs j m → ◌≡◌ {A = Option KindAndLength} (Some (j, m)) (Some (k, n)) → Front bs k n
 moved bs j k m n f e =
     let h = found_same j k m n e in
     subst (λ x. Front bs x n) h.0 (subst (λ x. Front bs j x) (sym h.1) f)
@@ -128,15 +128,15 @@ moved bs j k m n f e =
 -- ---- by the first byte
 
 -- what the scan found, by the class of the first byte
-data ByFirst (b : ℕ) (bs : List ℕ) (r : Option Found) : Type 0 where
-  is_word : begins_identifier b ≡ true → word (b ∷ bs) ≡ r → ByFirst b bs r
+data ByFirst (b : ℕ) (bs : List ℕ) (r : Option KindAndLength) : Type 0 where
+  is_word : is_identifier_start b ≡ true → word (b ∷ bs) ≡ r → ByFirst b bs r
   is_number : is_ascii_digit b ≡ true → number (b ∷ bs) ≡ r → ByFirst b bs r
   is_slot : b ≡ 63 → slot (b ∷ bs) ≡ r → ByFirst b bs r
   is_string : b ≡ 34 → string_of (string_len false bs 1) ≡ r → ByFirst b bs r
   is_mark : mark b (get_or bs 0 0) ≡ r → ByFirst b bs r
 
-by_first : (b : ℕ) (bs : List ℕ) (r : Option Found) → spelling (b ∷ bs) ≡ r → ByFirst b bs r
-by_first b bs r e = elim (pick (begins_identifier b) _ _ _ e) [
+by_first : (b : ℕ) (bs : List ℕ) (r : Option KindAndLength) → spelling (b ∷ bs) ≡ r → ByFirst b bs r
+by_first b bs r e = elim (pick (is_identifier_start b) _ _ _ e) [
   | inl (begins, found) ↦ is_word begins found
   | inr (_, e) ↦ elim (pick (is_ascii_digit b) _ _ _ e) [
     | inl (digit, found) ↦ is_number digit found
@@ -152,7 +152,7 @@ by_first b bs r e = elim (pick (begins_identifier b) _ _ _ e) [
 
 slot_found : (bs : List ℕ) (kind : TokenKind) (n : ℕ) → slot (63 ∷ bs) ≡ Some (kind, n) → Front (63 ∷ bs) kind n
 slot_found [] kind n e = absurd (cc)
-slot_found (c ∷ cs) kind n e = elim (pick (begins_identifier c) _ _ _ e) [
+slot_found (c ∷ cs) kind n e = elim (pick (is_identifier_start c) _ _ _ e) [
   | inl (begins, found) ↦ moved (63 ∷ c ∷ cs) _ kind _ n (front_slot c cs begins) found
   | inr (_, found) ↦ absurd (cc)
 ]
@@ -246,9 +246,9 @@ ascii_all : (b : ℕ) (bs : List ℕ) (p : ℕ → Bool) → ((x : ℕ) → p x 
 ascii_all b bs p low first rest =
     IsUtf8-from_ascii (b ∷ bs) (IsAscii-from_all (b ∷ bs) (All-cons (λ x. x < 128) b bs first (All-weaker (λ x. p x ≡ true) (λ x. x < 128) low bs rest)))
 
-identifier_utf8 : (text : List ℕ) → IsIdentifier text → IsUtf8 text
+identifier_utf8 : (text : List ℕ) → IsIdentifierText text → IsUtf8 text
 identifier_utf8 [] i = absurd i
-identifier_utf8 (b ∷ bs) (begins, rest) = ascii_all b bs continues_identifier continues_ascii (continues_ascii b (begins_continues b begins)) rest
+identifier_utf8 (b ∷ bs) (begins, rest) = ascii_all b bs is_identifier_part continues_ascii (continues_ascii b (begins_continues b begins)) rest
 
 number_utf8 : (text : List ℕ) → IsNumber text → IsUtf8 text
 number_utf8 [] i = absurd i

@@ -9,9 +9,9 @@ use Rattle.std.proofs.lemmas.List.Elements.{All-cons}
 use Rattle.std.proofs.lemmas.Slice.Eq.{bytes_eq-Decides}
 use Rattle.cedar_lexer.specs.declared.token.TokenKind.{TokenKind}
 use Rattle.cedar_lexer.specs.declared.token.TokenKind.TheVariants.{OtherSlot, Identifier, Number, StringLit}
-use Rattle.cedar_lexer.specs.Spelling.{begins_identifier, continues_identifier, one_text, IsIdentifier, IsNumber, IsSlot, IsString, IsStringTail, Spells}
+use Rattle.cedar_lexer.specs.Spelling.{is_identifier_start, is_identifier_part, one_text, IsIdentifierText, IsNumber, IsSlot, IsString, IsStringTail, Spells}
 use Rattle.cedar_lexer.specs.Cut.{IsSpelled}
-use Rattle.cedar_lexer.specs.Scan.{spelling, Found, is_given_text, word, number, kind_among, words, slots, string_of, mark}
+use Rattle.cedar_lexer.specs.Scan.{spelling, KindAndLength, is_given_text, word, number, kind_with_text, words, slots, string_of, mark}
 use Rattle.cedar_lexer.proofs.Bytes.{prefix_len-passed, prefix_len-all, begins_continues, digit_begins_none}
 use Rattle.cedar_lexer.proofs.Strings.{closes}
 use Rattle.cedar_lexer.proofs.Fixed.{FindsAtLeast, fixed, reaches_identifier, reaches_slot}
@@ -30,7 +30,7 @@ given_text None text e = absurd (cc)
 given_text (Some given) text e = ap Some (sym ((bytes_eq-Decides text given).0 e))
 
 -- one of the kinds has just this text and is the answer, or the answer is `other`
-pub among : (kinds : List TokenKind) (text : List ℕ) (other : TokenKind) → (one_text (kind_among kinds text other) ≡ Some text) ⊎ (kind_among kinds text other ≡ other)
+pub among : (kinds : List TokenKind) (text : List ℕ) (other : TokenKind) → (one_text (kind_with_text kinds text other) ≡ Some text) ⊎ (kind_with_text kinds text other ≡ other)
 among [] text other = inr refl
 among (k ∷ ks) text other = elim (cases_Bool (is_given_text (one_text k) text)) [
   | inl same ↦ rw same (inl (given_text (one_text k) text same))
@@ -40,36 +40,36 @@ among (k ∷ ks) text other = elim (cases_Bool (is_given_text (one_text k) text)
 -- ---- a text that is one spelling: the scan finds just that
 
 word_exact : (text : List ℕ) (n : ℕ) → n ≡ length text →
-    ◌≡◌ {A = Option Found} (Some (kind_among words (take n text) Identifier, n)) (Some (kind_among words text Identifier, length text))
+    ◌≡◌ {A = Option KindAndLength} (Some (kind_with_text words (take n text) Identifier, n)) (Some (kind_with_text words text Identifier, length text))
 word_exact text n e = rw (e, take_all (length text) text (omega arith)) refl
 
 slot_exact : (text : List ℕ) (n : ℕ) → n ≡ length text →
-    ◌≡◌ {A = Option Found} (Some (kind_among slots (take n text) OtherSlot, n)) (Some (kind_among slots text OtherSlot, length text))
+    ◌≡◌ {A = Option KindAndLength} (Some (kind_with_text slots (take n text) OtherSlot, n)) (Some (kind_with_text slots text OtherSlot, length text))
 slot_exact text n e = rw (e, take_all (length text) text (omega arith)) refl
 
-all_continue : (b : ℕ) (bs : List ℕ) → begins_identifier b ≡ true → AllPass continues_identifier bs → AllPass continues_identifier (b ∷ bs)
-all_continue b bs begins rest = All-cons (λ x. continues_identifier x ≡ true) b bs (begins_continues b begins) rest
+all_continue : (b : ℕ) (bs : List ℕ) → is_identifier_start b ≡ true → AllPass is_identifier_part bs → AllPass is_identifier_part (b ∷ bs)
+all_continue b bs begins rest = All-cons (λ x. is_identifier_part x ≡ true) b bs (begins_continues b begins) rest
 
-pub identifier_scan : (text : List ℕ) → IsIdentifier text → spelling text ≡ Some (kind_among words text Identifier, length text)
+pub identifier_scan : (text : List ℕ) → IsIdentifierText text → spelling text ≡ Some (kind_with_text words text Identifier, length text)
 identifier_scan [] i = absurd i
 identifier_scan (b ∷ bs) (begins, rest) =
-    cond-true (begins_identifier b) (word (b ∷ bs)) _ begins
-    ∙ word_exact (b ∷ bs) (prefix_len continues_identifier (b ∷ bs)) (prefix_len-all continues_identifier (b ∷ bs) (all_continue b bs begins rest))
+    cond-true (is_identifier_start b) (word (b ∷ bs)) _ begins
+    ∙ word_exact (b ∷ bs) (prefix_len is_identifier_part (b ∷ bs)) (prefix_len-all is_identifier_part (b ∷ bs) (all_continue b bs begins rest))
 
-question_scan : (c : ℕ) (cs : List ℕ) → begins_identifier c ≡ true → AllPass continues_identifier cs → spelling (63 ∷ c ∷ cs) ≡ Some (kind_among slots (63 ∷ c ∷ cs) OtherSlot, length (63 ∷ c ∷ cs))
+question_scan : (c : ℕ) (cs : List ℕ) → is_identifier_start c ≡ true → AllPass is_identifier_part cs → spelling (63 ∷ c ∷ cs) ≡ Some (kind_with_text slots (63 ∷ c ∷ cs) OtherSlot, length (63 ∷ c ∷ cs))
 question_scan c cs begins rest =
-    cond-true (begins_identifier c) _ None begins
-    ∙ slot_exact (63 ∷ c ∷ cs) (1 + prefix_len continues_identifier (c ∷ cs)) (omega (arith, prefix_len-all continues_identifier (c ∷ cs) (all_continue c cs begins rest)))
+    cond-true (is_identifier_start c) _ None begins
+    ∙ slot_exact (63 ∷ c ∷ cs) (1 + prefix_len is_identifier_part (c ∷ cs)) (omega (arith, prefix_len-all is_identifier_part (c ∷ cs) (all_continue c cs begins rest)))
 
-pub slot_scan : (text : List ℕ) → IsSlot text → spelling text ≡ Some (kind_among slots text OtherSlot, length text)
+pub slot_scan : (text : List ℕ) → IsSlot text → spelling text ≡ Some (kind_with_text slots text OtherSlot, length text)
 slot_scan [] i = absurd i
 slot_scan (b ∷ []) i = absurd i.1
 slot_scan (b ∷ c ∷ cs) (mark, (begins, rest)) =
-    subst (λ x. spelling (x ∷ c ∷ cs) ≡ Some (kind_among slots (x ∷ c ∷ cs) OtherSlot, length (x ∷ c ∷ cs))) (sym mark) (question_scan c cs begins rest)
+    subst (λ x. spelling (x ∷ c ∷ cs) ≡ Some (kind_with_text slots (x ∷ c ∷ cs) OtherSlot, length (x ∷ c ∷ cs))) (sym mark) (question_scan c cs begins rest)
 
 -- a number at the front of a text, and one alone
 number_front : (b : ℕ) (bs : List ℕ) → is_ascii_digit b ≡ true → spelling (b ∷ bs) ≡ Some (Number, prefix_len is_ascii_digit (b ∷ bs))
-number_front b bs digit = cond-false (begins_identifier b) (word (b ∷ bs)) _ (digit_begins_none b digit) ∙ cond-true (is_ascii_digit b) (number (b ∷ bs)) _ digit
+number_front b bs digit = cond-false (is_identifier_start b) (word (b ∷ bs)) _ (digit_begins_none b digit) ∙ cond-true (is_ascii_digit b) (number (b ∷ bs)) _ digit
 
 number_scan : (text : List ℕ) → IsNumber text → spelling text ≡ Some (Number, length text)
 number_scan [] i = absurd i
@@ -89,11 +89,11 @@ string_scan (b ∷ bs) (quote, laid) =
 
 pub exact : (kind : TokenKind) (text : List ℕ) → Spells kind text → spelling text ≡ Some (kind, length text)
 exact Identifier text (i, own) = elim (among words text Identifier) [
-  | inl e ↦ absurd (own (kind_among words text Identifier, e))
+  | inl e ↦ absurd (own (kind_with_text words text Identifier, e))
   | inr same ↦ identifier_scan text i ∙ ap (λ k. Some (k, length text)) same
 ]
 exact OtherSlot text (i, own) = elim (among slots text OtherSlot) [
-  | inl e ↦ absurd (own (kind_among slots text OtherSlot, e))
+  | inl e ↦ absurd (own (kind_with_text slots text OtherSlot, e))
   | inr same ↦ slot_scan text i ∙ ap (λ k. Some (k, length text)) same
 ]
 exact Number text i = number_scan text i

@@ -5,7 +5,7 @@ use Rattle.std.proofs.lemmas.Bool.{eqb-true, eqb-false, ltb-true, and_parts, not
 use Rattle.cedar_lexer.specs.declared.token.TokenKind.{TokenKind}
 use Rattle.cedar_lexer.specs.declared.token.TokenKind.TheVariants.{At, Dot, Comma, Semicolon, Colon, ColonColon, OpenParen, CloseParen, OpenBrace, CloseBrace, OpenBracket, CloseBracket, EqEq, NotEq, Less, LessEq, GreaterEq, Greater, Eq, OrOr, AndAnd, Plus, Minus, Star, Slash, Percent, Bang}
 use Rattle.cedar_lexer.specs.Spelling.{one_text}
-use Rattle.cedar_lexer.specs.Scan.{mark, Found, one, two}
+use Rattle.cedar_lexer.specs.Scan.{mark, KindAndLength, one_byte_long, two_bytes_long}
 
 -- the first byte is a visible one; the mark has this byte alone, or the next one too
 pub data IsMark (b c : ℕ) (kind : TokenKind) (n : ℕ) : Type 0 where
@@ -13,10 +13,10 @@ pub data IsMark (b c : ℕ) (kind : TokenKind) (n : ℕ) : Type 0 where
   pair : (32 < b) × (b < 127) → one_text kind ≡ Some (b ∷ c ∷ []) → n ≡ 2 → 0 < c → b ≢ 47 → IsMark b c kind n
 
 -- the same find has the same kind and size
-pub found_same : (k j : TokenKind) (m n : ℕ) → ◌≡◌ {A = Option Found} (Some (k, m)) (Some (j, n)) → (k ≡ j) × (n ≡ m)
+pub found_same : (k j : TokenKind) (m n : ℕ) → ◌≡◌ {A = Option KindAndLength} (Some (k, m)) (Some (j, n)) → (k ≡ j) × (n ≡ m)
 found_same k j m n e =
-    let pairs : ◌≡◌ {A = Found} (k, m) (j, n) = cc in
-    (ap (λ (p : Found). p.0) pairs, sym (ap (λ (p : Found). p.1) pairs))
+    let pairs : ◌≡◌ {A = KindAndLength} (k, m) (j, n) = cc in
+    (ap (λ (p : KindAndLength). p.0) pairs, sym (ap (λ (p : KindAndLength). p.1) pairs))
 
 -- a choice that gave z
 pub pick : {X : Type 0} (c : Bool) (x y z : X) → cond c x y ≡ z → ((c ≡ true) × (x ≡ z)) ⊎ ((c ≡ false) × (y ≡ z))
@@ -32,28 +32,28 @@ seen x v =
     let g = and_parts _ _ h.0 in
     (ltb-true 32 x g.0, ltb-true x 127 g.1, eqb-false x 47 (not-true _ h.1))
 
-lone_row : (b c x : ℕ) (own kind : TokenKind) (n : ℕ) → b ≡ x → is_visible x ≡ true → one_text own ≡ Some (x ∷ []) → one own ≡ Some (kind, n) → IsMark b c kind n
+lone_row : (b c x : ℕ) (own kind : TokenKind) (n : ℕ) → b ≡ x → is_visible x ≡ true → one_text own ≡ Some (x ∷ []) → one_byte_long own ≡ Some (kind, n) → IsMark b c kind n
 lone_row b c x own kind n is v text e =
     let h = seen x v in
     let same = found_same own kind 1 n e in
     lone (omega (arith, h.0, h.1)) (subst (λ k. one_text k ≡ Some (b ∷ [])) same.0 (text ∙ ap (λ y. Some (y ∷ [])) (sym is))) same.1 (λ at47. absurd (h.2 (sym is ∙ at47)))
 
-pair_row : (b c x y : ℕ) (own kind : TokenKind) (n : ℕ) → b ≡ x → c ≡ y → is_visible x ≡ true → 0 < y → one_text own ≡ Some (x ∷ y ∷ []) → two own ≡ Some (kind, n) → IsMark b c kind n
+pair_row : (b c x y : ℕ) (own kind : TokenKind) (n : ℕ) → b ≡ x → c ≡ y → is_visible x ≡ true → 0 < y → one_text own ≡ Some (x ∷ y ∷ []) → two_bytes_long own ≡ Some (kind, n) → IsMark b c kind n
 pair_row b c x y own kind n is next v some text e =
     let h = seen x v in
     let same = found_same own kind 2 n e in
     pair (omega (arith, h.0, h.1)) (subst (λ k. one_text k ≡ Some (b ∷ c ∷ [])) same.0 (text ∙ ap₂ (λ (p q : ℕ). Some (p ∷ q ∷ [])) (sym is) (sym next))) same.1 (omega arith) (λ at47. h.2 (sym is ∙ at47))
 
 -- a row of the table: a mark of one byte; one that may have a second; one that must; the slash
-at_single : (b c x : ℕ) (own kind : TokenKind) (n : ℕ) (rest : Option Found) → is_visible x ≡ true → one_text own ≡ Some (x ∷ []) →
-    cond (b == x) (one own) rest ≡ Some (kind, n) → (rest ≡ Some (kind, n) → IsMark b c kind n) → IsMark b c kind n
+at_single : (b c x : ℕ) (own kind : TokenKind) (n : ℕ) (rest : Option KindAndLength) → is_visible x ≡ true → one_text own ≡ Some (x ∷ []) →
+    cond (b == x) (one_byte_long own) rest ≡ Some (kind, n) → (rest ≡ Some (kind, n) → IsMark b c kind n) → IsMark b c kind n
 at_single b c x own kind n rest v text e more = elim (pick (b == x) _ _ _ e) [
   | inl (is, found) ↦ lone_row b c x own kind n (eqb-true b x is) v text found
   | inr (apart, found) ↦ more found
 ]
 
-at_either : (b c x y : ℕ) (longer own kind : TokenKind) (n : ℕ) (rest : Option Found) → is_visible x ≡ true → 0 < y → one_text longer ≡ Some (x ∷ y ∷ []) → one_text own ≡ Some (x ∷ []) →
-    cond (b == x) (cond (c == y) (two longer) (one own)) rest ≡ Some (kind, n) → (rest ≡ Some (kind, n) → IsMark b c kind n) → IsMark b c kind n
+at_either : (b c x y : ℕ) (longer own kind : TokenKind) (n : ℕ) (rest : Option KindAndLength) → is_visible x ≡ true → 0 < y → one_text longer ≡ Some (x ∷ y ∷ []) → one_text own ≡ Some (x ∷ []) →
+    cond (b == x) (cond (c == y) (two_bytes_long longer) (one_byte_long own)) rest ≡ Some (kind, n) → (rest ≡ Some (kind, n) → IsMark b c kind n) → IsMark b c kind n
 at_either b c x y longer own kind n rest v some long_text text e more = elim (pick (b == x) _ _ _ e) [
   | inl (is, found) ↦ elim (pick (c == y) _ _ _ found) [
     | inl (next, g) ↦ pair_row b c x y longer kind n (eqb-true b x is) (eqb-true c y next) v some long_text g
@@ -62,8 +62,8 @@ at_either b c x y longer own kind n rest v some long_text text e more = elim (pi
   | inr (apart, found) ↦ more found
 ]
 
-at_pair : (b c x y : ℕ) (longer kind : TokenKind) (n : ℕ) (rest : Option Found) → is_visible x ≡ true → 0 < y → one_text longer ≡ Some (x ∷ y ∷ []) →
-    cond (b == x) (cond (c == y) (two longer) None) rest ≡ Some (kind, n) → (rest ≡ Some (kind, n) → IsMark b c kind n) → IsMark b c kind n
+at_pair : (b c x y : ℕ) (longer kind : TokenKind) (n : ℕ) (rest : Option KindAndLength) → is_visible x ≡ true → 0 < y → one_text longer ≡ Some (x ∷ y ∷ []) →
+    cond (b == x) (cond (c == y) (two_bytes_long longer) None) rest ≡ Some (kind, n) → (rest ≡ Some (kind, n) → IsMark b c kind n) → IsMark b c kind n
 at_pair b c x y longer kind n rest v some long_text e more = elim (pick (b == x) _ _ _ e) [
   | inl (is, found) ↦ elim (pick (c == y) _ _ _ found) [
     | inl (next, g) ↦ pair_row b c x y longer kind n (eqb-true b x is) (eqb-true c y next) v some long_text g
@@ -72,7 +72,7 @@ at_pair b c x y longer kind n rest v some long_text e more = elim (pick (b == x)
   | inr (apart, found) ↦ more found
 ]
 
-at_slash : (b c : ℕ) (kind : TokenKind) (n : ℕ) → cond (b == 47) (cond (c == 47) None (one Slash)) None ≡ Some (kind, n) → IsMark b c kind n
+at_slash : (b c : ℕ) (kind : TokenKind) (n : ℕ) → cond (b == 47) (cond (c == 47) None (one_byte_long Slash)) None ≡ Some (kind, n) → IsMark b c kind n
 at_slash b c kind n e = elim (pick (b == 47) _ _ _ e) [
   | inl (is, found) ↦ elim (pick (c == 47) _ _ _ found) [
     | inl (next, g) ↦ absurd (cc)

@@ -10,7 +10,7 @@ use Rattle.cedar_lexer.specs.declared.token.Token.{Token}
 use Rattle.cedar_lexer.specs.declared.token.InvalidToken.{InvalidToken}
 use Rattle.cedar_lexer.specs.Token.{Lexeme, lexeme_of}
 use Rattle.cedar_lexer.specs.Cut.{Layout, nothing, skip, token, IsTokenAt, Cuts, CutsFrom, StopsFrom, StopsAt, IsTokenRange, StandInOrder}
-use Rattle.cedar_lexer.specs.LexerState.{LexerState, moved_to, beginning, IsNextToken, Answers, IsCutOrStop, AnswersAre}
+use Rattle.cedar_lexer.specs.LexerState.{LexerState, lexer_at, fresh_lexer, IsNextToken, LexerAnswers, IsCutOrStop, AnswersAre}
 use Rattle.cedar_lexer.proofs.Cuts.{onward, laid_on, one_end, nothing_at_end, behind_skip, behind_token, Stopped, stops}
 use Rattle.cedar_lexer.proofs.Steps.{boundary}
 
@@ -82,7 +82,7 @@ on : (source : List ℕ) (i : ℕ) (t : Lexeme) (ts : List Lexeme) (bad : Option
 on source i t ts None n c = laid_on n c
 on source i t ts (Some place) n c = (laid_on n c.0, c.1, c.2)
 
-going : (s u : LexerState) (x : Result Token InvalidToken) → Answers s (Some x) u → s.ended ≡ false
+going : (s u : LexerState) (x : Result Token InvalidToken) → LexerAnswers s (Some x) u → s.ended ≡ false
 going s u (Ok t) a = a.0
 going s u (Err e) a = a.0
 
@@ -93,13 +93,13 @@ pub record Ran (s : LexerState) (answers : List (Result Token InvalidToken)) : T
   pub outcome : IsCutOrStop s.source s.offset tokens bad
   pub answered : AnswersAre answers tokens bad
 
-ran : (answers : List (Result Token InvalidToken)) (s t u : LexerState) → s.ended ≡ false → Yields Answers s answers t → Answers t None u → Ran s answers
+ran : (answers : List (Result Token InvalidToken)) (s t u : LexerState) → s.ended ≡ false → Yields LexerAnswers s answers t → LexerAnswers t None u → Ran s answers
 ran [] s t u goes same last = elim last.0 [
   | inl ended ↦ absurd (both_ways t.ended (sym (ap (λ (r : LexerState). r.ended) same) ∙ goes) ended)
   | inr cut ↦ record { tokens = []; bad = None; outcome = subst (λ (r : LexerState). CutsFrom r.source r.offset []) (sym same) cut; answered = (refl, refl) }
 ]
 ran (Ok k ∷ answers) s t u goes (j, step, more) last =
-    let moved : j ≡ moved_to s k.end = step.2 in
+    let moved : j ≡ lexer_at s k.end = step.2 in
     let h = ran answers j t u (ap (λ (r : LexerState). r.ended) moved) more last in
     let outcome : IsCutOrStop s.source k.end h.tokens h.bad = subst (λ (r : LexerState). IsCutOrStop r.source r.offset h.tokens h.bad) moved h.outcome in
     record {
@@ -113,8 +113,8 @@ ran (Err e ∷ []) s t u goes (j, step, more) last =
 ran (Err e ∷ (x ∷ answers)) s t u goes (j, step, (k, next, more)) last =
     absurd (both_ways j.ended (going j k x next) (ap (λ (r : LexerState). r.ended) step.2))
 
-pub whole_run : (source : List ℕ) (answers : List (Result Token InvalidToken)) → Drains Answers (beginning source) answers →
+pub whole_run : (source : List ℕ) (answers : List (Result Token InvalidToken)) → Drains LexerAnswers (fresh_lexer source) answers →
     (ts : List Lexeme) × (bad : Option ℕ) × IsCutOrStop source 0 ts bad × AnswersAre answers ts bad
 whole_run source answers (u, (t, yields, last)) =
-    let h = ran answers (beginning source) t u refl yields last in
+    let h = ran answers (fresh_lexer source) t u refl yields last in
     (h.tokens, h.bad, h.outcome, h.answered)

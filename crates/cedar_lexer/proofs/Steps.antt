@@ -12,7 +12,7 @@ use Rattle.cedar_lexer.specs.declared.token.Token.{Token}
 use Rattle.cedar_lexer.specs.Token.{lexeme_of}
 use Rattle.cedar_lexer.specs.Cut.{is_in_line, IsSkip, space, IsSkipAt, IsTokenAt, Layout, nothing, skip, token, StopsFrom}
 use Rattle.cedar_lexer.specs.Scan.{IsSkipLen, NoSkip, NoSpelling, spelling}
-use Rattle.cedar_lexer.specs.LexerState.{LexerState, IsNextToken, moved_to, ended_at, answers_left}
+use Rattle.cedar_lexer.specs.LexerState.{LexerState, IsNextToken, lexer_at, lexer_end, answer_limit}
 use Rattle.cedar_lexer.proofs.Skips.{no_skip_here, no_skip_in_empty, comment_here}
 use Rattle.cedar_lexer.proofs.Cuts.{laid_on, behind_skip, behind_token, token_found}
 
@@ -114,25 +114,25 @@ reading source i ended = record { source = source; offset = i; ended = ended }
 
 -- the answer is a token, which stands behind the skips
 pub steps_token : (source : List ℕ) (i start : ℕ) (ended : Bool) (s : LexerState) (t : Token) → reading source i ended ≡ s → ended ≡ false → Layout source i [] start → IsTokenAt source start (lexeme_of t) →
-    (s.ended ≡ false) × IsNextToken s.source s.offset (lexeme_of t) × (reading source t.end ended ≡ moved_to s t.end)
+    (s.ended ≡ false) × IsNextToken s.source s.offset (lexeme_of t) × (reading source t.end ended ≡ lexer_at s t.end)
 steps_token source i start ended s t same going l at = (
   sym (ap (λ (r : LexerState). r.ended) same) ∙ going,
   subst (λ (r : LexerState). IsNextToken r.source r.offset (lexeme_of t)) same (laid_on l (token at nothing)),
-  ap (λ b. reading source t.end b) going ∙ ap (λ r. moved_to r t.end) same,
+  ap (λ b. reading source t.end b) going ∙ ap (λ r. lexer_at r t.end) same,
 )
 
 -- or the invalid token, where nothing starts
 pub steps_stop : (source : List ℕ) (i start : ℕ) (ended : Bool) (s : LexerState) → reading source i ended ≡ s → ended ≡ false → Layout source i [] start →
     start ≤ length source → start ≢ length source → NoSkip (drop start source) → NoSpelling (drop start source) →
-    (s.ended ≡ false) × StopsFrom s.source s.offset [] start × (reading source i true ≡ ended_at s)
+    (s.ended ≡ false) × StopsFrom s.source s.offset [] start × (reading source i true ≡ lexer_end s)
 steps_stop source i start ended s same going l within apart no_skip no_spelling = (
   sym (ap (λ (r : LexerState). r.ended) same) ∙ going,
   subst (λ (r : LexerState). StopsFrom r.source r.offset [] start) same (l, omega arith, record { no_skip = no_skip; no_spelling = no_spelling }),
-  ap ended_at same,
+  ap lexer_end same,
 )
 
 -- fewer answers are left
-pub progress : {A : Type 0} (can : LexerState → Type 0) (s u : LexerState) (x : A) → can u → size (answers_left u) < size (answers_left s) → MakesProgress can answers_left s (Some x) u
+pub progress : {A : Type 0} (can : LexerState → Type 0) (s u : LexerState) (x : A) → can u → size (answer_limit u) < size (answer_limit s) → MakesProgress can answer_limit s (Some x) u
 progress can s u x may less = record {
   on = λ _. (may, tt, less);
   keeps = may;
@@ -140,11 +140,11 @@ progress can s u x may less = record {
 }
 
 pub fewer_behind : (source : List ℕ) (i j : ℕ) (ended : Bool) (s : LexerState) → reading source i ended ≡ s → ended ≡ false → i < j → j ≤ length source →
-    size (answers_left (reading source j ended)) < size (answers_left s)
+    size (answer_limit (reading source j ended)) < size (answer_limit s)
 fewer_behind source i j ended s same going more within =
-    subst (λ (r : LexerState). size (answers_left (reading source j ended)) < size (answers_left r)) same (rw going (omega arith))
+    subst (λ (r : LexerState). size (answer_limit (reading source j ended)) < size (answer_limit r)) same (rw going (omega arith))
 
 pub fewer_ended : (source : List ℕ) (i : ℕ) (ended : Bool) (s : LexerState) → reading source i ended ≡ s → ended ≡ false → i < length source →
-    size (answers_left (reading source i true)) < size (answers_left s)
+    size (answer_limit (reading source i true)) < size (answer_limit s)
 fewer_ended source i ended s same going more =
-    subst (λ (r : LexerState). size (answers_left (reading source i true)) < size (answers_left r)) same (rw going (omega arith))
+    subst (λ (r : LexerState). size (answer_limit (reading source i true)) < size (answer_limit r)) same (rw going (omega arith))

@@ -13,35 +13,36 @@ pub record LexerState : Type 0 where
   pub ended : Bool
 
 -- a lexer that has not begun
-abbrev pub beginning : List ℕ → LexerState
-beginning source = record { source = source; offset = 0; ended = false }
+abbrev pub fresh_lexer : List ℕ → LexerState
+fresh_lexer source = record { source = source; offset = 0; ended = false }
 
 -- the lexer behind the token that ends at this place, and the lexer that has ended
-abbrev pub moved_to : LexerState → ℕ → LexerState
-moved_to s place = record { source = s.source; offset = place; ended = false }
+abbrev pub lexer_at : LexerState → ℕ → LexerState
+lexer_at s place = record { source = s.source; offset = place; ended = false }
 
-abbrev pub ended_at : LexerState → LexerState
-ended_at s = record { source = s.source; offset = s.offset; ended = true }
+abbrev pub lexer_end : LexerState → LexerState
+lexer_end s = record { source = s.source; offset = s.offset; ended = true }
 
 -- from this place, skips and then this token
 abbrev pub IsNextToken : List ℕ → ℕ → Lexeme → Type 0
 IsNextToken source offset t = Layout source offset (t ∷ []) t.end
 
 -- one call: the next token, and the lexer stands behind it; or the invalid token at the bad place,
--- or nothing where only skips are left, and then the lexer has ended; a lexer that has ended answers
--- nothing
-abbrev pub Answers : LexerState → Option (Result Token InvalidToken) → LexerState → Type 0
-Answers s (Some (Ok t)) u =
-    (s.ended ≡ false) × IsNextToken s.source s.offset (lexeme_of t) × (u ≡ moved_to s t.end)
-Answers s (Some (Err e)) u =
-    (s.ended ≡ false) × StopsFrom s.source s.offset [] e.location × (u ≡ ended_at s)
-Answers s None u = ((s.ended ≡ true) ⊎ CutsFrom s.source s.offset []) × (u ≡ ended_at s)
+-- or nothing where only skips are left, and then the lexer has ended; a lexer that has ended
+-- answers nothing
+abbrev pub LexerAnswers : LexerState → Option (Result Token InvalidToken) → LexerState → Type 0
+LexerAnswers s (Some (Ok t)) u =
+    (s.ended ≡ false) × IsNextToken s.source s.offset (lexeme_of t) × (u ≡ lexer_at s t.end)
+LexerAnswers s (Some (Err e)) u =
+    (s.ended ≡ false) × StopsFrom s.source s.offset [] e.location × (u ≡ lexer_end s)
+LexerAnswers s None u = ((s.ended ≡ true) ⊎ CutsFrom s.source s.offset []) × (u ≡ lexer_end s)
 
 -- no more answers are left than bytes
-abbrev pub answers_left : LexerState → Count
-answers_left s = at_most (cond s.ended 0 (length s.source - s.offset))
+abbrev pub answer_limit : LexerState → Count
+answer_limit s = at_most (cond s.ended 0 (length s.source - s.offset))
 
--- the source cuts into these tokens from `offset` on; or it stops behind them, where there is a bad place
+-- the source cuts into these tokens from `offset` on; or it stops behind them, where there is a
+-- bad place
 abbrev pub IsCutOrStop : List ℕ → ℕ → List Lexeme → Option ℕ → Type 0
 IsCutOrStop source offset ts None = CutsFrom source offset ts
 IsCutOrStop source offset ts (Some place) = StopsFrom source offset ts place

@@ -7,16 +7,16 @@ use Rattle.cedar_lexer.specs.declared.token.TokenKind.{TokenKind}
 use Rattle.cedar_lexer.specs.declared.token.TokenKind.TheVariants.{True, False, If, Permit, Forbid, When, Unless, In, Has, Like, Is, Then, Else, Principal, Action, Resource, Context, PrincipalSlot, ResourceSlot, OtherSlot, Identifier, Number, StringLit, At, Dot, Comma, Semicolon, Colon, ColonColon, OpenParen, CloseParen, OpenBrace, CloseBrace, OpenBracket, CloseBracket, EqEq, NotEq, Less, LessEq, GreaterEq, Greater, Eq, OrOr, AndAnd, Plus, Minus, Star, Slash, Percent, Bang}
 
 -- what an identifier begins with, a letter or `_`, and what it goes on with, also a digit
-abbrev pub begins_identifier : ℕ → Bool
-begins_identifier b = is_ascii_alphabetic b || b == byte "_"
+abbrev pub is_identifier_start : ℕ → Bool
+is_identifier_start b = is_ascii_alphabetic b || b == byte "_"
 
-abbrev pub continues_identifier : ℕ → Bool
-continues_identifier b = is_ascii_alphanumeric b || b == byte "_"
+abbrev pub is_identifier_part : ℕ → Bool
+is_identifier_part b = is_ascii_alphanumeric b || b == byte "_"
 
 -- a letter or `_`, and then letters, digits and `_`
-abbrev pub IsIdentifier : List ℕ → Type 0
-IsIdentifier [] = ⊥
-IsIdentifier (b ∷ bs) = IsTrue (begins_identifier b) × AllPass continues_identifier bs
+abbrev pub IsIdentifierText : List ℕ → Type 0
+IsIdentifierText [] = ⊥
+IsIdentifierText (b ∷ bs) = IsTrue (is_identifier_start b) × AllPass is_identifier_part bs
 
 -- one digit or more
 abbrev pub IsNumber : List ℕ → Type 0
@@ -41,9 +41,10 @@ IsString (b ∷ bs) = (b ≡ byte "\"") × IsStringTail bs
 -- a slot is `?` and an identifier
 abbrev pub IsSlot : List ℕ → Type 0
 IsSlot [] = ⊥
-IsSlot (b ∷ bs) = (b ≡ byte "?") × IsIdentifier bs
+IsSlot (b ∷ bs) = (b ≡ byte "?") × IsIdentifierText bs
 
--- the one text of a word, of a named slot, of a mark and of an operator; the other four kinds are classes of texts
+-- the one text of a word, of a named slot, of a mark and of an operator; the other four kinds are
+-- classes of texts
 abbrev pub one_text : TokenKind → Option (List ℕ)
 one_text True = Some (codes "true")
 one_text False = Some (codes "false")
@@ -102,7 +103,7 @@ HasOwnKind text = (kind : TokenKind) × (one_text kind ≡ Some text)
 
 -- the spellings of a kind: a word is no identifier, and the two named slots are no other slots
 abbrev pub Spells : TokenKind → List ℕ → Type 0
-Spells Identifier text = IsIdentifier text × ¬ (HasOwnKind text)
+Spells Identifier text = IsIdentifierText text × ¬ (HasOwnKind text)
 Spells OtherSlot text = IsSlot text × ¬ (HasOwnKind text)
 Spells Number text = IsNumber text
 Spells StringLit text = IsString text

@@ -6,7 +6,7 @@ ghost use Rattle.cedar_lexer.specs.declared.token.Token.{Token};
 ghost use Rattle.cedar_lexer.specs.declared.token.InvalidToken.{InvalidToken};
 ghost use Rattle.cedar_lexer.specs.Token.{Lexeme};
 ghost use Rattle.cedar_lexer.specs.Cut.{Layout, Cuts, CutsFrom, StopsAt, StopsFrom, IsTokenRange, StandInOrder};
-ghost use Rattle.cedar_lexer.specs.LexerState.{IsNextToken, Answers, beginning, IsCutOrStop, AnswersAre};
+ghost use Rattle.cedar_lexer.specs.LexerState.{IsNextToken, LexerAnswers, fresh_lexer, IsCutOrStop, AnswersAre};
 
 /// A text has at most one cut.
 pub fn at_most_one_cut()
@@ -53,6 +53,6 @@ pub fn tokens_stand_in_order()
 /// before its bad place and then the invalid token there.
 pub fn whole_run()
     ensures { (source : List ℕ) (answers : List (Result Token InvalidToken))
-        → Drains Answers (beginning source) answers → (ts : List Lexeme) × (bad : Option ℕ)
+        → Drains LexerAnswers (fresh_lexer source) answers → (ts : List Lexeme) × (bad : Option ℕ)
         × IsCutOrStop source 0 ts bad × AnswersAre answers ts bad }
 {}

@@ -107,11 +107,11 @@ impl<'a> Model for Lexer<'a> {
 }
 
 impl<'a> Lexer<'a> {
-    ghost use Rattle.cedar_lexer.specs.LexerState.{beginning};
+    ghost use Rattle.cedar_lexer.specs.LexerState.{fresh_lexer};
 
     /// A lexer at the start of the text.
     pub fn new(text: &'a str) -> Self
-        ensures { result ≡ beginning text.now }
+        ensures { result ≡ fresh_lexer text.now }
     {
         Lexer {
             text,
@@ -122,13 +122,13 @@ impl<'a> Lexer<'a> {
 }
 
 impl<'a> Iterator for Lexer<'a> {
-    ghost use Rattle.cedar_lexer.specs.LexerState.{Answers, answers_left};
+    ghost use Rattle.cedar_lexer.specs.LexerState.{LexerAnswers, answer_limit};
 
     type Item = Result<Token<'a>, InvalidToken>;
 
-    ghost next_gives = { Answers };
+    ghost next_gives = { LexerAnswers };
 
-    ghost remaining = { answers_left };
+    ghost remaining = { answer_limit };
 
     /// The next token. Nothing where only white space and comments are left, or after that or an `InvalidToken`.
     fn next(&mut self) -> Option<Result<Token<'a>, InvalidToken>> {

@@ -2,7 +2,7 @@
 ghost use Rattle.std.specs.Prelude.{◌≡◌, ◌≤◌, length, slice_index, false, if◌then◌else◌};
 ghost use Rattle.std.specs.List.{prefix_len};
 ghost use Rattle.std.specs.Char.{is_ascii_digit};
-ghost use Rattle.cedar_lexer.specs.Spelling.{begins_identifier as begins, continues_identifier as continues};
+ghost use Rattle.cedar_lexer.specs.Spelling.{is_identifier_start as begins, is_identifier_part as continues};
 ghost use Rattle.cedar_lexer.specs.Scan as spec;
 
 use crate::token::TokenKind;
@@ -51,7 +51,7 @@ fn number(text: &[u8]) -> Option<Found>
 }
 
 fn word_kind(text: &[u8]) -> TokenKind
-    ensures { result ≡ spec.kind_among spec.words text.now TokenKind.Identifier }
+    ensures { result ≡ spec.kind_with_text spec.words text.now TokenKind.Identifier }
 {
     match text {
         b"true" => TokenKind::True,
@@ -76,7 +76,7 @@ fn word_kind(text: &[u8]) -> TokenKind
 }
 
 fn slot_kind(text: &[u8]) -> TokenKind
-    ensures { result ≡ spec.kind_among spec.slots text.now TokenKind.OtherSlot }
+    ensures { result ≡ spec.kind_with_text spec.slots text.now TokenKind.OtherSlot }
 {
     match text {
         b"?principal" => TokenKind::PrincipalSlot,
@@ -120,14 +120,14 @@ fn string(text: &[u8]) -> Option<Found>
 }
 
 fn one(kind: TokenKind) -> Option<Found>
-    ensures { result ≡ spec.one kind }
+    ensures { result ≡ spec.one_byte_long kind }
 {
     Some((kind, 1))
 }
 
 /// The longer kind where the second byte is the one that it wants.
 fn either(longer: bool, two: TokenKind, short: Option<Found>) -> Option<Found>
-    ensures { result ≡ (if longer then spec.two two else short) }
+    ensures { result ≡ (if longer then spec.two_bytes_long two else short) }
 {
     if longer { Some((two, 2)) } else { short }
 }

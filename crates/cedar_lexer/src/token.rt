@@ -1,6 +1,6 @@
 //! The kinds of token, and a token with its place in the text.
 ghost use Rattle.std.specs.Prelude.{◌≡◌};
-ghost use Rattle.cedar_lexer.specs.Names.{name_of};
+ghost use Rattle.cedar_lexer.specs.Names.{kind_name};
 
 /// What a token is: a word, a slot, a class of spellings, a mark or an operator.
 #[derive(Debug, Clone, Copy, PartialEq, Eq, PartialOrd, Ord, Hash)]
@@ -111,7 +111,7 @@ impl TokenKind {
     /// The name under which a fault lists this kind: the word in capital letters, or the mark or
     /// operator in double quotes.
     pub fn name(self) -> &'static str
-        ensures { result.now ≡ name_of self }
+        ensures { result.now ≡ kind_name self }
     {
         match self {
             TokenKind::True => "TRUE",

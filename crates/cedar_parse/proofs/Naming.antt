@@ -14,7 +14,7 @@ use Rattle.cedar_expressions.specs.contracts.ids.UnreservedIdOrd.TheImpl.Laws as
 use Rattle.cedar_expressions.specs.contracts.ids.UnreservedIdPartialEq.TheImpl as id_eq
 use Rattle.cedar_expressions.proofs.EqualParts as equal
 use Rattle.cedar_policy_parser.specs.Extensions.{Extensions}
-use Rattle.cedar_parse.specs.Words.{IsNamed, IsStyle, SpellsName, is_unreserved_name, names_function, names_method}
+use Rattle.cedar_parse.specs.Words.{IsFoundName, IsStyle, SpellsName, is_unreserved_name, names_function, word_names_method}
 use Rattle.cedar_parse.proofs.Spelled.{left, right, both, tail_of, name_once}
 
 -- ---- behind a prefix
@@ -32,27 +32,27 @@ not_true false h = refl
 
 -- ---- methods
 
-named_method : (word text id : List ℕ) → word ≡ codes "method:" ++ text → names_method id word ≡ true → (id ≡ text) × (is_unreserved_identifier id ≡ true)
+named_method : (word text id : List ℕ) → word ≡ codes "method:" ++ text → word_names_method id word ≡ true → (id ≡ text) × (is_unreserved_identifier id ≡ true)
 named_method word text id is h = (
   prefix_once (codes "method:") id text ((equal.text (codes "method:" ++ id) word).0 (right (is_unreserved_identifier id) (bytes_eq (codes "method:" ++ id) word) h) ∙ is),
   left (is_unreserved_identifier id) (bytes_eq (codes "method:" ++ id) word) h,
 )
 
-pub names_it : (word text : List ℕ) → word ≡ codes "method:" ++ text → is_unreserved_identifier text ≡ true → names_method text word ≡ true
+pub names_it : (word text : List ℕ) → word ≡ codes "method:" ++ text → is_unreserved_identifier text ≡ true → word_names_method text word ≡ true
 names_it word text is ok = both (is_unreserved_identifier text) (bytes_eq (codes "method:" ++ text) word) ok ((equal.text (codes "method:" ++ text) word).1 (sym is))
 
 pub found_method : {E : Type 0} (word text : List ℕ) (r : Result (Option (List ℕ)) E) → word ≡ codes "method:" ++ text
     → IfOk r (λ found. MatchOption found (is_unreserved_identifier text ≡ false) (λ id. (id ≡ text) × (is_unreserved_identifier text ≡ true)))
-    → IfOk r (λ found. IsNamed (λ id. names_method id word) found)
+    → IfOk r (λ found. IsFoundName (λ id. word_names_method id word) found)
 found_method word text (Err e) is h = tt
-found_method word text (Ok None) is h = λ id. not_true (names_method id word) (λ k. let m = named_method word text id is k in true≢false (sym m.1 ∙ ap is_unreserved_identifier m.0 ∙ h))
-found_method word text (Ok (Some id)) is h = ap (λ i. names_method i word) h.0 ∙ names_it word text is h.1
+found_method word text (Ok None) is h = λ id. not_true (word_names_method id word) (λ k. let m = named_method word text id is k in true≢false (sym m.1 ∙ ap is_unreserved_identifier m.0 ∙ h))
+found_method word text (Ok (Some id)) is h = ap (λ i. word_names_method i word) h.0 ∙ names_it word text is h.1
 
-pub no_method : (word : List ℕ) → LacksTextAt (codes "method:") word 0 → (id : List ℕ) → names_method id word ≡ false
+pub no_method : (word : List ℕ) → LacksTextAt (codes "method:") word 0 → (id : List ℕ) → word_names_method id word ≡ false
 no_method word h id =
-    not_true (names_method id word) (λ k. h id (sym ((equal.text (codes "method:" ++ id) word).0 (right (is_unreserved_identifier id) (bytes_eq (codes "method:" ++ id) word) k))))
+    not_true (word_names_method id word) (λ k. h id (sym ((equal.text (codes "method:" ++ id) word).0 (right (is_unreserved_identifier id) (bytes_eq (codes "method:" ++ id) word) k))))
 
-method_once : (word m n : List ℕ) → names_method m word ≡ true → names_method n word ≡ true → m ≡ n
+method_once : (word m n : List ℕ) → word_names_method m word ≡ true → word_names_method n word ≡ true → m ≡ n
 method_once word m n h k =
     let a = (equal.text (codes "method:" ++ m) word).0 (right (is_unreserved_identifier m) (bytes_eq (codes "method:" ++ m) word) h) in
     let b = (equal.text (codes "method:" ++ n) word).0 (right (is_unreserved_identifier n) (bytes_eq (codes "method:" ++ n) word) k) in
@@ -72,7 +72,7 @@ names_that word text name is ok e =
 
 pub found_function : {E : Type 0} (word text : List ℕ) (r : Result (Option Path) E) → word ≡ codes "fn:" ++ text
     → IfOk r (λ found. MatchOption found (¬ SpellsName text) (λ name. (is_unreserved_name name ≡ true) × (name_text name ≡ text)))
-    → IfOk r (λ found. IsNamed (λ name. names_function name word) found)
+    → IfOk r (λ found. IsFoundName (λ name. names_function name word) found)
 found_function word text (Err e) is h = tt
 found_function word text (Ok None) is h = λ name. not_true (names_function name word) (λ k. h (spells word text name is k))
 found_function word text (Ok (Some name)) is h = names_that word text name is h.0 h.1
@@ -148,20 +148,20 @@ same_function word name q h =
     sym (name_laws.matches_eq-law name q)
     ∙ one_answer (name_eq.ghosts.eq name q) (names_function q word) (equal.name name q) (λ k. function_once word name q h k, λ e. ap (λ m. names_function m word) (sym e) ∙ h)
 
-same_method : (word id q : List ℕ) → names_method id word ≡ true → is_eq (id_order.ghosts.cmp id q) ≡ names_method q word
+same_method : (word id q : List ℕ) → word_names_method id word ≡ true → is_eq (id_order.ghosts.cmp id q) ≡ word_names_method q word
 same_method word id q h =
     sym (id_laws.matches_eq-law id q)
-    ∙ one_answer (id_eq.ghosts.eq id q) (names_method q word) (equal.text id q) (λ k. method_once word id q h k, λ e. ap (λ m. names_method m word) (sym e) ∙ h)
+    ∙ one_answer (id_eq.ghosts.eq id q) (word_names_method q word) (equal.text id q) (λ k. method_once word id q h k, λ e. ap (λ m. word_names_method m word) (sym e) ∙ h)
 
 pub function_more : {X : Type 0} (bytes : X → List ℕ) (xs : List X) (i : ℕ) (x : X) (name q : Path) (old new : Bool) → i < length xs → x ≡ get_or xs i x → names_function name (bytes x) ≡ true
     → new ≡ cond (is_eq (name_order.ghosts.cmp name q)) true old → old ≡ list_any (λ w. names_function q (bytes w)) (take i xs) → new ≡ list_any (λ w. names_function q (bytes w)) (take (i + 1) xs)
 function_more bytes xs i x name q old new low e h put before =
     one_more (λ w. names_function q (bytes w)) xs i x (is_eq (name_order.ghosts.cmp name q)) old new low e (same_function (bytes x) name q h) put before
 
-pub method_more : {X : Type 0} (bytes : X → List ℕ) (xs : List X) (i : ℕ) (x : X) (id q : List ℕ) (old new : Bool) → i < length xs → x ≡ get_or xs i x → names_method id (bytes x) ≡ true
-    → new ≡ cond (is_eq (id_order.ghosts.cmp id q)) true old → old ≡ list_any (λ w. names_method q (bytes w)) (take i xs) → new ≡ list_any (λ w. names_method q (bytes w)) (take (i + 1) xs)
+pub method_more : {X : Type 0} (bytes : X → List ℕ) (xs : List X) (i : ℕ) (x : X) (id q : List ℕ) (old new : Bool) → i < length xs → x ≡ get_or xs i x → word_names_method id (bytes x) ≡ true
+    → new ≡ cond (is_eq (id_order.ghosts.cmp id q)) true old → old ≡ list_any (λ w. word_names_method q (bytes w)) (take i xs) → new ≡ list_any (λ w. word_names_method q (bytes w)) (take (i + 1) xs)
 method_more bytes xs i x id q old new low e h put before =
-    one_more (λ w. names_method q (bytes w)) xs i x (is_eq (id_order.ghosts.cmp id q)) old new low e (same_method (bytes x) id q h) put before
+    one_more (λ w. word_names_method q (bytes w)) xs i x (is_eq (id_order.ghosts.cmp id q)) old new low e (same_method (bytes x) id q h) put before
 
 -- ---- all words behind the command
 

@@ -23,8 +23,8 @@ use Rattle.cedar_parse.specs.declared.words.Command.{Command}
 use Rattle.cedar_parse.specs.declared.words.Command.TheVariants.{Expression, Policies}
 use Rattle.cedar_parse.specs.Words.{AsksFor, AsksForNothing, styles_of}
 
--- the text's tokens mean what the command asks for: an expression, or a set of policies, that calls no
--- extension but those that the words name
+-- the text's tokens mean what the command asks for: an expression, or a set of policies, that
+-- calls no extension but those that the words name
 abbrev pub IsMeant : {A : Type 0} → Command → List (String A) → List ℕ → Type 0
 IsMeant Expression words text = (ts : List Lexeme) × (value : Value) × Cuts text ts
     × Means (styles_of words) SIGN_LIMIT expression ts value

@@ -36,8 +36,8 @@ Repeats (Failed first) given answer = answer ≡ Err first
 Repeats _ (Ok done) answer = answer ≡ Ok done
 Repeats _ (Err error) answer = IsErrAnd answer (λ stop. StandsFor stop error)
 
--- The state before a call of a writer that comes to the state `next` where it succeeds, its answer,
--- and the state behind it.
+-- The state before a call of a writer that comes to the state `next` where it succeeds, its
+-- answer, and the state behind it.
 abbrev pub Leaves : {A : Type 0} → WriterState → WriterState → Result A Stop → WriterState → Type 0
 Leaves next (Failed first) answer state = (answer ≡ Err first) × (state ≡ Failed first)
 Leaves next _ (Ok done) state = state ≡ next

@@ -1,4 +1,5 @@
--- What the words of a run ask for: the command, and the extension functions and methods that a text may call.
+-- What the words of a run ask for: the command, and the extension functions and methods that a
+-- text may call.
 use Rattle.std.specs.Prelude.{◌≡◌, ◌≢◌, ℕ, Bool, true, false, List, [], ◌∷◌, ◌++◌, ◌&&◌, Option, MatchOption, String, string_bytes, codes}
 use Rattle.std.specs.List.{AllByRecursion, list_all, list_any}
 use Rattle.std.specs.Str.{byte, bytes_eq}
@@ -18,25 +19,25 @@ names_function name word =
     is_unreserved_name name && bytes_eq (codes "fn:" ++ name_text name) word
 
 -- whether a word names this method: it is `method:` and the identifier
-abbrev pub names_method : List ℕ → List ℕ → Bool
-names_method id word = is_unreserved_identifier id && bytes_eq (codes "method:" ++ id) word
+abbrev pub word_names_method : List ℕ → List ℕ → Bool
+word_names_method id word = is_unreserved_identifier id && bytes_eq (codes "method:" ++ id) word
 
 -- a word that names a function or a method
 pub data IsStyle (word : List ℕ) : Type 0 where
   function : (name : Path) → names_function name word ≡ true → IsStyle word
-  method : (id : List ℕ) → names_method id word ≡ true → IsStyle word
+  method : (id : List ℕ) → word_names_method id word ≡ true → IsStyle word
 
 -- the word that a command has
-abbrev pub word_of : Command → List ℕ
-word_of Expression = codes "expr"
-word_of Policies = codes "policies"
+abbrev pub command_word : Command → List ℕ
+command_word Expression = codes "expr"
+command_word Policies = codes "policies"
 
 -- The words ask for a command: its word comes first, and each word behind it names a function or a
 -- method.
 abbrev pub AsksFor : {A : Type 0} → Command → List (String A) → Type 0
 AsksFor command [] = ⊥
 AsksFor command (word ∷ words) =
-    (string_bytes word ≡ word_of command)
+    (string_bytes word ≡ command_word command)
     × AllByRecursion (λ word. IsStyle (string_bytes word)) words
 
 abbrev pub AsksForNothing : {A : Type 0} → List (String A) → Type 0
@@ -46,14 +47,14 @@ AsksForNothing words = (command : Command) → ¬ AsksFor command words
 abbrev pub styles_of : {A : Type 0} → List (String A) → Extensions
 styles_of words = record {
   functions = λ name. list_any (λ word. names_function name (string_bytes word)) words;
-  methods = λ id. list_any (λ word. names_method id (string_bytes word)) words;
+  methods = λ id. list_any (λ word. word_names_method id (string_bytes word)) words;
 }
 
 -- ---- what the calls say that take a word apart
 
 -- what was found is named, and nothing is named where none was found
-abbrev pub IsNamed : {N : Type 0} → (N → Bool) → Option N → Type 0
-IsNamed {N} names found =
+abbrev pub IsFoundName : {N : Type 0} → (N → Bool) → Option N → Type 0
+IsFoundName {N} names found =
     MatchOption found ((name : N) → names name ≡ false) (λ name. names name ≡ true)
 
 -- a text that a name without reserved identifiers is written as

@@ -6,7 +6,7 @@ ghost use Rattle.std.specs.BTreeSet.{contains};
 ghost use Rattle.std.specs.List.{AllByRecursion, list_all, list_any};
 ghost use Rattle.cedar_expressions.specs.Path.{Path, name_text, begins_identifier, continues_identifier, is_identifier, is_reserved_word, is_unreserved_identifier};
 ghost use Rattle.cedar_policy_parser.specs.Extensions.{table_of};
-ghost use Rattle.cedar_parse.specs.Words.{AsksFor, AsksForNothing, IsStyle, SpellsName, IsNamed, IsCut, IsUncut, is_unreserved_name, names_function, names_method, styles_of, word_of};
+ghost use Rattle.cedar_parse.specs.Words.{AsksFor, AsksForNothing, IsStyle, SpellsName, IsFoundName, IsCut, IsUncut, is_unreserved_name, names_function, word_names_method, styles_of, command_word};
 
 use cedar_expressions::{Id, InternalName, Name, Text, UnreservedId};
 use cedar_policy_parser::ExtStyles;
@@ -38,8 +38,8 @@ pub fn command_of(words: &[String]) -> Option<Command>
 
 /// The command of a word, if it has one.
 fn command_named(word: &str) -> Option<Command>
-    ensures { MatchOption result ((command : Command) → word.now ≢ word_of command)
-        (λ command. word.now ≡ word_of command) }
+    ensures { MatchOption result ((command : Command) → word.now ≢ command_word command)
+        (λ command. word.now ≡ command_word command) }
 {
     match word {
         "expr" => Some(Command::Expression),
@@ -95,7 +95,7 @@ fn functions_of(alloc: Global, words: &[String]) -> Result<BTreeSet<Name>, Alloc
 
 fn methods_of(alloc: Global, words: &[String]) -> Result<BTreeSet<UnreservedId>, AllocError>
     ensures { IfOk result (λ set. (id : List ℕ) → contains ⟦<UnreservedId as Ord>⟧.cmp set id
-        ≡ list_any (λ word. names_method id (string_bytes word)) words.now) }
+        ≡ list_any (λ word. word_names_method id (string_bytes word)) words.now) }
 {
     let mut methods = BTreeSet::new(alloc);
     for word in words {
@@ -108,7 +108,7 @@ fn methods_of(alloc: Global, words: &[String]) -> Result<BTreeSet<UnreservedId>,
 
 /// The function that a word names.
 fn function_of(alloc: Global, word: &str) -> Result<Option<Name>, AllocError>
-    ensures { IfOk result (λ found. IsNamed (λ name. names_function name word.now) found) }
+    ensures { IfOk result (λ found. IsFoundName (λ name. names_function name word.now) found) }
 {
     match word.strip_prefix("fn:") {
         Some(text) => name_of(alloc, text),
@@ -118,7 +118,7 @@ fn function_of(alloc: Global, word: &str) -> Result<Option<Name>, AllocError>
 
 /// The method that a word names.
 fn method_of(alloc: Global, word: &str) -> Result<Option<UnreservedId>, AllocError>
-    ensures { IfOk result (λ found. IsNamed (λ id. names_method id word.now) found) }
+    ensures { IfOk result (λ found. IsFoundName (λ id. word_names_method id word.now) found) }
 {
     match word.strip_prefix("method:") {
         Some(text) => id_of(alloc, text),

@@ -12,7 +12,7 @@ use Rattle.cedar_policy_parser.specs.Applied.{Leads, after_field, begins_call, r
 use Rattle.cedar_policy_parser.specs.Extensions.{Extensions}
 use Rattle.cedar_policy_parser.specs.Held.{Held, expression}
 use Rattle.cedar_policy_parser.specs.Members.{Access, field, call, index, accesses_of, method_outcome, name_accesses}
-use Rattle.cedar_policy_parser.specs.Outcome.{Outcome, refused, next, expression_call, no_methods, invalid_access}
+use Rattle.cedar_policy_parser.specs.Outcome.{Outcome, fault_outcome, next, expression_call, no_methods, invalid_access}
 use Rattle.cedar_policy_parser.specs.Seen.{Refuses, TellsAlone}
 use Rattle.cedar_policy_parser.proofs.Inverted.{given_as}
 use Rattle.cedar_policy_parser.proofs.Loops.{drop_next, drop_whole}
@@ -25,7 +25,7 @@ pub ended : (e : Extensions) (place : Option Loc) (x : Value) (f : Option (List 
 ended e place x None = refl
 ended e place x (Some id) = refl
 
-pub called_value : (e : Extensions) (place : Option Loc) (x : Value) (f : Option (List ℕ)) (args : List Value) (rest : List Access) → f ≡ None → accesses_of e place x (waiting f ++ call args ∷ rest) ≡ refused expression_call place
+pub called_value : (e : Extensions) (place : Option Loc) (x : Value) (f : Option (List ℕ)) (args : List Value) (rest : List Access) → f ≡ None → accesses_of e place x (waiting f ++ call args ∷ rest) ≡ fault_outcome expression_call place
 called_value e place x f args rest h = rw h refl
 
 pub called_method : (e : Extensions) (place : Option Loc) (x : Value) (f : Option (List ℕ)) (id : List ℕ) (args : List Value) (rest : List Access) → f ≡ Some id
@@ -92,7 +92,7 @@ none_left e place meaning accesses n reading h =
 
 -- a field of a name is no access; where a call follows, it would be a method's
 abbrev no_field : Option Loc → Bool → Outcome Held
-no_field place is_called = refused (if is_called then no_methods else invalid_access) place
+no_field place is_called = fault_outcome (if is_called then no_methods else invalid_access) place
 
 named_field : (e : Extensions) (place : Option Loc) (name : Path) (id : List ℕ) (rest : List Access) → name_accesses e place name (field id ∷ rest) ≡ no_field place (begins_call rest)
 named_field e place name id [] = refl

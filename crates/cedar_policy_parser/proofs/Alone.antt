@@ -17,19 +17,19 @@ use Rattle.cedar_syntax.specs.Tree as t
 use Rattle.cedar_syntax.specs.Tree.{Level, Operator, disjunction, conjunction, relation, sum, product}
 use Rattle.cedar_policy_parser.specs.Alone as way
 use Rattle.cedar_policy_parser.specs.Alone.{HasValue, HaveValues, OperandsHaveValues, quotient, quotients, IsPair, ArePairs, ComesTo, IsAlone, IsBareName}
-use Rattle.cedar_policy_parser.specs.Conversion.{Part, outcome, formed, operands, pairs_given, pair_outcome, pair_formed, value_outcome, accesses_given, place_of, made, chained, keys, record_held, factor, with_part, signed, number_in, lone_literal}
+use Rattle.cedar_policy_parser.specs.Conversion.{Part, outcome, form_outcome, operands, pairs_outcome, pair_outcome, pair_form_outcome, value_outcome, accesses_outcome, tree_place, expression_at, chain_outcome, keys, record_outcome, factor, with_part, signs_outcome, number_in, lone_literal}
 use Rattle.cedar_policy_parser.specs.Extensions.{Extensions}
 use Rattle.cedar_policy_parser.specs.HasSide.{no_sign}
 use Rattle.cedar_policy_parser.specs.Held.{Held, bare_name, as_expression, as_attribute}
-use Rattle.cedar_policy_parser.specs.Leaves.{named, variable_or_name}
+use Rattle.cedar_policy_parser.specs.Leaves.{name_leaf, variable_or_name}
 use Rattle.cedar_policy_parser.specs.Members.{member_outcome}
 use Rattle.cedar_policy_parser.specs.Names.{name_outcome, named_variable}
-use Rattle.cedar_policy_parser.specs.Outcome.{Told, Outcome, refused, both, next, ambiguous_operators, invalid_single_eq, unary_op_limit, expression_construction_error, arbitrary_variable}
+use Rattle.cedar_policy_parser.specs.Outcome.{NamedFault, Outcome, fault_outcome, both, next, ambiguous_operators, invalid_single_eq, unary_op_limit, expression_construction_error, arbitrary_variable}
 use Rattle.cedar_policy_parser.proofs.Inverted.{next_ok}
 
 -- ---- a node alone
 
-chain_alone : (level : Level) (place : Option Loc) (o : Outcome Held) → chained level place f.none o (Ok []) ≡ o
+chain_alone : (level : Level) (place : Option Loc) (o : Outcome Held) → chain_outcome level place f.none o (Ok []) ≡ o
 chain_alone disjunction place (Ok h) = refl
 chain_alone conjunction place (Ok h) = refl
 chain_alone relation place (Ok h) = refl
@@ -41,7 +41,7 @@ chain_alone relation place (Err fs) = refl
 chain_alone sum place (Err fs) = refl
 chain_alone product place (Err fs) = refl
 
-unary_alone : (place : Option Loc) (op : Option NegOp) (number : Option ℕ) (o : Outcome Held) → no_sign op ≡ true → signed place op number o ≡ o
+unary_alone : (place : Option Loc) (op : Option NegOp) (number : Option ℕ) (o : Outcome Held) → no_sign op ≡ true → signs_outcome place op number o ≡ o
 unary_alone place None number o h = refl
 unary_alone place (Some (sign.Bang zero)) number o h = refl
 unary_alone place (Some (sign.Dash zero)) number o h = refl
@@ -54,13 +54,13 @@ member_alone : (e : Extensions) (place : Option Loc) (o : Outcome Held) → next
 member_alone e place (Ok h) = refl
 member_alone e place (Err fs) = refl
 
-parens_alone : (place : Option Loc) (o : Outcome Value) → next (next o (made place)) as_expression ≡ o
+parens_alone : (place : Option Loc) (o : Outcome Value) → next (next o (expression_at place)) as_expression ≡ o
 parens_alone place (Ok w) = refl
 parens_alone place (Err fs) = refl
 
 -- it gives what the node gives
 comes_to : {tree node : Located} (e : Extensions) → ComesTo tree node → outcome e tree ≡ outcome e node
-unfolding outcome formed operands accesses_given
+unfolding outcome form_outcome operands accesses_outcome
 comes_to e way.itself = refl
 comes_to e (way.through_only c) = comes_to e c
 comes_to e (way.through_chain {place = place} {level = level} {part = n} c) = chain_alone level place (outcome e n) ∙ comes_to e c
@@ -69,24 +69,24 @@ comes_to e (way.through_member {place = place} {part = n} c) = member_alone e pl
 
 -- and as an expression also in parentheses
 pub alone : {tree node : Located} (e : Extensions) → IsAlone tree node → value_outcome e tree ≡ value_outcome e node
-unfolding outcome formed
+unfolding outcome form_outcome
 alone e (way.bare c) = ap (λ o. next o as_expression) (comes_to e c)
-alone e (way.in_parens {part = n} c i) = ap (λ o. next o as_expression) (comes_to e c) ∙ parens_alone (place_of n) (value_outcome e n) ∙ alone e i
+alone e (way.in_parens {part = n} c i) = ap (λ o. next o as_expression) (comes_to e c) ∙ parens_alone (tree_place n) (value_outcome e n) ∙ alone e i
 
-refused_alone : (e : Extensions) (tree node : Located) (fs : List Told) → IsAlone tree node → outcome e node ≡ Err fs → value_outcome e tree ≡ Err fs
+refused_alone : (e : Extensions) (tree node : Located) (fs : List NamedFault) → IsAlone tree node → outcome e node ≡ Err fs → value_outcome e tree ≡ Err fs
 refused_alone e tree node fs i h = alone e i ∙ ap (λ o. next o as_expression) h
 
 -- ---- a product
 
 -- parts are given unless there are faults to tell
-abbrev Tells : Outcome (List Part) → List Told → Type 0
+abbrev Tells : Outcome (List Part) → List NamedFault → Type 0
 Tells (Ok ps) fs = fs ≡ []
 Tells (Err gs) fs = (fs ≡ gs) × ¬ (gs ≡ [])
 
-more_faults : (f : Told) (fs : List Told) → ¬ (f ∷ fs ≡ [])
+more_faults : (f : NamedFault) (fs : List NamedFault) → ¬ (f ∷ fs ≡ [])
 more_faults f fs e = cc
 
-told_one : (place : Option Loc) (op : Operator) (x : Outcome Value) (w : Value) (ps : Outcome (List Part)) (fs : List Told) → x ≡ Ok w → Tells ps fs
+told_one : (place : Option Loc) (op : Operator) (x : Outcome Value) (w : Value) (ps : Outcome (List Part)) (fs : List NamedFault) → x ≡ Ok w → Tells ps fs
     → Tells (next (both (next x (factor place op)) ps) (with_part op)) (quotient place op ++ fs)
 told_one place t.or_or (Ok x) w (Ok ps) fs e h = h
 told_one place t.or_or (Ok x) w (Err gs) fs e h = h
@@ -115,14 +115,14 @@ told_all e place (f.more op n others) h = told_one place op (next (outcome e n) 
 held : (o : Outcome Held) (w : Value) → next o as_expression ≡ Ok w → (s : Held) × (o ≡ Ok s) × (as_expression s ≡ Ok w)
 held o w e = next_ok o as_expression w e
 
-refused_parts : (place : Option Loc) (ps : Parts) (x : Outcome Held) (s : Held) (r : Outcome (List Part)) (fs : List Told) → x ≡ Ok s → Tells r fs → ¬ (fs ≡ []) → chained product place ps x r ≡ Err fs
+refused_parts : (place : Option Loc) (ps : Parts) (x : Outcome Held) (s : Held) (r : Outcome (List Part)) (fs : List NamedFault) → x ≡ Ok s → Tells r fs → ¬ (fs ≡ []) → chain_outcome product place ps x r ≡ Err fs
 refused_parts place ps (Ok x) s (Ok qs) fs e h some = absurd (some h)
 refused_parts place ps (Ok x) s (Err gs) fs e h some = ap Err (sym h.0)
 refused_parts place ps (Err hs) s r fs e h some = cc
 
 pub refused_quotients : (e : Extensions) (place : Option Loc) (a : Located) (rest : Parts) → HasValue e a → OperandsHaveValues e rest → ¬ (quotients place rest ≡ [])
     → outcome e (at place (f.chain product a rest)) ≡ Err (quotients place rest)
-unfolding outcome formed
+unfolding outcome form_outcome
 refused_quotients e place a rest h k some = let d = held (outcome e a) h.0 h.1 in refused_parts place rest (outcome e a) d.0 (operands e place rest) (quotients place rest) d.1 (told_all e place rest k) some
 
 pub quotients_alone : (e : Extensions) (tree : Located) (place : Option Loc) (a : Located) (rest : Parts) → IsAlone tree (at place (f.chain product a rest)) → HasValue e a → OperandsHaveValues e rest → ¬ (quotients place rest ≡ [])
@@ -132,22 +132,22 @@ quotients_alone e tree place a rest i h k some = refused_alone e tree (at place 
 -- ---- a relation
 
 both_given : (place : Option Loc) (op oq : Operator) (b c : Located) (rest : Parts) (x : Outcome Held) (s : Held) (r : Outcome (List Part)) (ps : List Part) → x ≡ Ok s → r ≡ Ok ps
-    → chained relation place (f.more op b (f.more oq c rest)) x r ≡ refused ambiguous_operators place
+    → chain_outcome relation place (f.more op b (f.more oq c rest)) x r ≡ fault_outcome ambiguous_operators place
 both_given place op oq b c rest x s r ps e h = rw (e, h) refl
 
 pub ambiguous : (e : Extensions) (place : Option Loc) (a b c : Located) (op oq : Operator) (rest : Parts) → HasValue e a → HaveValues e place (f.more op b (f.more oq c rest))
-    → outcome e (at place (f.chain relation a (f.more op b (f.more oq c rest)))) ≡ refused ambiguous_operators place
-unfolding outcome formed
+    → outcome e (at place (f.chain relation a (f.more op b (f.more oq c rest)))) ≡ fault_outcome ambiguous_operators place
+unfolding outcome form_outcome
 ambiguous e place a b c op oq rest h k =
     let d = held (outcome e a) h.0 h.1 in
     both_given place op oq b c rest (outcome e a) d.0 (operands e place (f.more op b (f.more oq c rest))) k.0 d.1 k.1
 
 pub ambiguous_alone : (e : Extensions) (tree : Located) (place : Option Loc) (a b c : Located) (op oq : Operator) (rest : Parts) → IsAlone tree (at place (f.chain relation a (f.more op b (f.more oq c rest))))
-    → HasValue e a → HaveValues e place (f.more op b (f.more oq c rest)) → value_outcome e tree ≡ refused ambiguous_operators place
+    → HasValue e a → HaveValues e place (f.more op b (f.more oq c rest)) → value_outcome e tree ≡ fault_outcome ambiguous_operators place
 ambiguous_alone e tree place a b c op oq rest i h k = refused_alone e tree (at place (f.chain relation a (f.more op b (f.more oq c rest)))) _ i (ambiguous e place a b c op oq rest h k)
 
 equals : (place : Option Loc) (b : Located) (x : Outcome Held) (s : Held) (v w : Value) (r : Outcome (List Part)) → x ≡ Ok s → as_expression s ≡ Ok v → r ≡ Ok ((t.compare rel.InvalidSingleEq, w) ∷ [])
-    → chained relation place (f.more (t.compare rel.InvalidSingleEq) b f.none) x r ≡ refused invalid_single_eq place
+    → chain_outcome relation place (f.more (t.compare rel.InvalidSingleEq) b f.none) x r ≡ fault_outcome invalid_single_eq place
 equals place b x s v w r e h k = rw (e, k, h) refl
 
 only_operand : (e : Extensions) (place : Option Loc) (b : Located) (w : Value) → next (outcome e b) as_expression ≡ Ok w → operands e place (f.more (t.compare rel.InvalidSingleEq) b f.none) ≡ Ok ((t.compare rel.InvalidSingleEq, w) ∷ [])
@@ -155,30 +155,30 @@ unfolding operands
 only_operand e place b w h = rw h refl
 
 pub single_eq : (e : Extensions) (place : Option Loc) (a b : Located) → HasValue e a → HasValue e b
-    → outcome e (at place (f.chain relation a (f.more (t.compare rel.InvalidSingleEq) b f.none))) ≡ refused invalid_single_eq place
-unfolding outcome formed
+    → outcome e (at place (f.chain relation a (f.more (t.compare rel.InvalidSingleEq) b f.none))) ≡ fault_outcome invalid_single_eq place
+unfolding outcome form_outcome
 single_eq e place a b h k =
     let d = held (outcome e a) h.0 h.1 in
     equals place b (outcome e a) d.0 h.0 k.0 (operands e place (f.more (t.compare rel.InvalidSingleEq) b f.none)) d.1 d.2 (only_operand e place b k.0 k.1)
 
 pub single_eq_alone : (e : Extensions) (tree : Located) (place : Option Loc) (a b : Located) → IsAlone tree (at place (f.chain relation a (f.more (t.compare rel.InvalidSingleEq) b f.none))) → HasValue e a → HasValue e b
-    → value_outcome e tree ≡ refused invalid_single_eq place
+    → value_outcome e tree ≡ fault_outcome invalid_single_eq place
 single_eq_alone e tree place a b i h k = refused_alone e tree (at place (f.chain relation a (f.more (t.compare rel.InvalidSingleEq) b f.none))) _ i (single_eq e place a b h k)
 
 -- ---- signs
 
-pub bangs : (e : Extensions) (place : Option Loc) (a : Located) → outcome e (at place (f.unary (Some sign.OverBang) a)) ≡ refused unary_op_limit place
-unfolding outcome formed
+pub bangs : (e : Extensions) (place : Option Loc) (a : Located) → outcome e (at place (f.unary (Some sign.OverBang) a)) ≡ fault_outcome unary_op_limit place
+unfolding outcome form_outcome
 bangs e place a = refl
 
-pub dashes : (e : Extensions) (place : Option Loc) (a : Located) → outcome e (at place (f.unary (Some sign.OverDash) a)) ≡ refused unary_op_limit place
-unfolding outcome formed
+pub dashes : (e : Extensions) (place : Option Loc) (a : Located) → outcome e (at place (f.unary (Some sign.OverDash) a)) ≡ fault_outcome unary_op_limit place
+unfolding outcome form_outcome
 dashes e place a = refl
 
-pub bangs_alone : (e : Extensions) (tree : Located) (place : Option Loc) (a : Located) → IsAlone tree (at place (f.unary (Some sign.OverBang) a)) → value_outcome e tree ≡ refused unary_op_limit place
+pub bangs_alone : (e : Extensions) (tree : Located) (place : Option Loc) (a : Located) → IsAlone tree (at place (f.unary (Some sign.OverBang) a)) → value_outcome e tree ≡ fault_outcome unary_op_limit place
 bangs_alone e tree place a i = refused_alone e tree (at place (f.unary (Some sign.OverBang) a)) _ i (bangs e place a)
 
-pub dashes_alone : (e : Extensions) (tree : Located) (place : Option Loc) (a : Located) → IsAlone tree (at place (f.unary (Some sign.OverDash) a)) → value_outcome e tree ≡ refused unary_op_limit place
+pub dashes_alone : (e : Extensions) (tree : Located) (place : Option Loc) (a : Located) → IsAlone tree (at place (f.unary (Some sign.OverDash) a)) → value_outcome e tree ≡ fault_outcome unary_op_limit place
 dashes_alone e tree place a i = refused_alone e tree (at place (f.unary (Some sign.OverDash) a)) _ i (dashes e place a)
 
 -- ---- a record
@@ -188,36 +188,36 @@ joined_pair (Ok h) pair x e k = rw (e, k) refl
 joined_pair (Err fs) pair x e k = cc
 
 one_pair : (e : Extensions) (n : Located) (pair : List ℕ × Value) → IsPair e n pair → pair_outcome e n ≡ Ok pair
-unfolding pair_outcome pair_formed
+unfolding pair_outcome pair_form_outcome
 one_pair e n pair h = ap (λ m. pair_outcome e m) h.is ∙ joined_pair (outcome e h.key) pair (value_outcome e h.value) h.attribute h.converts
 
-all_pairs : (e : Extensions) (ps : Parts) (pairs : List (List ℕ × Value)) → ArePairs e ps pairs → pairs_given e ps ≡ Ok pairs
-unfolding pairs_given
+all_pairs : (e : Extensions) (ps : Parts) (pairs : List (List ℕ × Value)) → ArePairs e ps pairs → pairs_outcome e ps ≡ Ok pairs
+unfolding pairs_outcome
 all_pairs e f.none [] h = refl
 all_pairs e f.none (pair ∷ pairs) h = absurd h
 all_pairs e (f.more op n others) [] h = absurd h
 all_pairs e (f.more op n others) (pair ∷ pairs) h = rw (one_pair e n pair h.0, all_pairs e others pairs h.1) refl
 
-repeats : (place : Option Loc) (o : Outcome (List (List ℕ × Value))) (pairs : List (List ℕ × Value)) → o ≡ Ok pairs → repeats_key (keys pairs) ≡ true → next o (record_held place) ≡ refused expression_construction_error place
+repeats : (place : Option Loc) (o : Outcome (List (List ℕ × Value))) (pairs : List (List ℕ × Value)) → o ≡ Ok pairs → repeats_key (keys pairs) ≡ true → next o (record_outcome place) ≡ fault_outcome expression_construction_error place
 repeats place o pairs e k = rw (e, k) refl
 
 pub repeated_key : (e : Extensions) (place : Option Loc) (inits : Parts) (pairs : List (List ℕ × Value)) → ArePairs e inits pairs → repeats_key (keys pairs) ≡ true
-    → outcome e (at place (f.record_of inits)) ≡ refused expression_construction_error place
-unfolding outcome formed
-repeated_key e place inits pairs h k = repeats place (pairs_given e inits) pairs (all_pairs e inits pairs h) k
+    → outcome e (at place (f.record_of inits)) ≡ fault_outcome expression_construction_error place
+unfolding outcome form_outcome
+repeated_key e place inits pairs h k = repeats place (pairs_outcome e inits) pairs (all_pairs e inits pairs h) k
 
 pub repeated_key_alone : (e : Extensions) (tree : Located) (place : Option Loc) (inits : Parts) (pairs : List (List ℕ × Value)) → IsAlone tree (at place (f.record_of inits)) → ArePairs e inits pairs → repeats_key (keys pairs) ≡ true
-    → value_outcome e tree ≡ refused expression_construction_error place
+    → value_outcome e tree ≡ fault_outcome expression_construction_error place
 repeated_key_alone e tree place inits pairs i h k = refused_alone e tree (at place (f.record_of inits)) _ i (repeated_key e place inits pairs h k)
 
 -- ---- a name
 
-bare : (place : Option Loc) (n : Node (Option Name)) (path : Path) → named_variable n.node ≡ None → name_outcome n ≡ Ok path → next (named place n) as_expression ≡ refused arbitrary_variable place
+bare : (place : Option Loc) (n : Node (Option Name)) (path : Path) → named_variable n.node ≡ None → name_outcome n ≡ Ok path → next (name_leaf place n) as_expression ≡ fault_outcome arbitrary_variable place
 bare place n path h k = ap (λ o. next (variable_or_name place o n) as_expression) h ∙ ap (λ o. next (next o (λ name. Ok (bare_name place name))) as_expression) k
 
-name_node : (e : Extensions) (place : Option Loc) (n : Node (Option Name)) (path : Path) → named_variable n.node ≡ None → name_outcome n ≡ Ok path → value_outcome e (at place (f.name n)) ≡ refused arbitrary_variable place
-unfolding outcome formed
+name_node : (e : Extensions) (place : Option Loc) (n : Node (Option Name)) (path : Path) → named_variable n.node ≡ None → name_outcome n ≡ Ok path → value_outcome e (at place (f.name n)) ≡ fault_outcome arbitrary_variable place
+unfolding outcome form_outcome
 name_node e place n path h k = bare place n path h k
 
-pub lone_name : (e : Extensions) (tree : Located) (place : Option Loc) → IsBareName tree place → value_outcome e tree ≡ refused arbitrary_variable place
+pub lone_name : (e : Extensions) (tree : Located) (place : Option Loc) → IsBareName tree place → value_outcome e tree ≡ fault_outcome arbitrary_variable place
 lone_name e tree place h = alone e h.is ∙ name_node e place h.name h.path h.no_variable h.converts

@@ -1,80 +1,111 @@
 -- Members and the right sides of `has` don't look at places.
-use Rattle.std.proofs.Common.{ℕ, Bool, List, [], ◌∷◌, Option, Some, None, refl}
+use Rattle.std.proofs.Common.{◌≡◌, ℕ, Bool, List, [], ◌∷◌, map, Option, Some, None, refl, ap}
+use Rattle.cedar_expressions.specs.declared.literal.Literal.{Literal}
 use Rattle.cedar_expressions.specs.declared.literal.Literal.TheVariants as literals
+use Rattle.cedar_expressions.specs.declared.literal.Var.{Var}
 use Rattle.cedar_expressions.specs.Path.{Path}
 use Rattle.cedar_expressions.specs.Value as v
-use Rattle.cedar_expressions.specs.Value.{Value}
+use Rattle.cedar_expressions.specs.Value.{Value, values}
+use Rattle.cedar_expressions.specs.WithoutPlaces.{without_places}
 use Rattle.cedar_syntax.specs.declared.loc.Loc.{Loc}
 use Rattle.cedar_syntax.specs.Located as f
 use Rattle.cedar_syntax.specs.Located.{Located, Form, Parts}
 use Rattle.cedar_syntax.specs.Unlocated.{unlocated, unlocated_form, unlocated_parts}
 use Rattle.cedar_policy_parser.specs.declared.methods.Standard.{Standard}
+use Rattle.cedar_policy_parser.specs.declared.methods.Standard.TheVariants as standard
 use Rattle.cedar_policy_parser.specs.Alike.{Alike, Same}
 use Rattle.cedar_policy_parser.specs.Extensions.{Extensions}
-use Rattle.cedar_policy_parser.specs.HasSide.{attributes_of, begins_with, begun_by, behind_first, field_form, field_of, fields_of, no_sign, right_form, right_side, string_alone}
+use Rattle.cedar_policy_parser.specs.HasSide.{attributes_of, begins_with, beginning_outcome, behind_first, field_form, field_of, fields_of, no_sign, right_form, right_side, string_alone}
 use Rattle.cedar_policy_parser.specs.Held.{Held, variable_text}
 use Rattle.cedar_policy_parser.specs.Members.{Access, field, call, index, standard_method, takes_one, with_arguments, plain_name, extension_method, method_by, method_outcome, is_method_id, function_outcome, accesses_of, name_accesses, variable_accesses, some_accesses, member_outcome}
-use Rattle.cedar_policy_parser.proofs.BlindLeaves.{Equal, next_alike, then_alike, if_alike, same_cases, text_alike, unqualified_alike, unreserved_alike, literal_alike, named_alike}
+use Rattle.cedar_policy_parser.proofs.BlindLeaves.{Equal, Aside, aside_then, values_aside, next_alike, then_alike, if_alike, same_cases, text_alike, text_value_alike, unqualified_alike, unreserved_alike, literal_alike, named_alike}
 
 -- ---- calls
 
-arguments_alike : (p q : Option Loc) (m : Option (Value → Value → Value)) (x : Value) (args : List Value) → Alike Equal (with_arguments p m x args) (with_arguments q m x args)
-arguments_alike p q (Some make) x [] = tt
-arguments_alike p q (Some make) x (y ∷ []) = refl
-arguments_alike p q (Some make) x (y ∷ z ∷ args) = tt
-arguments_alike p q None x [] = refl
-arguments_alike p q None x (y ∷ args) = tt
+arguments_alike : (p q : Option Loc) (m : Standard) (x : Value) (args : List Value) → Alike Aside (with_arguments p (takes_one m) x args) (with_arguments q (takes_one m) (without_places x) (map without_places args))
+unfolding without_places
+arguments_alike p q standard.Contains x [] = tt
+arguments_alike p q standard.Contains x (y ∷ []) = refl
+arguments_alike p q standard.Contains x (y ∷ z ∷ args) = tt
+arguments_alike p q standard.ContainsAll x [] = tt
+arguments_alike p q standard.ContainsAll x (y ∷ []) = refl
+arguments_alike p q standard.ContainsAll x (y ∷ z ∷ args) = tt
+arguments_alike p q standard.ContainsAny x [] = tt
+arguments_alike p q standard.ContainsAny x (y ∷ []) = refl
+arguments_alike p q standard.ContainsAny x (y ∷ z ∷ args) = tt
+arguments_alike p q standard.IsEmpty x [] = refl
+arguments_alike p q standard.IsEmpty x (y ∷ args) = tt
+arguments_alike p q standard.GetTag x [] = tt
+arguments_alike p q standard.GetTag x (y ∷ []) = refl
+arguments_alike p q standard.GetTag x (y ∷ z ∷ args) = tt
+arguments_alike p q standard.HasTag x [] = tt
+arguments_alike p q standard.HasTag x (y ∷ []) = refl
+arguments_alike p q standard.HasTag x (y ∷ z ∷ args) = tt
 
-extension_alike : (e : Extensions) (p q : Option Loc) (id : List ℕ) (x : Value) (args : List Value) → Alike Equal (extension_method e p id x args) (extension_method e q id x args)
-extension_alike e p q id x args = if_alike Equal (e.methods id) _ _ _ _ refl (if_alike Equal (e.functions (plain_name id)) _ _ _ _ tt tt)
+-- a call of values, places aside
+call_aside : (name : Path) (args : List Value) → without_places (v.call_extension_fn name (values args)) ≡ v.call_extension_fn name (values (map without_places args))
+unfolding without_places
+call_aside name args = ap (v.call_extension_fn name) (values_aside args)
 
-method_by_alike : (e : Extensions) (p q : Option Loc) (id : List ℕ) (m : Option Standard) (x : Value) (args : List Value) → Alike Equal (method_by e p id m x args) (method_by e q id m x args)
-method_by_alike e p q id (Some m) x args = arguments_alike p q (takes_one m) x args
+extension_alike : (e : Extensions) (p q : Option Loc) (id : List ℕ) (x : Value) (args : List Value) → Alike Aside (extension_method e p id x args) (extension_method e q id (without_places x) (map without_places args))
+extension_alike e p q id x args = if_alike Aside (e.methods id) _ _ _ _ (call_aside (plain_name id) (x ∷ args)) (if_alike Aside (e.functions (plain_name id)) _ _ _ _ tt tt)
+
+method_by_alike : (e : Extensions) (p q : Option Loc) (id : List ℕ) (m : Option Standard) (x : Value) (args : List Value) → Alike Aside (method_by e p id m x args) (method_by e q id m (without_places x) (map without_places args))
+method_by_alike e p q id (Some m) x args = arguments_alike p q m x args
 method_by_alike e p q id None x args = extension_alike e p q id x args
 
-method_alike : (e : Extensions) (p q : Option Loc) (id : List ℕ) (x : Value) (args : List Value) → Alike Equal (method_outcome e p id x args) (method_outcome e q id x args)
+method_alike : (e : Extensions) (p q : Option Loc) (id : List ℕ) (x : Value) (args : List Value) → Alike Aside (method_outcome e p id x args) (method_outcome e q id (without_places x) (map without_places args))
 method_alike e p q id x args = method_by_alike e p q id (standard_method id) x args
 
-function_alike : (e : Extensions) (p q : Option Loc) (name : Path) (args : List Value) → Alike Equal (function_outcome e p name args) (function_outcome e q name args)
-function_alike e p q name args = if_alike Equal (is_method_id e name.path name.id) _ _ _ _ tt (if_alike Equal (e.functions name) _ _ _ _ refl tt)
-
--- the value of `true` or `false`
-abbrev truth_of : Bool → Value
-truth_of b = v.val (literals.Bool b)
+function_alike : (e : Extensions) (p q : Option Loc) (name : Path) (args : List Value) → Alike Aside (function_outcome e p name args) (function_outcome e q name (map without_places args))
+function_alike e p q name args = if_alike Aside (is_method_id e name.path name.id) _ _ _ _ tt (if_alike Aside (e.functions name) _ _ _ _ (call_aside name args) tt)
 
 -- ---- accesses
 
-accesses_alike : (e : Extensions) (p q : Option Loc) (x : Value) (all : List Access) → Alike Same (accesses_of e p x all) (accesses_of e q x all)
+abbrev pub access_aside : Access → Access
+access_aside (field id) = field id
+access_aside (call args) = call (map without_places args)
+access_aside (index text) = index text
+
+accesses_alike : (e : Extensions) (p q : Option Loc) (x : Value) (all : List Access) → Alike Same (accesses_of e p x all) (accesses_of e q (without_places x) (map access_aside all))
+unfolding without_places
 accesses_alike e p q x [] = refl
 accesses_alike e p q x (call args ∷ rest) = tt
 accesses_alike e p q x (index text ∷ rest) = accesses_alike e p q (v.get_attr x text) rest
 accesses_alike e p q x (field id ∷ []) = refl
-accesses_alike e p q x (field id ∷ call args ∷ rest) = then_alike Same _ _ _ _ (method_alike e p q id x args) (λ y. accesses_alike e p q y rest)
+accesses_alike e p q x (field id ∷ call args ∷ rest) = aside_then Same _ _ _ _ (method_alike e p q id x args) (λ y. accesses_alike e p q y rest)
 accesses_alike e p q x (field id ∷ field other ∷ rest) = accesses_alike e p q (v.get_attr x id) (field other ∷ rest)
 accesses_alike e p q x (field id ∷ index text ∷ rest) = accesses_alike e p q (v.get_attr x id) (index text ∷ rest)
 
-name_accesses_alike : (e : Extensions) (p q : Option Loc) (name : Path) (all : List Access) → Alike Same (name_accesses e p name all) (name_accesses e q name all)
+name_accesses_alike : (e : Extensions) (p q : Option Loc) (name : Path) (all : List Access) → Alike Same (name_accesses e p name all) (name_accesses e q name (map access_aside all))
 name_accesses_alike e p q name [] = tt
-name_accesses_alike e p q name (call args ∷ rest) = then_alike Same _ _ _ _ (function_alike e p q name args) (λ y. accesses_alike e p q y rest)
+name_accesses_alike e p q name (call args ∷ rest) = aside_then Same _ _ _ _ (function_alike e p q name args) (λ y. accesses_alike e p q y rest)
 name_accesses_alike e p q name (index text ∷ rest) = tt
 name_accesses_alike e p q name (field id ∷ []) = tt
 name_accesses_alike e p q name (field id ∷ call args ∷ rest) = tt
 name_accesses_alike e p q name (field id ∷ field other ∷ rest) = tt
 name_accesses_alike e p q name (field id ∷ index text ∷ rest) = tt
 
-variable_accesses_alike : (e : Extensions) (p q : Option Loc) (x : Value) (all : List Access) → Alike Same (variable_accesses e p x all) (variable_accesses e q x all)
+variable_accesses_alike : (e : Extensions) (p q : Option Loc) (x : Var) (all : List Access) → Alike Same (variable_accesses e p (v.var x) all) (variable_accesses e q (v.var x) (map access_aside all))
+unfolding without_places
 variable_accesses_alike e p q x [] = refl
 variable_accesses_alike e p q x (call args ∷ rest) = tt
-variable_accesses_alike e p q x (index text ∷ rest) = accesses_alike e p q x (index text ∷ rest)
-variable_accesses_alike e p q x (field id ∷ rest) = accesses_alike e p q x (field id ∷ rest)
+variable_accesses_alike e p q x (index text ∷ rest) = accesses_alike e p q (v.var x) (index text ∷ rest)
+variable_accesses_alike e p q x (field id ∷ rest) = accesses_alike e p q (v.var x) (field id ∷ rest)
 
-some_alike : (e : Extensions) (p q : Option Loc) (all : List Access) (h k : Held) → Same h k → Alike Same (some_accesses e p h all) (some_accesses e q k all)
+-- a constant has no place
+constant_accesses_alike : (e : Extensions) (p q : Option Loc) (l : Literal) (all : List Access) → Alike Same (accesses_of e p (v.val l) all) (accesses_of e q (v.val l) (map access_aside all))
+unfolding without_places
+constant_accesses_alike e p q l all = accesses_alike e p q (v.val l) all
+
+some_alike : (e : Extensions) (p q : Option Loc) (all : List Access) (h k : Held) → Same h k → Alike Same (some_accesses e p h all) (some_accesses e q k (map access_aside all))
 some_alike e p q all =
-    same_cases (λ h k. Alike Same (some_accesses e p h all) (some_accesses e q k all)) (λ own other x. accesses_alike e p q x all)
-    (λ own other x. variable_accesses_alike e p q (v.var x) all) (λ own other name. name_accesses_alike e p q name all)
-    (λ own other b. accesses_alike e p q (truth_of b) all) (λ own other raw. then_alike Same _ _ _ _ (then_alike Equal _ _ _ _ (text_alike own other raw) (λ x. refl)) (λ x. accesses_alike e p q x all))
+    same_cases (λ h k. Alike Same (some_accesses e p h all) (some_accesses e q k (map access_aside all))) (λ own other x. accesses_alike e p q x all)
+    (λ own other x. variable_accesses_alike e p q x all) (λ own other name. name_accesses_alike e p q name all)
+    (λ own other b. constant_accesses_alike e p q (literals.Bool b) all)
+    (λ own other raw. aside_then Same _ _ _ _ (text_value_alike own other raw) (λ x. accesses_alike e p q x all))
 
-pub member_alike : (e : Extensions) (p q : Option Loc) (all : List Access) (h k : Held) → Same h k → Alike Same (member_outcome e p h all) (member_outcome e q k all)
+pub member_alike : (e : Extensions) (p q : Option Loc) (all : List Access) (h k : Held) → Same h k → Alike Same (member_outcome e p h all) (member_outcome e q k (map access_aside all))
 member_alike e p q [] h k s = s
 member_alike e p q (access ∷ all) h k s = some_alike e p q (access ∷ all) h k s
 
@@ -126,7 +157,7 @@ attributes_alike w x ps =
     same_cases (λ h k. Alike Equal (attributes_of w ps h) (attributes_of x (unlocated_parts ps) k)) (λ p q y. tt) (λ p q y. behind_alike ps (variable_text y))
     (λ p q name. then_alike Equal _ _ _ _ (unqualified_alike p q name.path name.id) (behind_alike ps)) (λ p q b. tt) (λ p q raw. alone_alike w x p q raw ps)
 
-begun_alike : (w x : Option Loc) (qs : Parts) (p q : Option Loc) (u : Form) → Alike Equal (begun_by w qs p u) (begun_by x (unlocated_parts qs) q (unlocated_form u))
+begun_alike : (w x : Option Loc) (qs : Parts) (p q : Option Loc) (u : Form) → Alike Equal (beginning_outcome w qs p u) (beginning_outcome x (unlocated_parts qs) q (unlocated_form u))
 unfolding unlocated_form
 begun_alike w x qs p q (f.only n) = tt
 begun_alike w x qs p q (f.ite a b c) = tt

@@ -11,16 +11,21 @@ use Rattle.cedar_syntax.specs.declared.cst.Name.{Name}
 use Rattle.cedar_syntax.specs.declared.cst.Policies.{Policies}
 use Rattle.cedar_syntax.specs.declared.cst.Policy.{Policy}
 use Rattle.cedar_syntax.specs.declared.cst.Policy.TheVariants as trees
+use Rattle.cedar_syntax.specs.declared.cst.PolicyImpl.{PolicyImpl}
 use Rattle.cedar_syntax.specs.declared.cst.Ref.{Ref}
 use Rattle.cedar_syntax.specs.declared.cst.Ref.TheVariants as refs
 use Rattle.cedar_syntax.specs.declared.cst.VariableDef.{VariableDef}
 use Rattle.cedar_syntax.specs.Forms.{located, add_form, expr_form}
 use Rattle.cedar_syntax.specs.Located.{Located, Form, Parts, missing, at, only, ite, chain, has, like, is, is_in, unary, member, field, call, index, literal, name, slot, reference, parens, set, record_of, init, none, more}
-use Rattle.cedar_policy_parser.specs.Conditions.{Found}
+use Rattle.cedar_policy_parser.specs.AnnotationKeys.{annotation_outcome, with_new_key}
+use Rattle.cedar_policy_parser.specs.Conditions.{condition_outcome}
 use Rattle.cedar_policy_parser.specs.Extensions.{Extensions}
-use Rattle.cedar_policy_parser.specs.Policies.{template_outcome, policies_outcome}
+use Rattle.cedar_policy_parser.specs.Outcome.{next}
+use Rattle.cedar_policy_parser.specs.Policies.{effect_outcome, template_outcome, policies_outcome}
+use Rattle.cedar_policy_parser.specs.Scope.{scope_outcome}
 use Rattle.cedar_policy_parser.proofs.Standing.{by_hand, IsTold, Stands, Anything}
-use Rattle.cedar_policy_parser.proofs.StandingPolicies.{template_stands, policies_stand}
+use Rattle.cedar_policy_parser.proofs.StandingPolicies.{condition_stands, effect_stands, new_annotation_stands, template_stands, policies_stand}
+use Rattle.cedar_policy_parser.proofs.StandingScopes.{scope_stands}
 use Rattle.cedar_policy_parser.proofs.Tidy.{Holding, NodeTidy, Each, IdentHeld, IdentTidy, NameTidy, LiteralTidy, RefTidy, Tidy, FormTidy, PartsTidy, AccessesTidy, AccessTidy, AccessFormTidy, PairsTidy, PairTidy, PairFormTidy}
 use Rattle.cedar_policy_parser.proofs.TidyPolicies.{IfThere, AddTidy, ConstraintTidy, ExprTidy, AnnotationTidy, ElementTidy, CondTidy, PolicyTidy, PoliciesTidy}
 
@@ -147,11 +152,23 @@ any_policy (trees.Policy p) = (
   any_each (NodeTidy by_hand (CondTidy by_hand)) (any_node (CondTidy by_hand) any_cond) p.conds,
 )
 
+pub any_effect_stands : (n : Node (Option Ident)) → Stands IsTold by_hand Anything (effect_outcome n)
+any_effect_stands n = effect_stands by_hand n (any_ident n)
+
+pub any_annotation_stands : (keys : List (List ℕ)) (n : Node (Option Annotation)) → Stands IsTold by_hand Anything (next (annotation_outcome n) (with_new_key keys))
+any_annotation_stands keys n = new_annotation_stands by_hand keys n (any_node (AnnotationTidy by_hand) any_annotation n)
+
+pub any_scope_stands : (e : Extensions) (p : PolicyImpl) → Stands IsTold by_hand Anything (scope_outcome e p)
+any_scope_stands e p = let h = any_policy (trees.Policy p) in scope_stands e by_hand p h.1.0 h.2
+
+pub any_condition_stands : (e : Extensions) (n : Node (Option Cond)) → Stands IsTold by_hand Anything (condition_outcome e n)
+any_condition_stands e n = condition_stands e by_hand n (any_node (CondTidy by_hand) any_cond n)
+
 any_policies : (ps : Policies) → PoliciesTidy by_hand ps
 any_policies ps = any_each (NodeTidy by_hand (PolicyTidy by_hand)) (any_node (PolicyTidy by_hand) any_policy) ps.0
 
-pub any_policy_stands : (e : Extensions) (found : List Found) (id : List ℕ) (n : Node (Option Policy)) → Stands IsTold by_hand Anything (template_outcome e found id n)
-any_policy_stands e found id n = template_stands e by_hand found id n (any_node (PolicyTidy by_hand) any_policy n)
+pub any_policy_stands : (e : Extensions) (id : List ℕ) (n : Node (Option Policy)) → Stands IsTold by_hand Anything (template_outcome e id n)
+any_policy_stands e id n = template_stands e by_hand id n (any_node (PolicyTidy by_hand) any_policy n)
 
-pub any_set_stands : (e : Extensions) (found : List (List Found)) (n : Node (Option Policies)) → Stands IsTold by_hand Anything (policies_outcome e found n)
-any_set_stands e found n = policies_stand e by_hand found n (any_node (PoliciesTidy by_hand) any_policies n)
+pub any_set_stands : (e : Extensions) (n : Node (Option Policies)) → Stands IsTold by_hand Anything (policies_outcome e n)
+any_set_stands e n = policies_stand e by_hand n (any_node (PoliciesTidy by_hand) any_policies n)

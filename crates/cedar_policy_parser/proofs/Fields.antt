@@ -12,7 +12,7 @@ use Rattle.cedar_syntax.specs.Located.{Form}
 use Rattle.cedar_syntax.proofs.FormLevels.{access_field, access_call, access_index}
 use Rattle.std.specs.Prelude.{Option, Some}
 use Rattle.cedar_policy_parser.specs.HasSide.{Attributes, field_form, field_of, fields_of, string_alone}
-use Rattle.cedar_policy_parser.specs.Outcome.{Outcome, refused, next, invalid_has_rhs}
+use Rattle.cedar_policy_parser.specs.Outcome.{Outcome, fault_outcome, next, invalid_has_rhs}
 use Rattle.cedar_policy_parser.specs.Names.{unreserved_ident}
 use Rattle.cedar_policy_parser.specs.Seen.{Refuses}
 use Rattle.cedar_policy_parser.proofs.Loops.{drop_next, drop_whole}
@@ -61,12 +61,12 @@ field_at n d t h k = rw h (ap (λ u. field_form n.loc u) k)
 pub is_field : (n : Node (Option MemAccess)) (d : MemAccess) (a : Node (Option Ident)) → n.node ≡ Some d → d ≡ accesses.Field a → field_of (located access_form n) ≡ unreserved_ident a
 is_field n d a h k = field_at n d _ h (ap access_form k ∙ access_field a)
 
-pub is_call : (n : Node (Option MemAccess)) (d : MemAccess) (a : List (Node (Option Expr))) → n.node ≡ Some d → d ≡ accesses.Call a → field_of (located access_form n) ≡ refused invalid_has_rhs n.loc
+pub is_call : (n : Node (Option MemAccess)) (d : MemAccess) (a : List (Node (Option Expr))) → n.node ≡ Some d → d ≡ accesses.Call a → field_of (located access_form n) ≡ fault_outcome invalid_has_rhs n.loc
 is_call n d a h k = field_at n d _ h (ap access_form k ∙ access_call a)
 
-pub is_index : (n : Node (Option MemAccess)) (d : MemAccess) (a : Node (Option Expr)) → n.node ≡ Some d → d ≡ accesses.Index a → field_of (located access_form n) ≡ refused invalid_has_rhs n.loc
+pub is_index : (n : Node (Option MemAccess)) (d : MemAccess) (a : Node (Option Expr)) → n.node ≡ Some d → d ≡ accesses.Index a → field_of (located access_form n) ≡ fault_outcome invalid_has_rhs n.loc
 is_index n d a h k = field_at n d _ h (ap access_form k ∙ access_index a)
 
-pub not_alone : (whole place : Option Loc) (raw : List ℕ) (xs : Cells) → (xs ≡ [] → ⊥) → string_alone whole place raw (parts_of (map listed_access xs)) ≡ refused invalid_has_rhs whole
+pub not_alone : (whole place : Option Loc) (raw : List ℕ) (xs : Cells) → (xs ≡ [] → ⊥) → string_alone whole place raw (parts_of (map listed_access xs)) ≡ fault_outcome invalid_has_rhs whole
 not_alone whole place raw [] h = absurd (h refl)
 not_alone whole place raw (x ∷ xs) h = refl

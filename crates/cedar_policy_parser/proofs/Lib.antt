@@ -6,14 +6,13 @@ pub mod BlindLeaves
 pub mod BlindMembers
 pub mod ByHand
 pub mod ConditionFree
+pub mod ConditionValues
 pub mod DueKinds
 pub mod FaultLists
 pub mod Fields
 pub mod FilledMaps
 pub mod Fitting
 pub mod FoldedConditions
-pub mod FoundMore
-pub mod FoundSlots
 pub mod Gathered
 pub mod Identifiers
 pub mod InBlocks
@@ -41,7 +40,7 @@ pub mod RightSides
 pub mod ScopeParts
 pub mod SetSteps
 pub mod Signed
-pub mod SlotsMeant
+pub mod SlotFree
 pub mod Spellings
 pub mod Standing
 pub mod StandingAlone

@@ -4,7 +4,7 @@ use Rattle.cedar_expressions.specs.declared.operators.AddOp.{AddOp}
 use Rattle.cedar_expressions.specs.Value.{Value}
 use Rattle.cedar_syntax.specs.Tree as t
 use Rattle.cedar_syntax.specs.Tree.{Operator}
-use Rattle.cedar_policy_parser.specs.Conversion.{Part, bodies, added, add_op}
+use Rattle.cedar_policy_parser.specs.Conversion.{Part, bodies, sum_terms, add_op}
 
 pub no_snoc : {A : Type 0} (xs : List A) (x : A) → xs ++ x ∷ [] ≡ [] → ⊥
 no_snoc [] x e = cc
@@ -18,12 +18,12 @@ pub bodies-snoc : (ps : List Part) (op : Operator) (b : Value) → bodies (ps ++
 bodies-snoc [] op b = refl
 bodies-snoc (p ∷ ps) op b = ap (λ bs. p.1 ∷ bs) (bodies-snoc ps op b)
 
-pub added-snoc : (ps : List Part) (op : AddOp) (b : Value) → added (ps ++ (t.add op, b) ∷ []) ≡ added ps ++ (op, b) ∷ []
+pub added-snoc : (ps : List Part) (op : AddOp) (b : Value) → sum_terms (ps ++ (t.add op, b) ∷ []) ≡ sum_terms ps ++ (op, b) ∷ []
 added-snoc [] op b = refl
 added-snoc (p ∷ ps) op b = ap (λ bs. (add_op p.0, p.1) ∷ bs) (added-snoc ps op b)
 
 pub length-bodies : (p : Part) (ps : List Part) → 0 < length (bodies (p ∷ ps))
 length-bodies p ps = grind arith
 
-pub length-added : (p : Part) (ps : List Part) → 0 < length (added (p ∷ ps))
+pub length-added : (p : Part) (ps : List Part) → 0 < length (sum_terms (p ∷ ps))
 length-added p ps = grind arith

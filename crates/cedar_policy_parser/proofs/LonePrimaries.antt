@@ -29,12 +29,12 @@ use Rattle.cedar_syntax.specs.Located.{Located, Form}
 use Rattle.cedar_syntax.specs.Tree.{Level, Operator, disjunction, conjunction, relation, sum, product}
 use Rattle.cedar_syntax.proofs.FormLevels.{expr_out, impl_out, data_or, data_if, or_out, and_out, relation_common, relation_has, relation_like, relation_typed, add_out, mult_out, unary_out, member_out, primary_literal, primary_ref, primary_name, primary_slot, primary_expr, primary_list, primary_inits}
 use Rattle.cedar_policy_parser.specs.HasSide.{no_sign}
-use Rattle.cedar_policy_parser.specs.Outcome.{Outcome, refused, empty_node, wrong_node}
+use Rattle.cedar_policy_parser.specs.Outcome.{Outcome, fault_outcome, empty_node, wrong_node}
 use Rattle.cedar_policy_parser.specs.References.{lone, lone_form}
 
 -- ---- nodes
 
-pub no_lone : {X : Type 0} (g : X → Form) (n : Node (Option X)) → n.node ≡ None → lone (located g n) ≡ refused empty_node n.loc
+pub no_lone : {X : Type 0} (g : X → Form) (n : Node (Option X)) → n.node ≡ None → lone (located g n) ≡ fault_outcome empty_node n.loc
 unfolding lone
 no_lone g n h = rw h refl
 
@@ -51,7 +51,7 @@ one_part : {X : Type 0} (p : Option Loc) (level : Level) (a : Located) (g : X �
 unfolding lone_form
 one_part p level a g xs h = ap (λ ys. lone_form p (f.chain level a (parts_of (map g ys)))) h
 
-several_parts : {X : Type 0} (p : Option Loc) (level : Level) (a : Located) (g : X → Operator × Located) (xs : List X) → (xs ≡ [] → ⊥) → lone_form p (f.chain level a (parts_of (map g xs))) ≡ refused wrong_node p
+several_parts : {X : Type 0} (p : Option Loc) (level : Level) (a : Located) (g : X → Operator × Located) (xs : List X) → (xs ≡ [] → ⊥) → lone_form p (f.chain level a (parts_of (map g xs))) ≡ fault_outcome wrong_node p
 unfolding lone_form
 several_parts p level a g [] h = absurd (h refl)
 several_parts p level a g (x ∷ xs) h = refl
@@ -63,60 +63,60 @@ pub only_expr : (n : Node (Option Expr)) (d : Expr) (i : ExprImpl) (a : Node (Op
 unfolding lone_form
 only_expr n d i a h k l = lone_is expr_form n d _ h (expr_is d i k ∙ ap data_form l ∙ data_or a)
 
-pub if_expr : (n : Node (Option Expr)) (d : Expr) (i : ExprImpl) (a b c : Node (Option Expr)) → n.node ≡ Some d → d ≡ exprs.Expr i → i.expr ≡ datas.If a b c → lone (located expr_form n) ≡ refused wrong_node n.loc
+pub if_expr : (n : Node (Option Expr)) (d : Expr) (i : ExprImpl) (a b c : Node (Option Expr)) → n.node ≡ Some d → d ≡ exprs.Expr i → i.expr ≡ datas.If a b c → lone (located expr_form n) ≡ fault_outcome wrong_node n.loc
 unfolding lone_form
 if_expr n d i a b c h k l = lone_is expr_form n d _ h (expr_is d i k ∙ ap data_form l ∙ data_if a b c)
 
 pub one_or : (n : Node (Option Or)) (d : Or) → n.node ≡ Some d → (out-Or d).extended ≡ [] → lone (located or_form n) ≡ lone (located and_form (out-Or d).initial)
 one_or n d h none = lone_is or_form n d _ h (or_out d) ∙ one_part n.loc disjunction _ or_operand (out-Or d).extended none
 
-pub several_or : (n : Node (Option Or)) (d : Or) → n.node ≡ Some d → ((out-Or d).extended ≡ [] → ⊥) → lone (located or_form n) ≡ refused wrong_node n.loc
+pub several_or : (n : Node (Option Or)) (d : Or) → n.node ≡ Some d → ((out-Or d).extended ≡ [] → ⊥) → lone (located or_form n) ≡ fault_outcome wrong_node n.loc
 several_or n d h some = lone_is or_form n d _ h (or_out d) ∙ several_parts n.loc disjunction _ or_operand (out-Or d).extended some
 
 pub one_and : (n : Node (Option And)) (d : And) → n.node ≡ Some d → d.extended ≡ [] → lone (located and_form n) ≡ lone (located relation_form d.initial)
 one_and n d h none = lone_is and_form n d _ h (and_out d) ∙ one_part n.loc conjunction _ and_operand d.extended none
 
-pub several_and : (n : Node (Option And)) (d : And) → n.node ≡ Some d → (d.extended ≡ [] → ⊥) → lone (located and_form n) ≡ refused wrong_node n.loc
+pub several_and : (n : Node (Option And)) (d : And) → n.node ≡ Some d → (d.extended ≡ [] → ⊥) → lone (located and_form n) ≡ fault_outcome wrong_node n.loc
 several_and n d h some = lone_is and_form n d _ h (and_out d) ∙ several_parts n.loc conjunction _ and_operand d.extended some
 
 pub one_relation : (n : Node (Option Relation)) (d : Relation) (a : Node (Option Add)) (xs : List (RelOp × Node (Option Add))) → n.node ≡ Some d → d ≡ relations.Common a xs → xs ≡ [] → lone (located relation_form n) ≡ lone (located add_form a)
 one_relation n d a xs h k none = lone_is relation_form n d _ h (ap relation_form k ∙ relation_common a xs) ∙ one_part n.loc relation _ relation_operand xs none
 
-pub several_relation : (n : Node (Option Relation)) (d : Relation) (a : Node (Option Add)) (xs : List (RelOp × Node (Option Add))) → n.node ≡ Some d → d ≡ relations.Common a xs → (xs ≡ [] → ⊥) → lone (located relation_form n) ≡ refused wrong_node n.loc
+pub several_relation : (n : Node (Option Relation)) (d : Relation) (a : Node (Option Add)) (xs : List (RelOp × Node (Option Add))) → n.node ≡ Some d → d ≡ relations.Common a xs → (xs ≡ [] → ⊥) → lone (located relation_form n) ≡ fault_outcome wrong_node n.loc
 several_relation n d a xs h k some = lone_is relation_form n d _ h (ap relation_form k ∙ relation_common a xs) ∙ several_parts n.loc relation _ relation_operand xs some
 
-pub has_relation : (n : Node (Option Relation)) (d : Relation) (a b : Node (Option Add)) → n.node ≡ Some d → d ≡ relations.Has a b → lone (located relation_form n) ≡ refused wrong_node n.loc
+pub has_relation : (n : Node (Option Relation)) (d : Relation) (a b : Node (Option Add)) → n.node ≡ Some d → d ≡ relations.Has a b → lone (located relation_form n) ≡ fault_outcome wrong_node n.loc
 unfolding lone_form
 has_relation n d a b h k = lone_is relation_form n d _ h (ap relation_form k ∙ relation_has a b)
 
-pub like_relation : (n : Node (Option Relation)) (d : Relation) (a b : Node (Option Add)) → n.node ≡ Some d → d ≡ relations.Like a b → lone (located relation_form n) ≡ refused wrong_node n.loc
+pub like_relation : (n : Node (Option Relation)) (d : Relation) (a b : Node (Option Add)) → n.node ≡ Some d → d ≡ relations.Like a b → lone (located relation_form n) ≡ fault_outcome wrong_node n.loc
 unfolding lone_form
 like_relation n d a b h k = lone_is relation_form n d _ h (ap relation_form k ∙ relation_like a b)
 
-typed_wrong : (p : Option Loc) (a b : Located) (c : Option (Node (Option Add))) → lone_form p (typed_form a b c) ≡ refused wrong_node p
+typed_wrong : (p : Option Loc) (a b : Located) (c : Option (Node (Option Add))) → lone_form p (typed_form a b c) ≡ fault_outcome wrong_node p
 unfolding lone_form
 typed_wrong p a b None = refl
 typed_wrong p a b (Some c) = refl
 
-pub is_relation : (n : Node (Option Relation)) (d : Relation) (a b : Node (Option Add)) (c : Option (Node (Option Add))) → n.node ≡ Some d → d ≡ relations.IsIn a b c → lone (located relation_form n) ≡ refused wrong_node n.loc
+pub is_relation : (n : Node (Option Relation)) (d : Relation) (a b : Node (Option Add)) (c : Option (Node (Option Add))) → n.node ≡ Some d → d ≡ relations.IsIn a b c → lone (located relation_form n) ≡ fault_outcome wrong_node n.loc
 is_relation n d a b c h k = lone_is relation_form n d _ h (ap relation_form k ∙ relation_typed a b c) ∙ typed_wrong n.loc (located add_form a) (located add_form b) c
 
 pub one_add : (n : Node (Option Add)) (d : Add) → n.node ≡ Some d → (out-Add d).extended ≡ [] → lone (located add_form n) ≡ lone (located mult_form (out-Add d).initial)
 one_add n d h none = lone_is add_form n d _ h (add_out d) ∙ one_part n.loc sum _ add_operand (out-Add d).extended none
 
-pub several_add : (n : Node (Option Add)) (d : Add) → n.node ≡ Some d → ((out-Add d).extended ≡ [] → ⊥) → lone (located add_form n) ≡ refused wrong_node n.loc
+pub several_add : (n : Node (Option Add)) (d : Add) → n.node ≡ Some d → ((out-Add d).extended ≡ [] → ⊥) → lone (located add_form n) ≡ fault_outcome wrong_node n.loc
 several_add n d h some = lone_is add_form n d _ h (add_out d) ∙ several_parts n.loc sum _ add_operand (out-Add d).extended some
 
 pub one_mult : (n : Node (Option Mult)) (d : Mult) → n.node ≡ Some d → (out-Mult d).extended ≡ [] → lone (located mult_form n) ≡ lone (located unary_form (out-Mult d).initial)
 one_mult n d h none = lone_is mult_form n d _ h (mult_out d) ∙ one_part n.loc product _ mult_operand (out-Mult d).extended none
 
-pub several_mult : (n : Node (Option Mult)) (d : Mult) → n.node ≡ Some d → ((out-Mult d).extended ≡ [] → ⊥) → lone (located mult_form n) ≡ refused wrong_node n.loc
+pub several_mult : (n : Node (Option Mult)) (d : Mult) → n.node ≡ Some d → ((out-Mult d).extended ≡ [] → ⊥) → lone (located mult_form n) ≡ fault_outcome wrong_node n.loc
 several_mult n d h some = lone_is mult_form n d _ h (mult_out d) ∙ several_parts n.loc product _ mult_operand (out-Mult d).extended some
 
 -- ---- operands
 
 abbrev if_bare : Option Loc → Located → Bool → Outcome Located
-if_bare p a bare = if bare then lone a else refused wrong_node p
+if_bare p a bare = if bare then lone a else fault_outcome wrong_node p
 
 unary_lone : (n : Node (Option Unary)) (d : Unary) → n.node ≡ Some d → lone (located unary_form n) ≡ if_bare n.loc (located member_form (out-Unary d).item) (no_sign (out-Unary d).op)
 unfolding lone_form
@@ -125,14 +125,14 @@ unary_lone n d h = lone_is unary_form n d _ h (unary_out d)
 pub bare_unary : (n : Node (Option Unary)) (d : Unary) → n.node ≡ Some d → no_sign (out-Unary d).op ≡ true → lone (located unary_form n) ≡ lone (located member_form (out-Unary d).item)
 bare_unary n d h bare = unary_lone n d h ∙ ap (if_bare n.loc (located member_form (out-Unary d).item)) bare
 
-pub signed_unary : (n : Node (Option Unary)) (d : Unary) → n.node ≡ Some d → no_sign (out-Unary d).op ≡ false → lone (located unary_form n) ≡ refused wrong_node n.loc
+pub signed_unary : (n : Node (Option Unary)) (d : Unary) → n.node ≡ Some d → no_sign (out-Unary d).op ≡ false → lone (located unary_form n) ≡ fault_outcome wrong_node n.loc
 signed_unary n d h signs = unary_lone n d h ∙ ap (if_bare n.loc (located member_form (out-Unary d).item)) signs
 
 member_alone : {X : Type 0} (p : Option Loc) (a : Located) (g : X → Operator × Located) (xs : List X) → xs ≡ [] → lone_form p (f.member a (parts_of (map g xs))) ≡ lone a
 unfolding lone_form
 member_alone p a g xs h = ap (λ ys. lone_form p (f.member a (parts_of (map g ys)))) h
 
-member_with : {X : Type 0} (p : Option Loc) (a : Located) (g : X → Operator × Located) (xs : List X) → (xs ≡ [] → ⊥) → lone_form p (f.member a (parts_of (map g xs))) ≡ refused wrong_node p
+member_with : {X : Type 0} (p : Option Loc) (a : Located) (g : X → Operator × Located) (xs : List X) → (xs ≡ [] → ⊥) → lone_form p (f.member a (parts_of (map g xs))) ≡ fault_outcome wrong_node p
 unfolding lone_form
 member_with p a g [] h = absurd (h refl)
 member_with p a g (x ∷ xs) h = refl
@@ -140,7 +140,7 @@ member_with p a g (x ∷ xs) h = refl
 pub bare_member : (n : Node (Option Member)) (d : Member) → n.node ≡ Some d → d.access ≡ [] → lone (located member_form n) ≡ lone (located primary_form d.item)
 bare_member n d h none = lone_is member_form n d _ h (member_out d) ∙ member_alone n.loc _ listed_access d.access none
 
-pub accessed_member : (n : Node (Option Member)) (d : Member) → n.node ≡ Some d → (d.access ≡ [] → ⊥) → lone (located member_form n) ≡ refused wrong_node n.loc
+pub accessed_member : (n : Node (Option Member)) (d : Member) → n.node ≡ Some d → (d.access ≡ [] → ⊥) → lone (located member_form n) ≡ fault_outcome wrong_node n.loc
 accessed_member n d h some = lone_is member_form n d _ h (member_out d) ∙ member_with n.loc _ listed_access d.access some
 
 -- ---- primaries

@@ -24,7 +24,7 @@ use Rattle.cedar_syntax.specs.Tree.{disjunction, conjunction, relation, sum, pro
 use Rattle.cedar_syntax.proofs.FormLevels.{expr_out, impl_out, data_or, data_if, or_out, and_out, relation_common, add_out, mult_out, unary_out, member_out, relation_has, relation_like, relation_is, relation_is_in, primary_expr}
 use Rattle.cedar_syntax.specs.Trees.{Cell, expr_of, if_of, or_of, and_of, common_of, add_of, mult_of, unary_of, member_of, has_of, like_of, is_of}
 use Rattle.cedar_policy_parser.specs.HasSide.{no_sign}
-use Rattle.cedar_policy_parser.specs.Outcome.{refused, wrong_node}
+use Rattle.cedar_policy_parser.specs.Outcome.{fault_outcome, wrong_node}
 use Rattle.cedar_policy_parser.specs.References.{lone, lone_form}
 
 pub lone_at : (p : Option Loc) (t u : Form) → t ≡ u → lone (at p t) ≡ lone_form p u
@@ -35,7 +35,7 @@ pub lone_only : (p : Option Loc) (x : Cell Or) → lone (at p (expr_form (expr_o
 unfolding lone_form
 lone_only p x = lone_at p _ _ (expr_out _ ∙ impl_out _ ∙ data_or x)
 
-pub lone_if : (p : Option Loc) (c x y : Cell Expr) → lone (at p (expr_form (if_of c x y))) ≡ refused wrong_node p
+pub lone_if : (p : Option Loc) (c x y : Cell Expr) → lone (at p (expr_form (if_of c x y))) ≡ fault_outcome wrong_node p
 unfolding lone_form
 lone_if p c x y = lone_at p _ _ (expr_out _ ∙ impl_out _ ∙ data_if c x y)
 
@@ -48,19 +48,19 @@ lone_and p x xs = lone_at p _ _ (and_out (and_of x xs))
 pub lone_common : (p : Option Loc) (x : Cell Add) (xs : List (RelOp × Cell Add)) → lone (at p (relation_form (common_of x xs))) ≡ lone_form p (f.chain relation (located add_form x) (parts_of (map relation_operand xs)))
 lone_common p x xs = lone_at p _ _ (relation_common x xs)
 
-pub lone_has : (p : Option Loc) (x y : Cell Add) → lone (at p (relation_form (has_of x y))) ≡ refused wrong_node p
+pub lone_has : (p : Option Loc) (x y : Cell Add) → lone (at p (relation_form (has_of x y))) ≡ fault_outcome wrong_node p
 unfolding lone_form
 lone_has p x y = lone_at p _ _ (relation_has x y)
 
-pub lone_like : (p : Option Loc) (x y : Cell Add) → lone (at p (relation_form (like_of x y))) ≡ refused wrong_node p
+pub lone_like : (p : Option Loc) (x y : Cell Add) → lone (at p (relation_form (like_of x y))) ≡ fault_outcome wrong_node p
 unfolding lone_form
 lone_like p x y = lone_at p _ _ (relation_like x y)
 
-pub lone_is : (p : Option Loc) (x y : Cell Add) → lone (at p (relation_form (is_of x y None))) ≡ refused wrong_node p
+pub lone_is : (p : Option Loc) (x y : Cell Add) → lone (at p (relation_form (is_of x y None))) ≡ fault_outcome wrong_node p
 unfolding lone_form
 lone_is p x y = lone_at p _ _ (relation_is x y)
 
-pub lone_is_in : (p : Option Loc) (x y z : Cell Add) → lone (at p (relation_form (is_of x y (Some z)))) ≡ refused wrong_node p
+pub lone_is_in : (p : Option Loc) (x y z : Cell Add) → lone (at p (relation_form (is_of x y (Some z)))) ≡ fault_outcome wrong_node p
 unfolding lone_form
 lone_is_in p x y z = lone_at p _ _ (relation_is_in x y z)
 
@@ -70,7 +70,7 @@ lone_add p x xs = lone_at p _ _ (add_out (add_of x xs) ∙ ap (λ d. f.chain sum
 pub lone_mult : (p : Option Loc) (x : Cell Unary) (xs : List (MultOp × Cell Unary)) → lone (at p (mult_form (mult_of x xs))) ≡ lone_form p (f.chain product (located unary_form x) (parts_of (map mult_operand xs)))
 lone_mult p x xs = lone_at p _ _ (mult_out (mult_of x xs) ∙ ap (λ d. f.chain product (located unary_form d.initial) (parts_of (map mult_operand d.extended))) (out-roll-Mult record { initial = x; extended = xs }))
 
-pub lone_unary : (p : Option Loc) (o : Option NegOp) (x : Cell Member) → lone (at p (unary_form (unary_of o x))) ≡ cond (no_sign o) (lone (located member_form x)) (refused wrong_node p)
+pub lone_unary : (p : Option Loc) (o : Option NegOp) (x : Cell Member) → lone (at p (unary_form (unary_of o x))) ≡ cond (no_sign o) (lone (located member_form x)) (fault_outcome wrong_node p)
 unfolding lone_form
 lone_unary p o x = lone_at p _ _ (unary_out (unary_of o x) ∙ ap (λ d. f.unary d.op (located member_form d.item)) (out-roll-Unary record { op = o; item = x }))
 

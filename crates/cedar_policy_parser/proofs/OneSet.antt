@@ -16,12 +16,12 @@ pub one_policy_meaning : HasOneTree ReadsPolicy → (e : Extensions) (id : List 
 one_policy_meaning one_tree e id ts v w h k =
     let c : PolicyRead e [] id ts v = policy_read e [] id h in
     let d : PolicyRead e [] id ts w = policy_read e [] id k in
-    let same = ap (λ t. template_outcome e [] id (placed [] ts t)) (one_tree [] ts c.tree d.tree c.reads d.reads) in
-    sym c.same ∙ ap meaning_of (ok_is (sym (c.gives []) ∙ same ∙ d.gives [])) ∙ d.same
+    let same = ap (λ t. template_outcome e id (placed [] ts t)) (one_tree [] ts c.tree d.tree c.reads d.reads) in
+    sym c.same ∙ ap meaning_of (ok_is (sym (c.gives) ∙ same ∙ d.gives)) ∙ d.same
 
 pub one_set_meaning : HasOneTree ReadsPolicies → (e : Extensions) (ts : List Lexeme) (v w : free.Policies) → IsPolicySet e SIGN_LIMIT ts v → IsPolicySet e SIGN_LIMIT ts w → v ≡ w
 one_set_meaning one_tree e ts v w h k =
     let c : SetRead e [] ts v = set_read e [] h in
     let d : SetRead e [] ts w = set_read e [] k in
-    let same = ap (λ t. policies_outcome e [] (placed [] ts t)) (one_tree [] ts c.tree d.tree c.reads d.reads) in
-    ok_is (sym (c.gives []) ∙ same ∙ d.gives [])
+    let same = ap (λ t. policies_outcome e (placed [] ts t)) (one_tree [] ts c.tree d.tree c.reads d.reads) in
+    ok_is (sym (c.gives) ∙ same ∙ d.gives)

@@ -13,23 +13,23 @@ use Rattle.cedar_syntax.specs.Joined.{TellsBoth, WantsMemory}
 use Rattle.cedar_policy_parser.specs.Conversion.{Part, outcome, operands, with_part, factor, value_outcome}
 use Rattle.cedar_policy_parser.specs.Extensions.{Extensions}
 use Rattle.cedar_policy_parser.specs.Held.{as_expression}
-use Rattle.cedar_policy_parser.specs.Outcome.{Kind, Outcome, both, next, refused}
-use Rattle.cedar_policy_parser.specs.Seen.{Refuses, Gives, TellsAlone, told, told_of, one_more, with_last}
+use Rattle.cedar_policy_parser.specs.Outcome.{Kind, Outcome, both, next, fault_outcome}
+use Rattle.cedar_policy_parser.specs.Seen.{Refuses, Gives, TellsAlone, named_faults, named_fault, one_more, with_last}
 use Rattle.cedar_policy_parser.proofs.Loops.{take_next, map_snoc}
 
 -- ---- faults
 
-pub told-append : (fs gs : List ParseError) → told (fs ++ gs) ≡ told fs ++ told gs
+pub told-append : (fs gs : List ParseError) → named_faults (fs ++ gs) ≡ named_faults fs ++ named_faults gs
 told-append [] gs = refl
-told-append (f ∷ fs) gs = ap (λ hs. told_of f ∷ hs) (told-append fs gs)
+told-append (f ∷ fs) gs = ap (λ hs. named_fault f ∷ hs) (told-append fs gs)
 
 -- one fault alone is a refusal with it
-pub refused_at : (Y : Type 0) (f : Failure) (kind : Kind) (place : Option Loc) → TellsAlone f kind place → Refuses {Y = Y} f (refused kind place)
+pub refused_at : (Y : Type 0) (f : Failure) (kind : Kind) (place : Option Loc) → TellsAlone f kind place → Refuses {Y = Y} f (fault_outcome kind place)
 refused_at Y (Memory e) kind place h = tt
 refused_at Y (Errors es) kind place h = ap Err (sym h)
 
 -- an outcome that is one fault refuses with what tells it
-pub refuses : {Y : Type 0} (f : Failure) (o : Outcome Y) (kind : Kind) (place : Option Loc) → o ≡ refused kind place → TellsAlone f kind place → Refuses f o
+pub refuses : {Y : Type 0} (f : Failure) (o : Outcome Y) (kind : Kind) (place : Option Loc) → o ≡ fault_outcome kind place → TellsAlone f kind place → Refuses f o
 refuses {Y = Y} f o kind place e h = rw e (refused_at Y f kind place h)
 
 -- ---- what is joined
@@ -38,7 +38,7 @@ refuses {Y = Y} f o kind place e h = rw e (refused_at Y f kind place h)
 pub refused_next : {X Y : Type 0} (f : Failure) (x : Outcome X) (g : X → Outcome Y) → Refuses f x → Refuses f (next x g)
 refused_next (Memory e) x g h = tt
 refused_next (Errors es) (Ok x) g h = cc
-refused_next (Errors es) (Err fs) g h = let same : fs ≡ told (faults_of es) = cc in ap Err same
+refused_next (Errors es) (Err fs) g h = let same : fs ≡ named_faults (faults_of es) = cc in ap Err same
 
 pub given_next : {X Y : Type 0} (o : Outcome X) (x : X) (g : X → Outcome Y) → o ≡ Ok x → next o g ≡ g x
 given_next o x g e = rw e refl
@@ -47,8 +47,8 @@ pub next_next : {X Y Z : Type 0} (o : Outcome X) (f : X → Outcome Y) (g : Y �
 next_next (Ok x) f g = refl
 next_next (Err fs) f g = refl
 
-joined_faults : (es fs gs : List ParseError) → es ≡ fs ++ gs → told fs ++ told gs ≡ told es
-joined_faults es fs gs e = sym (told-append fs gs) ∙ ap told (sym e)
+joined_faults : (es fs gs : List ParseError) → es ≡ fs ++ gs → named_faults fs ++ named_faults gs ≡ named_faults es
+joined_faults es fs gs e = sym (told-append fs gs) ∙ ap named_faults (sym e)
 
 -- the failure of two parts refuses both
 pub both_refused : {A B X Y : Type 0} (u : A → X) (v : B → Y) (a : Result A Failure) (b : Result B Failure) (x : Outcome X) (y : Outcome Y) (f : Failure) → Gives u a x → Gives v b y → TellsBoth f a b
@@ -57,8 +57,8 @@ both_refused u v a b x y (Memory e) h k t = tt
 both_refused u v (Ok a) (Ok b) x y (Errors es) h k t = let impossible = t.0 in cc
 both_refused u v (Ok a) (Err (Memory e)) x y (Errors es) h k t = absurd (t.2 tt)
 both_refused u v (Err (Memory e)) b x y (Errors es) h k t = absurd (t.1 tt)
-both_refused u v (Ok a) (Err (Errors gs)) x y (Errors es) h k t = rw (h, k) (ap (λ fs. Err (told fs)) (sym t.0))
-both_refused u v (Err (Errors gs)) (Ok b) x y (Errors es) h k t = rw (h, k) (ap (λ fs. Err (told fs)) (sym (t.0 ∙ append-nil (faults_of gs))))
+both_refused u v (Ok a) (Err (Errors gs)) x y (Errors es) h k t = rw (h, k) (ap (λ fs. Err (named_faults fs)) (sym t.0))
+both_refused u v (Err (Errors gs)) (Ok b) x y (Errors es) h k t = rw (h, k) (ap (λ fs. Err (named_faults fs)) (sym (t.0 ∙ append-nil (faults_of gs))))
 both_refused u v (Err (Errors gs)) (Err (Memory e)) x y (Errors es) h k t = absurd (t.2 tt)
 both_refused u v (Err (Errors fs)) (Err (Errors gs)) x y (Errors es) h k t = rw (h, k) (ap Err (joined_faults (faults_of es) (faults_of fs) (faults_of gs) t.0))
 

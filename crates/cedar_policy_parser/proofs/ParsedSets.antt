@@ -13,7 +13,6 @@ use Rattle.cedar_syntax.specs.LoosePolicies.{ReadsPolicies}
 use Rattle.cedar_syntax.specs.Place.{placed, placed_or_start}
 use Rattle.cedar_syntax.specs.Sentences.{HasTree}
 use Rattle.cedar_syntax.specs.Trees.{Cell}
-use Rattle.cedar_policy_parser.specs.Conditions.{Found as Places}
 use Rattle.cedar_policy_parser.specs.Extensions.{Extensions}
 use Rattle.cedar_policy_parser.specs.Outcome.{Outcome}
 use Rattle.cedar_policy_parser.specs.Policies.{policies_outcome}
@@ -25,23 +24,23 @@ use Rattle.cedar_policy_parser.proofs.complete.Sets.{SetRead, set_read}
 use Rattle.cedar_policy_parser.proofs.sound.Sets.{set_meant}
 
 -- what the node of a whole text is converted to doesn't look at its place
-at_start : (e : Extensions) (found : List (List Places)) (src : List ℕ) (ts : List Lexeme) (x : Policies) → policies_outcome e found (placed_or_start src ts x) ≡ policies_outcome e found (placed src ts x)
-at_start e found src [] x = refl
-at_start e found src (t ∷ ts) x = refl
+at_start : (e : Extensions) (src : List ℕ) (ts : List Lexeme) (x : Policies) → policies_outcome e (placed_or_start src ts x) ≡ policies_outcome e (placed src ts x)
+at_start e src [] x = refl
+at_start e src (t ∷ ts) x = refl
 
 -- a tree that is converted to a set is that of tokens which mean it
-tree_meant : (e : Extensions) (found : List (List Places)) (src : List ℕ) (n : Cell Policies) (set : free.Policies) → (g : IsTreeOf ReadsPolicies src n) → policies_outcome e found n ≡ Ok set → IsPolicySet e SIGN_LIMIT g.tokens set
-tree_meant e found src n set g h =
+tree_meant : (e : Extensions) (src : List ℕ) (n : Cell Policies) (set : free.Policies) → (g : IsTreeOf ReadsPolicies src n) → policies_outcome e n ≡ Ok set → IsPolicySet e SIGN_LIMIT g.tokens set
+tree_meant e src n set g h =
     let ts = g.tokens in
     let x = g.stands.tree in
-    let there = ap (λ y. policies_outcome e found y) g.stands.is ∙ at_start e found src ts x in
-    set_meant e found set g.stands.reads (sym there ∙ h)
+    let there = ap (λ y. policies_outcome e y) g.stands.is ∙ at_start e src ts x in
+    set_meant e set g.stands.reads (sym there ∙ h)
 
 -- tokens that mean something have such a tree
 pub record Found (e : Extensions) (src : List ℕ) (set : free.Policies) : Type 0 where
   pub tree : Cell Policies
   pub stands : IsTreeOf ReadsPolicies src tree
-  pub gives : (found : List (List Places)) → policies_outcome e found tree ≡ Ok set
+  pub gives : policies_outcome e tree ≡ Ok set
 
 pub tree_found : (e : Extensions) (src : List ℕ) (ts : List Lexeme) (set : free.Policies) → Cuts src ts → IsPolicySet e SIGN_LIMIT ts set → Found e src set
 tree_found e src ts set cut h =
@@ -49,15 +48,15 @@ tree_found e src ts set cut h =
     record {
       tree = placed_or_start src ts d.tree;
       stands = record { tokens = ts; cut = cut; stands = record { tree = d.tree; reads = d.reads; is = refl } };
-      gives = λ found. at_start e found src ts d.tree ∙ d.gives found;
+      gives = at_start e src ts d.tree ∙ d.gives;
     }
 
 -- ---- a text that is read, then converted
 
 pub read_value : {S : Type 0} (e : Extensions) (meaning : S → free.Policies) (src : List ℕ) (n : Cell Policies) (r : Result S Failure) → IsTreeOf ReadsPolicies src n
-    → (found : List (List Places)) × Gives meaning r (policies_outcome e found n)
+    → Gives meaning r (policies_outcome e n)
     → IfOk r (λ x. (ts : List Lexeme) × Cuts src ts × IsPolicySet e SIGN_LIMIT ts (meaning x))
-read_value e meaning src n (Ok x) g h = (g.tokens, g.cut, tree_meant e h.0 src n (meaning x) g h.1)
+read_value e meaning src n (Ok x) g h = (g.tokens, g.cut, tree_meant e src n (meaning x) g h)
 read_value e meaning src n (Err f) g h = tt
 
 -- an outcome that gives a value is refused for want of memory alone
@@ -66,15 +65,15 @@ memory_alone (Memory e) o set h k = tt
 memory_alone (Errors es) o set h k = let no = sym h ∙ k in cc
 
 pub read_only : {S : Type 0} (e : Extensions) (meaning : S → free.Policies) (n o : Cell Policies) (set : free.Policies) (r : Result S Failure) → n ≡ o
-    → (found : List (List Places)) × Gives meaning r (policies_outcome e found n) → ((found : List (List Places)) → policies_outcome e found o ≡ Ok set)
+    → Gives meaning r (policies_outcome e n) → (policies_outcome e o ≡ Ok set)
     → MatchResult r (λ x. meaning x ≡ set) IsMemory
-read_only e meaning n o set (Ok x) same h k = ok_is (sym h.1 ∙ ap (λ t. policies_outcome e h.0 t) same ∙ k h.0)
-read_only e meaning n o set (Err f) same h k = memory_alone f _ set (ap (λ t. policies_outcome e h.0 t) same ∙ k h.0) h.1
+read_only e meaning n o set (Ok x) same h k = ok_is (sym h ∙ ap (λ t. policies_outcome e t) same ∙ k)
+read_only e meaning n o set (Err f) same h k = memory_alone f _ set (ap (λ t. policies_outcome e t) same ∙ k) h
 
 pub told_tree : {S : Type 0} (e : Extensions) (meaning : S → free.Policies) (src : List ℕ) (n : Cell Policies) (r : Result S Failure) → IsTreeOf ReadsPolicies src n
-    → (found : List (List Places)) × Gives meaning r (policies_outcome e found n) → IfErr r (λ f. RefusesSet e f src)
+    → Gives meaning r (policies_outcome e n) → IfErr r (λ f. RefusesSet e f src)
 told_tree e meaning src n (Ok x) g h = tt
-told_tree e meaning src n (Err f) g h = inr (n, g, (h.0, h.1))
+told_tree e meaning src n (Err f) g h = inr (n, g, h)
 
 -- a text has at most one cut
 abbrev pub OneCut : Type 0

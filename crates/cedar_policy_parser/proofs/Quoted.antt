@@ -14,7 +14,7 @@ use Rattle.cedar_syntax.specs.Piece.{Placed, IsLaidOut, IsUnescaped, HasEscapeFa
 use Rattle.cedar_syntax.proofs.Layouts.{laid_out, laid_once}
 use Rattle.cedar_policy_parser.specs.Held.{text_value}
 use Rattle.cedar_policy_parser.specs.Outcome.{Outcome, next}
-use Rattle.cedar_policy_parser.specs.Strings.{layout, escape_faults, unescaped, told_at, unless_faulty, text_outcome, pattern_outcome}
+use Rattle.cedar_policy_parser.specs.Strings.{layout, escape_faults, unescaped, string_faults, unless_faulty, text_outcome, pattern_outcome}
 
 layout_laid : (raw : List ℕ) → IsLaidOut raw (layout raw)
 unfolding layout
@@ -32,7 +32,7 @@ stands_for raw text u = rw (sym (is_layout raw u.pieces u.laid_out)) u.unescaped
 pub text_expected : (place : Option Loc) (raw text : List ℕ) → IsUnescaped raw text → text_outcome place raw ≡ Ok text
 text_expected place raw text u = rw (faultless raw text u, stands_for raw text u) refl
 
-pub faults_expected : (place : Option Loc) (raw : List ℕ) (faults : NonEmpty UnescapeError) → HasEscapeFaults raw (list_of faults) → text_outcome place raw ≡ Err (told_at place (list_of faults))
+pub faults_expected : (place : Option Loc) (raw : List ℕ) (faults : NonEmpty UnescapeError) → HasEscapeFaults raw (list_of faults) → text_outcome place raw ≡ Err (string_faults place (list_of faults))
 faults_expected place raw faults f =
     let same : escape_faults raw ≡ list_of faults = rw (sym (is_layout raw f.pieces f.laid_out)) f.told in
     rw same refl
@@ -59,7 +59,7 @@ stands_for_pattern raw elems u = rw (sym (is_layout raw u.pieces u.laid_out)) u.
 pub pattern_expected : (place : Option Loc) (raw : List ℕ) (elems : List PatternElem) → IsPattern raw elems → pattern_outcome place raw ≡ Ok elems
 pattern_expected place raw elems u = rw (pattern_faultless raw elems u, stands_for_pattern raw elems u) refl
 
-pub pattern_faults_expected : (place : Option Loc) (raw : List ℕ) (faults : NonEmpty UnescapeError) → HasPatternFaults raw (list_of faults) → pattern_outcome place raw ≡ Err (told_at place (list_of faults))
+pub pattern_faults_expected : (place : Option Loc) (raw : List ℕ) (faults : NonEmpty UnescapeError) → HasPatternFaults raw (list_of faults) → pattern_outcome place raw ≡ Err (string_faults place (list_of faults))
 pattern_faults_expected place raw faults f =
     let same : pattern_faults raw (layout raw) ≡ list_of faults = rw (sym (is_layout raw f.pieces f.laid_out)) f.told in
     rw same refl

@@ -8,7 +8,7 @@ use Rattle.std.proofs.lemmas.List.Folds.{list_any_none}
 use Rattle.std.proofs.lemmas.List.Sums.{AllPass-from_list_all, list_all-from_AllPass}
 use Rattle.std.proofs.lemmas.Slice.Eq.{bytes_eq-Decides}
 use Rattle.cedar_lexer.specs.Cut.{Cuts}
-use Rattle.cedar_lexer.specs.Spelling.{HasOwnKind, IsIdentifier, Spells, one_text}
+use Rattle.cedar_lexer.specs.Spelling.{HasOwnKind, IsIdentifierText, Spells, one_text}
 use Rattle.cedar_lexer.specs.Token.{Lexeme}
 use Rattle.cedar_lexer.specs.declared.token.TokenKind.{TokenKind}
 use Rattle.cedar_lexer.specs.declared.token.TokenKind.TheVariants as kind
@@ -20,8 +20,8 @@ use Rattle.cedar_syntax.specs.LooseWords.{ReadsAny, any, ReadsIdent}
 use Rattle.cedar_syntax.specs.Place.{placed, placed_or_start}
 use Rattle.cedar_syntax.specs.Tokens.{one, any_of}
 use Rattle.cedar_syntax.specs.Trees.{Cell}
-use Rattle.cedar_policy_parser.specs.Names.{spelled as spelled_text, any_ident_of, any_ident}
-use Rattle.cedar_policy_parser.specs.Outcome.{Outcome, refused, invalid_identifier}
+use Rattle.cedar_policy_parser.specs.Names.{spelling_outcome as spelled_text, any_ident_of, any_ident}
+use Rattle.cedar_policy_parser.specs.Outcome.{Outcome, fault_outcome, invalid_identifier}
 use Rattle.cedar_policy_parser.proofs.Fitting.{Spelled, laid_spelled}
 
 abbrev given_text : List ℕ → Outcome (List ℕ)
@@ -37,11 +37,11 @@ each false b h = cc
 both : (a b : Bool) → a ≡ true → b ≡ true → (a && b) ≡ true
 both a b h k = rw (h, k) refl
 
-pub named : (text : List ℕ) → IsIdentifier text → is_identifier text ≡ true
+pub named : (text : List ℕ) → IsIdentifierText text → is_identifier text ≡ true
 named [] h = absurd h
 named (b ∷ bs) h = both (begins_identifier b) (list_all continues_identifier bs) h.0 (list_all-from_AllPass continues_identifier bs h.1)
 
-pub spelled : (text : List ℕ) → is_identifier text ≡ true → IsIdentifier text
+pub spelled : (text : List ℕ) → is_identifier text ≡ true → IsIdentifierText text
 spelled [] h = cc
 spelled (b ∷ bs) h =
     let all = each (begins_identifier b) (list_all continues_identifier bs) h in
@@ -86,7 +86,7 @@ AnyGiven p text None = Unit {0}
 AnyGiven p text (Some i) = any_ident_of p i ≡ given_text text
 
 spelled_given : (p : Option Loc) (text : List ℕ) → is_identifier text ≡ true → spelled_text p text ≡ given_text text
-spelled_given p text h = ap (λ b. cond b (given_text text) (refused invalid_identifier p)) h
+spelled_given p text h = ap (λ b. cond b (given_text text) (fault_outcome invalid_identifier p)) h
 
 given_word : (p : Option Loc) (k : TokenKind) (text : List ℕ) → Spells k text → AnyGiven p text (any_of k text)
 given_word p kind.True text h = ap given_text (some_is h)

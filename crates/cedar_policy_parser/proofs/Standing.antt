@@ -3,7 +3,7 @@ use Rattle.std.proofs.Common.{◌≡◌, ◌≢◌, Bool, true, false, cond, Lis
 use Rattle.std.specs.List.{All}
 use Rattle.std.proofs.lemmas.List.Elements.{All-nil, All-cons, All-append, All-weaker}
 use Rattle.cedar_syntax.specs.declared.loc.Loc.{Loc}
-use Rattle.cedar_policy_parser.specs.Outcome.{Kind, Told, Outcome, both, next, empty_node, invalid_identifier, duplicate_policy_id, duplicate_template_id, missing_scope_variable, extra_scope_element}
+use Rattle.cedar_policy_parser.specs.Outcome.{Kind, NamedFault, Outcome, both, next, empty_node, invalid_identifier, duplicate_policy_id, duplicate_template_id, missing_scope_variable, extra_scope_element}
 use Rattle.cedar_policy_parser.specs.Standing.{LiesWithin, FaultWithin, StandWithin}
 
 -- which tree: any, by hand too; or one that is read from tokens and stands within a place
@@ -29,11 +29,11 @@ abbrev pub Kinds : Type 1
 Kinds = Origin → Kind → Type 0
 
 -- a fault of such a kind within a place
-abbrev pub KindWithin : Kinds → Origin → Told → Type 0
+abbrev pub KindWithin : Kinds → Origin → NamedFault → Type 0
 KindWithin K o fault = K o fault.0 × LiesIn o fault.1
 
 -- faults, each such a one
-abbrev pub FaultsWithin : Kinds → Origin → List Told → Type 0
+abbrev pub FaultsWithin : Kinds → Origin → List NamedFault → Type 0
 FaultsWithin K o fs = (fs ≢ []) × All (KindWithin K o) fs
 
 -- what is given has a property; else the faults are of such kinds and stand within a place
@@ -90,17 +90,17 @@ no_template_name o kind h e = subst (IsTold o) e h
 
 -- ---- a fault alone
 
-more_faults : (f : Told) (fs : List Told) → (f ∷ fs) ≢ []
+more_faults : (f : NamedFault) (fs : List NamedFault) → (f ∷ fs) ≢ []
 more_faults f fs e = cc
 
 pub alone : (K : Kinds) (o : Origin) (kind : Kind) (place : Option Loc) → K o kind → LiesIn o place → FaultsWithin K o ((kind, place) ∷ [])
 alone K o kind place k h = (more_faults _ _, All-cons (KindWithin K o) (kind, place) [] (k, h) (All-nil (KindWithin K o)))
 
 -- one fault before others
-pub one_before : (K : Kinds) (o : Origin) (kind : Kind) (place : Option Loc) (fs : List Told) → K o kind → LiesIn o place → All (KindWithin K o) fs → All (KindWithin K o) ((kind, place) ∷ fs)
+pub one_before : (K : Kinds) (o : Origin) (kind : Kind) (place : Option Loc) (fs : List NamedFault) → K o kind → LiesIn o place → All (KindWithin K o) fs → All (KindWithin K o) ((kind, place) ∷ fs)
 one_before K o kind place fs k h all = All-cons (KindWithin K o) (kind, place) fs (k, h) all
 
-pub some_faults : (K : Kinds) (o : Origin) (f : Told) (fs : List Told) → All (KindWithin K o) (f ∷ fs) → FaultsWithin K o (f ∷ fs)
+pub some_faults : (K : Kinds) (o : Origin) (f : NamedFault) (fs : List NamedFault) → All (KindWithin K o) (f ∷ fs) → FaultsWithin K o (f ∷ fs)
 some_faults K o f fs all = (more_faults f fs, all)
 
 pub no_faults : (K : Kinds) (o : Origin) → All (KindWithin K o) []
@@ -108,11 +108,11 @@ no_faults K o = All-nil (KindWithin K o)
 
 -- ---- the joins
 
-some_append : (fs gs : List Told) → fs ≢ [] → (fs ++ gs) ≢ []
+some_append : (fs gs : List NamedFault) → fs ≢ [] → (fs ++ gs) ≢ []
 some_append [] gs h e = h refl
 some_append (f ∷ fs) gs h e = cc
 
-pub more_within : (K : Kinds) (o : Origin) (fs gs : List Told) → FaultsWithin K o fs → All (KindWithin K o) gs → FaultsWithin K o (fs ++ gs)
+pub more_within : (K : Kinds) (o : Origin) (fs gs : List NamedFault) → FaultsWithin K o fs → All (KindWithin K o) gs → FaultsWithin K o (fs ++ gs)
 more_within K o fs gs h k = (some_append fs gs h.0, All-append (KindWithin K o) fs gs h.1 k)
 
 pub both_stand : {X Y : Type 0} (K : Kinds) (o : Origin) (Q : X → Type 0) (R : Y → Type 0) (x : Outcome X) (y : Outcome Y) → Stands K o Q x → Stands K o R y → Stands K o (BothHold Q R) (both x y)
@@ -151,5 +151,5 @@ stand_within outer (Ok x) a = tt
 stand_within outer (Err fs) a = (a.0, All-weaker (KindWithin IsTold (parsed outer)) (FaultWithin outer) (λ f h. (not_empty outer f.0 h.0, not_misspelled outer f.0 h.0, h.1)) fs a.1)
 
 -- what is refused is told
-pub some_told : {X : Type 0} (o : Origin) (x : Outcome X) (fs : List Told) → Stands IsTold o Anything x → x ≡ Err fs → fs ≢ []
+pub some_told : {X : Type 0} (o : Origin) (x : Outcome X) (fs : List NamedFault) → Stands IsTold o Anything x → x ≡ Err fs → fs ≢ []
 some_told o x fs h e = (subst (Stands IsTold o Anything) e h).0

@@ -20,24 +20,24 @@ use Rattle.cedar_syntax.specs.declared.err.escape.UnescapeError.{UnescapeError}
 use Rattle.cedar_syntax.specs.Pattern.{pattern_faults, pattern_pieces}
 use Rattle.cedar_policy_parser.specs.Entities.{entity_outcome, id_text, id_outcome, reference_outcome, slot_id, slot_outcome}
 use Rattle.cedar_policy_parser.specs.Held.{Held, expression, variable, bare_name, bare_truth, bare_string, as_expression, as_pattern, as_entity_type, as_string, as_attribute, unqualified}
-use Rattle.cedar_policy_parser.specs.Leaves.{named, variable_or_name, slot_held, entity_held}
+use Rattle.cedar_policy_parser.specs.Leaves.{name_leaf, variable_or_name, slot_leaf, entity_leaf}
 use Rattle.cedar_policy_parser.specs.Literals.{held_string, literal_outcome}
-use Rattle.cedar_policy_parser.specs.Names.{filled, all_of, spelled, valid_text, valid_ident_of, valid_ident, any_ident_of, any_ident, unreserved_ident, path_outcome, name_outcome, named_variable}
-use Rattle.cedar_policy_parser.specs.Outcome.{Outcome, refused, next, empty_node, arbitrary_variable, invalid_pattern, invalid_is_type, invalid_string, invalid_attribute, path_as_attribute, reserved_identifier, invalid_identifier, reserved_namespace, integer_literal_too_large, invalid_entity_literal, invalid_slot, unescape}
+use Rattle.cedar_policy_parser.specs.Names.{content_outcome, all_of, spelling_outcome, valid_text, valid_ident_of, valid_ident, any_ident_of, any_ident, unreserved_ident, path_outcome, name_outcome, named_variable}
+use Rattle.cedar_policy_parser.specs.Outcome.{Outcome, fault_outcome, next, empty_node, arbitrary_variable, invalid_pattern, invalid_is_type, invalid_string, invalid_attribute, path_as_attribute, reserved_identifier, invalid_identifier, reserved_namespace, integer_literal_too_large, invalid_entity_literal, invalid_slot, unescape}
 use Rattle.cedar_policy_parser.specs.Strict.{largest}
-use Rattle.cedar_policy_parser.specs.Strings.{layout, escape_faults, unescaped, told_at, unless_faulty, text_outcome, pattern_outcome}
+use Rattle.cedar_policy_parser.specs.Strings.{layout, escape_faults, unescaped, string_faults, unless_faulty, text_outcome, pattern_outcome}
 use Rattle.cedar_policy_parser.proofs.Standing.{Origin, by_hand, parsed, ByHand, LiesIn, Kinds, IsPlain, KindWithin, Stands, Anything, alone, one_before, some_faults, no_faults, both_any, next_stands, then_stands, if_stands}
 use Rattle.cedar_policy_parser.proofs.Tidy.{Holding, NodeTidy, Each, IsValid, IdentHeld, IdentTidy, NameTidy, LiteralTidy, RefTidy}
 
 -- ---- strings
 
-told_within : (o : Origin) (p : Option Loc) (faults : List UnescapeError) → LiesIn o p → All (KindWithin IsPlain o) (told_at p faults)
+told_within : (o : Origin) (p : Option Loc) (faults : List UnescapeError) → LiesIn o p → All (KindWithin IsPlain o) (string_faults p faults)
 told_within o p [] h = no_faults IsPlain o
-told_within o p (fault ∷ faults) h = one_before IsPlain o unescape p (told_at p faults) tt h (told_within o p faults h)
+told_within o p (fault ∷ faults) h = one_before IsPlain o unescape p (string_faults p faults) tt h (told_within o p faults h)
 
 unless_stands : {X : Type 0} (o : Origin) (p : Option Loc) (faults : List UnescapeError) (x : X) → LiesIn o p → Stands IsPlain o Anything (unless_faulty p faults x)
 unless_stands o p [] x h = tt
-unless_stands o p (fault ∷ faults) x h = some_faults IsPlain o (unescape, p) (told_at p faults) (told_within o p (fault ∷ faults) h)
+unless_stands o p (fault ∷ faults) x h = some_faults IsPlain o (unescape, p) (string_faults p faults) (told_within o p (fault ∷ faults) h)
 
 pub text_stands : (o : Origin) (p : Option Loc) (raw : List ℕ) → LiesIn o p → Stands IsPlain o Anything (text_outcome p raw)
 text_stands o p raw h = unless_stands o p (escape_faults raw) (unescaped raw) h
@@ -103,7 +103,7 @@ attribute_held o (bare_string p raw) w = text_stands o p raw w
 -- ---- identifiers and names
 
 -- a node that isn't empty, and what is made of it
-pub filled_then : {X Y : Type 0} (K : Kinds) (o : Origin) (p : Option Loc) (P : X → Type 0) (R : Y → Type 0) (c : Option X) (f : X → Outcome Y) → LiesIn o p × Holding o P c → (ByHand o → K o empty_node) → ((x : X) → P x → Stands K o R (f x)) → Stands K o R (next (filled p c) f)
+pub filled_then : {X Y : Type 0} (K : Kinds) (o : Origin) (p : Option Loc) (P : X → Type 0) (R : Y → Type 0) (c : Option X) (f : X → Outcome Y) → LiesIn o p × Holding o P c → (ByHand o → K o empty_node) → ((x : X) → P x → Stands K o R (f x)) → Stands K o R (next (content_outcome p c) f)
 filled_then K o p P R None f h e k = alone K o empty_node p (e h.1) h.0
 filled_then K o p P R (Some x) f h e k = k x h.1
 
@@ -116,11 +116,11 @@ first_holds false b e = e
 
 valid_text_stands : (o : Origin) (p : Option Loc) (text : List ℕ) → LiesIn o p → IsValid o text → Stands IsPlain o Anything (valid_text p text)
 valid_text_stands by_hand p text h k = if_stands IsPlain by_hand Anything (is_valid_identifier text) _ _ tt (alone IsPlain by_hand invalid_identifier p tt h)
-valid_text_stands (parsed outer) p text h k = subst (λ b. Stands IsPlain (parsed outer) Anything (cond b (given_text text) (refused invalid_identifier p))) (sym k) tt
+valid_text_stands (parsed outer) p text h k = subst (λ b. Stands IsPlain (parsed outer) Anything (cond b (given_text text) (fault_outcome invalid_identifier p))) (sym k) tt
 
-spelled_stands : (o : Origin) (p : Option Loc) (text : List ℕ) → LiesIn o p → IsValid o text → Stands IsPlain o Anything (spelled p text)
+spelled_stands : (o : Origin) (p : Option Loc) (text : List ℕ) → LiesIn o p → IsValid o text → Stands IsPlain o Anything (spelling_outcome p text)
 spelled_stands by_hand p text h k = if_stands IsPlain by_hand Anything (is_identifier text) _ _ tt (alone IsPlain by_hand invalid_identifier p tt h)
-spelled_stands (parsed outer) p text h k = subst (λ b. Stands IsPlain (parsed outer) Anything (cond b (given_text text) (refused invalid_identifier p))) (sym (first_holds (is_identifier text) (not (is_reserved_word text)) k)) tt
+spelled_stands (parsed outer) p text h k = subst (λ b. Stands IsPlain (parsed outer) Anything (cond b (given_text text) (fault_outcome invalid_identifier p))) (sym (first_holds (is_identifier text) (not (is_reserved_word text)) k)) tt
 
 valid_of : (o : Origin) (p : Option Loc) (i : Ident) → LiesIn o p → IdentHeld o i → Stands IsPlain o Anything (valid_ident_of p i)
 valid_of o p words.Principal h k = tt
@@ -175,7 +175,7 @@ variable_or : (o : Origin) (p : Option Loc) (v : Option Var) (n : Node (Option N
 variable_or o p (Some x) n w h = w
 variable_or o p None n w h = then_stands IsPlain o (HeldWithin o) (name_outcome n) _ (name_stands o n h) (λ name. w)
 
-pub named_stands : (o : Origin) (p : Option Loc) (n : Node (Option Name)) → LiesIn o p → NodeTidy o (NameTidy o) n → Stands IsPlain o (HeldWithin o) (named p n)
+pub named_stands : (o : Origin) (p : Option Loc) (n : Node (Option Name)) → LiesIn o p → NodeTidy o (NameTidy o) n → Stands IsPlain o (HeldWithin o) (name_leaf p n)
 named_stands o p n w h = variable_or o p (named_variable n.node) n w h
 
 -- ---- entities and slots
@@ -194,7 +194,7 @@ reference_stands o p (refs.Ref path inits) w h = alone IsPlain o invalid_entity_
 pub entity_stands : (o : Origin) (n : Node (Option Ref)) → NodeTidy o (RefTidy o) n → Stands IsPlain o Anything (entity_outcome n)
 entity_stands o n h = filled_then IsPlain o n.loc (RefTidy o) Anything n.node (reference_outcome n.loc) h (λ e. e) (λ r k. reference_stands o n.loc r h.0 k)
 
-pub entity_held_stands : (o : Origin) (n : Node (Option Ref)) → NodeTidy o (RefTidy o) n → Stands IsPlain o (HeldWithin o) (entity_held n)
+pub entity_held_stands : (o : Origin) (n : Node (Option Ref)) → NodeTidy o (RefTidy o) n → Stands IsPlain o (HeldWithin o) (entity_leaf n)
 entity_held_stands o n h = then_stands IsPlain o (HeldWithin o) (entity_outcome n) _ (entity_stands o n h) (λ uid. h.0)
 
 slot_id_stands : (o : Origin) (p : Option Loc) (s : Slot) → LiesIn o p → Stands IsPlain o Anything (slot_id p s)
@@ -202,7 +202,7 @@ slot_id_stands o p slots.Principal h = tt
 slot_id_stands o p slots.Resource h = tt
 slot_id_stands o p (slots.Other text) h = alone IsPlain o invalid_slot p tt h
 
-pub slot_stands : (o : Origin) (n : Node (Option Slot)) → NodeTidy o Anything n → Stands IsPlain o (HeldWithin o) (slot_held n)
+pub slot_stands : (o : Origin) (n : Node (Option Slot)) → NodeTidy o Anything n → Stands IsPlain o (HeldWithin o) (slot_leaf n)
 slot_stands o n h =
     then_stands IsPlain o (HeldWithin o) (slot_outcome n) _ (filled_then IsPlain o n.loc Anything Anything n.node (slot_id n.loc) h (λ e. e) (λ s _. slot_id_stands o n.loc s h.0)) (λ id. h.0)
 

@@ -9,10 +9,10 @@ use Rattle.cedar_syntax.specs.Located as f
 use Rattle.cedar_syntax.specs.Located.{Located, Form, Parts}
 use Rattle.cedar_policy_parser.specs.declared.methods.Standard.{Standard}
 use Rattle.cedar_policy_parser.specs.Extensions.{Extensions}
-use Rattle.cedar_policy_parser.specs.HasSide.{attributes_of, begins_with, begun_by, behind_first, field_form, field_of, fields_of, no_sign, right_form, right_side, string_alone}
+use Rattle.cedar_policy_parser.specs.HasSide.{attributes_of, begins_with, beginning_outcome, behind_first, field_form, field_of, fields_of, no_sign, right_form, right_side, string_alone}
 use Rattle.cedar_policy_parser.specs.Held.{Held, expression, variable, bare_name, bare_truth, bare_string, as_expression, variable_text}
 use Rattle.cedar_policy_parser.specs.Literals.{literal_outcome}
-use Rattle.cedar_policy_parser.specs.Leaves.{named}
+use Rattle.cedar_policy_parser.specs.Leaves.{name_leaf}
 use Rattle.cedar_policy_parser.specs.Members.{Access, field, call, index, standard_method, takes_one, with_arguments, plain_name, extension_method, method_by, method_outcome, is_method_id, function_outcome, accesses_of, name_accesses, variable_accesses, some_accesses, member_outcome}
 use Rattle.cedar_policy_parser.specs.Outcome.{variable_call, no_methods, invalid_access, invalid_index, expression_call, wrong_arity, function_call_on_method, method_call_on_function, unknown_method, unknown_function, invalid_has_rhs, reserved_identifier, empty_node}
 use Rattle.cedar_policy_parser.proofs.Standing.{Origin, LiesIn, anywhere, IsPlain, Stands, Anything, alone, next_stands, then_stands, if_stands}
@@ -107,9 +107,9 @@ attributes_stand o w ps (bare_name p x) k t h = then_stands IsPlain o Anything _
 attributes_stand o w ps (bare_truth p x) k t h = alone IsPlain o reserved_identifier p tt h
 attributes_stand o w ps (bare_string p raw) k t h = string_stands o w p raw ps k h
 
-begun_stands : (o : Origin) (w : Option Loc) (qs : Parts) (p : Option Loc) (u : Form) → LiesIn o w → AccessesTidy o qs → LiesIn o p → FormTidy o u → Stands IsPlain o Anything (begun_by w qs p u)
+begun_stands : (o : Origin) (w : Option Loc) (qs : Parts) (p : Option Loc) (u : Form) → LiesIn o w → AccessesTidy o qs → LiesIn o p → FormTidy o u → Stands IsPlain o Anything (beginning_outcome w qs p u)
 begun_stands o w qs p (f.literal n) k t h g = next_stands IsPlain o (HeldWithin o) Anything (literal_outcome n.loc n.node) _ (literal_stands o n.loc n.node g.0 g.1) (λ s i. attributes_stand o w qs s k t i)
-begun_stands o w qs p (f.name n) k t h g = next_stands IsPlain o (HeldWithin o) Anything (named p n) _ (named_stands o p n h g) (λ s i. attributes_stand o w qs s k t i)
+begun_stands o w qs p (f.name n) k t h g = next_stands IsPlain o (HeldWithin o) Anything (name_leaf p n) _ (named_stands o p n h g) (λ s i. attributes_stand o w qs s k t i)
 begun_stands o w qs p u k t h g = alone IsPlain o invalid_has_rhs p tt h
 
 begins_stands : (o : Origin) (w : Option Loc) (ps : Parts) (n : Located) → LiesIn o w → AccessesTidy o ps → Tidy o n → Stands IsPlain o Anything (begins_with w ps n)

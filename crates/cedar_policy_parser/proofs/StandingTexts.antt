@@ -18,18 +18,18 @@ use Rattle.cedar_syntax.specs.Place.{placed, placed_or_start, extent, loc_at}
 use Rattle.cedar_syntax.specs.Trees.{Cell}
 use Rattle.cedar_syntax.proofs.ExpressionTokens.{expr_some}
 use Rattle.cedar_syntax.proofs.WordPlaces.{start_is}
-use Rattle.cedar_policy_parser.specs.AnnotationKeys.{annotation_outcome}
+use Rattle.cedar_policy_parser.specs.AnnotationKeys.{annotation_outcome, with_new_key}
 use Rattle.cedar_policy_parser.specs.Blocks.{PartsStandWithin}
-use Rattle.cedar_policy_parser.specs.Conditions.{Found, condition_outcome}
+use Rattle.cedar_policy_parser.specs.Conditions.{condition_outcome}
 use Rattle.cedar_policy_parser.specs.Conversion.{value_outcome}
 use Rattle.cedar_policy_parser.specs.Extensions.{Extensions}
-use Rattle.cedar_policy_parser.specs.Outcome.{Outcome}
+use Rattle.cedar_policy_parser.specs.Outcome.{next}
 use Rattle.cedar_policy_parser.specs.Policies.{effect_outcome, template_outcome, policies_outcome}
 use Rattle.cedar_policy_parser.specs.Scope.{scope_outcome}
 use Rattle.cedar_policy_parser.specs.Standing.{LiesWithin, StandWithin}
 use Rattle.cedar_policy_parser.proofs.Fitting.{Fits, all_fit, within}
 use Rattle.cedar_policy_parser.proofs.Standing.{Origin, parsed, IsTold, Stands, Anything, stand_within}
-use Rattle.cedar_policy_parser.proofs.StandingPolicies.{KeptWithin, annotation_stands, condition_stands, effect_stands, template_stands, policies_stand}
+use Rattle.cedar_policy_parser.proofs.StandingPolicies.{new_annotation_stands, condition_stands, effect_stands, template_stands, policies_stand}
 use Rattle.cedar_policy_parser.proofs.StandingScopes.{scope_stands}
 use Rattle.cedar_policy_parser.proofs.StandingTrees.{value_faults}
 use Rattle.cedar_policy_parser.proofs.Tidy.{Holding, Each}
@@ -46,18 +46,18 @@ expr_faults e text tree g =
     subst (λ y. StandWithin y.loc (value_outcome e (located expr_form y))) (sym (g.stands.is ∙ start_is text ts x some))
     (value_faults e c.loc (located expr_form c) (sits (parsed c.loc) text expr_form ts x h some (expr_holds g.stands.reads h)))
 
-pub policy_stands : (e : Extensions) (found : List Found) (text id : List ℕ) (tree : Cell Policy) → IsTreeOf ReadsPolicy text tree → Stands IsTold (parsed tree.loc) Anything (template_outcome e found id tree)
-policy_stands e found text id tree g =
+pub policy_stands : (e : Extensions) (text id : List ℕ) (tree : Cell Policy) → IsTreeOf ReadsPolicy text tree → Stands IsTold (parsed tree.loc) Anything (template_outcome e id tree)
+policy_stands e text id tree g =
     let ts : List Lexeme = g.tokens in
     let x : Policy = g.stands.tree in
     let some = policy_some g.stands.reads in
     let h = all_fit text _ _ ts g.cut some in
     let c : Cell Policy = placed text ts x in
-    subst (λ y. Stands IsTold (parsed y.loc) Anything (template_outcome e found id y)) (sym (g.stands.is ∙ start_is text ts x some))
-    (template_stands e (parsed c.loc) found id c (within (parsed c.loc) text ts h some, policy_tidy g.stands.reads h))
+    subst (λ y. Stands IsTold (parsed y.loc) Anything (template_outcome e id y)) (sym (g.stands.is ∙ start_is text ts x some))
+    (template_stands e (parsed c.loc) id c (within (parsed c.loc) text ts h some, policy_tidy g.stands.reads h))
 
-pub policy_faults : (e : Extensions) (found : List Found) (text id : List ℕ) (tree : Cell Policy) → IsTreeOf ReadsPolicy text tree → StandWithin tree.loc (template_outcome e found id tree)
-policy_faults e found text id tree g = stand_within tree.loc (template_outcome e found id tree) (policy_stands e found text id tree g)
+pub policy_faults : (e : Extensions) (text id : List ℕ) (tree : Cell Policy) → IsTreeOf ReadsPolicy text tree → StandWithin tree.loc (template_outcome e id tree)
+policy_faults e text id tree g = stand_within tree.loc (template_outcome e id tree) (policy_stands e text id tree g)
 
 -- no tokens, which stand at the start of the text
 from_start : (text : List ℕ) → Fits (parsed (loc_at text (Some record { start = 0; end = 0 }))) text []
@@ -66,19 +66,19 @@ from_start text = record { low = 0; high = 0; is = refl; from = 0; to = 0; above
 start_within : (text : List ℕ) → LiesWithin (loc_at text (Some record { start = 0; end = 0 })) (loc_at text (Some record { start = 0; end = 0 }))
 start_within text = (refl, omega arith, omega arith)
 
-set_of_tokens : (e : Extensions) (found : List (List Found)) (text : List ℕ) (ts : List Lexeme) (x : Policies) → Cuts text ts → ReadsPolicies text ts x
-    → Stands IsTold (parsed (placed_or_start text ts x).loc) Anything (policies_outcome e found (placed_or_start text ts x))
-set_of_tokens e found text [] x cut r = let c : Cell Policies = placed_or_start text [] x in policies_stand e (parsed c.loc) found c (start_within text, policies_tidy r (from_start text))
-set_of_tokens e found text (t ∷ ts) x cut r =
+set_of_tokens : (e : Extensions) (text : List ℕ) (ts : List Lexeme) (x : Policies) → Cuts text ts → ReadsPolicies text ts x
+    → Stands IsTold (parsed (placed_or_start text ts x).loc) Anything (policies_outcome e (placed_or_start text ts x))
+set_of_tokens e text [] x cut r = let c : Cell Policies = placed_or_start text [] x in policies_stand e (parsed c.loc) c (start_within text, policies_tidy r (from_start text))
+set_of_tokens e text (t ∷ ts) x cut r =
     let h = all_fit text _ _ (t ∷ ts) cut tt in
     let c : Cell Policies = placed text (t ∷ ts) x in
-    policies_stand e (parsed c.loc) found c (within (parsed c.loc) text (t ∷ ts) h tt, policies_tidy r h)
+    policies_stand e (parsed c.loc) c (within (parsed c.loc) text (t ∷ ts) h tt, policies_tidy r h)
 
-pub set_stands : (e : Extensions) (found : List (List Found)) (text : List ℕ) (tree : Cell Policies) → IsTreeOf ReadsPolicies text tree → Stands IsTold (parsed tree.loc) Anything (policies_outcome e found tree)
-set_stands e found text tree g = subst (λ y. Stands IsTold (parsed y.loc) Anything (policies_outcome e found y)) (sym g.stands.is) (set_of_tokens e found text g.tokens g.stands.tree g.cut g.stands.reads)
+pub set_stands : (e : Extensions) (text : List ℕ) (tree : Cell Policies) → IsTreeOf ReadsPolicies text tree → Stands IsTold (parsed tree.loc) Anything (policies_outcome e tree)
+set_stands e text tree g = subst (λ y. Stands IsTold (parsed y.loc) Anything (policies_outcome e y)) (sym g.stands.is) (set_of_tokens e text g.tokens g.stands.tree g.cut g.stands.reads)
 
-pub set_faults : (e : Extensions) (found : List (List Found)) (text : List ℕ) (tree : Cell Policies) → IsTreeOf ReadsPolicies text tree → StandWithin tree.loc (policies_outcome e found tree)
-set_faults e found text tree g = stand_within tree.loc (policies_outcome e found tree) (set_stands e found text tree g)
+pub set_faults : (e : Extensions) (text : List ℕ) (tree : Cell Policies) → IsTreeOf ReadsPolicies text tree → StandWithin tree.loc (policies_outcome e tree)
+set_faults e text tree g = stand_within tree.loc (policies_outcome e tree) (set_stands e text tree g)
 
 -- ---- a parsed policy is tidy
 
@@ -128,10 +128,10 @@ policy_alone : (w : Origin) (c : Option Policy) → Holding w (WholeTidy w) c �
 policy_alone w None h = h
 policy_alone w (Some x) h = h.0
 
-pub member_faults : (e : Extensions) (found : List Found) (text id : List ℕ) (tree : Cell Policies) (x : Policies) → IsTreeOf ReadsPolicies text tree → tree.node ≡ Some x → All (λ n. StandWithin n.loc (template_outcome e found id n)) x.0
-member_faults e found text id tree x g h =
-    each_policy text tree x (λ n. StandWithin n.loc (template_outcome e found id n)) g h
-    (λ n i. stand_within n.loc (template_outcome e found id n) (template_stands e (parsed n.loc) found id n (i.0, policy_alone (parsed n.loc) n.node i.1)))
+pub member_faults : (e : Extensions) (text id : List ℕ) (tree : Cell Policies) (x : Policies) → IsTreeOf ReadsPolicies text tree → tree.node ≡ Some x → All (λ n. StandWithin n.loc (template_outcome e id n)) x.0
+member_faults e text id tree x g h =
+    each_policy text tree x (λ n. StandWithin n.loc (template_outcome e id n)) g h
+    (λ n i. stand_within n.loc (template_outcome e id n) (template_stands e (parsed n.loc) id n (i.0, policy_alone (parsed n.loc) n.node i.1)))
 
 -- ---- each part of a policy
 
@@ -142,25 +142,20 @@ self_within None (Some loc) h = absurd h
 self_within (Some outer) None h = h
 self_within (Some outer) (Some loc) h = (refl, omega arith, omega arith)
 
--- what is given may have a property
-anything_stands : {X : Type 0} (w : Origin) (Q : X → Type 0) (x : Outcome X) → Stands IsTold w Q x → Stands IsTold w Anything x
-anything_stands w Q (Ok x) h = tt
-anything_stands w Q (Err fs) h = h
-
-parts_stand : (e : Extensions) (found : Found) (w : Option Loc) (p : PolicyImpl) → WholeTidy (parsed w) (trees.Policy p) → PartsStandWithin e found w p
-parts_stand e found w p h = (
+parts_stand : (e : Extensions) (w : Option Loc) (p : PolicyImpl) → WholeTidy (parsed w) (trees.Policy p) → PartsStandWithin e w p
+parts_stand e w p h = (
   stand_within p.effect.loc (effect_outcome p.effect) (effect_stands (parsed p.effect.loc) p.effect (self_within w p.effect.loc h.0.1.0, h.0.1.1)),
-  all_of_each (Own AnnotationTidy) (λ n. StandWithin n.loc (annotation_outcome n))
-      (λ n i. stand_within n.loc (annotation_outcome n) (anything_stands (parsed n.loc) (KeptWithin (parsed n.loc)) (annotation_outcome n) (annotation_stands (parsed n.loc) n i))) p.annotations h.1.0,
+  all_of_each (Own AnnotationTidy) (λ n. (keys : List (List ℕ)) → StandWithin n.loc (next (annotation_outcome n) (with_new_key keys)))
+      (λ n i keys. stand_within n.loc (next (annotation_outcome n) (with_new_key keys)) (new_annotation_stands (parsed n.loc) keys n i)) p.annotations h.1.0,
   stand_within w (scope_outcome e p) (scope_stands e (parsed w) p h.0.1.0 h.0.2),
-  all_of_each (Own CondTidy) (λ n. StandWithin n.loc (condition_outcome e (found, n))) (λ n i. stand_within n.loc (condition_outcome e (found, n)) (condition_stands e (parsed n.loc) (found, n) i)) p.conds h.1.1,
+  all_of_each (Own CondTidy) (λ n. StandWithin n.loc (condition_outcome e n)) (λ n i. stand_within n.loc (condition_outcome e n) (condition_stands e (parsed n.loc) n i)) p.conds h.1.1,
 )
 
-pub part_faults : (e : Extensions) (found : Found) (text : List ℕ) (tree : Cell Policy) (p : PolicyImpl) → IsTreeOf ReadsPolicy text tree → tree.node ≡ Some (trees.Policy p) → PartsStandWithin e found tree.loc p
-part_faults e found text tree p g h = parts_stand e found tree.loc p (parsed_parts text tree (trees.Policy p) g h)
+pub part_faults : (e : Extensions) (text : List ℕ) (tree : Cell Policy) (p : PolicyImpl) → IsTreeOf ReadsPolicy text tree → tree.node ≡ Some (trees.Policy p) → PartsStandWithin e tree.loc p
+part_faults e text tree p g h = parts_stand e tree.loc p (parsed_parts text tree (trees.Policy p) g h)
 
-pub member_part_faults : (e : Extensions) (found : Found) (text : List ℕ) (tree : Cell Policies) (x : Policies) → IsTreeOf ReadsPolicies text tree → tree.node ≡ Some x
-    → All (λ n. (p : PolicyImpl) → n.node ≡ Some (trees.Policy p) → PartsStandWithin e found n.loc p) x.0
-member_part_faults e found text tree x g h =
-    each_policy text tree x (λ n. (p : PolicyImpl) → n.node ≡ Some (trees.Policy p) → PartsStandWithin e found n.loc p) g h
-    (λ n i p k. parts_stand e found n.loc p (subst (Holding (parsed n.loc) (WholeTidy (parsed n.loc))) k i.1))
+pub member_part_faults : (e : Extensions) (text : List ℕ) (tree : Cell Policies) (x : Policies) → IsTreeOf ReadsPolicies text tree → tree.node ≡ Some x
+    → All (λ n. (p : PolicyImpl) → n.node ≡ Some (trees.Policy p) → PartsStandWithin e n.loc p) x.0
+member_part_faults e text tree x g h =
+    each_policy text tree x (λ n. (p : PolicyImpl) → n.node ≡ Some (trees.Policy p) → PartsStandWithin e n.loc p) g h
+    (λ n i p k. parts_stand e n.loc p (subst (Holding (parsed n.loc) (WholeTidy (parsed n.loc))) k i.1))

@@ -6,11 +6,11 @@ use Rattle.cedar_syntax.specs.Forms.{located, primary_form}
 use Rattle.cedar_syntax.specs.Located as f
 use Rattle.cedar_syntax.specs.Located.{Form}
 use Rattle.cedar_policy_parser.specs.Literals.{string_outcome}
-use Rattle.cedar_policy_parser.specs.Outcome.{refused, empty_node}
+use Rattle.cedar_policy_parser.specs.Outcome.{fault_outcome, empty_node}
 
 -- a primary of this form
 pub string_at : (n : Node (Option Primary)) (d : Primary) (t : Form) → n.node ≡ Some d → primary_form d ≡ t → string_outcome (located primary_form n) ≡ string_outcome (f.at n.loc t)
 string_at n d t h k = rw h (ap (λ u. string_outcome (f.at n.loc u)) k)
 
-pub no_string : (n : Node (Option Primary)) → n.node ≡ None → string_outcome (located primary_form n) ≡ refused empty_node n.loc
+pub no_string : (n : Node (Option Primary)) → n.node ≡ None → string_outcome (located primary_form n) ≡ fault_outcome empty_node n.loc
 no_string n h = rw h refl

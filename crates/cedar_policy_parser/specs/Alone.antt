@@ -16,7 +16,7 @@ use Rattle.cedar_policy_parser.specs.Extensions.{Extensions}
 use Rattle.cedar_policy_parser.specs.HasSide.{no_sign}
 use Rattle.cedar_policy_parser.specs.Held.{as_attribute}
 use Rattle.cedar_policy_parser.specs.Names.{name_outcome, named_variable}
-use Rattle.cedar_policy_parser.specs.Outcome.{Told, next, unsupported_division, unsupported_modulo}
+use Rattle.cedar_policy_parser.specs.Outcome.{NamedFault, next, unsupported_division, unsupported_modulo}
 
 abbrev pub HasValue : Extensions → Located → Type 0
 HasValue e n = (w : Value) × Converts e n w
@@ -31,13 +31,13 @@ OperandsHaveValues e none = Unit {0}
 OperandsHaveValues e (more op n others) = HasValue e n × OperandsHaveValues e others
 
 -- what an operator of a product is refused with: a division and a remainder have no value
-abbrev pub quotient : Option Loc → Operator → List Told
+abbrev pub quotient : Option Loc → Operator → List NamedFault
 quotient place (multiply mul.Divide) = (unsupported_division, place) ∷ []
 quotient place (multiply mul.Mod) = (unsupported_modulo, place) ∷ []
 quotient place _ = []
 
 -- each `/` and `%` in order, at the product's place
-abbrev pub quotients : Option Loc → Parts → List Told
+abbrev pub quotients : Option Loc → Parts → List NamedFault
 quotients place none = []
 quotients place (more op n others) = quotient place op ++ quotients place others
 

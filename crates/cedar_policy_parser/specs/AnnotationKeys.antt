@@ -19,32 +19,33 @@ use Rattle.cedar_syntax.specs.declared.err.faults.Failure.TheVariants.{Memory, E
 use Rattle.cedar_syntax.specs.declared.loc.Loc.{Loc}
 use Rattle.cedar_syntax.specs.declared.node.Node.{Node}
 use Rattle.cedar_policy_parser.specs.Entities.{id_outcome}
-use Rattle.cedar_policy_parser.specs.Names.{filled, any_ident}
-use Rattle.cedar_policy_parser.specs.Outcome.{Outcome, refused, both, next, duplicate_annotation}
-use Rattle.cedar_policy_parser.specs.References.{mark_of}
-use Rattle.cedar_policy_parser.specs.Seen.{item_more, told}
+use Rattle.cedar_policy_parser.specs.Names.{content_outcome, any_ident}
+use Rattle.cedar_policy_parser.specs.Outcome.{Outcome, fault_outcome, both, next, duplicate_annotation}
+use Rattle.cedar_policy_parser.specs.Places.{place_mark}
+use Rattle.cedar_policy_parser.specs.Seen.{item_more, named_faults}
 
 -- a key, the text that its string stands for, if there is one, and the annotation's place
-pub record Annotated : Type 0 where
+pub record AnnotationContent : Type 0 where
   pub key : List ℕ
   pub text : Option (List ℕ)
   pub place : Option Loc
 
 -- escape faults of the string stand at the annotation's place
-abbrev pub text_given : Option Loc → Option (Node (Option Str)) → Outcome (Option (List ℕ))
-text_given place (Some n) = next (id_outcome place n) (λ text. Ok (Some text))
-text_given place None = Ok None
+abbrev pub value_text_outcome : Option Loc → Option (Node (Option Str)) → Outcome (Option (List ℕ))
+value_text_outcome place (Some n) = next (id_outcome place n) (λ text. Ok (Some text))
+value_text_outcome place None = Ok None
 
-abbrev pub annotated : Option Loc → List ℕ × Option (List ℕ) → Annotated
-annotated place p = record { key = p.0; text = p.1; place = place }
+abbrev pub annotation_at : Option Loc → List ℕ × Option (List ℕ) → AnnotationContent
+annotation_at place p = record { key = p.0; text = p.1; place = place }
 
 -- key and string joined
-abbrev pub pair_given : Option Loc → Annotation → Outcome Annotated
-pair_given place a =
-    next (both (any_ident a.key) (text_given place a.value)) (λ p. Ok (annotated place p))
+abbrev pub key_value_outcome : Option Loc → Annotation → Outcome AnnotationContent
+key_value_outcome place a =
+    next (both (any_ident a.key) (value_text_outcome place a.value))
+    (λ p. Ok (annotation_at place p))
 
-abbrev pub annotation_outcome : Node (Option Annotation) → Outcome Annotated
-annotation_outcome n = next (filled n.loc n.node) (pair_given n.loc)
+abbrev pub annotation_outcome : Node (Option Annotation) → Outcome AnnotationContent
+annotation_outcome n = next (content_outcome n.loc n.node) (key_value_outcome n.loc)
 
 -- ---- all of a policy
 
@@ -52,59 +53,59 @@ abbrev pub has_key : List (List ℕ) → List ℕ → Bool
 has_key keys key = list_any (bytes_eq key) keys
 
 -- a key that an earlier annotation has, if that one converted, is refused at the later one
-abbrev pub with_new_key : List (List ℕ) → Annotated → Outcome Annotated
+abbrev pub with_new_key : List (List ℕ) → AnnotationContent → Outcome AnnotationContent
 with_new_key keys a =
-    if has_key keys a.key then refused duplicate_annotation a.place else Ok a
+    if has_key keys a.key then fault_outcome duplicate_annotation a.place else Ok a
 
-abbrev pub key_given : Outcome Annotated → List (List ℕ)
-key_given (Ok a) = a.key ∷ []
-key_given (Err fs) = []
+abbrev pub converted_key : Outcome AnnotationContent → List (List ℕ)
+converted_key (Ok a) = a.key ∷ []
+converted_key (Err fs) = []
 
 -- the keys of those that converted, and what all of them give
-pub record Gathered : Type 0 where
+pub record Gathering : Type 0 where
   pub keys : List (List ℕ)
-  pub all : Outcome (List Annotated)
+  pub all : Outcome (List AnnotationContent)
 
-abbrev pub gather : Gathered → Outcome Annotated → Gathered
-gather g a = record {
-  keys = g.keys ++ key_given a;
+abbrev pub gathering_with : Gathering → Outcome AnnotationContent → Gathering
+gathering_with g a = record {
+  keys = g.keys ++ converted_key a;
   all = item_more g.all (next a (with_new_key g.keys));
 }
 
-abbrev pub gather_node : Gathered → Node (Option Annotation) → Gathered
-gather_node g n = gather g (annotation_outcome n)
+abbrev pub gathering_with_node : Gathering → Node (Option Annotation) → Gathering
+gathering_with_node g n = gathering_with g (annotation_outcome n)
 
-abbrev pub nothing_gathered : Gathered
-nothing_gathered = record { keys = []; all = Ok [] }
+abbrev pub empty_gathering : Gathering
+empty_gathering = record { keys = []; all = Ok [] }
 
-abbrev pub gathered : List (Node (Option Annotation)) → Gathered
-gathered ns = fold gather_node nothing_gathered ns
+abbrev pub gathering : List (Node (Option Annotation)) → Gathering
+gathering ns = fold gathering_with_node empty_gathering ns
 
-abbrev pub annotations_outcome : List (Node (Option Annotation)) → Outcome (List Annotated)
-annotations_outcome ns = (gathered ns).all
+abbrev pub annotations_outcome : List (Node (Option Annotation)) → Outcome (List AnnotationContent)
+annotations_outcome ns = (gathering ns).all
 
 -- ---- as a policy keeps them
 
 -- the empty text where there is no string
-abbrev pub kept : Annotated → Kept
-kept a = record { value = unwrap_or a.text []; place = mark_of a.place }
+abbrev pub kept_annotation : AnnotationContent → Kept
+kept_annotation a = record { value = unwrap_or a.text []; place = place_mark a.place }
 
-abbrev pub keep : FinMap text_order Kept → Annotated → FinMap text_order Kept
-keep m a = insert m a.key (kept a)
+abbrev pub with_annotation : FinMap text_order Kept → AnnotationContent → FinMap text_order Kept
+with_annotation m a = insert m a.key (kept_annotation a)
 
-abbrev pub annotation_map : List Annotated → FinMap text_order Kept
-annotation_map all = fold keep empty all
+abbrev pub annotation_map : List AnnotationContent → FinMap text_order Kept
+annotation_map all = fold with_annotation empty all
 
 -- ---- what a caller makes of an annotation
 
 -- the key and the text of an annotation at a place
-abbrev pub pair_seen : Option Loc → List ℕ × Option (String Global) → Annotated
-pair_seen place p = annotated place (p.0, option_map string_bytes p.1)
+abbrev pub pair_view : Option Loc → List ℕ × Option (String Global) → AnnotationContent
+pair_view place p = annotation_at place (p.0, option_map string_bytes p.1)
 
 -- what f answers for the text and the place of an annotation
 pub record Answers {F T : Type 0}
     (g : Shared F (Option (String Global) × (Option (Bor Loc) × Unit {0})) T)
-    (f : F) (a : Annotated) (made : T) : Type 0 where
+    (f : F) (a : AnnotationContent) (made : T) : Type 0 where
   pub text : Option (String Global)
   pub at : Option (Bor Loc)
   pub spells : option_map string_bytes text ≡ a.text
@@ -114,7 +115,7 @@ pub record Answers {F T : Type 0}
 -- annotations with what f answers for them, one after another
 abbrev pub AnswersEach : {F T : Type 0}
     → Shared F (Option (String Global) × (Option (Bor Loc) × Unit {0})) T → F
-    → List Annotated → List T
+    → List AnnotationContent → List T
     → Type 0
 AnswersEach g f [] [] = Unit {0}
 AnswersEach g f [] (t ∷ ts) = ⊥
@@ -122,16 +123,16 @@ AnswersEach g f (a ∷ others) [] = ⊥
 AnswersEach g f (a ∷ others) (t ∷ ts) = Answers g f a t × AnswersEach g f others ts
 
 -- these values by the keys of their annotations
-abbrev pub paired_keys : {T : Type 0} → List Annotated → List T → List (List ℕ × T)
+abbrev pub paired_keys : {T : Type 0} → List AnnotationContent → List T → List (List ℕ × T)
 paired_keys [] ts = []
 paired_keys (a ∷ others) [] = []
 paired_keys (a ∷ others) (t ∷ ts) = (a.key, t) ∷ paired_keys others ts
 
-abbrev pub insert_pair : {T : Type 0} → FinMap text_order T → List ℕ × T → FinMap text_order T
-insert_pair m p = insert m p.0 p.1
+abbrev pub with_pair : {T : Type 0} → FinMap text_order T → List ℕ × T → FinMap text_order T
+with_pair m p = insert m p.0 p.1
 
-abbrev pub keyed : {T : Type 0} → List Annotated → List T → FinMap text_order T
-keyed all ts = fold insert_pair empty (paired_keys all ts)
+abbrev pub values_by_key : {T : Type 0} → List AnnotationContent → List T → FinMap text_order T
+values_by_key all ts = fold with_pair empty (paired_keys all ts)
 
 -- ---- a map that is being filled
 
@@ -141,18 +142,18 @@ HasKeys m keys = (key : List ℕ) → contains_key m key ≡ has_key keys key
 
 -- the values so far, each under its key
 abbrev pub HoldsAll : {F T : Type 0}
-    → Shared F (Option (String Global) × (Option (Bor Loc) × Unit {0})) T → F → Gathered
+    → Shared F (Option (String Global) × (Option (Bor Loc) × Unit {0})) T → F → Gathering
     → FinMap text_order T → Type 0
 HoldsAll {T = T} g f so_far m =
-    (all : List Annotated) × (made : List T) × (so_far.all ≡ Ok all) × AnswersEach g f all made
-    × (m ≡ keyed all made)
+    (all : List AnnotationContent) × (made : List T) × (so_far.all ≡ Ok all)
+    × AnswersEach g f all made × (m ≡ values_by_key all made)
 
 -- The map after the annotations so far, and whether any of them is refused. After want of memory
 -- nothing is said: it is the answer.
-abbrev pub Filled : {F T : Type 0}
-    → Shared F (Option (String Global) × (Option (Bor Loc) × Unit {0})) T → F → Gathered
+abbrev pub HoldsSoFar : {F T : Type 0}
+    → Shared F (Option (String Global) × (Option (Bor Loc) × Unit {0})) T → F → Gathering
     → FinMap text_order T → Result (Unit {0}) Failure → Type 0
-Filled g f so_far m (Ok nothing) = HasKeys m so_far.keys × HoldsAll g f so_far m
-Filled g f so_far m (Err (Memory error)) = Unit {0}
-Filled g f so_far m (Err (Errors errors)) =
-    HasKeys m so_far.keys × (so_far.all ≡ Err (told (faults_of errors)))
+HoldsSoFar g f so_far m (Ok nothing) = HasKeys m so_far.keys × HoldsAll g f so_far m
+HoldsSoFar g f so_far m (Err (Memory error)) = Unit {0}
+HoldsSoFar g f so_far m (Err (Errors errors)) =
+    HasKeys m so_far.keys × (so_far.all ≡ Err (named_faults (faults_of errors)))

@@ -1,5 +1,5 @@
--- What private functions hold while parts are joined: accesses while they are applied, the sides of
--- `has` and `is`. Contracts of private functions alone name these.
+-- What private functions hold while parts are joined: accesses while they are applied, the sides
+-- of `has` and `is`. Contracts of private functions alone name these.
 use Rattle.std.specs.Prelude.{◌≡◌, ℕ, List, [], ◌∷◌, ◌++◌, map, Bool, true, false, Option, Some, None, Result, Ok, Err}
 use Rattle.std.specs.declared.vec.Vec.{Vec}
 use Rattle.std.specs.declared.alloc.Global.{Global}
@@ -15,7 +15,7 @@ use Rattle.cedar_policy_parser.specs.declared.members.Access.TheVariants as acce
 use Rattle.cedar_policy_parser.specs.declared.members.Reading.{Reading}
 use Rattle.cedar_expressions.specs.declared.entity.EntityType.{EntityType}
 use Rattle.cedar_expressions.specs.declared.literal.PatternElem.{PatternElem}
-use Rattle.cedar_policy_parser.specs.Conversion.{Typed, typed, typed_within, value_outcome}
+use Rattle.cedar_policy_parser.specs.Conversion.{ValueAndType, type_test_outcome, type_within_outcome, value_outcome}
 use Rattle.cedar_policy_parser.specs.Extensions.{Extensions}
 use Rattle.cedar_policy_parser.specs.HasSide.{Attributes}
 use Rattle.cedar_policy_parser.specs.Held.{Held}
@@ -65,22 +65,22 @@ Leads goes (Err failure) outcome = Refuses failure outcome
 abbrev pub seen_attributes : List ℕ × Vec (List ℕ) Global → Attributes
 seen_attributes p = (p.0, p.1.items)
 
-abbrev pub seen_typed : {E : Type 0} → (E → Value) → E × EntityType → Typed
-seen_typed meaning p = (meaning p.0, p.1)
+abbrev pub seen_type : {E : Type 0} → (E → Value) → E × EntityType → ValueAndType
+seen_type meaning p = (meaning p.0, p.1)
 
 -- a value and the pattern right of its `like`
 abbrev pub Matched : Type 0
 Matched = Value × List PatternElem
 
-abbrev pub seen_matched : {E : Type 0} → (E → Value) → E × Vec PatternElem Global → Matched
-seen_matched meaning p = (meaning p.0, p.1.items)
+abbrev pub seen_pattern : {E : Type 0} → (E → Value) → E × Vec PatternElem Global → Matched
+seen_pattern meaning p = (meaning p.0, p.1.items)
 
 -- `is`, alone or with what stands behind `in`
-abbrev pub typed_by : Extensions → Option Loc → Outcome Typed → Option (Node (Option Add))
-    → Outcome Held
-typed_by e place p None = next p (typed place)
-typed_by e place p (Some n) =
-    next p (λ q. next (value_outcome e (located add_form n)) (typed_within place q))
+abbrev pub type_relation_outcome : Extensions → Option Loc → Outcome ValueAndType
+    → Option (Node (Option Add)) → Outcome Held
+type_relation_outcome e place p None = next p (type_test_outcome place)
+type_relation_outcome e place p (Some n) =
+    next p (λ q. next (value_outcome e (located add_form n)) (type_within_outcome place q))
 
 -- ---- records
 

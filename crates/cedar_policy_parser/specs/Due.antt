@@ -6,12 +6,12 @@ use Rattle.cedar_syntax.specs.declared.cst.Ident.{Ident}
 use Rattle.cedar_syntax.specs.declared.cst.Ident.TheVariants as words
 use Rattle.cedar_syntax.specs.declared.loc.Loc.{Loc}
 use Rattle.cedar_syntax.specs.declared.node.Node.{Node}
-use Rattle.cedar_policy_parser.specs.Outcome.{Kind, Told, missing_scope_variable, extra_scope_element, duplicate_policy_id, duplicate_template_id}
+use Rattle.cedar_policy_parser.specs.Outcome.{Kind, NamedFault, missing_scope_variable, extra_scope_element, duplicate_policy_id, duplicate_template_id}
 
 -- a condition that isn't empty, nor is its word, which has a place; it may have an expression
-abbrev pub IsCondition : Node (Option Cond) → Ident → Option Loc → Option (Node (Option Expr))
+abbrev pub HoldsCondition : Node (Option Cond) → Ident → Option Loc → Option (Node (Option Expr))
     → Type 0
-IsCondition n word place expr =
+HoldsCondition n word place expr =
     n.node ≡ Some (record { cond = record { node = Some word; loc = place }; expr = expr })
 
 -- a condition begins with one of these
@@ -30,9 +30,9 @@ is_extra_element extra_scope_element = true
 is_extra_element _ = false
 
 -- how many faults are of a kind
-abbrev pub count : (Kind → Bool) → List Told → ℕ
+abbrev pub count : (Kind → Bool) → List NamedFault → ℕ
 count is_one faults = length (filter (λ f. is_one f.0) faults)
 
 -- a fault that isn't of a name that two policies have
-abbrev pub IsOfNoName : Told → Type 0
+abbrev pub IsOfNoName : NamedFault → Type 0
 IsOfNoName fault = (fault.0 ≢ duplicate_policy_id) × (fault.0 ≢ duplicate_template_id)

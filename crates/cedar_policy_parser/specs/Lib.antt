@@ -29,4 +29,4 @@ pub mod StrictPolicy
 pub mod StrictScope
 pub mod StrictWords
 pub mod Strings
-pub mod ValueSlots
+pub mod Places

@@ -9,7 +9,7 @@ use Rattle.cedar_policy_parser.specs.declared.methods.Standard.{Standard}
 use Rattle.cedar_policy_parser.specs.declared.methods.Standard.TheVariants as standard
 use Rattle.cedar_policy_parser.specs.Extensions.{Extensions}
 use Rattle.cedar_policy_parser.specs.Held.{Held, expression, variable, bare_name, bare_truth, bare_string, as_expression}
-use Rattle.cedar_policy_parser.specs.Outcome.{Outcome, refused, next, variable_call, no_methods, invalid_access, invalid_index, expression_call, wrong_arity, function_call_on_method, method_call_on_function, unknown_method, unknown_function}
+use Rattle.cedar_policy_parser.specs.Outcome.{Outcome, fault_outcome, next, variable_call, no_methods, invalid_access, invalid_index, expression_call, wrong_arity, function_call_on_method, method_call_on_function, unknown_method, unknown_function}
 
 -- what an access gives
 pub data Access : Type 0 where
@@ -44,7 +44,7 @@ abbrev pub with_arguments : Option Loc → Option (Value → Value → Value) �
     → Outcome Value
 with_arguments place (Some make) x (y ∷ []) = Ok (make x y)
 with_arguments place None x [] = Ok (v.is_empty x)
-with_arguments place _ x _ = refused wrong_arity place
+with_arguments place _ x _ = fault_outcome wrong_arity place
 
 abbrev pub standard_outcome : Option Loc → Standard → Value → List Value → Outcome Value
 standard_outcome place method x args = with_arguments place (takes_one method) x args
@@ -55,8 +55,8 @@ plain_name id = record { path = []; id = id }
 -- a method that the table doesn't have may be a function of it
 abbrev pub no_method : Extensions → Option Loc → List ℕ → Outcome Value
 no_method e place id =
-    if e.functions (plain_name id) then refused method_call_on_function place
-    else refused unknown_method place
+    if e.functions (plain_name id) then fault_outcome method_call_on_function place
+    else fault_outcome unknown_method place
 
 -- a method of the table takes the object first
 abbrev pub extension_method : Extensions → Option Loc → List ℕ → Value → List Value → Outcome Value
@@ -75,28 +75,28 @@ method_outcome e place id x args = method_by e place id (standard_method id) x a
 
 -- ---- functions
 
-abbrev pub is_standard : Option Standard → Bool
-is_standard (Some method) = true
-is_standard None = false
+abbrev pub is_some_standard : Option Standard → Bool
+is_some_standard (Some method) = true
+is_some_standard None = false
 
 -- an unqualified name may be a method's
 abbrev pub is_method_id : Extensions → List (List ℕ) → List ℕ → Bool
-is_method_id e [] id = is_standard (standard_method id) || e.methods id
+is_method_id e [] id = is_some_standard (standard_method id) || e.methods id
 is_method_id e (_ ∷ _) id = false
 
 -- a call of a name
 abbrev pub function_outcome : Extensions → Option Loc → Path → List Value → Outcome Value
 function_outcome e place name args =
-    if is_method_id e name.path name.id then refused function_call_on_method place
+    if is_method_id e name.path name.id then fault_outcome function_call_on_method place
     else (if e.functions name then Ok (v.call_extension_fn name (values args))
-    else refused unknown_function place)
+    else fault_outcome unknown_function place)
 
 -- ---- accesses
 
 -- accesses of a value, from the left; a field and the call behind it are a method's
 abbrev pub accesses_of : Extensions → Option Loc → Value → List Access → Outcome Held
 accesses_of e place x [] = Ok (expression place x)
-accesses_of e place x (call args ∷ rest) = refused expression_call place
+accesses_of e place x (call args ∷ rest) = fault_outcome expression_call place
 accesses_of e place x (index text ∷ rest) = accesses_of e place (v.get_attr x text) rest
 accesses_of e place x (field id ∷ []) = Ok (expression place (v.get_attr x id))
 accesses_of e place x (field id ∷ call args ∷ rest) =
@@ -105,16 +105,16 @@ accesses_of e place x (field id ∷ rest) = accesses_of e place (v.get_attr x id
 
 -- what stands behind a name that is no variable is a call, and accesses of what that gives
 abbrev pub name_accesses : Extensions → Option Loc → Path → List Access → Outcome Held
-name_accesses e place name [] = refused invalid_access place
+name_accesses e place name [] = fault_outcome invalid_access place
 name_accesses e place name (call args ∷ rest) =
     next (function_outcome e place name args) (λ y. accesses_of e place y rest)
-name_accesses e place name (index text ∷ rest) = refused invalid_index place
-name_accesses e place name (field id ∷ call args ∷ rest) = refused no_methods place
-name_accesses e place name (field id ∷ rest) = refused invalid_access place
+name_accesses e place name (index text ∷ rest) = fault_outcome invalid_index place
+name_accesses e place name (field id ∷ call args ∷ rest) = fault_outcome no_methods place
+name_accesses e place name (field id ∷ rest) = fault_outcome invalid_access place
 
 -- a variable can't be called
 abbrev pub variable_accesses : Extensions → Option Loc → Value → List Access → Outcome Held
-variable_accesses e place x (call args ∷ rest) = refused variable_call place
+variable_accesses e place x (call args ∷ rest) = fault_outcome variable_call place
 variable_accesses e place x accesses = accesses_of e place x accesses
 
 abbrev pub some_accesses : Extensions → Option Loc → Held → List Access → Outcome Held

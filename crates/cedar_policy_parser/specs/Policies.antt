@@ -26,7 +26,7 @@ use Rattle.cedar_policy_store.specs.declared.static_policy.UnexpectedSlotError.T
 use Rattle.cedar_policy_store.specs.declared.template.Template.{Template}
 use Rattle.cedar_policy_store.specs.PolicyMaps.{PolicyMaps}
 use Rattle.cedar_policy_store.specs.PlaceFree as free
-use Rattle.cedar_policy_store.specs.PlaceFree.{annotated, constrained, set_meaning, with_values}
+use Rattle.cedar_policy_store.specs.PlaceFree.{annotation_value, constraint_meaning, set_meaning, with_values}
 use Rattle.cedar_policy_store.specs.TemplateSlots.{constraint_slot, at_most_one, condition_slots}
 use Rattle.cedar_policy_store.specs.TextMap.{text_order}
 use Rattle.cedar_syntax.specs.declared.cst.Annotation.{Annotation as AnnotationTree}
@@ -40,13 +40,13 @@ use Rattle.cedar_syntax.specs.declared.err.to_ast.ToASTError.{ToASTError}
 use Rattle.cedar_syntax.specs.declared.loc.Loc.{Loc}
 use Rattle.cedar_syntax.specs.declared.node.Node.{Node}
 use Rattle.cedar_policy_parser.specs.AnnotationKeys.{annotations_outcome, annotation_map}
-use Rattle.cedar_policy_parser.specs.Conditions.{Found, conditions_outcome, meanings, paired, place_within}
+use Rattle.cedar_policy_parser.specs.Conditions.{conditions_outcome, meanings}
+use Rattle.cedar_policy_parser.specs.Places.{place_within, bytes_of}
 use Rattle.cedar_policy_parser.specs.Conversion.{with_first}
 use Rattle.cedar_policy_parser.specs.Extensions.{Extensions}
-use Rattle.cedar_policy_parser.specs.Names.{filled}
-use Rattle.cedar_policy_parser.specs.Outcome.{Kind, Told, Outcome, refused, both, next, invalid_effect, expected_static_policy, slots_in_condition_clause}
-use Rattle.cedar_policy_parser.specs.PolicyMeaning.{no_policies, policy_id, with_policy, condition_meant}
-use Rattle.cedar_policy_parser.specs.References.{bytes_of}
+use Rattle.cedar_policy_parser.specs.Names.{content_outcome}
+use Rattle.cedar_policy_parser.specs.Outcome.{Kind, NamedFault, Outcome, fault_outcome, both, next, invalid_effect, expected_static_policy, slots_in_condition_clause}
+use Rattle.cedar_policy_parser.specs.PolicyMeaning.{no_policies, policy_id, with_policy, joint_condition}
 use Rattle.cedar_policy_parser.specs.Scope.{Scope, scope_outcome}
 use Rattle.cedar_policy_parser.specs.Seen.{kind_of}
 
@@ -55,13 +55,13 @@ use Rattle.cedar_policy_parser.specs.Seen.{kind_of}
 abbrev pub effect_of : Option Loc → Ident → Outcome Effect
 effect_of place words.Permit = Ok effects.Permit
 effect_of place words.Forbid = Ok effects.Forbid
-effect_of place _ = refused invalid_effect place
+effect_of place _ = fault_outcome invalid_effect place
 
 abbrev pub effect_outcome : Node (Option Ident) → Outcome Effect
-effect_outcome n = next (filled n.loc n.node) (effect_of n.loc)
+effect_outcome n = next (content_outcome n.loc n.node) (effect_of n.loc)
 
 -- a template's parts with their places, but those inside its condition
-pub record Parts : Type 0 where
+pub record TemplateParts : Type 0 where
   pub id : List ℕ
   pub place : Option Place
   pub annotations : FinMap text_order Annotation
@@ -75,7 +75,7 @@ pub record Parts : Type 0 where
 abbrev pub lent_bytes : Option (Bor Loc) → Option Place
 lent_bytes loc = option_map bytes_of (option_copied loc)
 
-abbrev pub template_parts : Template → Parts
+abbrev pub template_parts : Template → TemplateParts
 template_parts t = record {
   id = t.id;
   place = marked_place t.place;
@@ -92,10 +92,10 @@ abbrev pub Given : Type 0
 Given = (Effect × FinMap text_order Annotation) × (Scope × List Value)
 
 -- the same of what the program holds
-abbrev pub parts_seen : (Effect × FinMap text_order Annotation) × (Scope × Vec Expr Global) → Given
-parts_seen p = (p.0, (p.1.0, meanings p.1.1))
+abbrev pub parts_view : (Effect × FinMap text_order Annotation) × (Scope × Vec Expr Global) → Given
+parts_view p = (p.0, (p.1.0, meanings p.1.1))
 
-abbrev pub given_parts : List ℕ → Option Loc → Given → Parts
+abbrev pub given_parts : List ℕ → Option Loc → Given → TemplateParts
 given_parts id place p = record {
   id = id;
   place = option_map bytes_of place;
@@ -104,7 +104,7 @@ given_parts id place p = record {
   principal = p.1.0.0;
   action = p.1.0.1;
   resource = p.1.0.2;
-  condition = condition_meant p.1.1;
+  condition = joint_condition p.1.1;
 }
 
 -- the annotations as a policy keeps them
@@ -113,41 +113,40 @@ abbrev pub kept_outcome : List (Node (Option AnnotationTree))
 kept_outcome ns = next (annotations_outcome ns) (λ all. Ok (annotation_map all))
 
 -- effect, annotations, scope and conditions joined
-abbrev pub parts_given : Extensions → List Found → PolicyImpl → Outcome Given
-parts_given e found p =
+abbrev pub parts_outcome : Extensions → PolicyImpl → Outcome Given
+parts_outcome e p =
     both (both (effect_outcome p.effect) (kept_outcome p.annotations))
-    (both (scope_outcome e p) (conditions_outcome e found p.conds))
+    (both (scope_outcome e p) (conditions_outcome e p.conds))
 
-abbrev pub template_of : Extensions → List Found → List ℕ → Option Loc → Policy → Outcome Parts
-template_of e found id place (trees.Policy p) =
-    next (parts_given e found p) (λ given. Ok (given_parts id place given))
+abbrev pub template_of : Extensions → List ℕ → Option Loc → Policy → Outcome TemplateParts
+template_of e id place (trees.Policy p) =
+    next (parts_outcome e p) (λ given. Ok (given_parts id place given))
 
-abbrev pub template_outcome : Extensions → List Found → List ℕ → Node (Option Policy)
-    → Outcome Parts
-template_outcome e found id n = next (filled n.loc n.node) (template_of e found id n.loc)
+abbrev pub template_outcome : Extensions → List ℕ → Node (Option Policy) → Outcome TemplateParts
+template_outcome e id n = next (content_outcome n.loc n.node) (template_of e id n.loc)
 
 -- ---- static policies
 
 -- the slots of a template's scope; its condition has none
-abbrev pub scope_slots : Parts → List Slot
+abbrev pub scope_slots : TemplateParts → List Slot
 scope_slots t =
     at_most_one (constraint_slot ids.Principal t.principal.constraint)
     ++ at_most_one (constraint_slot ids.Resource t.resource.constraint)
 
 -- a static policy where its scope has no slot, else a template
-abbrev pub sided : List Slot → Parts → Either Parts Parts
-sided [] t = Left t
-sided (s ∷ ss) t = Right t
+abbrev pub policy_side : List Slot → TemplateParts → Either TemplateParts TemplateParts
+policy_side [] t = Left t
+policy_side (s ∷ ss) t = Right t
 
-abbrev pub side_given : Outcome Parts → Outcome (Either Parts Parts)
-side_given t = next t (λ parts. Ok (sided (scope_slots parts) parts))
+abbrev pub side_outcome : Outcome TemplateParts → Outcome (Either TemplateParts TemplateParts)
+side_outcome t = next t (λ parts. Ok (policy_side (scope_slots parts) parts))
 
-abbrev pub either_outcome : Extensions → List Found → List ℕ → Node (Option Policy)
-    → Outcome (Either Parts Parts)
-either_outcome e found id n = side_given (template_outcome e found id n)
+abbrev pub either_outcome : Extensions → List ℕ → Node (Option Policy)
+    → Outcome (Either TemplateParts TemplateParts)
+either_outcome e id n = side_outcome (template_outcome e id n)
 
 -- the same of what the program holds
-abbrev pub either_parts : Either Template Template → Either Parts Parts
+abbrev pub either_parts : Either Template Template → Either TemplateParts TemplateParts
 either_parts (Left t) = Left (template_parts t)
 either_parts (Right t) = Right (template_parts t)
 
@@ -155,84 +154,80 @@ either_parts (Right t) = Right (template_parts t)
 abbrev pub slot_of : UnexpectedSlotError → Slot
 slot_of (FoundSlot slot) = slot
 
--- a template is refused at its first slot where that was found within the policy, else at the
--- policy
-abbrev pub unless_slots : Option Loc → List Slot → Parts → Outcome Parts
+-- a template is refused at its first slot where that stands within the policy, else at the policy
+abbrev pub unless_slots : Option Loc → List Slot → TemplateParts → Outcome TemplateParts
 unless_slots place [] t = Ok t
-unless_slots place (s ∷ ss) t = refused expected_static_policy (place_within place s.place)
+unless_slots place (s ∷ ss) t = fault_outcome expected_static_policy (place_within place s.place)
 
 abbrev pub is_slot_fault : Kind → Bool
 is_slot_fault slots_in_condition_clause = true
 is_slot_fault _ = false
 
 -- one more fault for each slot in a condition, at its place
-abbrev pub static_told : List Told → List Told
-static_told faults =
+abbrev pub slot_faults : List NamedFault → List NamedFault
+slot_faults faults =
     map (λ f. (expected_static_policy, f.1)) (filter (λ f. is_slot_fault f.0) faults)
 
 -- a fault that is told, if there is one
-abbrev pub told_if : Option ToASTError → List Told
-told_if (Some fault) = (kind_of fault.kind, fault.loc) ∷ []
-told_if None = []
+abbrev pub optional_fault : Option ToASTError → List NamedFault
+optional_fault (Some fault) = (kind_of fault.kind, fault.loc) ∷ []
+optional_fault None = []
 
 -- no slot stands in the condition
 abbrev pub IsConditionFree : Template → Type 0
 IsConditionFree t = condition_slots t.condition ≡ []
 
-abbrev pub only_static : Option Loc → Outcome Parts → Outcome Parts
+abbrev pub only_static : Option Loc → Outcome TemplateParts → Outcome TemplateParts
 only_static place (Ok t) = unless_slots place (scope_slots t) t
-only_static place (Err faults) = Err (faults ++ static_told faults)
+only_static place (Err faults) = Err (faults ++ slot_faults faults)
 
-abbrev pub static_outcome : Extensions → List Found → List ℕ → Node (Option Policy) → Outcome Parts
-static_outcome e found id n = only_static n.loc (template_outcome e found id n)
+abbrev pub static_outcome : Extensions → List ℕ → Node (Option Policy) → Outcome TemplateParts
+static_outcome e id n = only_static n.loc (template_outcome e id n)
 
 -- ---- sets
 
 -- the policy is added under its name, or the template under its
-abbrev pub added : PolicyMaps → Either Template Template → PolicyMaps
-added set (Left t) = record set { policies = insert set.policies t.id t }
-added set (Right t) = record set { templates = insert set.templates t.id t }
+abbrev pub maps_with_policy : PolicyMaps → Either Template Template → PolicyMaps
+maps_with_policy set (Left t) = record set { policies = insert set.policies t.id t }
+maps_with_policy set (Right t) = record set { templates = insert set.templates t.id t }
 
 abbrev pub IsAdded : PolicyMaps → Either Template Template → PolicyMaps → Type 0
-IsAdded before policy after = after ≡ added before policy
+IsAdded before policy after = after ≡ maps_with_policy before policy
 
 -- what a template means: its parts without places
-abbrev pub meaning_of : Parts → free.Policy
+abbrev pub meaning_of : TemplateParts → free.Policy
 meaning_of t = record {
   id = t.id;
-  annotations = with_values annotated t.annotations;
+  annotations = with_values annotation_value t.annotations;
   effect = t.effect;
-  principal = constrained t.principal.constraint;
+  principal = constraint_meaning t.principal.constraint;
   action = t.action;
-  resource = constrained t.resource.constraint;
+  resource = constraint_meaning t.resource.constraint;
   condition = t.condition;
 }
 
 -- the policies from a number on, joined
-abbrev pub policies_from : Extensions → ℕ → List (List Found × Node (Option Policy))
-    → Outcome (List Parts)
+abbrev pub policies_from : Extensions → ℕ → List (Node (Option Policy))
+    → Outcome (List TemplateParts)
 policies_from e i [] = Ok []
-policies_from e i (p ∷ ps) =
-    next (both (template_outcome e p.0 (policy_id i) p.1) (policies_from e (suc i) ps)) with_first
+policies_from e i (n ∷ ns) =
+    next (both (template_outcome e (policy_id i) n) (policies_from e (suc i) ns)) with_first
 
-abbrev pub with_parts : free.Policies → Parts → free.Policies
+abbrev pub with_parts : free.Policies → TemplateParts → free.Policies
 with_parts set t = with_policy set (meaning_of t)
 
-abbrev pub set_of : List Parts → free.Policies
+abbrev pub set_of : List TemplateParts → free.Policies
 set_of ts = fold with_parts no_policies ts
 
-abbrev pub set_given : Outcome (List Parts) → Outcome free.Policies
-set_given all = next all (λ ts. Ok (set_of ts))
+abbrev pub parts_set_outcome : Outcome (List TemplateParts) → Outcome free.Policies
+parts_set_outcome all = next all (λ ts. Ok (set_of ts))
 
 -- the set so far, if all of it is given
-abbrev pub kept_in : PolicyMaps → Unit {0} → free.Policies
-kept_in set all = set_meaning set
+abbrev pub set_view : PolicyMaps → Unit {0} → free.Policies
+set_view set all = set_meaning set
 
-abbrev pub set_outcome : Extensions → List (List Found) → List (Node (Option Policy))
-    → Outcome free.Policies
-set_outcome e found ns = set_given (policies_from e 0 (paired found ns))
+abbrev pub set_outcome : Extensions → List (Node (Option Policy)) → Outcome free.Policies
+set_outcome e ns = parts_set_outcome (policies_from e 0 ns)
 
-abbrev pub policies_outcome : Extensions → List (List Found) → Node (Option Policies)
-    → Outcome free.Policies
-policies_outcome e found n =
-    next (filled n.loc n.node) (λ ps. set_outcome e found ps.0)
+abbrev pub policies_outcome : Extensions → Node (Option Policies) → Outcome free.Policies
+policies_outcome e n = next (content_outcome n.loc n.node) (λ ps. set_outcome e ps.0)

@@ -11,7 +11,6 @@ use Rattle.cedar_syntax.specs.LooseExpressions.{ReadsExpr}
 use Rattle.cedar_syntax.specs.LoosePolicies.{ReadsPolicies}
 use Rattle.cedar_syntax.specs.MendedFaults.{IsMendedRefusal, PoliciesBefore}
 use Rattle.cedar_syntax.specs.Trees.{Cell}
-use Rattle.cedar_policy_parser.specs.Conditions.{Found}
 use Rattle.cedar_policy_parser.specs.Conversion.{value_outcome}
 use Rattle.cedar_policy_parser.specs.Extensions.{Extensions}
 use Rattle.cedar_policy_parser.specs.Policies.{policies_outcome}
@@ -26,13 +25,12 @@ abbrev pub RefusesText : Extensions → Failure → List ℕ → Type 0
 RefusesText table failure text = IsRefusal ReadsExpr narrowing.TokensAndEnd text failure
     ⊎ ((tree : Cell Expr) × IsTreeOf ReadsExpr text tree × TellsTree table failure tree)
 
--- the same of the tree of policies, wherever the slots in their conditions were found
+-- the same of the tree of policies
 abbrev pub TellsSet : Extensions → Failure → Cell Policies → Type 0
-TellsSet table failure tree =
-    (found : List (List Found)) × Refuses failure (policies_outcome table found tree)
+TellsSet table failure tree = Refuses failure (policies_outcome table tree)
 
--- a text of policies is refused with its mended faults where it has no tree, else with the faults of
--- its tree
+-- a text of policies is refused with its mended faults where it has no tree, else with the faults
+-- of its tree
 abbrev pub RefusesSet : Extensions → Failure → List ℕ → Type 0
 RefusesSet table failure text = IsMendedRefusal ReadsPolicies PoliciesBefore text failure
     ⊎ ((tree : Cell Policies) × IsTreeOf ReadsPolicies text tree × TellsSet table failure tree)

@@ -16,7 +16,7 @@ use Rattle.cedar_policy_parser.specs.declared.special.ExprOrSpecial.TheVariants 
 use Rattle.cedar_policy_parser.specs.Conversion.{Part}
 use Rattle.cedar_policy_parser.specs.Held.{Held, expression, variable, bare_name, bare_truth, bare_string}
 use Rattle.cedar_policy_parser.specs.Outcome as k
-use Rattle.cedar_policy_parser.specs.Outcome.{Kind, Told, Outcome, both, next, no_tree}
+use Rattle.cedar_policy_parser.specs.Outcome.{Kind, NamedFault, Outcome, both, next, no_tree}
 use Rattle.std.specs.Prelude.{Option, None}
 use Rattle.cedar_syntax.specs.declared.loc.Loc.{Loc}
 
@@ -79,17 +79,17 @@ kind_of (kinds.InvalidSlot a) = k.invalid_slot
 kind_of (kinds.ReservedNamespace a) = k.reserved_namespace
 kind_of kinds.InvertedIsIn = k.inverted_is_in
 
-abbrev pub told_of : ParseError → Told
-told_of (ToAST fault) = (kind_of fault.kind, fault.loc)
-told_of (ToCST fault) = (no_tree, None)
+abbrev pub named_fault : ParseError → NamedFault
+named_fault (ToAST fault) = (kind_of fault.kind, fault.loc)
+named_fault (ToCST fault) = (no_tree, None)
 
-abbrev pub told : List ParseError → List Told
-told faults = map told_of faults
+abbrev pub named_faults : List ParseError → List NamedFault
+named_faults faults = map named_fault faults
 
 -- A failure tells the outcome's faults. Want of memory may be the answer whatever the outcome is.
 abbrev pub Refuses : {Y : Type 0} → Failure → Outcome Y → Type 0
 Refuses (Memory error) outcome = Unit {0}
-Refuses (Errors errors) outcome = outcome ≡ Err (told (faults_of errors))
+Refuses (Errors errors) outcome = outcome ≡ Err (named_faults (faults_of errors))
 
 -- An answer, seen by view, is the outcome.
 abbrev pub Gives : {X Y : Type 0} → (X → Y) → Result X Failure → Outcome Y → Type 0
@@ -99,7 +99,7 @@ Gives view (Err failure) outcome = Refuses failure outcome
 -- the failure is one fault alone, or want of memory
 abbrev pub TellsAlone : Failure → Kind → Option Loc → Type 0
 TellsAlone (Memory error) kind place = Unit {0}
-TellsAlone (Errors errors) kind place = told (faults_of errors) ≡ (kind, place) ∷ []
+TellsAlone (Errors errors) kind place = named_faults (faults_of errors) ≡ (kind, place) ∷ []
 
 -- ---- views
 
@@ -112,14 +112,15 @@ plain meaning (special.BoolLit b place) = bare_truth place b
 plain meaning (special.StrLit raw place) = bare_string place raw
 
 -- expressions behind operators
-abbrev pub behind : {O E : Type 0} → (O → Operator) → (E → Value) → Vec (O × E) Global → List Part
-behind operator meaning v = map (λ p. (operator p.0, meaning p.1)) v.items
+abbrev pub rest_view : {O E : Type 0} → (O → Operator) → (E → Value) → Vec (O × E) Global
+    → List Part
+rest_view operator meaning v = map (λ p. (operator p.0, meaning p.1)) v.items
 
 abbrev pub itself : {T : Type 0} → T → T
 itself x = x
 
-abbrev pub none_seen : {T : Type 0} → T → Unit {0}
-none_seen x = tt
+abbrev pub empty_view : {T : Type 0} → T → Unit {0}
+empty_view x = tt
 
 -- one more part behind those so far
 abbrev pub with_last : Operator → List Part × Value → Outcome (List Part)

@@ -1,16 +1,17 @@
 -- The strict grammar: which tokens mean which expression. There is no tree and no fault in it. Its
 -- levels, from the loosest operator to the tightest, and what each form means are those of the
--- grammar and of the operators' pages in Cedar's reference: a relation has one operator at most, `/`
--- and `%` mean nothing, so many signs at most as `limit` says stand before an operand, a literal
--- number fits 64 bits with its sign, the keys of a record are all different. What may be called
--- beside the methods of every text is what `table` has.
-use Rattle.std.specs.Prelude.{◌≡◌, ◌≤◌, ◌<◌, ◌^◌, ◌+◌, ℕ, zero, suc, true, false, List, [], ◌∷◌, ◌++◌, map, length, pos, neg_ℤ}
+-- grammar and of the operators' pages in Cedar's reference: a relation has one operator at most,
+-- `/` and `%` mean nothing, so many signs at most as `limit` says stand before an operand, a
+-- literal number fits 64 bits with its sign, the keys of a record are all different. What may be
+-- called beside the methods of every text is what `table` has.
+use Rattle.std.specs.Prelude.{◌≡◌, ◌≤◌, ◌<◌, ◌^◌, ◌+◌, ◌-◌, ℕ, zero, suc, true, false, List, [], ◌∷◌, ◌++◌, map, length, Some, pos, neg_ℤ}
 use Rattle.cedar_lexer.specs.Token.{Lexeme}
 use Rattle.cedar_lexer.specs.declared.token.TokenKind.{TokenKind}
 use Rattle.cedar_lexer.specs.declared.token.TokenKind.TheVariants as kind
 use Rattle.cedar_expressions.specs.declared.operators.AddOp.{AddOp}
 use Rattle.cedar_expressions.specs.declared.entity.EntityUID.{EntityUID}
 use Rattle.cedar_expressions.specs.declared.literal.Var.{Var}
+use Rattle.cedar_expressions.specs.declared.literal.SlotId.{SlotId}
 use Rattle.cedar_expressions.specs.declared.literal.SlotId.TheVariants as slots
 use Rattle.cedar_expressions.specs.declared.literal.PatternElem.{PatternElem}
 use Rattle.cedar_expressions.specs.declared.literal.Literal.TheVariants as literals
@@ -22,16 +23,21 @@ use Rattle.cedar_syntax.specs.Signs.{ReadsSigns, ReadsAddOp}
 use Rattle.cedar_syntax.specs.Tokens.{Spot, one, number_of, between_quotes}
 use Rattle.cedar_policy_parser.specs.Extensions.{Extensions}
 use Rattle.cedar_policy_parser.specs.StrictCalls.{IsFunction, CallsMethod}
-use Rattle.cedar_policy_parser.specs.StrictWords.{IsVariable, IsVariableWord, IsIdentifier, IsName, IsText, IsSought, IsKey, IsEntity, name_of}
+use Rattle.cedar_policy_parser.specs.StrictWords.{IsVariable, IsVariableWord, IsIdentifier, IsName, IsText, IsSought, IsKey, IsEntity, path_value}
 
 -- a sign applied as often as it stands there
-abbrev pub repeated : ℕ → (Value → Value) → Value → Value
-repeated zero f x = x
-repeated (suc n) f x = f (repeated n f x)
+abbrev pub iteration : ℕ → (Value → Value) → Value → Value
+iteration zero f x = x
+iteration (suc n) f x = f (iteration n f x)
 
 -- 9223372036854775808, the first number that is no literal but behind a `-`
 abbrev pub largest : ℕ
 largest = 2 ^ 63
+
+-- a slot where a token stands
+abbrev pub slot_there : SlotId → Spot → Value
+slot_there id p =
+    v.slot (record { id = id; place = Some record { offset = p.start; length = p.end - p.start } })
 
 -- What tokens are read as, from the loosest to the tightest. A sort's tokens are also those of the
 -- sort before it.
@@ -104,12 +110,12 @@ mutual
     is : {ts us : List Lexeme} {a : Value} {ids : List (List ℕ)} {id : List ℕ} (p : Spot)
         → Means table limit sum ts a → IsName us ids id
         → Means table limit relation (ts ++ one kind.Is p ++ us)
-        (v.is_entity_type a (record { name = name_of ids id }))
+        (v.is_entity_type a (record { name = path_value ids id }))
     -- the same, `in`, and another sum
     is_in : {ts us vs : List Lexeme} {a b : Value} {ids : List (List ℕ)} {id : List ℕ} (p q : Spot)
         → Means table limit sum ts a → IsName us ids id → Means table limit sum vs b
         → Means table limit relation (ts ++ one kind.Is p ++ us ++ one kind.In q ++ vs)
-        (v.is_in_entity_type a (record { name = name_of ids id }) b)
+        (v.is_in_entity_type a (record { name = path_value ids id }) b)
     one_sum : {ts : List Lexeme} {a : Value} → Means table limit sum ts a
         → Means table limit relation ts a
     -- two or more parts joined by `+` and `-`
@@ -126,18 +132,18 @@ mutual
         → Means table limit product ts a
     -- signs `!` up to the limit apply `not` as often
     negated : {ts us : List Lexeme} {a : Value} {n : ℕ} → ReadsSigns kind.Bang ts n → n ≤ limit
-        → Means table limit member us a → Means table limit signed (ts ++ us) (repeated n v.not a)
+        → Means table limit member us a → Means table limit signed (ts ++ us) (iteration n v.not a)
     -- of the signs `-` up to the limit before a NUMBER that is the whole operand the last one and
     -- the number are
     -- one literal, each other applies `neg`
     negative : {ts : List Lexeme} (n : ℕ) (p : Spot) → ReadsSigns kind.Minus ts (n + 1)
         → n < limit → number_of p.text ≤ largest
         → Means table limit signed (ts ++ one kind.Number p)
-        (repeated n v.neg (v.val (literals.Long (neg_ℤ (pos (number_of p.text))))))
+        (iteration n v.neg (v.val (literals.Long (neg_ℤ (pos (number_of p.text))))))
     -- before any other operand each `-` up to the limit applies `neg`
     opposite : {ts us : List Lexeme} {a : Value} {n : ℕ} → ReadsSigns kind.Minus ts n → n ≤ limit
         → (IsNumeral us → ⊥) → Means table limit member us a
-        → Means table limit signed (ts ++ us) (repeated n v.neg a)
+        → Means table limit signed (ts ++ us) (iteration n v.neg a)
     unsigned : {ts : List Lexeme} {a : Value} → Means table limit member ts a
         → Means table limit signed ts a
     -- a member is a primary or a call of a function, and links behind it, from the left
@@ -148,7 +154,7 @@ mutual
         (l m : Spot) → IsName ts ids id → (IsVariableWord ts → ⊥) → IsFunction table ids id
         → Listed table limit us args
         → Means table limit member (ts ++ one kind.OpenParen l ++ us ++ one kind.CloseParen m)
-        (v.call_extension_fn (name_of ids id) (values args))
+        (v.call_extension_fn (path_value ids id) (values args))
     -- `.` and an identifier: an attribute, since no call stands behind it
     attribute : {ts us : List Lexeme} {a : Value} {id : List ℕ} (p : Spot)
         → Means table limit member ts a → IsIdentifier us id
@@ -174,11 +180,11 @@ mutual
         → Means table limit primary ts (v.val (literals.String text))
     variable : {k : TokenKind} {x : Var} (p : Spot) → IsVariable k x
         → Means table limit primary (one k p) (v.var x)
-    -- the two slots of a template
+    -- the two slots of a template, each where its token stands
     principal_slot : (p : Spot)
-        → Means table limit primary (one kind.PrincipalSlot p) (v.slot slots.Principal)
+        → Means table limit primary (one kind.PrincipalSlot p) (slot_there slots.Principal p)
     resource_slot : (p : Spot)
-        → Means table limit primary (one kind.ResourceSlot p) (v.slot slots.Resource)
+        → Means table limit primary (one kind.ResourceSlot p) (slot_there slots.Resource p)
     entity : {ts : List Lexeme} {uid : EntityUID} → IsEntity ts uid
         → Means table limit primary ts (v.val (literals.EntityUID uid))
     parenthesized : {ts : List Lexeme} {a : Value} (l m : Spot)

@@ -1,5 +1,5 @@
--- The strict grammar of calls: what may be called, and what a call means. Six methods are there for
--- every text; what else may be called is what the table has.
+-- The strict grammar of calls: what may be called, and what a call means. Six methods are there
+-- for every text; what else may be called is what the table has.
 use Rattle.std.specs.Prelude.{◌≡◌, ℕ, Bool, true, false, ◌||◌, List, [], ◌∷◌, codes}
 use Rattle.std.specs.List.{list_any}
 use Rattle.std.specs.Str.{bytes_eq}
@@ -7,7 +7,7 @@ use Rattle.cedar_expressions.specs.Path.{Path}
 use Rattle.cedar_expressions.specs.Value as v
 use Rattle.cedar_expressions.specs.Value.{Value, values}
 use Rattle.cedar_policy_parser.specs.Extensions.{Extensions}
-use Rattle.cedar_policy_parser.specs.StrictWords.{name_of}
+use Rattle.cedar_policy_parser.specs.StrictWords.{path_value}
 
 -- the methods that every text may call
 abbrev pub standard_methods : List (List ℕ)
@@ -26,7 +26,7 @@ names_method table (_ ∷ _) id = false
 -- what may be called by its name alone: a function of the table whose name is no method's
 abbrev pub IsFunction : Extensions → List (List ℕ) → List ℕ → Type 0
 IsFunction table ids id =
-    (names_method table ids id ≡ false) × (table.functions (name_of ids id) ≡ true)
+    (names_method table ids id ≡ false) × (table.functions (path_value ids id) ≡ true)
 
 -- a method called on a value with arguments, and the value that this means: each of the six takes
 -- its own number of them; any other is the table's, and is called on the value and the arguments
@@ -41,4 +41,4 @@ pub data CallsMethod (table : Extensions) : List ℕ → Value → List Value �
   has_tag : {a b : Value} → CallsMethod table (codes "hasTag") a (b ∷ []) (v.has_tag a b)
   by_table : {id : List ℕ} {a : Value} {args : List Value} → is_standard id ≡ false
       → table.methods id ≡ true
-      → CallsMethod table id a args (v.call_extension_fn (name_of [] id) (values (a ∷ args)))
+      → CallsMethod table id a args (v.call_extension_fn (path_value [] id) (values (a ∷ args)))

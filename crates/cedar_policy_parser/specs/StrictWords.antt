@@ -1,7 +1,7 @@
--- The strict grammar of words: which tokens are an identifier, a name, an attribute, a record's key
--- or an entity. No tree and no fault stands in it. Whether a name may hold a word is told by the
--- token's kind; an IDENTIFIER is held against the rule of names again, so that it is said of tokens
--- that are the cut of no text too.
+-- The strict grammar of words: which tokens are an identifier, a name, an attribute, a record's
+-- key or an entity. No tree and no fault stands in it. Whether a name may hold a word is told by
+-- the token's kind; an IDENTIFIER is held against the rule of names again, so that it is said of
+-- tokens that are the cut of no text too.
 use Rattle.std.specs.Prelude.{◌≡◌, ℕ, true, List, [], ◌∷◌, ◌++◌, codes}
 use Rattle.cedar_lexer.specs.Token.{Lexeme}
 use Rattle.cedar_lexer.specs.declared.token.TokenKind.{TokenKind}
@@ -27,9 +27,9 @@ IsVariableWord [] = ⊥
 IsVariableWord (t ∷ []) = (x : Var) × IsVariable t.kind x
 IsVariableWord (t ∷ u ∷ ts) = ⊥
 
--- an identifier that names may hold, and its text: an IDENTIFIER but `__cedar`, or one of the words
--- that mean something in few places only; `if`, `true`, `false`, `then`, `else`, `in`, `is`, `has`
--- and `like` are none
+-- an identifier that names may hold, and its text: an IDENTIFIER but `__cedar`, or one of the
+-- words that mean something in few places only; `if`, `true`, `false`, `then`, `else`, `in`, `is`,
+-- `has` and `like` are none
 pub data IsIdentifier : List Lexeme → List ℕ → Type 0 where
   variable_word : {k : TokenKind} {x : Var} (p : Spot) → IsVariable k x
       → IsIdentifier (one k p) (var_text x)
@@ -48,8 +48,8 @@ pub data IsName : List Lexeme → List (List ℕ) → List ℕ → Type 0 where
       → IsName (ts ++ one kind.ColonColon p ++ us) (ids ++ id ∷ []) last
 
 -- a name as one value
-abbrev pub name_of : List (List ℕ) → List ℕ → Path
-name_of ids id = record { path = ids; id = id }
+abbrev pub path_value : List (List ℕ) → List ℕ → Path
+path_value ids id = record { path = ids; id = id }
 
 -- attributes: identifiers joined by `.`, the first one and those behind it
 pub data AreAttributes : List Lexeme → List ℕ → List (List ℕ) → Type 0 where
@@ -79,4 +79,4 @@ pub data IsEntity : List Lexeme → EntityUID → Type 0 where
   entity : {ts us : List Lexeme} {ids : List (List ℕ)} {id eid : List ℕ} (p : Spot)
       → IsName ts ids id → IsText us eid
       → IsEntity (ts ++ one kind.ColonColon p ++ us)
-      (record { entity_type = record { name = name_of ids id }; eid = record { text = eid } })
+      (record { entity_type = record { name = path_value ids id }; eid = record { text = eid } })

@@ -7,7 +7,7 @@ use Rattle.cedar_expressions.specs.declared.literal.PatternElem.{PatternElem}
 use Rattle.cedar_syntax.specs.Pattern.{pattern_faults, pattern_pieces}
 use Rattle.cedar_syntax.specs.Piece.{Placed, piece_faults, unescaped_pieces}
 use Rattle.cedar_syntax.proofs.Layouts.{laid_out}
-use Rattle.cedar_policy_parser.specs.Outcome.{Outcome, Told, unescape}
+use Rattle.cedar_policy_parser.specs.Outcome.{Outcome, NamedFault, unescape}
 
 -- the pieces that a raw text is laid out of: there are such, and no others (the law `one_layout`
 -- of `cedar_syntax`)
@@ -22,12 +22,12 @@ abbrev pub unescaped : List ℕ → List ℕ
 unescaped raw = unescaped_pieces (layout raw)
 
 -- escape faults, each at the string's place
-abbrev pub told_at : Option Loc → List UnescapeError → List Told
-told_at place faults = map (λ fault. (unescape, place)) faults
+abbrev pub string_faults : Option Loc → List UnescapeError → List NamedFault
+string_faults place faults = map (λ fault. (unescape, place)) faults
 
 abbrev pub unless_faulty : {X : Type 0} → Option Loc → List UnescapeError → X → Outcome X
 unless_faulty place [] x = Ok x
-unless_faulty place (fault ∷ faults) x = Err (told_at place (fault ∷ faults))
+unless_faulty place (fault ∷ faults) x = Err (string_faults place (fault ∷ faults))
 
 -- the text that a raw text at a place stands for
 abbrev pub text_outcome : Option Loc → List ℕ → Outcome (List ℕ)

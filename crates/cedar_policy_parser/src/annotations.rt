@@ -5,11 +5,11 @@ ghost use Rattle.std.specs.FinMap.{contains_key, insert};
 ghost use Rattle.std.specs.Option.{option_map};
 ghost use Rattle.cedar_syntax.specs.declared.err.faults.ParseError.TheVariants.{ToAST};
 ghost use Rattle.cedar_policy_parser.specs.AnnotationKeys as k;
-ghost use Rattle.cedar_policy_parser.specs.AnnotationKeys.{Annotated};
+ghost use Rattle.cedar_policy_parser.specs.AnnotationKeys.{AnnotationContent};
 ghost use Rattle.cedar_policy_store.specs.TextMap.{map_in, text_order};
-ghost use Rattle.cedar_policy_parser.specs.Outcome.{Told, duplicate_annotation};
-ghost use Rattle.cedar_policy_parser.specs.Scope.{unless_told};
-ghost use Rattle.cedar_policy_parser.specs.Seen.{Gives, Refuses, none_seen, told_of};
+ghost use Rattle.cedar_policy_parser.specs.Outcome.{NamedFault, duplicate_annotation};
+ghost use Rattle.cedar_policy_parser.specs.Scope.{faults_outcome};
+ghost use Rattle.cedar_policy_parser.specs.Seen.{Gives, Refuses, empty_view, named_fault};
 ghost use Rattle.cedar_syntax.specs.Joined.{WantsMemory};
 
 use crate::entities::id_of;
@@ -31,7 +31,7 @@ fn text_of(
     loc: &Option<Loc>,
     node: &Option<Node<Option<Str>>>,
 ) -> Result<Option<String>, Failure>
-    ensures { Gives (option_map string_bytes) result (k.text_given loc.now node.now) }
+    ensures { Gives (option_map string_bytes) result (k.value_text_outcome loc.now node.now) }
 {
     match node {
         Some(node) => Ok(Some(id_of(alloc, loc, node)?.into_string())),
@@ -45,7 +45,7 @@ fn pair(
     loc: &Option<Loc>,
     annotation: &Annotation,
 ) -> Result<(AnyId, Option<String>), Failure>
-    ensures { Gives (k.pair_seen loc.now) result (k.pair_given loc.now annotation.now) }
+    ensures { Gives (k.pair_view loc.now) result (k.key_value_outcome loc.now annotation.now) }
 {
     flatten_tuple_2(
         any_ident(alloc, &annotation.key),
@@ -58,7 +58,7 @@ fn text_pair(
     alloc: Global,
     node: &Node<Option<Annotation>>,
 ) -> Result<(AnyId, Option<String>), Failure>
-    ensures { Gives (k.pair_seen node.now.loc) result (k.annotation_outcome node.now) }
+    ensures { Gives (k.pair_view node.now.loc) result (k.annotation_outcome node.now) }
 {
     match &node.node {
         Some(inner) => pair(alloc, &node.loc, inner),
@@ -73,8 +73,8 @@ pub(crate) fn kv_pair<T: Drop, F: Fn(Option<String>, Option<&Loc>) -> T>(
     f: &F,
 ) -> Result<(AnyId, T), Failure>
     requires { F.IsAlwaysCallable f.now }
-    ensures value { IfOk result (λ p. (a : Annotated) × (k.annotation_outcome node.now ≡ Ok a)
-        × (a.key ≡ p.0) × k.Answers F.Fn f.now a p.1) }
+    ensures value { IfOk result (λ p. (a : AnnotationContent)
+        × (k.annotation_outcome node.now ≡ Ok a) × (a.key ≡ p.0) × k.Answers F.Fn f.now a p.1) }
     ensures refused { IfErr result (λ failure. Refuses failure (k.annotation_outcome node.now)) }
 {
     let (key, text) = text_pair(alloc, node)?;
@@ -84,7 +84,7 @@ pub(crate) fn kv_pair<T: Drop, F: Fn(Option<String>, Option<&Loc>) -> T>(
 
 /// An annotation whose key an earlier one has.
 fn duplicate(key: &AnyId, loc: &Option<Loc>) -> Result<ToASTError, AllocError>
-    ensures { IfOk result (λ made. told_of (ToAST made) ≡ (duplicate_annotation, loc.now)) }
+    ensures { IfOk result (λ made. named_fault (ToAST made) ≡ (duplicate_annotation, loc.now)) }
 {
     let loc = loc.try_clone()?;
     Ok(ToASTError::new(ToASTErrorKind::DuplicateAnnotation(key.try_clone()?), loc))
@@ -102,9 +102,9 @@ fn keep<T: Drop>(
     ensures memory { WantsMemory all → WantsMemory result }
     ensures known { IsOrdered text_order map.old → contains_key (map_in map.old) pair.0 ≡ true
         → (map_in map.new ≡ map_in map.old)
-        × ((faults : List Told) → Gives none_seen all (unless_told faults)
-        → Gives none_seen result
-        (unless_told (faults ++ (duplicate_annotation, loc.now) ∷ []))) }
+        × ((faults : List NamedFault) → Gives empty_view all (faults_outcome faults)
+        → Gives empty_view result
+        (faults_outcome (faults ++ (duplicate_annotation, loc.now) ∷ []))) }
     ensures new { IsOrdered text_order map.old → contains_key (map_in map.old) pair.0 ≡ false
         → WantsMemory result
         ⊎ ((result ≡ all) × (map_in map.new ≡ insert (map_in map.old) pair.0 pair.1)) }
@@ -127,9 +127,9 @@ fn one_more<T: Drop, F: Fn(Option<String>, Option<&Loc>) -> T>(
 ) -> Result<(), Failure>
     requires { F.IsAlwaysCallable f.now }
     ensures ordered { IsOrdered text_order map.old → IsOrdered text_order map.new }
-    ensures filled { (so_far : k.Gathered) → IsOrdered text_order map.old
-        → k.Filled F.Fn f.now so_far (map_in map.old) all
-        → k.Filled F.Fn f.now (k.gather_node so_far node.now) (map_in map.new) result }
+    ensures filled { (so_far : k.Gathering) → IsOrdered text_order map.old
+        → k.HoldsSoFar F.Fn f.now so_far (map_in map.old) all
+        → k.HoldsSoFar F.Fn f.now (k.gathering_with_node so_far node.now) (map_in map.new) result }
 {
     match kv_pair::<T, F>(alloc, node, f) {
         Ok(pair) => keep::<T>(alloc, map, pair, &node.loc, all),
@@ -144,9 +144,9 @@ pub(crate) fn annotations<T: Drop, F: Fn(Option<String>, Option<&Loc>) -> T>(
     f: &F,
 ) -> Result<BTreeMap<AnyId, T>, Failure>
     requires { F.IsAlwaysCallable f.now }
-    ensures value { IfOk result (λ map. (all : List Annotated) × (made : List T)
+    ensures value { IfOk result (λ map. (all : List AnnotationContent) × (made : List T)
         × (k.annotations_outcome nodes.now ≡ Ok all) × k.AnswersEach F.Fn f.now all made
-        × (map_in map ≡ k.keyed all made)) }
+        × (map_in map ≡ k.values_by_key all made)) }
     ensures refused { IfErr result (λ failure.
         Refuses failure (k.annotations_outcome nodes.now)) }
 {

@@ -6,12 +6,12 @@ ghost use Rattle.std.specs.Prelude.{◌≡◌, List};
 ghost use Rattle.cedar_expressions.specs.Value.{Value};
 ghost use Rattle.cedar_syntax.specs.Tree.{Operator};
 ghost use Rattle.cedar_policy_parser.specs.Applied.{seen_accesses};
-ghost use Rattle.cedar_policy_parser.specs.Conversion.{Part, chosen, made as made_at};
+ghost use Rattle.cedar_policy_parser.specs.Conversion.{Part, conditional_outcome, expression_at as made_at};
 ghost use Rattle.cedar_policy_parser.specs.Extensions.{table_of};
 ghost use Rattle.cedar_policy_parser.specs.Held.{Held, as_expression};
 ghost use Rattle.cedar_policy_parser.specs.Members.{Access as Given, member_outcome};
-ghost use Rattle.cedar_policy_parser.specs.Outcome.{Outcome, both, empty_node, next, refused};
-ghost use Rattle.cedar_policy_parser.specs.Seen.{Gives, behind, one_more, plain};
+ghost use Rattle.cedar_policy_parser.specs.Outcome.{Outcome, both, empty_node, next, fault_outcome};
+ghost use Rattle.cedar_policy_parser.specs.Seen.{Gives, rest_view, one_more, plain};
 
 use crate::collections::Accesses;
 use crate::conditional::{if_from, parens_from};
@@ -73,8 +73,8 @@ pub(crate) fn gather<B: ExprBuilderInfallibleBuild, O: Copy + Drop>(
     answer: &mut Converted<B::Expr>,
 )
     ensures { (operator : O → Operator) (ps : Outcome (List Part)) (x : Outcome Held)
-        → Gives (behind operator B.meaning) all.old ps → Gives (plain B.meaning) answer.old x
-        → Gives (behind operator B.meaning) all.new
+        → Gives (rest_view operator B.meaning) all.old ps → Gives (plain B.meaning) answer.old x
+        → Gives (rest_view operator B.meaning) all.new
         (one_more (operator op) ps (next x as_expression)) }
 {
     let next = value_in::<B>(alloc, answer);
@@ -108,7 +108,7 @@ pub(crate) fn chosen_in<B: ExprBuilderInfallibleBuild>(
     ensures { (x y : Outcome Value) (h : Outcome Held) → Gives B.meaning guard.old x
         → Gives B.meaning consequent.old y → Gives (plain B.meaning) answer.old h
         → Gives (plain B.meaning) answer.new
-        (next (both (both x y) (next h as_expression)) (chosen loc.now)) }
+        (next (both (both x y) (next h as_expression)) (conditional_outcome loc.now)) }
 {
     let alternative = value_in::<B>(alloc, answer);
     let guard = take(guard);
@@ -144,7 +144,7 @@ pub(crate) fn unreached_in<B: ExprBuilderInfallibleBuild>(
     loc: &Option<Loc>,
     answer: &mut Converted<B::Expr>,
 )
-    ensures { Gives (plain B.meaning) answer.new (refused empty_node loc.now) }
+    ensures { Gives (plain B.meaning) answer.new (fault_outcome empty_node loc.now) }
 {
     put(answer, Err(unreached(alloc, loc)));
 }

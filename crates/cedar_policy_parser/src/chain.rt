@@ -2,10 +2,10 @@
 ghost use Rattle.std.specs.Prelude.{◌≡◌, List};
 ghost use Rattle.cedar_expressions.specs.Value.{Value};
 ghost use Rattle.cedar_syntax.specs.Tree.{Operator, Level, disjunction, conjunction, relation, sum, product, or_or, and_and, compare, add, multiply};
-ghost use Rattle.cedar_policy_parser.specs.Conversion.{Part, joined, combined, compared, factor};
+ghost use Rattle.cedar_policy_parser.specs.Conversion.{Part, joint_outcome, level_outcome, comparison_outcome, factor};
 ghost use Rattle.cedar_policy_parser.specs.Held.{Held};
 ghost use Rattle.cedar_policy_parser.specs.Outcome.{Outcome, both, next};
-ghost use Rattle.cedar_policy_parser.specs.Seen.{Gives, plain, behind, none_seen};
+ghost use Rattle.cedar_policy_parser.specs.Seen.{Gives, plain, rest_view, empty_view};
 
 use crate::join::bodies_of;
 use crate::special::{ExprOrSpecial, builder_at, into_expr, made, refusal};
@@ -30,7 +30,7 @@ pub(crate) trait Joins: Copy {
         rest: Vec<(Self, B::Expr)>,
     ) -> Result<ExprOrSpecial<B::Expr>, Failure>
         ensures { Gives (plain B.meaning) result
-            (combined level loc.now (behind operator B.meaning rest) (B.meaning first)) };
+            (level_outcome level loc.now (rest_view operator B.meaning rest) (B.meaning first)) };
 }
 
 /// `||`.
@@ -53,7 +53,7 @@ impl Joins for OrOr {
         rest: Vec<(OrOr, B::Expr)>,
     ) -> Result<ExprOrSpecial<B::Expr>, Failure>
         ensures { Gives (plain B.meaning) result
-            (combined disjunction loc.now (behind (λ op. or_or) B.meaning rest)
+            (level_outcome disjunction loc.now (rest_view (λ op. or_or) B.meaning rest)
             (B.meaning first)) }
     {
         let rest = bodies_of(alloc, rest)?;
@@ -73,7 +73,7 @@ impl Joins for AndAnd {
         rest: Vec<(AndAnd, B::Expr)>,
     ) -> Result<ExprOrSpecial<B::Expr>, Failure>
         ensures { Gives (plain B.meaning) result
-            (combined conjunction loc.now (behind (λ op. and_and) B.meaning rest)
+            (level_outcome conjunction loc.now (rest_view (λ op. and_and) B.meaning rest)
             (B.meaning first)) }
     {
         let rest = bodies_of(alloc, rest)?;
@@ -93,7 +93,7 @@ impl Joins for AddOp {
         rest: Vec<(AddOp, B::Expr)>,
     ) -> Result<ExprOrSpecial<B::Expr>, Failure>
         ensures { Gives (plain B.meaning) result
-            (combined sum loc.now (behind add B.meaning rest) (B.meaning first)) }
+            (level_outcome sum loc.now (rest_view add B.meaning rest) (B.meaning first)) }
     {
         made::<B>(builder_at::<B>(alloc, loc).add_nary(first, rest)?, loc)
     }
@@ -111,7 +111,7 @@ impl Joins for MultOp {
         rest: Vec<(MultOp, B::Expr)>,
     ) -> Result<ExprOrSpecial<B::Expr>, Failure>
         ensures { Gives (plain B.meaning) result
-            (combined product loc.now (behind multiply B.meaning rest) (B.meaning first)) }
+            (level_outcome product loc.now (rest_view multiply B.meaning rest) (B.meaning first)) }
     {
         let rest = bodies_of(alloc, rest)?;
         made::<B>(builder_at::<B>(alloc, loc).mul_nary(first, rest)?, loc)
@@ -126,7 +126,7 @@ fn relate<B: ExprBuilderInfallibleBuild>(
     right: B::Expr,
 ) -> Result<ExprOrSpecial<B::Expr>, Failure>
     ensures { Gives (plain B.meaning) result
-        (compared loc.now op (B.meaning left) (B.meaning right)) }
+        (comparison_outcome loc.now op (B.meaning left) (B.meaning right)) }
 {
     let builder = builder_at::<B>(alloc, loc);
     let related = match op {
@@ -154,7 +154,7 @@ impl Joins for RelOp {
         rest: Vec<(RelOp, B::Expr)>,
     ) -> Result<ExprOrSpecial<B::Expr>, Failure>
         ensures { Gives (plain B.meaning) result
-            (combined relation loc.now (behind compare B.meaning rest) (B.meaning first)) }
+            (level_outcome relation loc.now (rest_view compare B.meaning rest) (B.meaning first)) }
     {
         match rest.into_iter().next() {
             None => made::<B>(first, loc),
@@ -190,9 +190,9 @@ pub(crate) fn chain_from<B: ExprBuilderInfallibleBuild, O: Joins + Drop>(
     allowed: Result<(), Failure>,
 ) -> Result<ExprOrSpecial<B::Expr>, Failure>
     ensures { (x : Outcome Held) (ps : Outcome (List Part)) (u : Outcome (Unit {0}))
-        → Gives (plain B.meaning) first x → Gives (behind O.operator B.meaning) rest ps
-        → Gives none_seen allowed u → Gives (plain B.meaning) result
-        (next (both (both x ps) u) (λ p. joined O.level loc.now p.0.0 p.0.1)) }
+        → Gives (plain B.meaning) first x → Gives (rest_view O.operator B.meaning) rest ps
+        → Gives empty_view allowed u → Gives (plain B.meaning) result
+        (next (both (both x ps) u) (λ p. joint_outcome O.level loc.now p.0.0 p.0.1)) }
 {
     let parts = flatten_tuple_2(first, rest);
     let ((first, rest), ()) = flatten_tuple_2(parts, allowed)?;

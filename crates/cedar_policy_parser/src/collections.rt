@@ -2,12 +2,12 @@
 ghost use Rattle.std.specs.Prelude.{◌≡◌, List, Ok, map};
 ghost use Rattle.cedar_syntax.specs.Tree.{beside};
 ghost use Rattle.cedar_policy_parser.specs.Applied.{Pair, seen_access, seen_accesses, seen_pair, seen_pairs};
-ghost use Rattle.cedar_policy_parser.specs.Conversion.{Part, bodies, record_held, set_of};
+ghost use Rattle.cedar_policy_parser.specs.Conversion.{Part, bodies, record_outcome, set_value_outcome};
 ghost use Rattle.cedar_policy_parser.specs.Held.{Held, as_attribute, as_string};
 ghost use Rattle.cedar_policy_parser.specs.Members.{Access as Given, call, field, index};
 ghost use Rattle.cedar_policy_parser.specs.Names.{unreserved_ident as unreserved_outcome};
 ghost use Rattle.cedar_policy_parser.specs.Outcome.{Outcome, both, next, expression_construction_error};
-ghost use Rattle.cedar_policy_parser.specs.Seen.{Gives, behind, item_more, plain};
+ghost use Rattle.cedar_policy_parser.specs.Seen.{Gives, rest_view, item_more, plain};
 ghost use Rattle.cedar_expressions.specs.Value.{Value};
 
 use crate::answer::{put, take};
@@ -44,8 +44,8 @@ pub(crate) fn set_from<B: ExprBuilderInfallibleBuild>(
     loc: &Option<Loc>,
     items: Result<Vec<(Beside, B::Expr)>, Failure>,
 ) -> Result<ExprOrSpecial<B::Expr>, Failure>
-    ensures { (ps : Outcome (List Part)) → Gives (behind (λ op. beside) B.meaning) items ps
-        → Gives (plain B.meaning) result (next ps (set_of loc.now)) }
+    ensures { (ps : Outcome (List Part)) → Gives (rest_view (λ op. beside) B.meaning) items ps
+        → Gives (plain B.meaning) result (next ps (set_value_outcome loc.now)) }
 {
     let items = bodies_of(alloc, items?)?;
     made::<B>(builder_at::<B>(alloc, loc).set(items)?, loc)
@@ -66,7 +66,7 @@ pub(crate) fn call_from<B: ExprBuilderInfallibleBuild>(
     alloc: Global,
     items: Result<Vec<(Beside, B::Expr)>, Failure>,
 ) -> Result<Access<B::Expr>, Failure>
-    ensures { (ps : Outcome (List Part)) → Gives (behind (λ op. beside) B.meaning) items ps
+    ensures { (ps : Outcome (List Part)) → Gives (rest_view (λ op. beside) B.meaning) items ps
         → Gives (seen_access B.meaning) result (next ps (λ qs. Ok (call (bodies qs)))) }
 {
     Ok(Access::Call(bodies_of(alloc, items?)?))
@@ -166,7 +166,7 @@ pub(crate) fn record_from<B: ExprBuilderInfallibleBuild>(
     pairs: Pairs<B::Expr>,
 ) -> Result<ExprOrSpecial<B::Expr>, Failure>
     ensures { (ps : Outcome (List Pair)) → Gives (seen_pairs B.meaning) pairs ps
-        → Gives (plain B.meaning) result (next ps (record_held loc.now)) }
+        → Gives (plain B.meaning) result (next ps (record_outcome loc.now)) }
 {
     match builder_at::<B>(alloc, loc).record(pairs?) {
         Ok(expr) => made::<B>(expr, loc),

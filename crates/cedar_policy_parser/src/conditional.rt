@@ -1,6 +1,6 @@
 //! Conditionals and parentheses.
 ghost use Rattle.cedar_expressions.specs.Value.{Value};
-ghost use Rattle.cedar_policy_parser.specs.Conversion.{chosen, made as made_at};
+ghost use Rattle.cedar_policy_parser.specs.Conversion.{conditional_outcome, expression_at as made_at};
 ghost use Rattle.cedar_policy_parser.specs.Held.{Held, as_expression};
 ghost use Rattle.cedar_policy_parser.specs.Outcome.{Outcome, both, next};
 ghost use Rattle.cedar_policy_parser.specs.Seen.{Gives, plain};
@@ -34,7 +34,7 @@ pub(crate) fn if_from<B: ExprBuilderInfallibleBuild>(
 ) -> Result<ExprOrSpecial<B::Expr>, Failure>
     ensures { (x y z : Outcome Value) → Gives B.meaning guard x → Gives B.meaning consequent y
         → Gives B.meaning alternative z
-        → Gives (plain B.meaning) result (next (both (both x y) z) (chosen loc.now)) }
+        → Gives (plain B.meaning) result (next (both (both x y) z) (conditional_outcome loc.now)) }
 {
     let first_two = flatten_tuple_2(guard, consequent);
     let ((guard, consequent), alternative) = flatten_tuple_2(first_two, alternative)?;

@@ -1,16 +1,16 @@
 //! Conditions: `when` and `unless` with an expression without slots.
 ghost use Rattle.std.specs.Prelude.{◌≡◌, List, Option, IfOk, map};
 ghost use Rattle.std.specs.Option.{option_map};
-ghost use Rattle.cedar_expressions.specs.Meaning.{unplaced};
+ghost use Rattle.cedar_expressions.specs.Meaning.{expr_meaning, unplaced};
 ghost use Rattle.cedar_expressions.specs.Value.{Value};
 ghost use Rattle.cedar_syntax.specs.declared.err.faults.ParseError.TheVariants.{ToAST};
 ghost use Rattle.cedar_policy_parser.specs.Conditions as k;
-ghost use Rattle.cedar_policy_parser.specs.Conditions.{Found};
 ghost use Rattle.cedar_policy_parser.specs.Extensions.{table_of};
 ghost use Rattle.cedar_policy_parser.specs.Outcome.{Outcome, empty_clause, invalid_condition, slots_in_condition_clause};
-ghost use Rattle.cedar_policy_parser.specs.PolicyMeaning.{condition_meant};
-ghost use Rattle.cedar_policy_parser.specs.Scope.{unless_told};
-ghost use Rattle.cedar_policy_parser.specs.Seen.{Gives, TellsAlone, item_more, itself, none_seen, told_of};
+ghost use Rattle.cedar_policy_parser.specs.Places.{place_within};
+ghost use Rattle.cedar_policy_parser.specs.PolicyMeaning.{joint_condition};
+ghost use Rattle.cedar_policy_parser.specs.Scope.{faults_outcome};
+ghost use Rattle.cedar_policy_parser.specs.Seen.{Gives, TellsAlone, item_more, itself, empty_view, named_fault};
 
 use crate::cst_to_ast::{ExprAst, ExtStyles};
 use crate::joins::{one_more_fault, place_within};
@@ -58,7 +58,7 @@ fn nothing_in(site: Site<'_>, word: &Option<Ident>) -> Failure
 
 /// The expression of a condition.
 fn clause(site: Site<'_>, cond: &Cond) -> Result<Expr, Failure>
-    ensures { Gives unplaced result
+    ensures { Gives expr_meaning result
         (k.clause (table_of site.entry.styles.now) site.entry.loc.now cond.now.expr) }
 {
     match &cond.expr {
@@ -69,8 +69,8 @@ fn clause(site: Site<'_>, cond: &Cond) -> Result<Expr, Failure>
 
 /// A slot in a condition.
 fn slot_fault(slot: Slot, word: &'static str, loc: &Option<Loc>) -> Result<ToASTError, AllocError>
-    ensures { IfOk result (λ made. told_of (ToAST made)
-        ≡ (slots_in_condition_clause, k.place_within loc.now slot.place)) }
+    ensures { IfOk result (λ made. named_fault (ToAST made)
+        ≡ (slots_in_condition_clause, place_within loc.now slot.place)) }
 {
     let loc = place_within(loc, slot.place)?;
     Ok(ToASTError::new(ToASTErrorKind::slots_in_condition_clause(slot, word), loc))
@@ -78,8 +78,8 @@ fn slot_fault(slot: Slot, word: &'static str, loc: &Option<Loc>) -> Result<ToAST
 
 /// Refuses each slot of a condition.
 fn no_slots(site: Site<'_>, word: &'static str, slots: &[Slot]) -> Result<(), Failure>
-    ensures { Gives none_seen result
-        (unless_told (map (k.slot_told site.entry.loc.now) slots.now)) }
+    ensures { Gives empty_view result
+        (faults_outcome (map (k.condition_slot_fault site.entry.loc.now) slots.now)) }
 {
     let mut all: Result<(), Failure> = Ok(());
     for slot in slots {
@@ -90,8 +90,8 @@ fn no_slots(site: Site<'_>, word: &'static str, slots: &[Slot]) -> Result<(), Fa
 
 /// Refuses a condition in which slots stand.
 fn without_slots(site: Site<'_>, when: bool, expr: &Expr) -> Result<(), Failure>
-    ensures { (found : Found) × Gives none_seen result
-        (k.slots_outcome site.entry.loc.now found (unplaced expr.now)) }
+    ensures { Gives empty_view result
+        (k.slots_outcome site.entry.loc.now (expr_meaning expr.now)) }
 {
     let word = if when { "when" } else { "unless" };
     let slots = expr.slots(site.alloc)?;
@@ -100,7 +100,7 @@ fn without_slots(site: Site<'_>, when: bool, expr: &Expr) -> Result<(), Failure>
 
 /// `unless` is `not`.
 fn meant(site: Site<'_>, when: bool, expr: Expr) -> Result<Expr, AllocError>
-    ensures { IfOk result (λ e. unplaced e ≡ k.meant when (unplaced expr)) }
+    ensures { IfOk result (λ e. expr_meaning e ≡ k.condition_value when (expr_meaning expr)) }
 {
     if when {
         Ok(expr)
@@ -110,8 +110,8 @@ fn meant(site: Site<'_>, when: bool, expr: Expr) -> Result<Expr, AllocError>
 }
 
 fn condition_of(site: Site<'_>, cond: &Cond) -> Result<Expr, Failure>
-    ensures { (found : Found) × Gives unplaced result
-        (k.condition_of (table_of site.entry.styles.now) found site.entry.loc.now cond.now) }
+    ensures { Gives unplaced result
+        (k.condition_of (table_of site.entry.styles.now) site.entry.loc.now cond.now) }
 {
     let when = is_when(site.alloc, &cond.cond)?;
     let expr = clause(site, cond)?;
@@ -120,8 +120,8 @@ fn condition_of(site: Site<'_>, cond: &Cond) -> Result<Expr, Failure>
 }
 
 fn condition(alloc: Global, styles: &ExtStyles, node: &Node<Option<Cond>>) -> Result<Expr, Failure>
-    ensures { (found : Found) × Gives unplaced result
-        (k.condition_outcome (table_of styles.now) (found, node.now)) }
+    ensures { Gives unplaced result
+        (k.condition_outcome (table_of styles.now) node.now) }
 {
     match &node.node {
         Some(inner) => {
@@ -156,8 +156,8 @@ pub(crate) fn conditions(
     styles: &ExtStyles,
     nodes: &[Node<Option<Cond>>],
 ) -> Result<Vec<Expr>, Failure>
-    ensures { (found : List Found) × Gives k.meanings result
-        (k.conditions_outcome (table_of styles.now) found nodes.now) }
+    ensures { Gives k.meanings result
+        (k.conditions_outcome (table_of styles.now) nodes.now) }
 {
     let mut all: Result<Vec<Expr>, Failure> = Ok(Vec::new(alloc));
     for node in nodes {
@@ -173,7 +173,7 @@ pub(crate) fn folded(
     conditions: Vec<Expr>,
 ) -> Result<Option<Expr>, AllocError>
     ensures { IfOk result (λ c. option_map unplaced c
-        ≡ condition_meant (map unplaced conditions.items)) }
+        ≡ joint_condition (map unplaced conditions.items)) }
 {
     let mut earlier = conditions;
     let Some(mut all) = earlier.pop() else {

@@ -1,6 +1,6 @@
 //! Entities.
 ghost use Rattle.cedar_policy_parser.specs.Entities.{entity_outcome, id_outcome, reference_outcome};
-ghost use Rattle.cedar_policy_parser.specs.Leaves.{entity_held};
+ghost use Rattle.cedar_policy_parser.specs.Leaves.{entity_leaf};
 ghost use Rattle.cedar_policy_parser.specs.Outcome.{invalid_entity_literal};
 ghost use Rattle.cedar_policy_parser.specs.Seen.{Gives, TellsAlone, itself, plain};
 
@@ -71,7 +71,7 @@ pub(crate) fn entity<B: ExprBuilderInfallibleBuild>(
     alloc: Global,
     node: &Node<Option<Ref>>,
 ) -> Result<ExprOrSpecial<B::Expr>, Failure>
-    ensures { Gives (plain B.meaning) result (entity_held node.now) }
+    ensures { Gives (plain B.meaning) result (entity_leaf node.now) }
 {
     let uid = entity_of(alloc, node)?;
     let literal = Literal::EntityUID(uid);

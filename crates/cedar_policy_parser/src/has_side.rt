@@ -2,7 +2,7 @@
 ghost use Rattle.std.specs.Prelude.{◌≡◌, map};
 ghost use Rattle.cedar_syntax.specs.Forms.{located, parts_of, listed_access, access_form, add_form, mult_form, unary_form, member_form, primary_form};
 ghost use Rattle.cedar_policy_parser.specs.Applied.{seen_attributes};
-ghost use Rattle.cedar_policy_parser.specs.Conversion.{place_of};
+ghost use Rattle.cedar_policy_parser.specs.Conversion.{tree_place};
 ghost use Rattle.cedar_policy_parser.specs.HasSide.{attributes_of, begins_with, behind_first, field_of, fields_of, no_sign, right_form, right_side, string_alone};
 ghost use Rattle.cedar_policy_parser.specs.Names.{unreserved_ident as unreserved_outcome};
 ghost use Rattle.cedar_policy_parser.specs.Outcome.{Outcome, invalid_has_rhs, next};
@@ -269,7 +269,7 @@ pub(crate) fn right_side<B: ExprBuilderInfallibleBuild>(
     node: &Node<Option<Add>>,
 ) -> Result<Attributes, Failure>
     ensures { Gives seen_attributes result
-        (right_side (place_of (located add_form node.now)) (located add_form node.now)) }
+        (right_side (tree_place (located add_form node.now)) (located add_form node.now)) }
 {
     match &node.node {
         Some(tree) => of_add::<B>(Side {

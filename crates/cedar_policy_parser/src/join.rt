@@ -4,9 +4,9 @@ ghost use Rattle.cedar_expressions.specs.Value.{Value};
 ghost use Rattle.cedar_syntax.specs.Forms.{parts_of};
 ghost use Rattle.cedar_syntax.specs.Located.{Located};
 ghost use Rattle.cedar_syntax.specs.Tree.{Operator, relation};
-ghost use Rattle.cedar_policy_parser.specs.Conversion.{Part, allowed};
+ghost use Rattle.cedar_policy_parser.specs.Conversion.{Part, operator_limit};
 ghost use Rattle.cedar_policy_parser.specs.Outcome.{Outcome};
-ghost use Rattle.cedar_policy_parser.specs.Seen.{Gives, behind, none_seen, one_more};
+ghost use Rattle.cedar_policy_parser.specs.Seen.{Gives, rest_view, empty_view, one_more};
 
 use crate::special::refusal;
 use cedar_expressions::ExprBuilderInfallibleBuild;
@@ -22,8 +22,8 @@ pub(crate) fn more<B: ExprBuilderInfallibleBuild, O: Copy>(
     next: Result<B::Expr, Failure>,
 ) -> Result<Vec<(O, B::Expr)>, Failure>
     ensures { (operator : O → Operator) (ps : Outcome (List Part)) (x : Outcome Value)
-        → Gives (behind operator B.meaning) all ps → Gives B.meaning next x
-        → Gives (behind operator B.meaning) result (one_more (operator op) ps x) }
+        → Gives (rest_view operator B.meaning) all ps → Gives B.meaning next x
+        → Gives (rest_view operator B.meaning) result (one_more (operator op) ps x) }
 {
     let (mut all, next) = flatten_tuple_2(all, next)?;
     all.push((op, next))?;
@@ -48,7 +48,7 @@ pub(crate) fn bodies_of<O: Copy, E: Drop>(
 pub(crate) fn at_most_one<T>(alloc: Global, loc: &Option<Loc>, parts: &[T]) -> Result<(), Failure>
     requires { length parts.now < 2 ^ 64 }
     ensures { (f : T → Operator × Located)
-        → Gives none_seen result (allowed relation loc.now (parts_of (map f parts.now))) }
+        → Gives empty_view result (operator_limit relation loc.now (parts_of (map f parts.now))) }
 {
     if parts.len() > 1 {
         Err(refusal(alloc, ToASTErrorKind::AmbiguousOperators, loc))

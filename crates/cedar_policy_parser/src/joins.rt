@@ -1,10 +1,10 @@
 //! Faults one behind another, and places within a place.
 ghost use Rattle.std.specs.Prelude.{◌≡◌, ◌⊎◌, List, [], ◌∷◌, ◌++◌, IfOk, Ok};
-ghost use Rattle.cedar_policy_parser.specs.Conditions.{bytes_within as within, place_within as within_place};
+ghost use Rattle.cedar_policy_parser.specs.Places.{bytes_within as within, place_within as within_place};
 ghost use Rattle.cedar_syntax.specs.declared.err.faults.ParseError.TheVariants.{ToAST};
-ghost use Rattle.cedar_policy_parser.specs.Outcome.{Told, Outcome, both, next};
-ghost use Rattle.cedar_policy_parser.specs.Seen.{Gives, Refuses, none_seen, told_of};
-ghost use Rattle.cedar_policy_parser.specs.Scope.{unless_told};
+ghost use Rattle.cedar_policy_parser.specs.Outcome.{NamedFault, Outcome, both, next};
+ghost use Rattle.cedar_policy_parser.specs.Seen.{Gives, Refuses, empty_view, named_fault};
+ghost use Rattle.cedar_policy_parser.specs.Scope.{faults_outcome};
 ghost use Rattle.cedar_syntax.specs.FirstFault.{IsMemory};
 ghost use Rattle.cedar_syntax.specs.Joined.{WantsMemory};
 
@@ -20,9 +20,10 @@ pub(crate) fn one_more_fault(
     all: Result<(), Failure>,
     fault: Result<ToASTError, AllocError>,
 ) -> Result<(), Failure>
-    ensures told { (faults : List Told) (one : Told) → Gives none_seen all (unless_told faults)
-        → IfOk fault (λ made. told_of (ToAST made) ≡ one)
-        → Gives none_seen result (unless_told (faults ++ one ∷ [])) }
+    ensures told { (faults : List NamedFault) (one : NamedFault)
+        → Gives empty_view all (faults_outcome faults)
+        → IfOk fault (λ made. named_fault (ToAST made) ≡ one)
+        → Gives empty_view result (faults_outcome (faults ++ one ∷ [])) }
     ensures memory { WantsMemory all → WantsMemory result }
 {
     let fault = Failure::Errors(ParseErrors::from_ast(alloc, fault?));
@@ -33,8 +34,8 @@ pub(crate) fn one_more_fault(
 
 /// The faults so far, and those of one part more.
 pub(crate) fn refused_too(all: Result<(), Failure>, failure: Failure) -> Result<(), Failure>
-    ensures told { (o p : Outcome (Unit {0})) → Gives none_seen all o → Refuses failure p
-        → Gives none_seen result (next (both o p) (λ _. Ok tt)) }
+    ensures told { (o p : Outcome (Unit {0})) → Gives empty_view all o → Refuses failure p
+        → Gives empty_view result (next (both o p) (λ _. Ok tt)) }
     ensures memory { WantsMemory all ⊎ IsMemory failure → WantsMemory result }
 {
     let refused: Result<(), Failure> = Err(failure);

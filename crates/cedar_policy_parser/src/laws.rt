@@ -1,11 +1,13 @@
 //! Laws that join the definitions: what a text's tree is converted to is what its tokens mean.
 ghost use Rattle.std.specs.Prelude.{◌≡◌, ◌↔◌, ℕ, List, [], ◌∷◌, Option, Some, Ok, Err, true};
+ghost use Rattle.std.specs.Option.{option_map};
 ghost use Rattle.cedar_lexer.specs.Cut.{Cuts};
-ghost use Rattle.cedar_lexer.specs.Spelling.{IsIdentifier};
+ghost use Rattle.cedar_lexer.specs.Spelling.{IsIdentifierText};
 ghost use Rattle.cedar_lexer.specs.Token.{Lexeme};
 ghost use Rattle.cedar_expressions.specs.Keys.{repeats_key};
 ghost use Rattle.cedar_expressions.specs.Path.{is_identifier};
 ghost use Rattle.cedar_expressions.specs.Value.{Value};
+ghost use Rattle.cedar_expressions.specs.WithoutPlaces.{without_places};
 ghost use Rattle.cedar_syntax.specs.declared.loc.Loc.{Loc};
 ghost use Rattle.cedar_syntax.specs.declared.cst.Expr.{Expr as Tree};
 ghost use Rattle.cedar_syntax.specs.declared.cst.Ident.{Ident};
@@ -30,7 +32,7 @@ ghost use Rattle.cedar_policy_parser.specs.Entities.{entity_outcome};
 ghost use Rattle.cedar_policy_parser.specs.Extensions.{Extensions};
 ghost use Rattle.cedar_policy_parser.specs.Literals.{string_outcome};
 ghost use Rattle.cedar_policy_parser.specs.Names.{any_ident, valid_ident};
-ghost use Rattle.cedar_policy_parser.specs.Outcome.{given, refused, ambiguous_operators, arbitrary_variable, expression_construction_error, invalid_single_eq, unary_op_limit};
+ghost use Rattle.cedar_policy_parser.specs.Outcome.{outcome_value, fault_outcome, ambiguous_operators, arbitrary_variable, expression_construction_error, invalid_single_eq, unary_op_limit};
 ghost use Rattle.cedar_policy_parser.specs.Standing.{StandWithin};
 ghost use Rattle.cedar_policy_parser.specs.Strict.{Means, expression};
 
@@ -69,10 +71,11 @@ pub fn one_meaning()
     expressions();
 }
 
-/// Trees that differ in their places alone are converted to the same value, or none of them to any.
+/// Trees that differ in their places alone are converted to the same value, the places of its slots aside, or none of them to any.
 pub fn values_see_no_place()
     ensures { (table : Extensions) (m n : Located) → unlocated m ≡ unlocated n
-        → given (value_outcome table m) ≡ given (value_outcome table n) }
+        → option_map without_places (outcome_value (value_outcome table m))
+        ≡ option_map without_places (outcome_value (value_outcome table n)) }
 {}
 
 /// A relation whose operands have values is refused for its operators alone, at its place: two or more are
@@ -91,23 +94,23 @@ pub fn refused_alone()
         (rest : Parts) → HasValue table a → HaveValues table place
         (f.more op b (f.more next c rest))
         → outcome table (f.at place (f.chain t.relation a (f.more op b (f.more next c rest))))
-        ≡ refused ambiguous_operators place }
+        ≡ fault_outcome ambiguous_operators place }
     ensures ambiguous_alone { (table : Extensions) (tree : Located) (place : Option Loc)
         (a b c : Located) (op next : t.Operator) (rest : Parts)
         → IsAlone tree (f.at place (f.chain t.relation a (f.more op b (f.more next c rest))))
         → HasValue table a → HaveValues table place (f.more op b (f.more next c rest))
-        → value_outcome table tree ≡ refused ambiguous_operators place }
+        → value_outcome table tree ≡ fault_outcome ambiguous_operators place }
     ensures single_eq { (table : Extensions) (place : Option Loc) (a b : Located)
         → HasValue table a → HasValue table b
         → outcome table (f.at place (f.chain t.relation a
         (f.more (t.compare rel.InvalidSingleEq) b f.none)))
-        ≡ refused invalid_single_eq place }
+        ≡ fault_outcome invalid_single_eq place }
     ensures single_eq_alone { (table : Extensions) (tree : Located) (place : Option Loc)
         (a b : Located)
         → IsAlone tree (f.at place (f.chain t.relation a
         (f.more (t.compare rel.InvalidSingleEq) b f.none)))
         → HasValue table a → HasValue table b
-        → value_outcome table tree ≡ refused invalid_single_eq place }
+        → value_outcome table tree ≡ fault_outcome invalid_single_eq place }
     ensures quotients { (table : Extensions) (place : Option Loc) (a : Located) (rest : Parts)
         → HasValue table a → OperandsHaveValues table rest → ¬ (quotients place rest ≡ [])
         → outcome table (f.at place (f.chain t.product a rest)) ≡ Err (quotients place rest) }
@@ -118,31 +121,31 @@ pub fn refused_alone()
         → value_outcome table tree ≡ Err (quotients place rest) }
     ensures bangs { (table : Extensions) (place : Option Loc) (a : Located)
         → outcome table (f.at place (f.unary (Some sign.OverBang) a))
-        ≡ refused unary_op_limit place }
+        ≡ fault_outcome unary_op_limit place }
     ensures bangs_alone { (table : Extensions) (tree : Located) (place : Option Loc)
         (a : Located)
         → IsAlone tree (f.at place (f.unary (Some sign.OverBang) a))
-        → value_outcome table tree ≡ refused unary_op_limit place }
+        → value_outcome table tree ≡ fault_outcome unary_op_limit place }
     ensures dashes { (table : Extensions) (place : Option Loc) (a : Located)
         → outcome table (f.at place (f.unary (Some sign.OverDash) a))
-        ≡ refused unary_op_limit place }
+        ≡ fault_outcome unary_op_limit place }
     ensures dashes_alone { (table : Extensions) (tree : Located) (place : Option Loc)
         (a : Located)
         → IsAlone tree (f.at place (f.unary (Some sign.OverDash) a))
-        → value_outcome table tree ≡ refused unary_op_limit place }
+        → value_outcome table tree ≡ fault_outcome unary_op_limit place }
     ensures repeated_key { (table : Extensions) (place : Option Loc) (inits : Parts)
         (pairs : List (List ℕ × Value))
         → ArePairs table inits pairs → repeats_key (keys pairs) ≡ true
         → outcome table (f.at place (f.record_of inits))
-        ≡ refused expression_construction_error place }
+        ≡ fault_outcome expression_construction_error place }
     ensures repeated_key_alone { (table : Extensions) (tree : Located) (place : Option Loc)
         (inits : Parts) (pairs : List (List ℕ × Value))
         → IsAlone tree (f.at place (f.record_of inits))
         → ArePairs table inits pairs → repeats_key (keys pairs) ≡ true
-        → value_outcome table tree ≡ refused expression_construction_error place }
+        → value_outcome table tree ≡ fault_outcome expression_construction_error place }
     ensures lone_name { (table : Extensions) (tree : Located) (place : Option Loc)
         → IsBareName tree place
-        → value_outcome table tree ≡ refused arbitrary_variable place }
+        → value_outcome table tree ≡ fault_outcome arbitrary_variable place }
     ensures own_place { (src : List ℕ) (ts : List Lexeme) (x : Tree) (place : Option Loc)
         (form : Form)
         → ReadsExpr src ts x → ComesTo (located expr_form (placed src ts x)) (f.at place form)
@@ -173,7 +176,7 @@ pub fn faults_of_leaves_stand_within()
 
 /// What is spelled as an identifier is one for tokens and for names.
 pub fn one_spelling()
-    ensures { (text : List ℕ) → IsIdentifier text ↔ (is_identifier text ≡ true) }
+    ensures { (text : List ℕ) → IsIdentifierText text ↔ (is_identifier text ≡ true) }
 {}
 
 /// The identifier of a text, a word of the language too, is any identifier: its node gives the text of the one token.

@@ -1,7 +1,7 @@
 //! Identifiers and names.
 ghost use Rattle.std.specs.Prelude.{◌≡◌, ℕ, List};
-ghost use Rattle.cedar_policy_parser.specs.Leaves.{named as named_held};
-ghost use Rattle.cedar_policy_parser.specs.Names.{spelled, valid_text as valid_text_of, valid_ident_of as valid_of, valid_ident as valid_outcome, any_ident_of as any_of, any_ident as any_outcome, unreserved_ident as unreserved_outcome, all_of, path_outcome, name_outcome, variable_of, named_variable};
+ghost use Rattle.cedar_policy_parser.specs.Leaves.{name_leaf as named_held};
+ghost use Rattle.cedar_policy_parser.specs.Names.{spelling_outcome, valid_text as valid_text_of, valid_ident_of as valid_of, valid_ident as valid_outcome, any_ident_of as any_of, any_ident as any_outcome, unreserved_ident as unreserved_outcome, all_of, path_outcome, name_outcome, variable_of, named_variable};
 ghost use Rattle.cedar_policy_parser.specs.Outcome.{Outcome, reserved_identifier, invalid_identifier};
 ghost use Rattle.cedar_policy_parser.specs.Seen.{Gives, TellsAlone, item_more, itself, plain};
 
@@ -46,7 +46,7 @@ fn valid_text(alloc: Global, loc: &Option<Loc>, text: &str) -> Result<Id, Failur
 }
 
 fn any_text(alloc: Global, loc: &Option<Loc>, text: &str) -> Result<AnyId, Failure>
-    ensures { Gives itself result (spelled loc.now text.now) }
+    ensures { Gives itself result (spelling_outcome loc.now text.now) }
 {
     match AnyId::new(Text::from_str(alloc, text)?) {
         Some(id) => Ok(id),

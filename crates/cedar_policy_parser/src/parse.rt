@@ -2,7 +2,7 @@
 ghost use Rattle.std.specs.Prelude.{◌≡◌, List, MatchResult, IfErr, IfOk};
 ghost use Rattle.cedar_lexer.specs.Token.{Lexeme};
 ghost use Rattle.cedar_lexer.specs.Cut.{Cuts};
-ghost use Rattle.cedar_expressions.specs.Meaning.{unplaced};
+ghost use Rattle.cedar_expressions.specs.Meaning.{expr_meaning};
 ghost use Rattle.cedar_expressions.specs.Value.{Value};
 ghost use Rattle.cedar_policy_store.specs.PlaceFree.{Policies, set_meaning};
 ghost use Rattle.cedar_syntax.specs.FirstFault.{IsMemory};
@@ -31,10 +31,10 @@ use std::alloc::Global;
 pub fn parse_expression(alloc: Global, text: &str, styles: &ExtStyles) -> Result<Expr, Failure>
     ensures value { IfOk result (λ e.
         (ts : List Lexeme) × Cuts text.now ts × Means
-        (table_of styles.now) SIGN_LIMIT expression ts (unplaced e)) }
+        (table_of styles.now) SIGN_LIMIT expression ts (expr_meaning e)) }
     ensures only { (ts : List Lexeme) (w : Value) → Cuts text.now ts
         → Means (table_of styles.now) SIGN_LIMIT expression ts w
-        → MatchResult result (λ e. unplaced e ≡ w) IsMemory }
+        → MatchResult result (λ e. expr_meaning e ≡ w) IsMemory }
     ensures refused { IfErr result (λ failure. RefusesText
         (table_of styles.now) failure text.now) }
 {

@@ -2,7 +2,7 @@
 ghost use Rattle.std.specs.Prelude.{◌≡◌};
 ghost use Rattle.std.specs.Option.{option_map};
 ghost use Rattle.cedar_policy_parser.specs.Policies.{lent_bytes};
-ghost use Rattle.cedar_policy_parser.specs.References.{bytes_of};
+ghost use Rattle.cedar_policy_parser.specs.Places.{bytes_of};
 
 use cedar_expressions::Place;
 use cedar_syntax::loc::Loc;

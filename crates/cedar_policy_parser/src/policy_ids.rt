@@ -28,7 +28,7 @@ pub struct GeneratedPolicyIds<'a> {
 
 impl<'a> GeneratedPolicyIds<'a> {
     pub(crate) fn new(alloc: Global, nodes: &'a [Node<Option<Policy>>]) -> GeneratedPolicyIds<'a>
-        ensures { k.left result ≡ k.numbered 0 nodes.now }
+        ensures { k.remaining_nodes result ≡ k.named_policies 0 nodes.now }
     {
         GeneratedPolicyIds {
             alloc,
@@ -42,11 +42,11 @@ impl<'a> Iterator for GeneratedPolicyIds<'a> {
     type Item = Result<(PolicyID, &'a Node<Option<Policy>>), AllocError>;
 
     ghost use Rattle.std.specs.Iterator.{item_count};
-    ghost use Rattle.cedar_policy_parser.specs.GeneratedIds.{GivesNext, left};
+    ghost use Rattle.cedar_policy_parser.specs.GeneratedIds.{GivesNext, remaining_nodes};
 
     ghost next_gives = { GivesNext };
 
-    ghost remaining = { item_count left };
+    ghost remaining = { item_count remaining_nodes };
 
     fn next(&mut self) -> Option<Result<(PolicyID, &'a Node<Option<Policy>>), AllocError>> {
         let node = self.nodes.get(self.count)?;

@@ -8,7 +8,7 @@ ghost use Rattle.cedar_policy_parser.specs.Extensions.{table_of};
 ghost use Rattle.cedar_syntax.specs.declared.err.faults.ParseError.TheVariants.{ToAST};
 ghost use Rattle.cedar_policy_parser.specs.Outcome.{Outcome, both, next, missing_scope_variable};
 ghost use Rattle.cedar_policy_parser.specs.Scope as s;
-ghost use Rattle.cedar_policy_parser.specs.Seen.{Gives, TellsAlone, itself, none_seen, told_of};
+ghost use Rattle.cedar_policy_parser.specs.Seen.{Gives, TellsAlone, itself, empty_view, named_fault};
 
 mod action;
 mod element;
@@ -75,8 +75,8 @@ fn missing(alloc: Global, var: Var, before: &Option<Loc>) -> Failure
 
 /// A fault of an element beyond the third.
 fn extra_fault(alloc: Global, node: &Node<Option<VariableDef>>) -> Result<ToASTError, AllocError>
-    ensures { IfOk result (λ made. told_of (ToAST made)
-        ≡ s.extra_told node.now.loc node.now.node) }
+    ensures { IfOk result (λ made. named_fault (ToAST made)
+        ≡ s.extra_element_fault node.now.loc node.now.node) }
 {
     let loc = node.loc.try_clone()?;
     match &node.node {
@@ -90,7 +90,7 @@ fn extra_fault(alloc: Global, node: &Node<Option<VariableDef>>) -> Result<ToASTE
 
 /// Refuses each element beyond the third.
 fn no_extra(alloc: Global, others: &[Node<Option<VariableDef>>]) -> Result<(), Failure>
-    ensures { Gives none_seen result (s.no_extra others.now) }
+    ensures { Gives empty_view result (s.no_extra others.now) }
 {
     let mut all: Result<(), Failure> = Ok(());
     for node in others {
@@ -193,7 +193,7 @@ fn joined(
 ) -> Result<Scope, Failure>
     ensures { (p : Outcome Principal) (a : Outcome Action) (r : Outcome Resource)
         (x : Outcome (Unit {0})) → Gives itself principal p → Gives itself action a
-        → Gives itself resource r → Gives none_seen extra x
+        → Gives itself resource r → Gives empty_view extra x
         → Gives itself result (next (both (both p a) (both r x)) s.three) }
 {
     let first = flatten_tuple_2(principal, action);

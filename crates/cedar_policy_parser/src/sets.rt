@@ -1,7 +1,6 @@
 //! Sets of policies.
 ghost use Rattle.std.specs.Prelude.{List, OnOk};
 ghost use Rattle.cedar_policy_store.specs.PlaceFree.{set_meaning};
-ghost use Rattle.cedar_policy_parser.specs.Conditions.{Found};
 ghost use Rattle.cedar_policy_parser.specs.Extensions.{table_of};
 ghost use Rattle.cedar_policy_parser.specs.Outcome.{Outcome};
 ghost use Rattle.cedar_policy_parser.specs.Policies as k;
@@ -27,8 +26,8 @@ fn policy_at(
     count: usize,
     node: &Node<Option<Policy>>,
 ) -> Result<Either<StaticPolicy, Template>, Failure>
-    ensures { (found : List Found) × Gives k.either_parts result
-        (k.either_outcome (table_of styles.now) found (policy_id_of count) node.now) }
+    ensures { Gives k.either_parts result
+        (k.either_outcome (table_of styles.now) (policy_id_of count) node.now) }
 {
     let id = policy_id(alloc, count)?;
     static_or_template(alloc, styles, id, node)
@@ -61,10 +60,10 @@ fn one_more(
     all: Result<(), Failure>,
     next: Result<Either<StaticPolicy, Template>, Failure>,
 ) -> Result<(), Failure>
-    ensures { (o : Outcome (List k.Parts)) (x : Outcome k.Parts)
-        → Gives (k.kept_in set.old) all (k.set_given o)
-        → Gives k.either_parts next (k.side_given x)
-        → Gives (k.kept_in set.new) result (k.set_given (item_more o x)) }
+    ensures { (o : Outcome (List k.TemplateParts)) (x : Outcome k.TemplateParts)
+        → Gives (k.set_view set.old) all (k.parts_set_outcome o)
+        → Gives k.either_parts next (k.side_outcome x)
+        → Gives (k.set_view set.new) result (k.parts_set_outcome (item_more o x)) }
 {
     match next {
         Ok(policy) => match keep(set, policy) {
@@ -81,8 +80,8 @@ fn policies(
     styles: &ExtStyles,
     nodes: &[Node<Option<Policy>>],
 ) -> Result<PolicySet, Failure>
-    ensures { (found : List (List Found)) × Gives set_meaning result
-        (k.set_outcome (table_of styles.now) found nodes.now) }
+    ensures { Gives set_meaning result
+        (k.set_outcome (table_of styles.now) nodes.now) }
 {
     let mut set = PolicySet::new(alloc);
     let mut all: Result<(), Failure> = Ok(());
@@ -103,8 +102,8 @@ pub(crate) fn policy_set(
     styles: &ExtStyles,
     node: &Node<Option<Policies>>,
 ) -> Result<PolicySet, Failure>
-    ensures { (found : List (List Found)) × Gives set_meaning result
-        (k.policies_outcome (table_of styles.now) found node.now) }
+    ensures { Gives set_meaning result
+        (k.policies_outcome (table_of styles.now) node.now) }
 {
     match &node.node {
         Some(inner) => policies(alloc, styles, inner.0.as_slice()),

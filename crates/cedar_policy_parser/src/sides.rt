@@ -1,7 +1,7 @@
 //! `has`, `like`, `is` and `is .. in`, of what their sides give.
 ghost use Rattle.cedar_expressions.specs.Value.{Value};
-ghost use Rattle.cedar_policy_parser.specs.Applied.{Matched, seen_attributes, seen_matched, seen_typed};
-ghost use Rattle.cedar_policy_parser.specs.Conversion.{Typed, beside_type, matched, typed, typed_within, with_attributes};
+ghost use Rattle.cedar_policy_parser.specs.Applied.{Matched, seen_attributes, seen_pattern, seen_type};
+ghost use Rattle.cedar_policy_parser.specs.Conversion.{ValueAndType, beside_type, match_outcome, type_test_outcome, type_within_outcome, with_attributes};
 ghost use Rattle.cedar_policy_parser.specs.HasSide.{Attributes as Named};
 ghost use Rattle.cedar_policy_parser.specs.Held.{Held, as_pattern};
 ghost use Rattle.cedar_policy_parser.specs.Outcome.{Outcome, both, next};
@@ -43,7 +43,7 @@ fn pattern_beside<B: ExprBuilderInfallibleBuild>(
     right: Result<ExprOrSpecial<B::Expr>, Failure>,
 ) -> Result<(B::Expr, Vec<PatternElem>), Failure>
     ensures { (x : Outcome Value) (h : Outcome Held) → Gives B.meaning target x
-        → Gives (plain B.meaning) right h → Gives (seen_matched B.meaning) result
+        → Gives (plain B.meaning) right h → Gives (seen_pattern B.meaning) result
         (next h (λ held. both x (as_pattern held))) }
 {
     let right = right?;
@@ -58,8 +58,8 @@ fn matched_from<B: ExprBuilderInfallibleBuild>(
     loc: &Option<Loc>,
     pair: Result<(B::Expr, Vec<PatternElem>), Failure>,
 ) -> Result<ExprOrSpecial<B::Expr>, Failure>
-    ensures { (p : Outcome Matched) → Gives (seen_matched B.meaning) pair p
-        → Gives (plain B.meaning) result (next p (matched loc.now)) }
+    ensures { (p : Outcome Matched) → Gives (seen_pattern B.meaning) pair p
+        → Gives (plain B.meaning) result (next p (match_outcome loc.now)) }
 {
     let (target, pattern) = pair?;
     made::<B>(builder_at::<B>(alloc, loc).like(target, pattern)?, loc)
@@ -75,7 +75,7 @@ pub(crate) fn like_from<B: ExprBuilderInfallibleBuild>(
 ) -> Result<ExprOrSpecial<B::Expr>, Failure>
     ensures { (x : Outcome Value) (h : Outcome Held) → Gives B.meaning target x
         → Gives (plain B.meaning) right h → Gives (plain B.meaning) result
-        (next h (λ held. next (both x (as_pattern held)) (matched loc.now))) }
+        (next h (λ held. next (both x (as_pattern held)) (match_outcome loc.now))) }
 {
     matched_from::<B>(alloc, loc, pattern_beside::<B>(alloc, target, right))
 }
@@ -90,7 +90,7 @@ pub(crate) fn type_beside<B: ExprBuilderInfallibleBuild>(
 ) -> Result<(B::Expr, EntityType), Failure>
     ensures { (x : Outcome Value) (h : Outcome Held) → Gives B.meaning target x
         → Gives (plain B.meaning) right h
-        → Gives (seen_typed B.meaning) result (next h (beside_type x)) }
+        → Gives (seen_type B.meaning) result (next h (beside_type x)) }
 {
     let right = right?;
     let left = if target.is_ok() { loc.as_ref() } else { None };
@@ -104,8 +104,8 @@ pub(crate) fn is_from<B: ExprBuilderInfallibleBuild>(
     loc: &Option<Loc>,
     typed_value: Result<(B::Expr, EntityType), Failure>,
 ) -> Result<ExprOrSpecial<B::Expr>, Failure>
-    ensures { (p : Outcome Typed) → Gives (seen_typed B.meaning) typed_value p
-        → Gives (plain B.meaning) result (next p (typed loc.now)) }
+    ensures { (p : Outcome ValueAndType) → Gives (seen_type B.meaning) typed_value p
+        → Gives (plain B.meaning) result (next p (type_test_outcome loc.now)) }
 {
     let (target, entity_type) = typed_value?;
     made::<B>(
@@ -122,9 +122,10 @@ pub(crate) fn is_in_from<B: ExprBuilderInfallibleBuild>(
     typed_value: Result<(B::Expr, EntityType), Failure>,
     within: Result<B::Expr, Failure>,
 ) -> Result<ExprOrSpecial<B::Expr>, Failure>
-    ensures { (p : Outcome Typed) (x : Outcome Value) → Gives (seen_typed B.meaning) typed_value p
+    ensures { (p : Outcome ValueAndType) (x : Outcome Value)
+        → Gives (seen_type B.meaning) typed_value p
         → Gives B.meaning within x → Gives (plain B.meaning) result
-        (next p (λ q. next x (typed_within loc.now q))) }
+        (next p (λ q. next x (type_within_outcome loc.now q))) }
 {
     let (target, entity_type) = typed_value?;
     let within = within?;

@@ -1,11 +1,11 @@
 //! Signs before an operand.
 ghost use Rattle.std.specs.Prelude.{◌≡◌, ◌≤◌, MatchOption, pos, neg_ℤ, Ok};
 ghost use Rattle.cedar_expressions.specs.Value as v;
-ghost use Rattle.cedar_policy_parser.specs.Conversion.{applied, dashed, negative as negative_of, signed};
+ghost use Rattle.cedar_policy_parser.specs.Conversion.{application_outcome, dashes_outcome, negative as negative_of, signs_outcome};
 ghost use Rattle.cedar_policy_parser.specs.Held.{Held};
-ghost use Rattle.cedar_policy_parser.specs.Outcome.{Outcome, refused, unary_op_limit};
+ghost use Rattle.cedar_policy_parser.specs.Outcome.{Outcome, fault_outcome, unary_op_limit};
 ghost use Rattle.cedar_policy_parser.specs.Seen.{Gives, TellsAlone, plain};
-ghost use Rattle.cedar_policy_parser.specs.Strict.{repeated, largest};
+ghost use Rattle.cedar_policy_parser.specs.Strict.{iteration, largest};
 
 use crate::literals::LARGEST;
 use crate::special::{ExprOrSpecial, builder_at, expr_of, made, refusal};
@@ -21,7 +21,7 @@ fn repeat_not<B: ExprBuilderInfallibleBuild>(
     count: u8,
     inner: B::Expr,
 ) -> Result<B::Expr, Failure>
-    ensures { Gives B.meaning result (Ok (repeated count v.not (B.meaning inner))) }
+    ensures { Gives B.meaning result (Ok (iteration count v.not (B.meaning inner))) }
 {
     let mut all = inner;
     for i in 0..count {
@@ -36,7 +36,7 @@ fn repeat_neg<B: ExprBuilderInfallibleBuild>(
     count: u8,
     inner: B::Expr,
 ) -> Result<B::Expr, Failure>
-    ensures { Gives B.meaning result (Ok (repeated count v.neg (B.meaning inner))) }
+    ensures { Gives B.meaning result (Ok (iteration count v.neg (B.meaning inner))) }
 {
     let mut all = inner;
     for i in 0..count {
@@ -89,7 +89,7 @@ pub(crate) fn without_operand<B: ExprBuilderInfallibleBuild>(
     bare: Option<u64>,
 ) -> Option<Result<ExprOrSpecial<B::Expr>, Failure>>
     ensures { MatchOption result (Unit {0}) (λ answer.
-        (x : Outcome Held) → Gives (plain B.meaning) answer (signed loc.now op bare x)) }
+        (x : Outcome Held) → Gives (plain B.meaning) answer (signs_outcome loc.now op bare x)) }
 {
     match op {
         None => None,
@@ -116,7 +116,7 @@ fn banged<B: ExprBuilderInfallibleBuild>(
     item: Result<ExprOrSpecial<B::Expr>, Failure>,
 ) -> Result<ExprOrSpecial<B::Expr>, Failure>
     ensures { (x : Outcome Held) → Gives (plain B.meaning) item x
-        → Gives (plain B.meaning) result (applied loc.now count v.not x) }
+        → Gives (plain B.meaning) result (application_outcome loc.now count v.not x) }
 {
     if count == 0 {
         return item;
@@ -133,7 +133,7 @@ fn opposite<B: ExprBuilderInfallibleBuild>(
     item: Result<ExprOrSpecial<B::Expr>, Failure>,
 ) -> Result<ExprOrSpecial<B::Expr>, Failure>
     ensures { (x : Outcome Held) → Gives (plain B.meaning) item x
-        → Gives (plain B.meaning) result (applied loc.now count v.neg x) }
+        → Gives (plain B.meaning) result (application_outcome loc.now count v.neg x) }
 {
     if count == 0 {
         return item;
@@ -151,7 +151,7 @@ fn dashed<B: ExprBuilderInfallibleBuild>(
     item: Result<ExprOrSpecial<B::Expr>, Failure>,
 ) -> Result<ExprOrSpecial<B::Expr>, Failure>
     ensures { (x : Outcome Held) → Gives (plain B.meaning) item x
-        → Gives (plain B.meaning) result (dashed loc.now count bare x) }
+        → Gives (plain B.meaning) result (dashes_outcome loc.now count bare x) }
 {
     match bare {
         Some(number) => {
@@ -171,7 +171,7 @@ fn beyond<B: ExprBuilderInfallibleBuild>(
     op: UnaryOp,
     item: Result<ExprOrSpecial<B::Expr>, Failure>,
 ) -> Result<ExprOrSpecial<B::Expr>, Failure>
-    ensures { Gives (plain B.meaning) result (refused unary_op_limit loc.now) }
+    ensures { Gives (plain B.meaning) result (fault_outcome unary_op_limit loc.now) }
 {
     drop(item);
     Err(over_limit(alloc, op, loc))
@@ -186,7 +186,7 @@ pub(crate) fn signed_from<B: ExprBuilderInfallibleBuild>(
     item: Result<ExprOrSpecial<B::Expr>, Failure>,
 ) -> Result<ExprOrSpecial<B::Expr>, Failure>
     ensures { (x : Outcome Held) → Gives (plain B.meaning) item x
-        → Gives (plain B.meaning) result (signed loc.now op bare x) }
+        → Gives (plain B.meaning) result (signs_outcome loc.now op bare x) }
 {
     match op {
         None => item,

@@ -1,6 +1,6 @@
 //! Slots.
 ghost use Rattle.cedar_policy_parser.specs.Entities.{slot_outcome};
-ghost use Rattle.cedar_policy_parser.specs.Leaves.{slot_held};
+ghost use Rattle.cedar_policy_parser.specs.Leaves.{slot_leaf};
 ghost use Rattle.cedar_policy_parser.specs.Outcome.{invalid_slot};
 ghost use Rattle.cedar_policy_parser.specs.Seen.{Gives, TellsAlone, itself, plain};
 
@@ -39,7 +39,7 @@ pub(crate) fn slot<B: ExprBuilderInfallibleBuild>(
     alloc: Global,
     node: &Node<Option<Slot>>,
 ) -> Result<ExprOrSpecial<B::Expr>, Failure>
-    ensures { Gives (plain B.meaning) result (slot_held node.now) }
+    ensures { Gives (plain B.meaning) result (slot_leaf node.now) }
 {
     let id = slot_id(alloc, node)?;
     made::<B>(builder_at::<B>(alloc, &node.loc).slot(id)?, &node.loc)

@@ -4,7 +4,7 @@ ghost use Rattle.std.specs.Option.{option_map};
 ghost use Rattle.cedar_expressions.specs.Value.{Value};
 ghost use Rattle.cedar_policy_parser.specs.Held.{Held, expression, as_expression};
 ghost use Rattle.cedar_policy_parser.specs.Outcome.{Outcome, arbitrary_variable, empty_node, next};
-ghost use Rattle.cedar_policy_parser.specs.References.{bytes_of};
+ghost use Rattle.cedar_policy_parser.specs.Places.{bytes_of};
 ghost use Rattle.cedar_policy_parser.specs.Seen.{Gives, TellsAlone, kind_of, plain};
 
 use crate::places::bytes_of;

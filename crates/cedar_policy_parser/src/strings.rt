@@ -4,8 +4,8 @@ ghost use Rattle.cedar_syntax.specs.NonEmpty.{list_of};
 ghost use Rattle.cedar_syntax.specs.ParseErrors.{faults_of};
 ghost use Rattle.cedar_policy_parser.specs.Held.{text_value};
 ghost use Rattle.cedar_policy_parser.specs.Outcome.{next, unescape};
-ghost use Rattle.cedar_policy_parser.specs.Seen.{Gives, itself, told, told_of};
-ghost use Rattle.cedar_policy_parser.specs.Strings.{pattern_outcome, text_outcome, told_at};
+ghost use Rattle.cedar_policy_parser.specs.Seen.{Gives, itself, named_faults, named_fault};
+ghost use Rattle.cedar_policy_parser.specs.Strings.{pattern_outcome, text_outcome, string_faults};
 
 use crate::special::builder_at;
 use cedar_expressions::{ExprBuilderInfallibleBuild, Literal, PatternElem, Text, TryClone};
@@ -19,7 +19,7 @@ use std::alloc::{AllocError, Global};
 
 /// An escape fault at the string's place.
 fn escape_fault(fault: UnescapeError, loc: &Option<Loc>) -> Result<ToASTError, AllocError>
-    ensures { IfOk result (λ made. told_of (ParseError.ToAST made) ≡ (unescape, loc.now)) }
+    ensures { IfOk result (λ made. named_fault (ParseError.ToAST made) ≡ (unescape, loc.now)) }
 {
     let loc = loc.try_clone()?;
     Ok(ToASTError::new(ToASTErrorKind::Unescape(fault), loc))
@@ -31,8 +31,8 @@ fn add_escape_fault(
     fault: UnescapeError,
     loc: &Option<Loc>,
 ) -> Result<(), AllocError>
-    ensures { OnOk result (told (faults_of all.new)
-        ≡ told (faults_of all.old) ++ (unescape, loc.now) ∷ []) }
+    ensures { OnOk result (named_faults (faults_of all.new)
+        ≡ named_faults (faults_of all.old) ++ (unescape, loc.now) ∷ []) }
 {
     let fault = escape_fault(fault, loc)?;
     all.faults.push(ParseError::ToAST(fault))
@@ -44,7 +44,8 @@ pub(crate) fn escape_faults(
     faults: NonEmpty<UnescapeError>,
     loc: &Option<Loc>,
 ) -> Result<ParseErrors, AllocError>
-    ensures { IfOk result (λ all. told (faults_of all) ≡ told_at loc.now (list_of faults)) }
+    ensures { IfOk result (λ all. named_faults (faults_of all)
+        ≡ string_faults loc.now (list_of faults)) }
 {
     let NonEmpty { head, tail } = faults;
     let mut all = ParseErrors::from_ast(alloc, escape_fault(head, loc)?);

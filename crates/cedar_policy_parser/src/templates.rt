@@ -6,11 +6,11 @@ ghost use Rattle.cedar_syntax.specs.declared.cst.Policy.TheVariants as variants;
 ghost use Rattle.cedar_syntax.specs.declared.err.faults.ParseError.TheVariants.{ToAST};
 ghost use Rattle.cedar_syntax.specs.ParseErrors.{faults_of};
 ghost use Rattle.cedar_syntax.specs.declared.loc.Loc.{Loc};
-ghost use Rattle.cedar_policy_parser.specs.Conditions.{Found, place_within};
+ghost use Rattle.cedar_policy_parser.specs.Places.{place_within};
 ghost use Rattle.cedar_policy_parser.specs.Extensions.{table_of};
 ghost use Rattle.cedar_policy_parser.specs.Outcome.{Outcome, invalid_effect, expected_static_policy};
 ghost use Rattle.cedar_policy_parser.specs.Policies as k;
-ghost use Rattle.cedar_policy_parser.specs.Seen.{Gives, Refuses, TellsAlone, itself, told, told_of};
+ghost use Rattle.cedar_policy_parser.specs.Seen.{Gives, Refuses, TellsAlone, itself, named_faults, named_fault};
 
 use crate::annotations::annotations;
 use crate::conditions::{conditions, folded};
@@ -78,8 +78,8 @@ type Parts = ((Effect, Annotations), (Scope, Vec<Expr>));
 
 /// The parts of a policy, joined.
 fn parts(alloc: Global, styles: &ExtStyles, policy: &PolicyImpl) -> Result<Parts, Failure>
-    ensures { (found : List Found) × Gives k.parts_seen result
-        (k.parts_given (table_of styles.now) found policy.now) }
+    ensures { Gives k.parts_view result
+        (k.parts_outcome (table_of styles.now) policy.now) }
 {
     let maybe_effect = effect(alloc, &policy.effect);
     let maybe_annotations = kept_annotations(alloc, policy);
@@ -103,7 +103,7 @@ fn constructed(
     parts: Parts,
 ) -> Result<Template, AllocError>
     ensures { IfOk result (λ t. k.template_parts t
-        ≡ k.given_parts id loc.now (k.parts_seen parts)) }
+        ≡ k.given_parts id loc.now (k.parts_view parts)) }
 {
     let ((effect, annotations), (scope, conditions)) = parts;
     let (principal, action, resource) = scope;
@@ -127,8 +127,8 @@ pub(crate) fn template(
     id: PolicyID,
     node: &Node<Option<Policy>>,
 ) -> Result<Template, Failure>
-    ensures { (found : List Found) × Gives k.template_parts result
-        (k.template_outcome (table_of styles.now) found id node.now) }
+    ensures { Gives k.template_parts result
+        (k.template_outcome (table_of styles.now) id node.now) }
 {
     match &node.node {
         Some(policy) => {
@@ -148,8 +148,8 @@ pub(crate) fn static_or_template(
     id: PolicyID,
     node: &Node<Option<Policy>>,
 ) -> Result<Either<StaticPolicy, Template>, Failure>
-    ensures { (found : List Found) × Gives k.either_parts result
-        (k.either_outcome (table_of styles.now) found id node.now) }
+    ensures { Gives k.either_parts result
+        (k.either_outcome (table_of styles.now) id node.now) }
 {
     let template = template(alloc, styles, id, node)?;
     if template.first_slot().is_some() {
@@ -173,7 +173,8 @@ fn found_slot(alloc: Global, slot: Slot, loc: &Option<Loc>) -> Failure
 
 /// What stands behind a slot in a condition where a static policy is wanted.
 fn static_fault(fault: &ParseError) -> Result<Option<ToASTError>, AllocError>
-    ensures { IfOk result (λ made. k.static_told (told_of fault.now ∷ []) ≡ k.told_if made) }
+    ensures { IfOk result (λ made. k.slot_faults (named_fault fault.now ∷ [])
+        ≡ k.optional_fault made) }
 {
     match fault {
         ParseError::ToAST(fault) => match &fault.kind {
@@ -190,8 +191,8 @@ fn static_fault(fault: &ParseError) -> Result<Option<ToASTError>, AllocError>
 
 /// Adds what stands behind a fault where a static policy is wanted.
 fn add_static_fault(more: &mut Vec<ParseError>, fault: &ParseError) -> Result<(), AllocError>
-    ensures { OnOk result (told more.new.items
-        ≡ told more.old.items ++ k.static_told (told_of fault.now ∷ [])) }
+    ensures { OnOk result (named_faults more.new.items
+        ≡ named_faults more.old.items ++ k.slot_faults (named_fault fault.now ∷ [])) }
 {
     if let Some(fault) = static_fault(fault)? {
         more.push(ParseError::ToAST(fault))?;
@@ -201,7 +202,8 @@ fn add_static_fault(more: &mut Vec<ParseError>, fault: &ParseError) -> Result<()
 
 /// The faults behind those of slots in conditions, in order.
 fn static_faults(alloc: Global, faults: &ParseErrors) -> Result<Vec<ParseError>, AllocError>
-    ensures { IfOk result (λ more. told more.items ≡ k.static_told (told (faults_of faults.now))) }
+    ensures { IfOk result (λ more. named_faults more.items
+        ≡ k.slot_faults (named_faults (faults_of faults.now))) }
 {
     let mut more = Vec::new(alloc);
     for fault in faults.iter() {
@@ -212,8 +214,8 @@ fn static_faults(alloc: Global, faults: &ParseErrors) -> Result<Vec<ParseError>,
 
 /// Adds faults behind those that are there.
 fn add_faults(faults: &mut ParseErrors, more: Vec<ParseError>) -> Result<(), AllocError>
-    ensures { OnOk result (told (faults_of faults.new)
-        ≡ told (faults_of faults.old) ++ told more.items) }
+    ensures { OnOk result (named_faults (faults_of faults.new)
+        ≡ named_faults (faults_of faults.old) ++ named_faults more.items) }
 {
     for fault in more {
         faults.faults.push(fault)?;
@@ -223,8 +225,9 @@ fn add_faults(faults: &mut ParseErrors, more: Vec<ParseError>) -> Result<(), All
 
 /// Adds behind faults one more for each slot in a condition.
 fn add_static_faults(alloc: Global, faults: &mut ParseErrors) -> Result<(), AllocError>
-    ensures { OnOk result (told (faults_of faults.new)
-        ≡ told (faults_of faults.old) ++ k.static_told (told (faults_of faults.old))) }
+    ensures { OnOk result (named_faults (faults_of faults.new)
+        ≡ named_faults (faults_of faults.old) ++ k.slot_faults
+        (named_faults (faults_of faults.old))) }
 {
     let more = static_faults(alloc, faults)?;
     add_faults(faults, more)
@@ -258,7 +261,7 @@ fn only_static(
 
 /// What refuses a static policy where this refuses a template.
 fn refused_static(alloc: Global, failure: Failure) -> Failure
-    ensures { (place : Option Loc) (o : Outcome k.Parts)
+    ensures { (place : Option Loc) (o : Outcome k.TemplateParts)
         → Refuses failure o → Refuses result (k.only_static place o) }
 {
     match failure {
@@ -277,8 +280,8 @@ pub(crate) fn static_policy(
     id: PolicyID,
     node: &Node<Option<Policy>>,
 ) -> Result<StaticPolicy, Failure>
-    ensures { (found : List Found) × Gives k.template_parts result
-        (k.static_outcome (table_of styles.now) found id node.now) }
+    ensures { Gives k.template_parts result
+        (k.static_outcome (table_of styles.now) id node.now) }
 {
     match template(alloc, styles, id, node) {
         Ok(template) => only_static(alloc, &node.loc, template),

@@ -4,7 +4,7 @@ ghost use Rattle.std.specs.Prelude.{◌≡◌, List, map};
 ghost use Rattle.cedar_expressions.specs.declared.entity.EntityUID.{EntityUID as Entity};
 ghost use Rattle.cedar_syntax.specs.Forms.{located, parts_of, listed_expr, expr_form, primary_form};
 ghost use Rattle.cedar_policy_parser.specs.Outcome.{Outcome, wrong_node, wrong_entity_argument};
-ghost use Rattle.cedar_policy_parser.specs.References.{RefKind as Kind, single_entity, entity_or_slot, one_or_multiple, literal_told, entity_at, lone_entity, entities, entity_found, slot_found, set_referred, of_variable, referred_at, referred};
+ghost use Rattle.cedar_policy_parser.specs.References.{RefKind as Kind, single_entity, entity_or_slot, one_or_multiple, literal_fault, entity_at, lone_entity, entities, single_outcome, own_slot_outcome, several_outcome, of_variable, referent_at, referent_outcome};
 ghost use Rattle.cedar_policy_parser.specs.Seen.{Gives, TellsAlone, item_more, itself};
 
 use crate::entities::entity_of;
@@ -54,13 +54,14 @@ pub(crate) trait RefKind: Drop {
         items: &[Node<Option<cst::Expr>>],
     ) -> Result<Self, Failure>
         ensures { Gives itself result
-            (set_referred loc.now kind.several (entities (parts_of (map listed_expr items.now)))) };
+            (several_outcome loc.now kind.several
+            (entities (parts_of (map listed_expr items.now)))) };
 }
 
 impl RefKind for SingleEntity {
     ghost use Rattle.std.specs.Prelude.{◌≡◌, map};
     ghost use Rattle.cedar_syntax.specs.Forms.{parts_of, listed_expr};
-    ghost use Rattle.cedar_policy_parser.specs.References.{single_entity, set_referred, entities};
+    ghost use Rattle.cedar_policy_parser.specs.References.{single_entity, several_outcome, entities};
     ghost use Rattle.cedar_policy_parser.specs.Seen.{Gives, itself};
 
     ghost kind = { single_entity };
@@ -90,7 +91,7 @@ impl RefKind for SingleEntity {
 impl RefKind for EntityReference {
     ghost use Rattle.std.specs.Prelude.{◌≡◌, map};
     ghost use Rattle.cedar_syntax.specs.Forms.{parts_of, listed_expr};
-    ghost use Rattle.cedar_policy_parser.specs.References.{entity_or_slot, set_referred, entities};
+    ghost use Rattle.cedar_policy_parser.specs.References.{entity_or_slot, several_outcome, entities};
     ghost use Rattle.cedar_policy_parser.specs.Seen.{Gives, itself};
 
     ghost kind = { entity_or_slot };
@@ -126,7 +127,7 @@ impl RefKind for EntityReference {
 impl RefKind for OneOrMultipleRefs {
     ghost use Rattle.std.specs.Prelude.{◌≡◌, map};
     ghost use Rattle.cedar_syntax.specs.Forms.{parts_of, listed_expr};
-    ghost use Rattle.cedar_policy_parser.specs.References.{one_or_multiple, set_referred, entities};
+    ghost use Rattle.cedar_policy_parser.specs.References.{one_or_multiple, several_outcome, entities};
     ghost use Rattle.cedar_policy_parser.specs.Seen.{Gives, itself};
 
     ghost kind = { one_or_multiple };
@@ -183,8 +184,8 @@ fn literal_found(
     loc: &Option<Loc>,
     node: &Node<Option<cst::Literal>>,
 ) -> Failure
-    ensures { TellsAlone result (literal_told loc.now node.now.loc node.now.node).0
-        (literal_told loc.now node.now.loc node.now.node).1 }
+    ensures { TellsAlone result (literal_fault loc.now node.now.loc node.now.node).0
+        (literal_fault loc.now node.now.loc node.now.node).1 }
 {
     match &node.node {
         Some(literal) => match format!(in alloc; "literal `{literal}`") {
@@ -310,7 +311,7 @@ fn of_variable<T: RefKind>(
 
 /// What is made of an entity.
 fn entity_found<T: RefKind>(alloc: Global, node: &Node<Option<cst::Ref>>) -> Result<T, Failure>
-    ensures { Gives itself result (entity_found T.kind node.now) }
+    ensures { Gives itself result (single_outcome T.kind node.now) }
 {
     let uid = entity_of(alloc, node)?;
     Ok(T::create_single_ref(uid))
@@ -323,7 +324,7 @@ fn slot_found<T: RefKind>(
     loc: &Option<Loc>,
     node: &Node<Option<cst::Slot>>,
 ) -> Result<T, Failure>
-    ensures { Gives itself result (slot_found T.kind var loc.now node.now) }
+    ensures { Gives itself result (own_slot_outcome T.kind var loc.now node.now) }
 {
     let made = T::create_slot(alloc, loc)?;
     match &node.node {
@@ -338,7 +339,7 @@ fn referred_at<T: RefKind>(
     var: Var,
     node: &Node<Option<cst::Primary>>,
 ) -> Result<T, Failure>
-    ensures { Gives itself result (referred_at T.kind var (located primary_form node.now)) }
+    ensures { Gives itself result (referent_at T.kind var (located primary_form node.now)) }
 {
     match &node.node {
         Some(cst::Primary::Ref(inner)) => entity_found::<T>(alloc, inner.as_ref()),
@@ -364,7 +365,7 @@ pub(crate) fn to_ref_or_refs<T: RefKind>(
     var: Var,
     node: &Node<Option<cst::Expr>>,
 ) -> Result<T, Failure>
-    ensures { Gives itself result (referred T.kind var node.now) }
+    ensures { Gives itself result (referent_outcome T.kind var node.now) }
 {
     referred_at::<T>(alloc, var, lone_expr(alloc, T::err_str(), node)?)
 }

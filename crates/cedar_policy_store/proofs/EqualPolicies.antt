@@ -38,7 +38,7 @@ use Rattle.cedar_policy_store.specs.declared.constraints.ActionConstraint.TheVar
 use Rattle.cedar_policy_store.specs.declared.template.Template.{Template}
 use Rattle.cedar_policy_store.specs.PolicyMaps.{PolicyMaps, same_maps_by}
 use Rattle.cedar_policy_store.specs.TextMap.{text_order, same_entry_by, same_map_by}
-use Rattle.cedar_policy_store.specs.PlaceFree.{Reference, entity, own_slot, Constraint, any, equal_to, inside, typed, typed_inside, at_value, with_values, referred, constrained, annotated, template_meaning, set_meaning}
+use Rattle.cedar_policy_store.specs.PlaceFree.{Reference, entity, own_slot, Constraint, any, equal_to, inside, typed, typed_inside, at_value, with_values, reference_meaning, constraint_meaning, annotation_value, template_meaning, set_meaning}
 
 -- maps with other values at their keys
 module _ {X Y : Type 0} (f : X → Y) where
@@ -99,17 +99,17 @@ actions (action.In a) (action.In b) = through (ap action.In) (λ e. cc) (pointwi
 actions x y = apart (λ e. cc)
 
 -- references and constraints: two slots are the same wherever they stand
-references : (x y : EntityReference) → Decides (reference_eq.ghosts.eq x y) (referred x ≡ referred y)
+references : (x y : EntityReference) → Decides (reference_eq.ghosts.eq x y) (reference_meaning x ≡ reference_meaning y)
 references (EUID a) (EUID b) = through (ap entity) (λ e. cc) (one_entity a b)
 references (Slot a) (Slot b) = (λ h. refl, λ e. refl)
 references x y = apart (λ e. cc)
 
-two_parts : (s t : EntityType) (a b : EntityReference) → Decides (type_eq.ghosts.eq s t && reference_eq.ghosts.eq a b) (typed_inside s (referred a) ≡ typed_inside t (referred b))
+two_parts : (s t : EntityType) (a b : EntityReference) → Decides (type_eq.ghosts.eq s t && reference_eq.ghosts.eq a b) (typed_inside s (reference_meaning a) ≡ typed_inside t (reference_meaning b))
 two_parts s t a b =
     through (λ e i. typed_inside (e.0 i) (e.1 i)) (λ e. (cc, cc))
     (both (type_eq.ghosts.eq s t) (reference_eq.ghosts.eq a b) (entity_type s t) (references a b))
 
-constraints : (x y : PrincipalOrResourceConstraint) → Decides (constraint_eq.ghosts.eq x y) (constrained x ≡ constrained y)
+constraints : (x y : PrincipalOrResourceConstraint) → Decides (constraint_eq.ghosts.eq x y) (constraint_meaning x ≡ constraint_meaning y)
 constraints Any Any = (λ h. refl, λ e. refl)
 constraints (Eq a) (Eq b) = through (ap equal_to) (λ e. cc) (references a b)
 constraints (In a) (In b) = through (ap inside) (λ e. cc) (references a b)
@@ -122,7 +122,7 @@ conditions None None = (λ h. refl, λ e. refl)
 conditions (Some a) (Some b) = through (ap Some) (λ e. cc) (equal_exprs a b)
 conditions x y = apart (λ e. cc)
 
-values_are : (x y : Annotation) → Decides (annotation_eq.ghosts.eq x y) (annotated x ≡ annotated y)
+values_are : (x y : Annotation) → Decides (annotation_eq.ghosts.eq x y) (annotation_value x ≡ annotation_value y)
 values_are x y =
     let same = text x.value y.value in
     (λ h. same.0 (first_so (text_eq x.value y.value) true h), λ e. ap (λ b. b && true) (same.1 e))
@@ -156,7 +156,7 @@ module _ (x y : Template) where
       (λ e i. record { id = e.0 i; annotations = e.1.0 i; effect = e.1.1.0 i; principal = e.1.1.1.0 i; action = e.1.1.1.1.0 i; resource = e.1.1.1.1.1.0 i; condition = e.1.1.1.1.1.1 i })
       (λ e. (λ i. (e i).id, (λ i. (e i).annotations, (λ i. (e i).effect, (λ i. (e i).principal, (λ i. (e i).action, (λ i. (e i).resource, λ i. (e i).condition)))))))
       (both id_eq (annotations_eq && (effects_eq && (principals_eq && (actions_eq && (resources_eq && conditions_eq))))) (text x.id y.id)
-      (both annotations_eq (effects_eq && (principals_eq && (actions_eq && (resources_eq && conditions_eq)))) (maps_are annotated annotation_eq.ghosts.eq values_are x.annotations y.annotations)
+      (both annotations_eq (effects_eq && (principals_eq && (actions_eq && (resources_eq && conditions_eq)))) (maps_are annotation_value annotation_eq.ghosts.eq values_are x.annotations y.annotations)
       (both effects_eq (principals_eq && (actions_eq && (resources_eq && conditions_eq))) (bare effect.the_type tt x.effect y.effect)
       (both principals_eq (actions_eq && (resources_eq && conditions_eq)) (constraints x.principal.constraint y.principal.constraint)
       (both actions_eq (resources_eq && conditions_eq) (actions x.action y.action)

@@ -8,18 +8,18 @@ use Rattle.cedar_policy_store.specs.declared.constraints.EntityReference.TheVari
 use Rattle.cedar_policy_store.specs.declared.constraints.PrincipalOrResourceConstraint.{PrincipalOrResourceConstraint}
 use Rattle.cedar_policy_store.specs.declared.constraints.PrincipalOrResourceConstraint.TheVariants as constraint
 use Rattle.cedar_policy_store.specs.declared.template.Template.{Template}
-use Rattle.cedar_policy_store.specs.PlaceFree.{asks_for_slot, constrained, is_own_slot, referred, has_slot_in_scope, template_meaning}
+use Rattle.cedar_policy_store.specs.PlaceFree.{asks_for_slot, constraint_meaning, is_own_slot, reference_meaning, has_slot_in_scope, template_meaning}
 use Rattle.cedar_policy_store.specs.TemplateSlots.{reference_slot, constraint_slot, at_most_one, condition_slots, template_slots}
 
 -- a list is empty exactly where the test fails
 abbrev Empty : List Slot → Bool → Type 0
 Empty xs b = (xs ≡ [] → b ≡ false) × (b ≡ false → xs ≡ [])
 
-of_reference : (id : SlotId) (r : EntityReference) → Empty (at_most_one (reference_slot id r)) (is_own_slot (referred r))
+of_reference : (id : SlotId) (r : EntityReference) → Empty (at_most_one (reference_slot id r)) (is_own_slot (reference_meaning r))
 of_reference id (reference.EUID one) = (λ e. refl, λ e. refl)
 of_reference id (reference.Slot mark) = (λ e. cc, λ e. absurd (true≢false e))
 
-of_constraint : (id : SlotId) (c : PrincipalOrResourceConstraint) → Empty (at_most_one (constraint_slot id c)) (asks_for_slot (constrained c))
+of_constraint : (id : SlotId) (c : PrincipalOrResourceConstraint) → Empty (at_most_one (constraint_slot id c)) (asks_for_slot (constraint_meaning c))
 of_constraint id constraint.Any = (λ e. refl, λ e. refl)
 of_constraint id (constraint.Eq r) = of_reference id r
 of_constraint id (constraint.In r) = of_reference id r
@@ -54,8 +54,8 @@ static_by_scope t none =
     (at_most_one (constraint_slot Principal t.principal.constraint))
     (at_most_one (constraint_slot Resource t.resource.constraint))
     (condition_slots t.condition)
-    (asks_for_slot (constrained t.principal.constraint))
-    (asks_for_slot (constrained t.resource.constraint))
+    (asks_for_slot (constraint_meaning t.principal.constraint))
+    (asks_for_slot (constraint_meaning t.resource.constraint))
     none
     (of_constraint Principal t.principal.constraint)
     (of_constraint Resource t.resource.constraint)

@@ -68,28 +68,29 @@ at_value f e = (e.0, f e.1)
 abbrev pub with_values : {X Y : Type 0} → (X → Y) → FinMap text_order X → FinMap text_order Y
 with_values f m = from_sorted (map (at_value f) (entries m))
 
-abbrev pub referred : EntityReference → Reference
-referred (EUID one) = entity one
-referred (Slot mark) = own_slot
+abbrev pub reference_meaning : EntityReference → Reference
+reference_meaning (EUID one) = entity one
+reference_meaning (Slot mark) = own_slot
 
-abbrev pub constrained : PrincipalOrResourceConstraint → Constraint
-constrained Any = any
-constrained (Eq reference) = equal_to (referred reference)
-constrained (In reference) = inside (referred reference)
-constrained (Is entity_type) = typed entity_type
-constrained (IsIn entity_type reference) = typed_inside entity_type (referred reference)
+abbrev pub constraint_meaning : PrincipalOrResourceConstraint → Constraint
+constraint_meaning Any = any
+constraint_meaning (Eq reference) = equal_to (reference_meaning reference)
+constraint_meaning (In reference) = inside (reference_meaning reference)
+constraint_meaning (Is entity_type) = typed entity_type
+constraint_meaning (IsIn entity_type reference) =
+    typed_inside entity_type (reference_meaning reference)
 
-abbrev pub annotated : Annotation → List ℕ
-annotated annotation = annotation.value
+abbrev pub annotation_value : Annotation → List ℕ
+annotation_value annotation = annotation.value
 
 abbrev pub template_meaning : Template → Policy
 template_meaning t = record {
   id = t.id;
-  annotations = with_values annotated t.annotations;
+  annotations = with_values annotation_value t.annotations;
   effect = t.effect;
-  principal = constrained t.principal.constraint;
+  principal = constraint_meaning t.principal.constraint;
   action = t.action;
-  resource = constrained t.resource.constraint;
+  resource = constraint_meaning t.resource.constraint;
   condition = option_map unplaced t.condition;
 }
 

@@ -11,7 +11,7 @@ use Rattle.cedar_syntax.specs.NonEmpty.{list_of}
 use Rattle.cedar_syntax.specs.UnescapeFailure.{Tells, LacksMemory}
 use Rattle.cedar_syntax.specs.EscapeFaults.{found_list}
 use Rattle.cedar_syntax.specs.Pattern.{IsPattern, HasPatternFaults, elem_of, pattern_fault_of}
-use Rattle.cedar_syntax.specs.Piece.{Placed, IsUnescaped, HasEscapeFaults, unescaped_piece, fault_of}
+use Rattle.cedar_syntax.specs.Piece.{Placed, IsUnescaped, HasEscapeFaults, unescaped_piece, piece_value_faults}
 use Rattle.cedar_syntax.proofs.Layouts.{Whole, laid_once}
 
 whole_same : {A : Type 0} (gives : Placed → List A) (tells : Placed → List UnescapeError) (raw : List ℕ) (got got' : List A) (found found' : List UnescapeError) → Whole gives tells raw got found → Whole gives tells raw got' found' → (got ≡ got') × (found ≡ found')
@@ -59,7 +59,7 @@ abbrev pub text_gives : Placed → List ℕ
 text_gives p = unescaped_piece p.outcome
 
 abbrev pub text_tells : List ℕ → Placed → List UnescapeError
-text_tells raw p = fault_of raw p p.outcome
+text_tells raw p = piece_value_faults raw p p.outcome
 
 pub text_ok : {T : Type 0} (items : T → List ℕ) (raw : List ℕ) (r : Result T UnescapeFailure) → Answered items text_gives (text_tells raw) raw r → IfOk r (λ t. IsUnescaped raw (items t))
 text_ok items raw r a = ok_then (λ t. Whole text_gives (text_tells raw) raw (items t) []) (λ t. IsUnescaped raw (items t)) r (λ t w. record { pieces = w.pieces; laid_out = w.laid; faultless = w.told; unescaped = w.given }) a.ok

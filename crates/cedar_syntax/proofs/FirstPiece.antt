@@ -12,7 +12,7 @@ use Rattle.cedar_syntax.specs.declared.err.escape.EscapeError.TheVariants.{BareC
 use Rattle.cedar_syntax.specs.declared.unescape.piece.PieceValue.{PieceValue}
 use Rattle.cedar_syntax.specs.declared.unescape.piece.PieceValue.TheVariants.{Nothing, Character, Fault}
 use Rattle.cedar_syntax.specs.Piece.{Piece, plain, bare_quote, bare_return, lone_slash, short, line_end, hex, large_hex, short_hex, bad_hex, no_brace_but_end, no_brace, empty_braces, leading_underscore, unclosed, bad_inside, unicode, overlong, out_of_range, lone_surrogate, invalid, short_escape, is_blank, EndsBlanks, is_hex, is_no_underscore, is_hex_or_underscore, digits, hex_number, BeginsNumber}
-use Rattle.cedar_syntax.specs.PieceAhead.{BeginsWithPiece, PieceAhead, piece_ahead, faulty, first_of, hex_digit, unskipped, ascii, low_digit, behind_high, high_digit, hex_escape, Tally, tally, with_digit, scalar_outcome, as_char, closed, inside_braces, first_digit, behind_brace, unicode_escape, short_outcome, escape, first_piece}
+use Rattle.cedar_syntax.specs.PieceAhead.{BeginsWithPiece, PieceAhead, piece_ahead, faulty, first_of, hex_digit, unskipped_text, ascii, low_digit, behind_high, high_digit, hex_escape, Tally, tally, with_digit, scalar_outcome, as_char, brace_outcome, inside_braces, first_digit, behind_brace, unicode_escape, short_outcome, escape, first_piece}
 
 moved : {whole whole' : List ℕ} {r r' : PieceAhead} → whole ≡ whole' → r ≡ r' → BeginsWithPiece whole r → BeginsWithPiece whole' r'
 moved {whole} {whole'} {r} {r'} e f b = subst (λ (w : List ℕ). BeginsWithPiece w r') e (subst (λ (s : PieceAhead). BeginsWithPiece whole s) f b)
@@ -82,23 +82,23 @@ if_true b x y e = ap (λ (t : Bool). if t then x else y) e
 if_false : {A : Type 0} (b : Bool) (x y : A) → b ≡ false → (if b then x else y) ≡ y
 if_false b x y e = ap (λ (t : Bool). if t then x else y) e
 
-closed_overlong : (n v : ℕ) → 6 < n → closed (tally n v) ≡ Fault OverlongUnicodeEscape
+closed_overlong : (n v : ℕ) → 6 < n → brace_outcome (tally n v) ≡ Fault OverlongUnicodeEscape
 closed_overlong n v h = if_true (nat_lt 6 (min n 7)) (Fault OverlongUnicodeEscape) (scalar_outcome (min v 0x11_0000) (as_char (min v 0x11_0000))) (lt-ltb 6 (min n 7) (omega arith))
 
-closed_short : (n v : ℕ) → n ≤ 6 → closed (tally n v) ≡ scalar_outcome (min v 0x11_0000) (as_char (min v 0x11_0000))
+closed_short : (n v : ℕ) → n ≤ 6 → brace_outcome (tally n v) ≡ scalar_outcome (min v 0x11_0000) (as_char (min v 0x11_0000))
 closed_short n v h = if_false (nat_lt 6 (min n 7)) (Fault OverlongUnicodeEscape) (scalar_outcome (min v 0x11_0000) (as_char (min v 0x11_0000))) (le-ltb 6 (min n 7) (omega arith))
 
-closed_large : (n v : ℕ) → n ≤ 6 → 0x10FFFF < v → closed (tally n v) ≡ Fault OutOfRangeUnicodeEscape
+closed_large : (n v : ℕ) → n ≤ 6 → 0x10FFFF < v → brace_outcome (tally n v) ≡ Fault OutOfRangeUnicodeEscape
 closed_large n v h l =
     let e : min v 0x11_0000 ≡ 0x11_0000 = omega arith in
     closed_short n v h ∙ ap (λ (m : ℕ). scalar_outcome m (as_char m)) e
 
-closed_scalar : (n v : ℕ) → n ≤ 6 → v ≤ 0x10FFFF → scalar v ≡ true → closed (tally n v) ≡ Character v
+closed_scalar : (n v : ℕ) → n ≤ 6 → v ≤ 0x10FFFF → scalar v ≡ true → brace_outcome (tally n v) ≡ Character v
 closed_scalar n v h l s =
     let e : min v 0x11_0000 ≡ v = omega arith in
     closed_short n v h ∙ ap (λ (m : ℕ). scalar_outcome m (as_char m)) e ∙ ap (λ (t : Bool). scalar_outcome v (if t then Some v else None)) s
 
-closed_surrogate : (n v : ℕ) → n ≤ 6 → v ≤ 0x10FFFF → scalar v ≡ false → closed (tally n v) ≡ Fault LoneSurrogateUnicodeEscape
+closed_surrogate : (n v : ℕ) → n ≤ 6 → v ≤ 0x10FFFF → scalar v ≡ false → brace_outcome (tally n v) ≡ Fault LoneSurrogateUnicodeEscape
 closed_surrogate n v h l s =
     let e : min v 0x11_0000 ≡ v = omega arith in
     closed_short n v h ∙ ap (λ (m : ℕ). scalar_outcome m (as_char m)) e ∙ ap (λ (t : Bool). scalar_outcome v (if t then Some v else None)) s
@@ -127,7 +127,7 @@ no_scalar_surrogate v h s = (elim (cases_lt v 0xD800) [ inl l ↦ absurd (no_way
 
 -- the piece of a closed brace
 few_digits : (inside after : List ℕ) → BeginsNumber inside → 0 < length (digits inside) → length (digits inside) ≤ 6 → hex_number (digits inside) ≤ 0x10FFFF → (t : Bool) → scalar (hex_number (digits inside)) ≡ t
-    → Piece (92 ∷ 117 ∷ 123 ∷ (inside ++ 125 ∷ [])) after (closed (inside_tally inside))
+    → Piece (92 ∷ 117 ∷ 123 ∷ (inside ++ 125 ∷ [])) after (brace_outcome (inside_tally inside))
 few_digits inside after b more few low true s =
     let P : PieceValue → Type 0 = λ (o : PieceValue). Piece (92 ∷ 117 ∷ 123 ∷ (inside ++ 125 ∷ [])) after o in
     subst P (sym (closed_scalar (length (digits inside)) (hex_number (digits inside)) few low s)) (unicode inside b more few s)
@@ -136,7 +136,7 @@ few_digits inside after b more few low false s =
     let r : (0xD800 ≤ hex_number (digits inside)) × (hex_number (digits inside) ≤ 0xDFFF) = no_scalar_surrogate (hex_number (digits inside)) low s in
     subst P (sym (closed_surrogate (length (digits inside)) (hex_number (digits inside)) few low s)) (lone_surrogate inside b few r.0 r.1)
 
-closed_piece : (inside after : List ℕ) → BeginsNumber inside → 0 < length (digits inside) → Piece (92 ∷ 117 ∷ 123 ∷ (inside ++ 125 ∷ [])) after (closed (inside_tally inside))
+closed_piece : (inside after : List ℕ) → BeginsNumber inside → 0 < length (digits inside) → Piece (92 ∷ 117 ∷ 123 ∷ (inside ++ 125 ∷ [])) after (brace_outcome (inside_tally inside))
 closed_piece inside after b more =
     let P : PieceValue → Type 0 = λ (o : PieceValue). Piece (92 ∷ 117 ∷ 123 ∷ (inside ++ 125 ∷ [])) after o in
     elim (cases_lt 6 (length (digits inside))) [
@@ -178,7 +178,7 @@ begins_inside d p [] more q = record { text = 92 ∷ 117 ∷ 123 ∷ d ∷ more;
 begins_inside d p (c ∷ cs) more q = go (begins_inside d p cs (more ++ c ∷ [])) (c == 95) (c == 125) (is_hex c) refl refl refl
   where
     go : (list_all is_hex_or_underscore (more ++ c ∷ []) ≡ true → BeginsWithPiece (braced d (more ++ c ∷ []) cs) (inside_braces (inside_tally (d ∷ (more ++ c ∷ []))) cs)) → (a b h : Bool) → (c == 95) ≡ a → (c == 125) ≡ b → is_hex c ≡ h
-        → BeginsWithPiece (braced d more (c ∷ cs)) (if a then inside_braces (inside_tally (d ∷ more)) cs else (if b then piece_ahead (closed (inside_tally (d ∷ more))) cs else (if h then inside_braces (with_digit (inside_tally (d ∷ more)) (digit_value c)) cs else faulty InvalidCharInUnicodeEscape cs)))
+        → BeginsWithPiece (braced d more (c ∷ cs)) (if a then inside_braces (inside_tally (d ∷ more)) cs else (if b then piece_ahead (brace_outcome (inside_tally (d ∷ more))) cs else (if h then inside_braces (with_digit (inside_tally (d ∷ more)) (digit_value c)) cs else faulty InvalidCharInUnicodeEscape cs)))
     go rest true b h e f g =
         moved (braced_grows d c more cs) (ap (λ (t : Tally). inside_braces t cs) (tally_underscore (d ∷ more) c e))
         (rest (inside_grows more c q (or_right (is_hex c) (c == 95) e)))
@@ -225,9 +225,9 @@ begins_unicode (c ∷ cs) = go (c == 123) refl
 
 pub record Skips (cs : List ℕ) : Type 0 where
   pub blanks : List ℕ
-  pub stands : cs ≡ blanks ++ unskipped cs
+  pub stands : cs ≡ blanks ++ unskipped_text cs
   pub all_blank : list_all is_blank blanks ≡ true
-  pub ends : EndsBlanks (unskipped cs)
+  pub ends : EndsBlanks (unskipped_text cs)
 
 skips : (cs : List ℕ) → Skips cs
 skips [] = record { blanks = []; stands = refl; all_blank = refl; ends = tt }
@@ -235,7 +235,7 @@ skips (c ∷ cs) = go (skips cs) (is_blank c) refl
   where
     go : Skips cs → (t : Bool) → is_blank c ≡ t → Skips (c ∷ cs)
     go s true e =
-        let u : unskipped (c ∷ cs) ≡ unskipped cs = if_true (is_blank c) (unskipped cs) (c ∷ cs) e in
+        let u : unskipped_text (c ∷ cs) ≡ unskipped_text cs = if_true (is_blank c) (unskipped_text cs) (c ∷ cs) e in
         record {
           blanks = c ∷ s.blanks;
           stands = ap (λ (xs : List ℕ). c ∷ xs) (s.stands ∙ ap (λ (xs : List ℕ). s.blanks ++ xs) (sym u));
@@ -243,7 +243,7 @@ skips (c ∷ cs) = go (skips cs) (is_blank c) refl
           ends = subst EndsBlanks (sym u) s.ends;
         }
     go s false e =
-        let u : unskipped (c ∷ cs) ≡ c ∷ cs = if_false (is_blank c) (unskipped cs) (c ∷ cs) e in
+        let u : unskipped_text (c ∷ cs) ≡ c ∷ cs = if_false (is_blank c) (unskipped_text cs) (c ∷ cs) e in
         record { blanks = []; stands = sym u; all_blank = refl; ends = subst EndsBlanks (sym u) e }
 
 -- a backslash and one character
@@ -257,7 +257,7 @@ begins_escape [] = record { text = 92 ∷ []; stands = refl; is_piece = lone_sla
 begins_escape (c ∷ cs) = go (c == 120) (c == 117) (c == 10) refl refl refl
   where
     go : (a b n : Bool) → (c == 120) ≡ a → (c == 117) ≡ b → (c == 10) ≡ n
-        → BeginsWithPiece (92 ∷ c ∷ cs) (if a then hex_escape (first_of cs) else (if b then unicode_escape (first_of cs) else (if n then piece_ahead Nothing (unskipped cs) else piece_ahead (short_outcome (short_escape c)) cs)))
+        → BeginsWithPiece (92 ∷ c ∷ cs) (if a then hex_escape (first_of cs) else (if b then unicode_escape (first_of cs) else (if n then piece_ahead Nothing (unskipped_text cs) else piece_ahead (short_outcome (short_escape c)) cs)))
     go true b n e f g = moved (ap (λ (x : ℕ). 92 ∷ x ∷ cs) (sym (eqb-true c 120 e))) refl (begins_hex cs)
     go false true n e f g = moved (ap (λ (x : ℕ). 92 ∷ x ∷ cs) (sym (eqb-true c 117 f))) refl (begins_unicode cs)
     go false false true e f g =
@@ -327,9 +327,9 @@ reads_plain c cs q b r =
 
 reads_other : (c : ℕ) (cs : List ℕ) → (c == 120) ≡ false → (c == 117) ≡ false → (c == 10) ≡ false → escape (Some (c, cs)) ≡ piece_ahead (short_outcome (short_escape c)) cs
 reads_other c cs x u n =
-    if_false (c == 120) (hex_escape (first_of cs)) (if c == 117 then unicode_escape (first_of cs) else (if c == 10 then piece_ahead Nothing (unskipped cs) else piece_ahead (short_outcome (short_escape c)) cs)) x
-    ∙ if_false (c == 117) (unicode_escape (first_of cs)) (if c == 10 then piece_ahead Nothing (unskipped cs) else piece_ahead (short_outcome (short_escape c)) cs) u
-    ∙ if_false (c == 10) (piece_ahead Nothing (unskipped cs)) (piece_ahead (short_outcome (short_escape c)) cs) n
+    if_false (c == 120) (hex_escape (first_of cs)) (if c == 117 then unicode_escape (first_of cs) else (if c == 10 then piece_ahead Nothing (unskipped_text cs) else piece_ahead (short_outcome (short_escape c)) cs)) x
+    ∙ if_false (c == 117) (unicode_escape (first_of cs)) (if c == 10 then piece_ahead Nothing (unskipped_text cs) else piece_ahead (short_outcome (short_escape c)) cs) u
+    ∙ if_false (c == 10) (piece_ahead Nothing (unskipped_text cs)) (piece_ahead (short_outcome (short_escape c)) cs) n
 
 -- a character that stands for one with a backslash is none that stands for none
 short_is_no : (c k m : ℕ) → short_escape c ≡ Some m → short_escape k ≡ None → (t : Bool) → (c == k) ≡ t → t ≡ false
@@ -340,11 +340,11 @@ short_is_no c k m p q true e =
     let clash : Some m ≡ None = sym p ∙ no in
     cc
 
-reads_blanks : (blanks after : List ℕ) → list_all is_blank blanks ≡ true → EndsBlanks after → unskipped (blanks ++ after) ≡ after
+reads_blanks : (blanks after : List ℕ) → list_all is_blank blanks ≡ true → EndsBlanks after → unskipped_text (blanks ++ after) ≡ after
 reads_blanks [] [] p q = refl
-reads_blanks [] (c ∷ after) p q = if_false (is_blank c) (unskipped after) (c ∷ after) q
+reads_blanks [] (c ∷ after) p q = if_false (is_blank c) (unskipped_text after) (c ∷ after) q
 reads_blanks (b ∷ blanks) after p q =
-    if_true (is_blank b) (unskipped (blanks ++ after)) (b ∷ (blanks ++ after)) (both_left (is_blank b) (list_all is_blank blanks) p)
+    if_true (is_blank b) (unskipped_text (blanks ++ after)) (b ∷ (blanks ++ after)) (both_left (is_blank b) (list_all is_blank blanks) p)
     ∙ reads_blanks blanks after (both_right (is_blank b) (list_all is_blank blanks) p) q
 
 -- two hex digits
@@ -366,12 +366,12 @@ reads_bad_hex (a ∷ b ∷ ds) c after p h q = absurd (omega arith)
 
 reads_one : (before : List ℕ) (c : ℕ) (cs : List ℕ) → is_hex_or_underscore c ≡ true → (t : Bool) → (c == 95) ≡ t → inside_braces (inside_tally before) (c ∷ cs) ≡ inside_braces (inside_tally (before ++ c ∷ [])) cs
 reads_one before c cs p true e =
-    ap (λ (t : Bool). if t then inside_braces (inside_tally before) cs else (if c == 125 then piece_ahead (closed (inside_tally before)) cs else (if is_hex c then inside_braces (with_digit (inside_tally before) (digit_value c)) cs else faulty InvalidCharInUnicodeEscape cs))) e
+    ap (λ (t : Bool). if t then inside_braces (inside_tally before) cs else (if c == 125 then piece_ahead (brace_outcome (inside_tally before)) cs else (if is_hex c then inside_braces (with_digit (inside_tally before) (digit_value c)) cs else faulty InvalidCharInUnicodeEscape cs))) e
     ∙ ap (λ (t : Tally). inside_braces t cs) (sym (tally_underscore before c e))
 reads_one before c cs p false e =
     let h : is_hex c ≡ true = either_left (is_hex c) (c == 95) p e in
-    if_false (c == 95) (inside_braces (inside_tally before) cs) (if c == 125 then piece_ahead (closed (inside_tally before)) cs else (if is_hex c then inside_braces (with_digit (inside_tally before) (digit_value c)) cs else faulty InvalidCharInUnicodeEscape cs)) e
-    ∙ if_false (c == 125) (piece_ahead (closed (inside_tally before)) cs) (if is_hex c then inside_braces (with_digit (inside_tally before) (digit_value c)) cs else faulty InvalidCharInUnicodeEscape cs) (hex_is_no c 125 h refl (c == 125) refl)
+    if_false (c == 95) (inside_braces (inside_tally before) cs) (if c == 125 then piece_ahead (brace_outcome (inside_tally before)) cs else (if is_hex c then inside_braces (with_digit (inside_tally before) (digit_value c)) cs else faulty InvalidCharInUnicodeEscape cs)) e
+    ∙ if_false (c == 125) (piece_ahead (brace_outcome (inside_tally before)) cs) (if is_hex c then inside_braces (with_digit (inside_tally before) (digit_value c)) cs else faulty InvalidCharInUnicodeEscape cs) (hex_is_no c 125 h refl (c == 125) refl)
     ∙ if_true (is_hex c) (inside_braces (with_digit (inside_tally before) (digit_value c)) cs) (faulty InvalidCharInUnicodeEscape cs) h
     ∙ ap (λ (t : Tally). inside_braces t cs) (sym (tally_digit before c e))
 
@@ -398,8 +398,8 @@ reads_unclosed (d ∷ more) b = reads_number d more [] b.0 b.1
 
 reads_bad : (t : Tally) (c : ℕ) (after : List ℕ) → is_hex_or_underscore c ≡ false → c ≢ 125 → inside_braces t (c ∷ after) ≡ faulty InvalidCharInUnicodeEscape after
 reads_bad t c after p n =
-    if_false (c == 95) (inside_braces t after) (if c == 125 then piece_ahead (closed t) after else (if is_hex c then inside_braces (with_digit t (digit_value c)) after else faulty InvalidCharInUnicodeEscape after)) (neither_right (is_hex c) (c == 95) p)
-    ∙ if_false (c == 125) (piece_ahead (closed t) after) (if is_hex c then inside_braces (with_digit t (digit_value c)) after else faulty InvalidCharInUnicodeEscape after) (unlike c 125 n)
+    if_false (c == 95) (inside_braces t after) (if c == 125 then piece_ahead (brace_outcome t) after else (if is_hex c then inside_braces (with_digit t (digit_value c)) after else faulty InvalidCharInUnicodeEscape after)) (neither_right (is_hex c) (c == 95) p)
+    ∙ if_false (c == 125) (piece_ahead (brace_outcome t) after) (if is_hex c then inside_braces (with_digit t (digit_value c)) after else faulty InvalidCharInUnicodeEscape after) (unlike c 125 n)
     ∙ if_false (is_hex c) (inside_braces (with_digit t (digit_value c)) after) (faulty InvalidCharInUnicodeEscape after) (neither_left (is_hex c) (c == 95) p)
 
 reads_bad_inside : (inside : List ℕ) (c : ℕ) (after : List ℕ) → BeginsNumber inside → is_hex_or_underscore c ≡ false → c ≢ 125 → behind_brace (first_of ((inside ++ c ∷ []) ++ after)) ≡ faulty InvalidCharInUnicodeEscape after
@@ -412,13 +412,13 @@ reads_bad_inside (d ∷ more) c after b p n =
     ∙ reads_number d more (c ∷ after) b.0 b.1
     ∙ reads_bad (inside_tally (d ∷ more)) c after p n
 
-reads_closed : (inside after : List ℕ) → BeginsNumber inside → 0 < length (digits inside) → behind_brace (first_of ((inside ++ 125 ∷ []) ++ after)) ≡ piece_ahead (closed (inside_tally inside)) after
+reads_closed : (inside after : List ℕ) → BeginsNumber inside → 0 < length (digits inside) → behind_brace (first_of ((inside ++ 125 ∷ []) ++ after)) ≡ piece_ahead (brace_outcome (inside_tally inside)) after
 reads_closed [] after b h = absurd (omega arith)
 reads_closed (d ∷ more) after b h =
     ap (λ (xs : List ℕ). behind_brace (Some (d, xs))) (append_assoc more (125 ∷ []) after)
     ∙ reads_number d more (125 ∷ after) b.0 b.1
 
-closes : (inside after : List ℕ) (o : PieceValue) → BeginsNumber inside → 0 < length (digits inside) → closed (inside_tally inside) ≡ o → read_text ((92 ∷ 117 ∷ 123 ∷ (inside ++ 125 ∷ [])) ++ after) ≡ Some (piece_ahead o after)
+closes : (inside after : List ℕ) (o : PieceValue) → BeginsNumber inside → 0 < length (digits inside) → brace_outcome (inside_tally inside) ≡ o → read_text ((92 ∷ 117 ∷ 123 ∷ (inside ++ 125 ∷ [])) ++ after) ≡ Some (piece_ahead o after)
 closes inside after o b h e = ap (λ (r : PieceAhead). Some r) (reads_closed inside after b h) ∙ ap (λ (x : PieceValue). Some (piece_ahead x after)) e
 
 some_digits : (inside : List ℕ) → 0 < hex_number (digits inside) → 0 < length (digits inside)

@@ -8,8 +8,8 @@ use Rattle.std.specs.Ordering.{nat_cmp, is_eq}
 use Rattle.std.specs.Cmp.Lexicographic.{nat_list_eq_equiv, slice_cmp}
 use Rattle.std.specs.List.Sorted.{IsStrictlySortedBy}
 use Rattle.std.proofs.lemmas.Map.Text.{is_eq-slice_cmp}
-use Rattle.cedar_syntax.specs.Kept.{TokenName, TokenRules, is_among, without, kept, AreInOrder, SaysExpected, expected_text, shown_name}
-use Rattle.cedar_syntax.specs.Conjoined.{conjoined}
+use Rattle.cedar_syntax.specs.Kept.{TokenName, TokenRules, is_among, without, kept_token_names, AreInOrder, SaysExpected, expected_text, shown_name}
+use Rattle.cedar_syntax.specs.Conjoined.{list_text}
 
 abbrev pub texts : List (Bor (List ℕ)) → List TokenName
 texts names = map (λ name. name.now) names
@@ -44,7 +44,7 @@ module _ (drops : TokenName → Bool) (names : List (Bor (List ℕ))) (left : Li
 
 -- the three ends of the dropping
 module _ (rules : TokenRules) (names possible : List (Bor (List ℕ))) (e : possible ≡ filter (λ name. not (rules.impossible name.now)) names) where
-  pub kept-possible : list_any (λ y. bytes_eq y.now rules.identifier) possible ≡ false → texts possible ≡ kept rules (texts names)
+  pub kept-possible : list_any (λ y. bytes_eq y.now rules.identifier) possible ≡ false → texts possible ≡ kept_token_names rules (texts names)
   kept-possible h = left-texts rules.impossible names possible e ∙ sym (other _ _ (is_among-left rules.impossible names possible e rules.identifier false h))
 
   module _ (general : List (Bor (List ℕ))) (h : list_any (λ y. bytes_eq y.now rules.identifier) possible ≡ true) (e' : general ≡ filter (λ name. not (rules.special name.now)) possible) where
@@ -60,11 +60,11 @@ module _ (rules : TokenRules) (names possible : List (Bor (List ℕ))) (e : poss
     identifies : is_among (without rules.impossible (texts names)) rules.identifier ≡ true
     identifies = is_among-left rules.impossible names possible e rules.identifier true h
 
-    pub kept-general : list_any (λ y. bytes_eq y.now rules.first_set) general ≡ true → texts general ≡ kept rules (texts names)
+    pub kept-general : list_any (λ y. bytes_eq y.now rules.first_set) general ≡ true → texts general ≡ kept_token_names rules (texts names)
     kept-general i = general-texts ∙ sym (chosen _ _ identifies ∙ chosen _ _ (is_among-general true i))
 
     pub kept-rest : (rest : List (Bor (List ℕ))) → list_any (λ y. bytes_eq y.now rules.first_set) general ≡ false
-        → rest ≡ filter (λ name. not (rules.first_words name.now)) general → texts rest ≡ kept rules (texts names)
+        → rest ≡ filter (λ name. not (rules.first_words name.now)) general → texts rest ≡ kept_token_names rules (texts names)
     kept-rest rest i e'' =
         left-texts rules.first_words general rest e'' ∙ ap (without rules.first_words) general-texts
         ∙ sym (chosen _ _ identifies ∙ other _ _ (is_among-general false i))
@@ -87,13 +87,13 @@ none_kept (x ∷ xs) o = absurd (true≢false (sym (ap (λ b. b || is_among xs x
 some_kept : (x : TokenName) (xs names : List TokenName) → AreInOrder names (x ∷ xs) → names ≢ []
 some_kept x xs names o e = true≢false (sym (ap (λ b. b || is_among xs x) (bytes_eq-refl x)) ∙ o.same x ∙ ap (λ l. is_among l x) e)
 
-module _ (rules : TokenRules) (names shown : List TokenName) (o : AreInOrder (kept rules names) shown) where
-  pub says_nothing : shown ≡ [] → kept rules names ≡ []
-  says_nothing e = none_kept (kept rules names) (subst (AreInOrder (kept rules names)) e o)
+module _ (rules : TokenRules) (names shown : List TokenName) (o : AreInOrder (kept_token_names rules names) shown) where
+  pub says_nothing : shown ≡ [] → kept_token_names rules names ≡ []
+  says_nothing e = none_kept (kept_token_names rules names) (subst (AreInOrder (kept_token_names rules names)) e o)
 
   -- texts are the shown forms of the names
   pub says_text : (first : List ℕ) (others : List (List ℕ)) (text : List ℕ) → first ∷ others ≡ map (shown_name rules) shown
-      → text ≡ codes "expected " ++ conjoined (codes "or") first others → SaysExpected rules names (Some text)
+      → text ≡ codes "expected " ++ list_text (codes "or") first others → SaysExpected rules names (Some text)
   says_text first others text e h = said shown o e
     where
       starts : List (List ℕ) → Bool
@@ -102,9 +102,9 @@ module _ (rules : TokenRules) (names shown : List TokenName) (o : AreInOrder (ke
 
       said_of : List (List ℕ) → List ℕ
       said_of [] = []
-      said_of (x ∷ xs) = codes "expected " ++ conjoined (codes "or") x xs
+      said_of (x ∷ xs) = codes "expected " ++ list_text (codes "or") x xs
 
-      said : (list : List TokenName) → AreInOrder (kept rules names) list → first ∷ others ≡ map (shown_name rules) list → SaysExpected rules names (Some text)
+      said : (list : List TokenName) → AreInOrder (kept_token_names rules names) list → first ∷ others ≡ map (shown_name rules) list → SaysExpected rules names (Some text)
       said [] o' e' = absurd (true≢false (ap starts e'))
       said (x ∷ xs) o' e' = (some_kept x xs _ o', (x ∷ xs, o', h ∙ ap said_of e'))
 
@@ -129,7 +129,7 @@ in_order_texts names set h = record {
 
 module _ (rules : TokenRules) where
   -- the kept names in order, where the code holds them in a `Vec` that lends a slice
-  pub order_of : (names : List TokenName) (slice items shown : List (Bor (List ℕ))) → slice ≡ items → texts items ≡ kept rules names → AreInOrder (texts slice) (texts shown) → AreInOrder (kept rules names) (texts shown)
+  pub order_of : (names : List TokenName) (slice items shown : List (Bor (List ℕ))) → slice ≡ items → texts items ≡ kept_token_names rules names → AreInOrder (texts slice) (texts shown) → AreInOrder (kept_token_names rules names) (texts shown)
   order_of names slice items shown e h o = subst (λ (l : List TokenName). AreInOrder l (texts shown)) (ap texts e ∙ h) o
 
   each_shown : (names : List (Bor (List ℕ))) → map (λ name. shown_name rules name.now) names ≡ map (shown_name rules) (texts names)

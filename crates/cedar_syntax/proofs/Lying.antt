@@ -6,7 +6,7 @@ use Rattle.cedar_lexer.specs.Token.{Lexeme}
 use Rattle.cedar_lexer.specs.Cut.{Layout, nothing, skip, token}
 use Rattle.cedar_lexer.proofs.Cuts.{behind_skip, behind_token}
 use Rattle.cedar_syntax.specs.declared.reading.extent.Extent.{Extent}
-use Rattle.cedar_syntax.specs.Place.{join, extent_of, extent, loc_at}
+use Rattle.cedar_syntax.specs.Place.{joint_extent, extent_of, extent, loc_at}
 use Rattle.cedar_syntax.specs.TreePlaces.{IsPlace}
 
 -- from i to k tokens stand one behind the other, on boundaries of characters
@@ -48,7 +48,7 @@ spans src i (t ∷ u ∷ ts) k h s =
     let a = h.1 in let b = r.from in let c = r.goes in
     record {
       bytes = record { start = t.start; end = r.bytes.end };
-      is = ap (λ q. join (Some (extent_of t)) q) r.is;
+      is = ap (λ q. joint_extent (Some (extent_of t)) q) r.is;
       from = h.0;
       goes = omega arith;
       to = r.to;

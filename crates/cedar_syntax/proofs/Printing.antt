@@ -5,16 +5,16 @@ use Rattle.std.specs.Fmt.{HasWritten, IsPlainFormatter}
 use Rattle.std.proofs.Output.{has_written_append, has_written_of_eq, writes_in_calls_nil}
 use Rattle.std.specs.declared.fmt.Formatter.{Formatter}
 use Rattle.std.specs.declared.fmt.Error.{Error}
-use Rattle.cedar_syntax.specs.Printed.{Texts, spaced, joined}
-use Rattle.cedar_syntax.specs.Printing.{is_none, text_from, HasPrinted, Prints, marked, in_row, between, followed}
+use Rattle.cedar_syntax.specs.Printed.{Texts, spaced_tokens, tokens_text}
+use Rattle.cedar_syntax.specs.Printing.{is_none, text_from, HasPrinted, Prints, texts_behind_mark, in_row, between, texts_before_mark}
 
-pub spaced-append : (xs ys : Texts) → spaced (xs ++ ys) ≡ spaced xs ++ spaced ys
+pub spaced-append : (xs ys : Texts) → spaced_tokens (xs ++ ys) ≡ spaced_tokens xs ++ spaced_tokens ys
 spaced-append [] ys = refl
-spaced-append (x ∷ xs) ys = ap (λ (l : List ℕ). 32 ∷ l) (ap (λ (l : List ℕ). x ++ l) (spaced-append xs ys) ∙ sym (append_assoc x (spaced xs) (spaced ys)))
+spaced-append (x ∷ xs) ys = ap (λ (l : List ℕ). 32 ∷ l) (ap (λ (l : List ℕ). x ++ l) (spaced-append xs ys) ∙ sym (append_assoc x (spaced_tokens xs) (spaced_tokens ys)))
 
 pub text_from-append : (a : Bool) (xs ys : Texts) → text_from a (xs ++ ys) ≡ text_from a xs ++ text_from (a && is_none xs) ys
 text_from-append true [] ys = refl
-text_from-append true (x ∷ xs) ys = ap (λ (l : List ℕ). x ++ l) (spaced-append xs ys) ∙ sym (append_assoc x (spaced xs) (spaced ys))
+text_from-append true (x ∷ xs) ys = ap (λ (l : List ℕ). x ++ l) (spaced-append xs ys) ∙ sym (append_assoc x (spaced_tokens xs) (spaced_tokens ys))
 text_from-append false xs ys = spaced-append xs ys
 
 pub is_none-append : (a : Bool) (xs ys : Texts) → ((a && is_none xs) && is_none ys) ≡ (a && is_none (xs ++ ys))
@@ -50,12 +50,12 @@ module _ {W : Type 0} (took : W → List ℕ → W → Type 0) where
 
 -- one item more
 module _ {T : Type 0} (f : T → Texts) (mark : List ℕ) where
-  pub marked-push : (xs : List T) (x : T) → marked mark f (xs ++ x ∷ []) ≡ marked mark f xs ++ ((mark ∷ []) ++ f x)
+  pub marked-push : (xs : List T) (x : T) → texts_behind_mark mark f (xs ++ x ∷ []) ≡ texts_behind_mark mark f xs ++ ((mark ∷ []) ++ f x)
   marked-push [] x = ap (λ (l : Texts). mark ∷ l) (append-nil (f x))
-  marked-push (y ∷ ys) x = ap (λ (l : Texts). mark ∷ l) (ap (λ (l : Texts). f y ++ l) (marked-push ys x) ∙ sym (append_assoc (f y) (marked mark f ys) ((mark ∷ []) ++ f x)))
+  marked-push (y ∷ ys) x = ap (λ (l : Texts). mark ∷ l) (ap (λ (l : Texts). f y ++ l) (marked-push ys x) ∙ sym (append_assoc (f y) (texts_behind_mark mark f ys) ((mark ∷ []) ++ f x)))
 
-  pub marked-take : (xs : List T) (i : ℕ) (x : T) → i < length xs → x ≡ get_or xs i x → marked mark f (take (i + 1) xs) ≡ marked mark f (take i xs) ++ ((mark ∷ []) ++ f x)
-  marked-take xs i x h e = ap (marked mark f) (take_more xs i x h ∙ ap (λ (y : T). take i xs ++ y ∷ []) (sym e)) ∙ marked-push (take i xs) x
+  pub marked-take : (xs : List T) (i : ℕ) (x : T) → i < length xs → x ≡ get_or xs i x → texts_behind_mark mark f (take (i + 1) xs) ≡ texts_behind_mark mark f (take i xs) ++ ((mark ∷ []) ++ f x)
+  marked-take xs i x h e = ap (texts_behind_mark mark f) (take_more xs i x h ∙ ap (λ (y : T). take i xs ++ y ∷ []) (sym e)) ∙ marked-push (take i xs) x
 
 module _ {T : Type 0} (f : T → Texts) where
   pub in_row-push : (xs : List T) (x : T) → in_row f (xs ++ x ∷ []) ≡ in_row f xs ++ f x
@@ -66,14 +66,14 @@ module _ {T : Type 0} (f : T → Texts) where
   in_row-take xs i x h e = ap (in_row f) (take_more xs i x h ∙ ap (λ (y : T). take i xs ++ y ∷ []) (sym e)) ∙ in_row-push (take i xs) x
 
 -- the first item, and each other behind the mark
-pub between-first : {T : Type 0} (f : T → Texts) (mark : List ℕ) (xs : List T) (x : T) → 1 ≤ length xs → x ≡ get_or xs 0 x → f x ++ marked mark f (drop 1 xs) ≡ between mark f xs
+pub between-first : {T : Type 0} (f : T → Texts) (mark : List ℕ) (xs : List T) (x : T) → 1 ≤ length xs → x ≡ get_or xs 0 x → f x ++ texts_behind_mark mark f (drop 1 xs) ≡ between mark f xs
 between-first f mark [] x h e = absurd (omega arith)
-between-first f mark (y ∷ ys) x h e = ap (λ z. f z ++ marked mark f ys) e
+between-first f mark (y ∷ ys) x h e = ap (λ z. f z ++ texts_behind_mark mark f ys) e
 
 module _ {T : Type 0} (f : T → Texts) (mark : List ℕ) where
-  pub followed-push : (xs : List T) (x : T) → followed mark f (xs ++ x ∷ []) ≡ followed mark f xs ++ (f x ++ (mark ∷ []))
+  pub followed-push : (xs : List T) (x : T) → texts_before_mark mark f (xs ++ x ∷ []) ≡ texts_before_mark mark f xs ++ (f x ++ (mark ∷ []))
   followed-push [] x = append-nil (f x ++ (mark ∷ []))
-  followed-push (y ∷ ys) x = ap (λ (l : Texts). (f y ++ (mark ∷ [])) ++ l) (followed-push ys x) ∙ sym (append_assoc (f y ++ (mark ∷ [])) (followed mark f ys) (f x ++ (mark ∷ [])))
+  followed-push (y ∷ ys) x = ap (λ (l : Texts). (f y ++ (mark ∷ [])) ++ l) (followed-push ys x) ∙ sym (append_assoc (f y ++ (mark ∷ [])) (texts_before_mark mark f ys) (f x ++ (mark ∷ [])))
 
-  pub followed-take : (xs : List T) (i : ℕ) (x : T) → i < length xs → x ≡ get_or xs i x → followed mark f (take (i + 1) xs) ≡ followed mark f (take i xs) ++ (f x ++ (mark ∷ []))
-  followed-take xs i x h e = ap (followed mark f) (take_more xs i x h ∙ ap (λ (y : T). take i xs ++ y ∷ []) (sym e)) ∙ followed-push (take i xs) x
+  pub followed-take : (xs : List T) (i : ℕ) (x : T) → i < length xs → x ≡ get_or xs i x → texts_before_mark mark f (take (i + 1) xs) ≡ texts_before_mark mark f (take i xs) ++ (f x ++ (mark ∷ []))
+  followed-take xs i x h e = ap (texts_before_mark mark f) (take_more xs i x h ∙ ap (λ (y : T). take i xs ++ y ∷ []) (sym e)) ∙ followed-push (take i xs) x

@@ -14,7 +14,7 @@ use Rattle.std.specs.HashSet.{HashSet}
 use Rattle.std.specs.declared.hash.FoldHasher.{FoldHasher}
 use Rattle.std.specs.declared.hash.BuildHasherDefault.{BuildHasherDefault}
 use Rattle.std.proofs.lemmas.Map.Made.{update_all_none}
-use Rattle.cedar_syntax.specs.Kept.{TokenName, is_among, is_in, friendly_of, are_distinct, pair_texts}
+use Rattle.cedar_syntax.specs.Kept.{TokenName, is_among, is_in, friendly_of, are_distinct, table_texts}
 
 abbrev pub same_text : Bor (List ℕ) → Bor (List ℕ) → Bool
 same_text x y = bytes_eq x.now y.now
@@ -41,7 +41,7 @@ pick : {A B : Type 0} (f : A → B) (b : Bool) (x y : A) → f (cond b x y) ≡ 
 pick f true x y = refl
 pick f false x y = refl
 
-looked_up : (name : TokenName) (pairs : List (Bor (List ℕ) × Bor (List ℕ))) → option_map (λ shown. shown.now) (lookup (λ key. bytes_eq name key.now) pairs) ≡ lookup (bytes_eq name) (pair_texts pairs)
+looked_up : (name : TokenName) (pairs : List (Bor (List ℕ) × Bor (List ℕ))) → option_map (λ shown. shown.now) (lookup (λ key. bytes_eq name key.now) pairs) ≡ lookup (bytes_eq name) (table_texts pairs)
 looked_up name [] = refl
 looked_up name (p ∷ ps) =
     pick (option_map (λ shown. shown.now)) (bytes_eq name p.0.now) (Some p.1) (lookup (λ key. bytes_eq name key.now) ps)
@@ -65,13 +65,13 @@ distinct (x ∷ xs) h = let parts = both (list_all (λ y. not (same_text x y)) x
     apart (y ∷ ys) i = let parts = both (not (same_text x y)) (list_all (λ z. not (same_text x z)) ys) i in (denied (same_text x y) parts.0, apart ys parts.1)
 
 map_rules : (pairs : List (Bor (List ℕ) × Bor (List ℕ))) (table : HashMap (Bor (List ℕ)) (Bor (List ℕ)) (BuildHasherDefault FoldHasher)) → are_distinct (keys_of pairs) ≡ true
-    → hash.IsFromIterResult same_text pairs table → friendly_of table ≡ (λ name. lookup (bytes_eq name) (pair_texts pairs))
+    → hash.IsFromIterResult same_text pairs table → friendly_of table ≡ (λ name. lookup (bytes_eq name) (table_texts pairs))
 map_rules pairs table d h = fun_ext (λ name.
     ap (option_map (λ shown. shown.now)) (h.0 (at_name name) ∙ update_all_none laws same_text (λ x y. refl) pairs (at_name name) (distinct (keys_of pairs) d))
     ∙ looked_up name pairs)
 
 pub made_rules : {E : Type 0} (pairs : List (Bor (List ℕ) × Bor (List ℕ))) (made : Result (HashMap (Bor (List ℕ)) (Bor (List ℕ)) (BuildHasherDefault FoldHasher)) E)
-    → IfOk made (hash.IsFromIterResult same_text pairs) → are_distinct (keys_of pairs) ≡ true → IfOk made (λ table. friendly_of table ≡ (λ name. lookup (bytes_eq name) (pair_texts pairs)))
+    → IfOk made (hash.IsFromIterResult same_text pairs) → are_distinct (keys_of pairs) ≡ true → IfOk made (λ table. friendly_of table ≡ (λ name. lookup (bytes_eq name) (table_texts pairs)))
 made_rules pairs made h d = IfOk-weaker made _ _ (λ table. map_rules pairs table d) h
 
 pub made_set : {E : Type 0} (names : List (Bor (List ℕ))) (made : Result (HashSet (Bor (List ℕ)) (BuildHasherDefault FoldHasher)) E)

@@ -40,9 +40,9 @@ use Rattle.cedar_syntax.specs.declared.cst.Relation as R
 use Rattle.cedar_syntax.specs.declared.cst.Ref.TheVariants as F
 use Rattle.cedar_syntax.specs.declared.cst.Policy.TheVariants as Q
 use Rattle.cedar_syntax.specs.Tree.{Tree, Rest, Operator, more, none, or_or, and_and, compare, add, multiply, beside}
-use Rattle.cedar_syntax.specs.Unplaced.{expr_tree, data_tree, access_tree, primary_tree, relation_tree, add_tree, and_tree, impl_tree, member_tree, mult_tree, or_tree, init_tree, unary_tree, ident_tree, str_tree, literal_tree, name_tree, slot_tree, ref_tree, ref_init_tree, annotation_tree, variable_def_tree, cond_tree, policy_impl_tree, policy_tree, policies_tree, or_missing, unplaced_in, tree_at, content, behind, rest_of, optional, compared, condition_of}
-use Rattle.cedar_syntax.specs.Printed.{Texts, printed, in_order, listed, each_behind, option_texts, operator_texts, rel_op_texts, add_op_texts, mult_op_texts, neg_op_texts, ident_texts, str_texts, path_texts, value_texts}
-use Rattle.cedar_syntax.specs.Printing.{marked, in_row, between, opt_marked, followed, node_texts, pair_texts}
+use Rattle.cedar_syntax.specs.Unplaced.{expr_tree, data_tree, access_tree, primary_tree, relation_tree, add_tree, and_tree, impl_tree, member_tree, mult_tree, or_tree, init_tree, unary_tree, ident_tree, str_tree, literal_tree, name_tree, slot_tree, ref_tree, ref_init_tree, annotation_tree, variable_def_tree, cond_tree, policy_impl_tree, policy_tree, policies_tree, or_missing, unplaced_node, tree_at, content, rest_behind, rest_of, optional, comparison_rest, condition_tree}
+use Rattle.cedar_syntax.specs.Printed.{Texts, printed, in_order, item_texts, each_behind, option_texts, operator_texts, rel_op_texts, add_op_texts, mult_op_texts, neg_op_texts, ident_texts, str_texts, path_texts, value_texts}
+use Rattle.cedar_syntax.specs.Printing.{texts_behind_mark, in_row, between, option_behind_mark, texts_before_mark, node_texts, pair_texts}
 use Rattle.cedar_syntax.proofs.Levels.{or_out, and_out, add_out, mult_out, unary_out, member_out, init_out, impl_out, expr_out, data_or, data_if, relation_common, relation_has, relation_like, relation_is, relation_is_in, access_field, access_call, access_index, primary_literal, primary_ref, primary_name, primary_slot, primary_expr, primary_list, primary_inits}
 
 -- ---- lists and nodes
@@ -57,27 +57,27 @@ module _ {X : Type 0} (f : X → Tree) where
   at None = refl
   at (Some x) = refl
 
-  pub row : (xs : List (Node (Option X))) → in_row (node_texts (option_texts texts)) xs ≡ in_order (behind beside (map (unplaced_in f) xs))
+  pub row : (xs : List (Node (Option X))) → in_row (node_texts (option_texts texts)) xs ≡ in_order (rest_behind beside (map (unplaced_node f) xs))
   unfolding in_order
   row [] = refl
   row (x ∷ xs) = λ i. at x.node i ++ row xs i
 
-  pub chained : (op : Operator) (mark : List ℕ) → mark ∷ [] ≡ operator_texts op → (xs : List (Node (Option X))) → marked mark (node_texts (option_texts texts)) xs ≡ in_order (behind op (map (unplaced_in f) xs))
+  pub chained : (op : Operator) (mark : List ℕ) → mark ∷ [] ≡ operator_texts op → (xs : List (Node (Option X))) → texts_behind_mark mark (node_texts (option_texts texts)) xs ≡ in_order (rest_behind op (map (unplaced_node f) xs))
   unfolding in_order
   chained op mark e [] = refl
   chained op mark e (x ∷ xs) = λ i. e i ++ (at x.node i ++ chained op mark e xs i)
 
-  pub behind_mark : (mark : List ℕ) (xs : List (Node (Option X))) → marked mark (node_texts (option_texts texts)) xs ≡ each_behind mark (behind beside (map (unplaced_in f) xs))
+  pub behind_mark : (mark : List ℕ) (xs : List (Node (Option X))) → texts_behind_mark mark (node_texts (option_texts texts)) xs ≡ each_behind mark (rest_behind beside (map (unplaced_node f) xs))
   unfolding each_behind
   behind_mark mark [] = refl
   behind_mark mark (x ∷ xs) = λ i. mark ∷ (at x.node i ++ behind_mark mark xs i)
 
-  pub with_commas : (xs : List (Node (Option X))) → between (codes ",") (node_texts (option_texts texts)) xs ≡ listed (behind beside (map (unplaced_in f) xs))
-  unfolding listed
+  pub with_commas : (xs : List (Node (Option X))) → between (codes ",") (node_texts (option_texts texts)) xs ≡ item_texts (rest_behind beside (map (unplaced_node f) xs))
+  unfolding item_texts
   with_commas [] = refl
   with_commas (x ∷ xs) = λ i. at x.node i ++ behind_mark (codes ",") xs i
 
-  pub optionally : (mark : List ℕ) (o : Option (Node (Option X))) → opt_marked mark (node_texts (option_texts texts)) o ≡ each_behind mark (optional (option_map (tree_at f) o))
+  pub optionally : (mark : List ℕ) (o : Option (Node (Option X))) → option_behind_mark mark (node_texts (option_texts texts)) o ≡ each_behind mark (optional (option_map (tree_at f) o))
   unfolding each_behind
   optionally mark None = refl
   optionally mark (Some n) = λ i. mark ∷ (at n.node ∙ sym (append-nil (printed (tree_at f n)))) i
@@ -85,7 +85,7 @@ module _ {X : Type 0} (f : X → Tree) where
   -- parts with their operators
   pub parts : {O : Type 0} (operator : O → Operator) (xs : List (O × Node (Option X)))
       → in_row (pair_texts (λ o. operator_texts (operator o)) (node_texts (option_texts texts))) xs
-      ≡ in_order (rest_of (map (λ (q : O × Node (Option Tree)). (operator q.0, content q.1)) (map (λ (p : O × Node (Option X)). (p.0, unplaced_in f p.1)) xs)))
+      ≡ in_order (rest_of (map (λ (q : O × Node (Option Tree)). (operator q.0, content q.1)) (map (λ (p : O × Node (Option X)). (p.0, unplaced_node f p.1)) xs)))
   unfolding in_order
   parts operator [] = refl
   parts operator (x ∷ xs) = append_assoc (operator_texts (operator x.0)) (option_texts texts x.1.node) _ ∙ (λ i. operator_texts (operator x.0) ++ (at x.1.node i ++ parts operator xs i))
@@ -103,11 +103,11 @@ str_at (Some (x)) = refl
 
 -- ---- expressions
 
-pub or_texts : (d : Or) → node_texts (option_texts (texts and_tree)) (out-Or d).initial ++ marked (codes "||") (node_texts (option_texts (texts and_tree))) (out-Or d).extended ≡ printed (or_tree d)
+pub or_texts : (d : Or) → node_texts (option_texts (texts and_tree)) (out-Or d).initial ++ texts_behind_mark (codes "||") (node_texts (option_texts (texts and_tree))) (out-Or d).extended ≡ printed (or_tree d)
 unfolding printed
 or_texts d = (λ i. at and_tree (out-Or d).initial.node i ++ chained and_tree or_or (codes "||") refl (out-Or d).extended i) ∙ ap printed (sym (or_out d))
 
-pub and_texts : (d : And) → node_texts (option_texts (texts relation_tree)) d.initial ++ marked (codes "&&") (node_texts (option_texts (texts relation_tree))) d.extended ≡ printed (and_tree d)
+pub and_texts : (d : And) → node_texts (option_texts (texts relation_tree)) d.initial ++ texts_behind_mark (codes "&&") (node_texts (option_texts (texts relation_tree))) d.extended ≡ printed (and_tree d)
 unfolding printed
 and_texts d = (λ i. at relation_tree d.initial.node i ++ chained relation_tree and_and (codes "&&") refl d.extended i) ∙ ap printed (sym (and_out d))
 
@@ -157,7 +157,7 @@ pub relation_like_texts : (x : Relation) (a : Node (Option Add)) (b : Node (Opti
 unfolding printed
 relation_like_texts x a b h = (λ i. at add_tree a.node i ++ (codes "like" ∷ at add_tree b.node i)) ∙ ap printed (sym (ap relation_tree h ∙ relation_like a b))
 
-pub relation_is_texts : (x : Relation) (a b : Node (Option Add)) (c : Option (Node (Option Add))) → x ≡ R.IsIn a b c → node_texts (option_texts (texts add_tree)) a ++ ((codes "is" ∷ []) ++ (node_texts (option_texts (texts add_tree)) b ++ opt_marked (codes "in") (node_texts (option_texts (texts add_tree))) c)) ≡ printed (relation_tree x)
+pub relation_is_texts : (x : Relation) (a b : Node (Option Add)) (c : Option (Node (Option Add))) → x ≡ R.IsIn a b c → node_texts (option_texts (texts add_tree)) a ++ ((codes "is" ∷ []) ++ (node_texts (option_texts (texts add_tree)) b ++ option_behind_mark (codes "in") (node_texts (option_texts (texts add_tree))) c)) ≡ printed (relation_tree x)
 unfolding printed
 relation_is_texts x a b None h = (λ i. at add_tree a.node i ++ (codes "is" ∷ (append-nil (node_texts (option_texts (texts add_tree)) b) ∙ at add_tree b.node) i)) ∙ ap printed (sym (ap relation_tree h ∙ relation_is a b))
 relation_is_texts x a b (Some c) h = (λ i. at add_tree a.node i ++ (codes "is" ∷ (at add_tree b.node i ++ (codes "in" ∷ at add_tree c.node i)))) ∙ ap printed (sym (ap relation_tree h ∙ relation_is_in a b c))
@@ -204,12 +204,12 @@ primary_inits_texts x a h = (λ i. codes "{" ∷ (with_commas init_tree a i ++ (
 
 -- ---- the types that hold no expression
 
-words : (xs : List (Node (Option Ident))) → followed (codes "::") (node_texts (option_texts (texts ident_tree))) xs ≡ path_texts (map (λ i. i.node) xs)
+words : (xs : List (Node (Option Ident))) → texts_before_mark (codes "::") (node_texts (option_texts (texts ident_tree))) xs ≡ path_texts (map (λ i. i.node) xs)
 unfolding printed
 words [] = refl
 words (x ∷ xs) = λ i. (word_at x.node i ++ (codes "::" ∷ [])) ++ words xs i
 
-pub name_texts : (n : Name) → followed (codes "::") (node_texts (option_texts (texts ident_tree))) n.path ++ node_texts (option_texts (texts ident_tree)) n.name ≡ printed (name_tree n)
+pub name_texts : (n : Name) → texts_before_mark (codes "::") (node_texts (option_texts (texts ident_tree))) n.path ++ node_texts (option_texts (texts ident_tree)) n.name ≡ printed (name_tree n)
 unfolding printed
 name_texts n = λ i. words n.path i ++ word_at n.name.node i
 
@@ -228,11 +228,11 @@ reference_texts r path fields h = (λ i. at name_tree path.node i ++ (codes "::"
 
 -- ---- policies
 
-pub variable_def_texts : (v : VariableDef) → node_texts (option_texts (texts ident_tree)) v.variable ++ (opt_marked (codes ":") (node_texts (option_texts (texts name_tree))) v.unused_type_name ++ (opt_marked (codes "is") (node_texts (option_texts (texts add_tree))) v.entity_type ++ option_texts (pair_texts rel_op_texts (node_texts (option_texts (texts expr_tree)))) v.ineq)) ≡ printed (variable_def_tree v)
+pub variable_def_texts : (v : VariableDef) → node_texts (option_texts (texts ident_tree)) v.variable ++ (option_behind_mark (codes ":") (node_texts (option_texts (texts name_tree))) v.unused_type_name ++ (option_behind_mark (codes "is") (node_texts (option_texts (texts add_tree))) v.entity_type ++ option_texts (pair_texts rel_op_texts (node_texts (option_texts (texts expr_tree)))) v.ineq)) ≡ printed (variable_def_tree v)
 unfolding printed
 variable_def_texts v = λ i. word_at v.variable.node i ++ (optionally name_tree (codes ":") v.unused_type_name i ++ (optionally add_tree (codes "is") v.entity_type i ++ against v.ineq i))
   where
-    against : (o : Option (RelOp × Node (Option Expr))) → option_texts (pair_texts rel_op_texts (node_texts (option_texts (texts expr_tree)))) o ≡ in_order (compared o)
+    against : (o : Option (RelOp × Node (Option Expr))) → option_texts (pair_texts rel_op_texts (node_texts (option_texts (texts expr_tree)))) o ≡ in_order (comparison_rest o)
     against None = refl
     against (Some p) = λ i. rel_op_texts p.0 ++ (at expr_tree p.1.node ∙ sym (append-nil (printed (tree_at expr_tree p.1)))) i
 
@@ -240,7 +240,7 @@ pub cond_texts : (c : Cond) → node_texts (option_texts (texts ident_tree)) c.c
 unfolding printed
 cond_texts c = with c.expr
   where
-    with : (o : Option (Node (Option Expr))) → node_texts (option_texts (texts ident_tree)) c.cond ++ ((codes "{" ∷ []) ++ (option_texts (node_texts (option_texts (texts expr_tree))) o ++ (codes "}" ∷ []))) ≡ printed (condition_of c.cond.node o)
+    with : (o : Option (Node (Option Expr))) → node_texts (option_texts (texts ident_tree)) c.cond ++ ((codes "{" ∷ []) ++ (option_texts (node_texts (option_texts (texts expr_tree))) o ++ (codes "}" ∷ []))) ≡ printed (condition_tree c.cond.node o)
     with None = λ i. word_at c.cond.node i ++ (codes "{" ∷ (codes "}" ∷ []))
     with (Some n) = λ i. word_at c.cond.node i ++ (codes "{" ∷ (at expr_tree n.node i ++ (codes "}" ∷ [])))
 

@@ -8,7 +8,7 @@ behind_commas word (last ∷ []) = codes ", " ++ (word ++ (codes " " ++ last))
 behind_commas word (text ∷ next ∷ more) = codes ", " ++ (text ++ behind_commas word (next ∷ more))
 
 -- one text and those after it; a comma stands only where they are three or more
-abbrev pub conjoined : List ℕ → List ℕ → List (List ℕ) → List ℕ
-conjoined word first [] = first
-conjoined word first (last ∷ []) = first ++ (codes " " ++ (word ++ (codes " " ++ last)))
-conjoined word first (second ∷ third ∷ more) = first ++ behind_commas word (second ∷ third ∷ more)
+abbrev pub list_text : List ℕ → List ℕ → List (List ℕ) → List ℕ
+list_text word first [] = first
+list_text word first (last ∷ []) = first ++ (codes " " ++ (word ++ (codes " " ++ last)))
+list_text word first (second ∷ third ∷ more) = first ++ behind_commas word (second ∷ third ∷ more)

@@ -5,7 +5,7 @@ use Rattle.std.specs.Ordering.{nat_cmp}
 use Rattle.std.specs.declared.cmp.Ordering.{Ordering}
 use Rattle.std.specs.declared.cmp.Ordering.TheVariants.{Less, Equal, Greater}
 use Rattle.cedar_lexer.specs.Token.{Lexeme}
-use Rattle.cedar_lexer.specs.Names.{name_of}
+use Rattle.cedar_lexer.specs.Names.{kind_name}
 use Rattle.cedar_lexer.specs.declared.token.TokenKind.{TokenKind}
 use Rattle.cedar_lexer.specs.declared.token.TokenKind.TheVariants as kind
 use Rattle.cedar_syntax.specs.declared.reading.expected.Narrowing.{Narrowing}
@@ -107,7 +107,7 @@ is_less Greater = false
 
 abbrev pub is_before : TokenKind → List TokenKind → Bool
 is_before j [] = true
-is_before j (k ∷ ks) = is_less (slice_cmp nat_cmp (name_of j) (name_of k))
+is_before j (k ∷ ks) = is_less (slice_cmp nat_cmp (kind_name j) (kind_name k))
 
 abbrev pub stand_by_name : List TokenKind → Bool
 stand_by_name [] = true

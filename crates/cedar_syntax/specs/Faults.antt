@@ -4,7 +4,7 @@ use Rattle.either.specs.declared.Either.{Either}
 use Rattle.either.specs.declared.Either.TheVariants.{Left, Right}
 use Rattle.cedar_expressions.specs.declared.entity.EntityUID.{EntityUID}
 use Rattle.cedar_expressions.specs.Written.{slot_text, entity_text}
-use Rattle.cedar_syntax.specs.Conjoined.{conjoined}
+use Rattle.cedar_syntax.specs.Conjoined.{list_text}
 use Rattle.cedar_syntax.specs.declared.err.parse_errors.ExpectedStaticPolicy.{ExpectedStaticPolicy}
 use Rattle.cedar_syntax.specs.declared.err.parse_errors.SlotsInConditionClause.{SlotsInConditionClause}
 use Rattle.cedar_syntax.specs.declared.err.parse_errors.InvalidActionType.{InvalidActionType}
@@ -37,20 +37,20 @@ entities_with_type (second ∷ more) = codes "expected entity uids with type `Ac
 abbrev pub action_type_message : InvalidActionType → List ℕ
 action_type_message fault =
     entities_with_type fault.euids.tail
-    ++ conjoined (codes "and") (quoted_entity fault.euids.head)
+    ++ list_text (codes "and") (quoted_entity fault.euids.head)
     (map quoted_entity fault.euids.tail)
 
-abbrev pub reference_text : Ref → List ℕ
-reference_text Single = codes "single entity uid"
-reference_text Set = codes "set of entity uids"
-reference_text Template = codes "template slot"
+abbrev pub argument_text : Ref → List ℕ
+argument_text Single = codes "single entity uid"
+argument_text Set = codes "set of entity uids"
+argument_text Template = codes "template slot"
 
 -- one of these, or either of two
 abbrev pub wanted_text : Either Ref (Ref × Ref) → List ℕ
-wanted_text (Left one) = reference_text one
-wanted_text (Right two) = reference_text two.0 ++ (codes " or " ++ reference_text two.1)
+wanted_text (Left one) = argument_text one
+wanted_text (Right two) = argument_text two.0 ++ (codes " or " ++ argument_text two.1)
 
 abbrev pub argument_message : WrongEntityArgument → List ℕ
 argument_message fault =
     codes "expected " ++ (wanted_text fault.expected
-    ++ (codes ", found " ++ reference_text fault.got))
+    ++ (codes ", found " ++ argument_text fault.got))

@@ -25,16 +25,16 @@ abbrev pub end_at : Option Extent → ℕ
 end_at None = 0
 end_at (Some e) = e.end
 
-abbrev pub end_of : List Lexeme → ℕ
-end_of ts = end_at (extent ts)
+abbrev pub tokens_end : List Lexeme → ℕ
+tokens_end ts = end_at (extent ts)
 
 -- the recorded words for a number that 64 bits don't hold
 abbrev pub too_large : List ℕ
 too_large = codes "integer parse error: number too large to fit in target type"
 
 -- a refused token, the end too early, and such a number, as they are recorded
-abbrev pub unexpected_at : Lexeme → List TokenKind → RawFault
-unexpected_at t ks = fault.UnrecognizedToken t.start t.end t.text ks
+abbrev pub unexpected_fault : Lexeme → List TokenKind → RawFault
+unexpected_fault t ks = fault.UnrecognizedToken t.start t.end t.text ks
 
 abbrev pub early_at : ℕ → List TokenKind → RawFault
 early_at end ks = fault.UnrecognizedEof end ks
@@ -50,10 +50,11 @@ pub data FirstFault {T : Type 0} (R : List Lexeme → T → Type 0) (n : Narrowi
   -- no sentence goes on with the token behind the first group
   unexpected : {ts us : List Lexeme} {t : Lexeme} {bad : Option ℕ} {ks : List TokenKind} →
       IsFirstRefused R ts (Some t.kind) → IsExpected R n (kinds ts) (Some t.kind) ks →
-      FirstFault R n src ts (t ∷ us) bad (unexpected_at t ks)
+      FirstFault R n src ts (t ∷ us) bad (unexpected_fault t ks)
   -- the end is behind it, and no sentence ends there
   early_end : {ts : List Lexeme} {ks : List TokenKind} → IsFirstRefused R ts None →
-      IsExpected R n (kinds ts) None ks → FirstFault R n src ts [] None (early_at (end_of ts) ks)
+      IsExpected R n (kinds ts) None ks
+      → FirstFault R n src ts [] None (early_at (tokens_end ts) ks)
   -- some sentence goes on with a number behind it, and the one there is past 64 bits
   large_number : {ts us : List Lexeme} {t : Lexeme} {bad : Option ℕ} → Starts R ts →
       Allowed R (kinds ts) (Some kind.Number) → t.kind ≡ kind.Number → fits t.text ≡ false →

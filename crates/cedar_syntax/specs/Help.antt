@@ -1,4 +1,5 @@
--- Hints at what to change where a tree has no value. The one on signs is the original's but for a slip; the others are this repository's own.
+-- Hints at what to change where a tree has no value. The one on signs is the original's but for a
+-- slip; the others are this repository's own.
 use Rattle.std.specs.Prelude.{ℕ, List, ◌++◌, codes, Option, Some, None}
 use Rattle.std.specs.Fmt.{decimal}
 use Rattle.cedar_syntax.specs.declared.cst.TheConstants.{SIGN_LIMIT}

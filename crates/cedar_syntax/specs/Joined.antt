@@ -7,14 +7,14 @@ use Rattle.cedar_syntax.specs.declared.err.faults.Failure.TheVariants.{Memory, E
 use Rattle.cedar_syntax.specs.declared.err.faults.ParseError.{ParseError}
 use Rattle.cedar_syntax.specs.FirstFault.{IsMemory}
 
-abbrev pub faults_told : Failure → List ParseError
-faults_told (Memory error) = []
-faults_told (Errors errors) = faults_of errors
+abbrev pub failure_faults : Failure → List ParseError
+failure_faults (Memory error) = []
+failure_faults (Errors errors) = faults_of errors
 
 -- the faults of a part; a value has none
 abbrev pub faults_in : {T : Type 0} → Result T Failure → List ParseError
 faults_in (Ok value) = []
-faults_in (Err failure) = faults_told failure
+faults_in (Err failure) = failure_faults failure
 
 -- the failure of a part; a value has none
 abbrev pub failures : {T : Type 0} → Result T Failure → List Failure

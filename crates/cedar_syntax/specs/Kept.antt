@@ -1,4 +1,5 @@
--- Which of the expected kinds of token a fault shows, and how: by a table of names, as the Rust crate has it.
+-- Which of the expected kinds of token a fault shows, and how: by a table of names, as the Rust
+-- crate has it.
 use Rattle.std.specs.Prelude.{◌≡◌, ◌≢◌, ℕ, Bool, true, not, ◌&&◌, ◌==◌, List, [], ◌∷◌, ◌++◌, map, filter, codes, chars, encode_utf8_all, bytes_eq, Option, Some, None, unwrap_or, if◌then◌else◌, MatchOption}
 use Rattle.std.specs.Ordering.{nat_cmp}
 use Rattle.std.specs.Option.{option_map}
@@ -13,15 +14,15 @@ use Rattle.std.specs.HashSet.{HashSet}
 use Rattle.std.specs.HashMap as hash
 use Rattle.std.specs.HashSet as bag
 use Rattle.std.specs.Borrow.{Bor}
-use Rattle.cedar_syntax.specs.Conjoined.{conjoined}
+use Rattle.cedar_syntax.specs.Conjoined.{list_text}
 use Rattle.cedar_syntax.specs.declared.err.expected.ExpectedTokenConfig.{ExpectedTokenConfig}
 
 -- the name under which a kind of token is recorded
 abbrev pub TokenName : Type 0
 TokenName = List ℕ
 
--- a token table as rules: how a name is shown, three sets of names, and the two names whose presence
--- tells that an identifier could stand there and that an expression could begin there
+-- a token table as rules: how a name is shown, three sets of names, and the two names whose
+-- presence tells that an identifier could stand there and that an expression could begin there
 pub record TokenRules : Type 0 where
   pub friendly : TokenName → Option (List ℕ)
   pub impossible : TokenName → Bool
@@ -54,8 +55,8 @@ rules_of config = record {
 }
 
 -- a table of names as texts
-abbrev pub pair_texts : List (Bor TokenName × Bor (List ℕ)) → List (TokenName × List ℕ)
-pair_texts pairs = map (λ pair. (pair.0.now, pair.1.now)) pairs
+abbrev pub table_texts : List (Bor TokenName × Bor (List ℕ)) → List (TokenName × List ℕ)
+table_texts pairs = map (λ pair. (pair.0.now, pair.1.now)) pairs
 
 -- no name stands twice
 abbrev pub are_distinct : List (Bor TokenName) → Bool
@@ -112,8 +113,8 @@ without drops names = filter (λ name. not (drops name)) names
 
 -- No impossible name is kept; where an identifier could stand, none of the words that are
 -- identifiers too, and, unless an expression can begin there, none of those that begin one.
-abbrev pub kept : TokenRules → List TokenName → List TokenName
-kept rules names =
+abbrev pub kept_token_names : TokenRules → List TokenName → List TokenName
+kept_token_names rules names =
     let possible = without rules.impossible names in
     let general = without rules.special possible in
     if is_among possible rules.identifier
@@ -138,12 +139,12 @@ shown_name rules name = unwrap_or (rules.friendly name) (with_backquotes name)
 abbrev pub expected_text : TokenRules → List TokenName → List ℕ
 expected_text rules [] = []
 expected_text rules (first ∷ more) =
-    codes "expected " ++ conjoined (codes "or") (shown_name rules first)
+    codes "expected " ++ list_text (codes "or") (shown_name rules first)
     (map (shown_name rules) more)
 
 -- what is said of expected names: nothing exactly if none is kept, else the kept ones
 abbrev pub SaysExpected : TokenRules → List TokenName → Option (List ℕ) → Type 0
-SaysExpected rules names said = MatchOption said (kept rules names ≡ []) (λ text.
-    (kept rules names ≢ [])
+SaysExpected rules names said = MatchOption said (kept_token_names rules names ≡ []) (λ text.
+    (kept_token_names rules names ≢ [])
     × ((shown : List TokenName)
-    × AreInOrder (kept rules names) shown × (text ≡ expected_text rules shown)))
+    × AreInOrder (kept_token_names rules names) shown × (text ≡ expected_text rules shown)))

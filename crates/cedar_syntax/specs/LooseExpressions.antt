@@ -1,5 +1,7 @@
--- The loose grammar of expressions: which token lists have which tree, one case for each rule. A tree is put as a node at the place of its tokens: from
--- the first byte of the first to the end of the last, brackets belonging to the rule that writes them. `src` is the whole text, which each place carries.
+-- The loose grammar of expressions: which token lists have which tree, one case for each rule. A
+-- tree is put as a node at the place of its tokens: from the first byte of the first to the end of
+-- the last, brackets belonging to the rule that writes them. `src` is the whole text, which each
+-- place carries.
 use Rattle.std.specs.Prelude.{ℕ, ◌+◌, List, [], ◌∷◌, ◌++◌, Some, None}
 use Rattle.cedar_lexer.specs.Token.{Lexeme}
 use Rattle.cedar_lexer.specs.declared.token.TokenKind.{TokenKind}
@@ -62,13 +64,13 @@ pub data ReadsSlot : TokenKind → List ℕ → Slot → Type 0 where
 -- The word `if` alone as a name, at its own place: right of `has`, and as a key before `:`.
 
 abbrev pub if_name : List ℕ → Spot → Primary
-if_name src p = primary.Name (placed src (one kind.If p)
-    (name_of [] (placed src (one kind.If p) ident.If)))
+if_name src p =
+    primary.Name (placed src (one kind.If p) (name_of [] (placed src (one kind.If p) ident.If)))
 
 -- a member alone as a sum: one operand at each level between, all at its place
 abbrev pub lone_add : List ℕ → List Lexeme → Member → Add
-lone_add src ts x = add_of
-    (placed src ts (mult_of (placed src ts (unary_of None (placed src ts x))) [])) []
+lone_add src ts x =
+    add_of (placed src ts (mult_of (placed src ts (unary_of None (placed src ts x))) [])) []
 
 -- and as an expression
 abbrev pub lone_expr : List ℕ → List Lexeme → Member → Expr
@@ -113,7 +115,8 @@ mutual
         ReadsRelations src ts x xs → ReadsRelation src us y
         → ReadsRelations src (ts ++ one kind.AndAnd p ++ us) x (xs ++ placed src us y ∷ [])
 
-  -- Relation = Add (RelOp Add)* | Add HAS Add | Add HAS IF MemAccess* | Add LIKE Add | Add IS Add [IN Add]
+  -- Relation = Add (RelOp Add)* | Add HAS Add | Add HAS IF MemAccess* | Add LIKE Add | Add IS Add
+  -- [IN Add]
   pub data ReadsRelation (src : List ℕ) : List Lexeme → Relation → Type 0 where
     common : {ts : List Lexeme} {x : Cell Add} {xs : List (RelOp × Cell Add)}
         → ReadsAdds src ts x xs → ReadsRelation src ts (common_of x xs)
@@ -206,7 +209,8 @@ mutual
         ReadsAccess src (one kind.OpenBracket l ++ ts ++ one kind.CloseBracket m)
         (access.Index (placed src ts x))
 
-  -- Primary = Literal | Ref | Name | Slot | "(" Expr ")" | "[" List(Expr) "]" | "{" List(RecInit) "}"
+  -- Primary = Literal | Ref | Name | Slot | "(" Expr ")" | "[" List(Expr) "]" | "{" List(RecInit)
+  -- "}"
   pub data ReadsPrimary (src : List ℕ) : List Lexeme → Primary → Type 0 where
     literally : {ts : List Lexeme} {x : Literal} → ReadsLiteral src ts x
         → ReadsPrimary src ts (primary.Literal (placed src ts x))

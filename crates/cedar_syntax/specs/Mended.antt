@@ -45,8 +45,8 @@ abbrev pub IsBegun : List ℕ → List Lexeme → Type 0
 IsBegun src us = (t : Lexeme) × Starts (ReadsPolicy src) (us ++ t ∷ [])
 
 -- a token that stands nowhere
-abbrev pub put : TokenKind → List Lexeme
-put k = one k record { start = 0; end = 0; text = [] }
+abbrev pub stub_token : TokenKind → List Lexeme
+stub_token k = one k record { start = 0; end = 0; text = [] }
 
 -- the mended tokens, where the first group stands before the refused one, and the second from it
 -- on
@@ -60,7 +60,7 @@ pub data Mended {T : Type 0} (src : List ℕ) (R : List Lexeme → T → Type 0)
   to_end : (ts us : List Lexeme) {b : Bool} (vs ws : List Lexeme) (e : Spot) → W ts →
       IsBegun src us → Stands src R b (ts ++ us) → Skips b vs →
       Mended src R W (ts ++ us) (vs ++ one kind.Semicolon e ++ ws)
-      (ts ++ put kind.Identifier ++ put kind.OpenParen ++ put kind.CloseParen
+      (ts ++ stub_token kind.Identifier ++ stub_token kind.OpenParen ++ stub_token kind.CloseParen
       ++ one kind.Semicolon e ++ ws)
 
 -- the first token, or the end

@@ -13,7 +13,7 @@ use Rattle.cedar_syntax.specs.declared.err.to_cst.RawFault.TheVariants as fault
 use Rattle.cedar_syntax.specs.declared.reading.expected.Narrowing.{Narrowing}
 use Rattle.cedar_syntax.specs.declared.reading.expected.Narrowing.TheVariants as narrowing
 use Rattle.cedar_syntax.specs.Expected.{IsExpected}
-use Rattle.cedar_syntax.specs.FirstFault.{end_of, unexpected_at, early_at, large_at}
+use Rattle.cedar_syntax.specs.FirstFault.{tokens_end, unexpected_fault, early_at, large_at}
 use Rattle.cedar_syntax.specs.Grammar.{Rule, IsNodeOf}
 use Rattle.cedar_syntax.specs.LoosePolicies.{ReadsMany, ReadsPolicy}
 use Rattle.cedar_syntax.specs.Mended.{Faults}
@@ -28,24 +28,24 @@ pub data Unallowed {T : Type 0} (R : List Lexeme → T → Type 0) (n : Narrowin
     (src : List ℕ) : List Lexeme → Option Lexeme → ParseError → Type 0 where
   a_token : {ts : List Lexeme} {t : Lexeme} {ks : List TokenKind} →
       IsExpected R n (kinds ts) (Some t.kind) ks →
-      Unallowed R n src ts (Some t) (fault_of src (unexpected_at t ks))
+      Unallowed R n src ts (Some t) (fault_of src (unexpected_fault t ks))
   the_end : {ts : List Lexeme} {ks : List TokenKind} → IsExpected R n (kinds ts) None ks →
-      Unallowed R n src ts None (fault_of src (early_at (end_of ts) ks))
+      Unallowed R n src ts None (fault_of src (early_at (tokens_end ts) ks))
 
 -- and that of a number that doesn't fit
 abbrev pub IsLarge : List ℕ → Lexeme → ParseError → Type 0
 IsLarge src t x = x ≡ fault_of src (large_at src t)
 
 -- the fault at which the parse stops is listed first
-abbrev pub listed : {F : Type 0} → Option F → List F → List F
-listed None xs = xs
-listed (Some x) xs = x ∷ xs
+abbrev pub faults_with_last : {F : Type 0} → Option F → List F → List F
+faults_with_last None xs = xs
+faults_with_last (Some x) xs = x ∷ xs
 
 -- the list of these faults; at a bad place its fault stands for the one in hand, if the parse
 -- hasn't stopped before
 abbrev pub IsListed : List ℕ → Option ℕ → List ParseError → Option ParseError → List ParseError →
     Type 0
-IsListed src None ys y xs = xs ≡ listed y ys
+IsListed src None ys y xs = xs ≡ faults_with_last y ys
 IsListed src (Some place) ys y xs =
     (xs ≡ fault_of src (fault.InvalidToken place) ∷ ys) ⊎
     ((x : ParseError) × (y ≡ Some x) × (xs ≡ x ∷ ys))

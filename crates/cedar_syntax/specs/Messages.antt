@@ -4,7 +4,7 @@ use Rattle.std.specs.Fmt.{decimal}
 use Rattle.cedar_expressions.specs.Path.{name_text}
 use Rattle.cedar_expressions.specs.Written.{expr_text, unary_op_text, var_text, duplicate_text, reserved_text}
 use Rattle.cedar_syntax.specs.declared.cst.Ident.{Ident}
-use Rattle.cedar_syntax.specs.Printed.{joined, printed, rel_op_texts}
+use Rattle.cedar_syntax.specs.Printed.{tokens_text, printed, rel_op_texts}
 use Rattle.cedar_syntax.specs.Unplaced.{ident_tree, variable_def_tree}
 use Rattle.cedar_syntax.specs.Faults.{static_policy_message, template_message, condition_slot_message, action_type_message, argument_message}
 use Rattle.cedar_syntax.specs.Span.{part_of}
@@ -22,7 +22,8 @@ use Rattle.cedar_syntax.specs.declared.err.literal.LiteralParseError.TheVariants
 use Rattle.cedar_syntax.specs.declared.err.faults.Failure.{Failure}
 use Rattle.cedar_syntax.specs.declared.err.faults.Failure.TheVariants as failure
 
--- the piece of the raw text that is no escape, in backquotes; nothing where its range is none of the text
+-- the piece of the raw text that is no escape, in backquotes; nothing where its range is none of
+-- the text
 abbrev pub escape_message : UnescapeError → List ℕ
 escape_message fault = codes "the input `"
     ++ (unwrap_or (part_of fault.input fault.range.start fault.range.end) []
@@ -35,8 +36,8 @@ unescape_message (Errors faults) = escape_message faults.head
 
 abbrev pub raw_message : RawFault → List ℕ
 raw_message (InvalidToken location) = codes "invalid token"
-raw_message (UnrecognizedToken start end token expected) = codes "unexpected token `"
-    ++ (token ++ codes "`")
+raw_message (UnrecognizedToken start end token expected) =
+    codes "unexpected token `" ++ (token ++ codes "`")
 raw_message (UnrecognizedEof location expected) = codes "unexpected end of input"
 raw_message (User error) = error.node
 raw_message (ExtraToken start end token) = codes "extra token `" ++ (token ++ codes "`")
@@ -70,7 +71,8 @@ arity_message name expected got =
 abbrev pub clause_message : Option Ident → List ℕ
 clause_message None = codes "condition clause cannot be empty"
 clause_message (Some word) =
-    codes "`" ++ (joined (printed (ident_tree word)) ++ codes "` condition clause cannot be empty")
+    codes "`" ++ (tokens_text (printed (ident_tree word)) ++ codes
+    "` condition clause cannot be empty")
 
 abbrev pub unnormalized_message : List ℕ → List ℕ → List ℕ
 unnormalized_message what text =
@@ -89,24 +91,26 @@ kind_message (kind.MissingScopeVariable var) =
     codes "this policy is missing the `" ++ (var_text var ++ codes "` variable in the scope")
 kind_message (kind.ExtraScopeElement element) =
     codes "this policy has an extra element in the scope: "
-    ++ joined (printed (variable_def_tree element))
+    ++ tokens_text (printed (variable_def_tree element))
 kind_message (kind.ReservedIdentifier word) =
-    codes "this identifier is reserved and cannot be used: " ++ joined (printed (ident_tree word))
+    codes "this identifier is reserved and cannot be used: " ++ tokens_text
+    (printed (ident_tree word))
 kind_message (kind.InvalidIdentifier text) = codes "invalid identifier: " ++ text
 kind_message kind.InvalidSingleEq = codes "'=' is not a valid operator in Cedar"
 kind_message (kind.InvalidEffect word) =
-    codes "invalid policy effect: " ++ joined (printed (ident_tree word))
+    codes "invalid policy effect: " ++ tokens_text (printed (ident_tree word))
 kind_message (kind.InvalidCondition word) =
-    codes "invalid policy condition: " ++ joined (printed (ident_tree word))
+    codes "invalid policy condition: " ++ tokens_text (printed (ident_tree word))
 kind_message (kind.InvalidScopeVariable word) =
-    codes "found an invalid variable in the policy scope: " ++ joined (printed (ident_tree word))
+    codes "found an invalid variable in the policy scope: " ++ tokens_text
+    (printed (ident_tree word))
 kind_message (kind.IncorrectVariable expected got) =
     codes "found the variable `" ++ (var_text got
     ++ (codes "` where the variable `" ++ (var_text expected ++ codes "` must be used")))
 kind_message (kind.InvalidScopeOperator op) =
-    codes "invalid operator in the policy scope: " ++ joined (rel_op_texts op)
+    codes "invalid operator in the policy scope: " ++ tokens_text (rel_op_texts op)
 kind_message (kind.InvalidActionScopeOperator op) =
-    codes "invalid operator in the action scope: " ++ joined (rel_op_texts op)
+    codes "invalid operator in the action scope: " ++ tokens_text (rel_op_texts op)
 kind_message kind.IsInActionScope = codes "`is` cannot appear in the action scope"
 kind_message kind.IsWithEq = codes "`is` cannot be used together with `==`"
 kind_message (kind.InvalidActionType fault) = action_type_message fault
@@ -166,8 +170,8 @@ kind_message kind.EmptyNodeInvariantViolation =
 kind_message (kind.WrongArity name expected got) = arity_message name.now expected got
 kind_message (kind.Unescape fault) = escape_message fault
 kind_message (kind.WrongEntityArgument fault) = argument_message fault
-kind_message (kind.InvalidSlot text) = codes "`"
-    ++ (text ++ codes "` is not a valid template slot")
+kind_message (kind.InvalidSlot text) =
+    codes "`" ++ (text ++ codes "` is not a valid template slot")
 kind_message (kind.ReservedNamespace fault) = reserved_text fault
 kind_message kind.InvertedIsIn =
     codes "when `is` and `in` are used together, `is` must come first"
@@ -184,5 +188,5 @@ failure_message (failure.Errors list) = fault_message list.faults.head
 -- the first fault's, or the expression that is no literal
 abbrev pub literal_message : LiteralParseError → List ℕ
 literal_message (literal.Parse list) = fault_message list.faults.head
-literal_message (literal.InvalidLiteral expression) = codes "invalid literal: "
-    ++ expr_text expression
+literal_message (literal.InvalidLiteral expression) =
+    codes "invalid literal: " ++ expr_text expression

@@ -11,8 +11,8 @@ abbrev pub list_of : {T : Type 0} → NonEmpty T → List T
 list_of list = list.head ∷ list.tail
 
 -- the elements that an iterator is still to give
-abbrev pub iter_left : {T : Type 0} → Iter T → List T
-iter_left items = option_to_list (option_copied items.first) ++ items.rest.now
+abbrev pub remaining_items : {T : Type 0} → Iter T → List T
+remaining_items items = option_to_list (option_copied items.first) ++ items.rest.now
 
-abbrev pub into_iter_left : {T : Type 0} → IntoIter T → List T
-into_iter_left items = option_to_list items.first ++ into_iter_items items.rest
+abbrev pub remaining_elements : {T : Type 0} → IntoIter T → List T
+remaining_elements items = option_to_list items.first ++ into_iter_items items.rest

@@ -1,6 +1,6 @@
 -- The faults of a text, in order.
 use Rattle.std.specs.Prelude.{List, Option}
-use Rattle.cedar_syntax.specs.NonEmpty.{list_of, into_iter_left}
+use Rattle.cedar_syntax.specs.NonEmpty.{list_of, remaining_elements}
 use Rattle.cedar_syntax.specs.Span.{Span}
 use Rattle.cedar_syntax.specs.RawFault.{span_of_raw}
 use Rattle.cedar_syntax.specs.ToASTError.{span_of_ast}
@@ -19,5 +19,5 @@ span_of (ToCST fault) = span_of_raw fault.raw
 span_of (ToAST fault) = span_of_ast fault
 
 -- the faults that an iterator is still to give
-abbrev pub faults_left : IntoIter → List ParseError
-faults_left items = into_iter_left items.faults
+abbrev pub remaining_faults : IntoIter → List ParseError
+remaining_faults items = remaining_elements items.faults

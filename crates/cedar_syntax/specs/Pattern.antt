@@ -1,4 +1,5 @@
--- Pattern: what the raw text of a pattern stands for. It is laid out of the same pieces as a string's.
+-- Pattern: what the raw text of a pattern stands for. It is laid out of the same pieces as a
+-- string's.
 use Rattle.std.specs.Prelude.{◌≡◌, ℕ, Bool, false, ◌&&◌, ◌==◌, List, [], ◌∷◌, if◌then◌else◌}
 use Rattle.std.specs.List.{flat_map}
 use Rattle.std.specs.Str.{byte}

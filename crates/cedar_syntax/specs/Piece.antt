@@ -1,6 +1,6 @@
 -- Piece: what the raw text of a string, the characters between its quotes, stands for. It is laid
--- out of short pieces, each of which stands for nothing, for one character, or is no escape. A text
--- of pieces is a list of characters here.
+-- out of short pieces, each of which stands for nothing, for one character, or is no escape. A
+-- text of pieces is a list of characters here.
 use Rattle.std.specs.Prelude.{◌≡◌, ◌≢◌, ℕ, ◌+◌, ◌*◌, ◌<◌, ◌≤◌, Bool, true, false, ◌||◌, ◌==◌, not, List, [], ◌∷◌, ◌++◌, codes, length, fold, filter, Option, Some, None, if◌then◌else◌}
 use Rattle.std.specs.List.{list_all, flat_map}
 use Rattle.std.specs.Char.{IsScalar, is_digit, digit_value, encode_utf8}
@@ -115,8 +115,8 @@ pub data Piece : List ℕ → List ℕ → PieceValue → Type 0 where
   invalid : {after : List ℕ} (c : ℕ) → short_escape c ≡ None → c ≢ 10 → c ≢ byte "x" →
       c ≢ byte "u" → Piece (codes "\\" ++ c ∷ []) after (Fault InvalidEscape)
 
--- a piece with its place: its characters, what it stands for, and the bytes of the raw text that it
--- takes
+-- a piece with its place: its characters, what it stands for, and the bytes of the raw text that
+-- it takes
 pub record Placed : Type 0 where
   pub text : List ℕ
   pub outcome : PieceValue
@@ -155,16 +155,16 @@ fault_at raw p kind =
     record { kind = kind; input = raw; range = record { start = p.start; end = p.end } }
 
 -- the fault that a piece is
-abbrev pub fault_of : List ℕ → Placed → PieceValue → List UnescapeError
-fault_of raw p Nothing = []
-fault_of raw p (Character c) = []
-fault_of raw p (Fault kind) = fault_at raw p kind ∷ []
+abbrev pub piece_value_faults : List ℕ → Placed → PieceValue → List UnescapeError
+piece_value_faults raw p Nothing = []
+piece_value_faults raw p (Character c) = []
+piece_value_faults raw p (Fault kind) = fault_at raw p kind ∷ []
 
 abbrev pub unescaped_pieces : List Placed → List ℕ
 unescaped_pieces ps = flat_map (λ p. unescaped_piece p.outcome) ps
 
 abbrev pub piece_faults : List ℕ → List Placed → List UnescapeError
-piece_faults raw ps = flat_map (λ p. fault_of raw p p.outcome) ps
+piece_faults raw ps = flat_map (λ p. piece_value_faults raw p p.outcome) ps
 
 -- the unescaped text of a raw text: the characters of its pieces, none of which is a fault
 pub record IsUnescaped (raw text : List ℕ) : Type 0 where

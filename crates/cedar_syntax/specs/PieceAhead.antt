@@ -35,14 +35,14 @@ abbrev pub hex_digit : ℕ → Option ℕ
 hex_digit c = if is_hex c then Some (digit_value c) else None
 
 -- behind a backslash and a line feed
-abbrev pub unskipped : List ℕ → List ℕ
-unskipped [] = []
-unskipped (c ∷ cs) = if is_blank c then unskipped cs else (c ∷ cs)
+abbrev pub unskipped_text : List ℕ → List ℕ
+unskipped_text [] = []
+unskipped_text (c ∷ cs) = if is_blank c then unskipped_text cs else (c ∷ cs)
 
 -- behind `\x`
 abbrev pub ascii : ℕ → List ℕ → PieceAhead
-ascii code cs = if nat_lt 0x7F code then faulty OutOfRangeHexEscape cs else piece_ahead
-    (Character code) cs
+ascii code cs =
+    if nat_lt 0x7F code then faulty OutOfRangeHexEscape cs else piece_ahead (Character code) cs
 
 abbrev pub low_digit : ℕ → List ℕ → Option ℕ → PieceAhead
 low_digit high cs None = faulty InvalidCharInHexEscape cs
@@ -60,7 +60,8 @@ abbrev pub hex_escape : Option (ℕ × List ℕ) → PieceAhead
 hex_escape None = faulty TooShortHexEscape []
 hex_escape (Some p) = high_digit p.1 (hex_digit p.0)
 
--- the digits between braces so far: how many, seven standing for more, and their number, 110000 standing for more
+-- the digits between braces so far: how many, seven standing for more, and their number, 110000
+-- standing for more
 pub record Tally : Type 0 where
   pub count : ℕ
   pub number : ℕ
@@ -84,15 +85,15 @@ scalar_outcome number None =
 abbrev pub as_char : ℕ → Option ℕ
 as_char number = if scalar number then Some number else None
 
-abbrev pub closed : Tally → PieceValue
-closed t = if nat_lt 6 t.count then Fault OverlongUnicodeEscape else scalar_outcome t.number
+abbrev pub brace_outcome : Tally → PieceValue
+brace_outcome t = if nat_lt 6 t.count then Fault OverlongUnicodeEscape else scalar_outcome t.number
     (as_char t.number)
 
 abbrev pub inside_braces : Tally → List ℕ → PieceAhead
 inside_braces t [] = faulty UnclosedUnicodeEscape []
 inside_braces t (c ∷ cs) =
     if c == byte "_" then inside_braces t cs
-    else (if c == byte "}" then piece_ahead (closed t) cs
+    else (if c == byte "}" then piece_ahead (brace_outcome t) cs
     else (if is_hex c then inside_braces (with_digit t (digit_value c)) cs
     else faulty InvalidCharInUnicodeEscape cs))
 
@@ -124,7 +125,7 @@ escape None = faulty LoneSlash []
 escape (Some p) =
     if p.0 == byte "x" then hex_escape (first_of p.1)
     else (if p.0 == byte "u" then unicode_escape (first_of p.1)
-    else (if p.0 == 10 then piece_ahead Nothing (unskipped p.1)
+    else (if p.0 == 10 then piece_ahead Nothing (unskipped_text p.1)
     else piece_ahead (short_outcome (short_escape p.0)) p.1))
 
 -- a piece that begins with this character

@@ -4,7 +4,7 @@ use Rattle.std.specs.Fmt.{HasWritten, IsPlainFormatter}
 use Rattle.std.specs.declared.fmt.Formatter.{Formatter}
 use Rattle.std.specs.declared.fmt.Error.{Error}
 use Rattle.cedar_syntax.specs.declared.node.Node.{Node}
-use Rattle.cedar_syntax.specs.Printed.{Texts, spaced, joined, option_texts}
+use Rattle.cedar_syntax.specs.Printed.{Texts, spaced_tokens, tokens_text, option_texts}
 
 abbrev pub is_none : Texts → Bool
 is_none [] = true
@@ -12,8 +12,8 @@ is_none (t ∷ ts) = false
 
 -- what is written of ts where nothing was written before, or something was
 abbrev pub text_from : Bool → Texts → List ℕ
-text_from true ts = joined ts
-text_from false ts = spaced ts
+text_from true ts = tokens_text ts
+text_from false ts = spaced_tokens ts
 
 -- g is f after writing ts, and `still` says whether still nothing was written
 pub record HasPrinted {W : Type 0} (took : W → List ℕ → W → Type 0) (f : Formatter W)
@@ -24,13 +24,13 @@ pub record HasPrinted {W : Type 0} (took : W → List ℕ → W → Type 0) (f :
 -- if r is `Ok`, the tokens ts were written
 abbrev pub Prints : {W : Type 0} → (W → List ℕ → W → Type 0) → Formatter W → Bool → Texts
     → Result Bool Error → Formatter W → Type 0
-Prints took f fresh ts r g = IsPlainFormatter f
-    → IfOk r (λ still. HasPrinted took f fresh ts still g)
+Prints took f fresh ts r g =
+    IsPlainFormatter f → IfOk r (λ still. HasPrinted took f fresh ts still g)
 
 -- each item behind the token `mark`
-abbrev pub marked : {T : Type 0} → List ℕ → (T → Texts) → List T → Texts
-marked mark f [] = []
-marked mark f (x ∷ xs) = mark ∷ (f x ++ marked mark f xs)
+abbrev pub texts_behind_mark : {T : Type 0} → List ℕ → (T → Texts) → List T → Texts
+texts_behind_mark mark f [] = []
+texts_behind_mark mark f (x ∷ xs) = mark ∷ (f x ++ texts_behind_mark mark f xs)
 
 -- items one behind another
 abbrev pub in_row : {T : Type 0} → (T → Texts) → List T → Texts
@@ -40,17 +40,17 @@ in_row f (x ∷ xs) = f x ++ in_row f xs
 -- items with the token `mark` between two
 abbrev pub between : {T : Type 0} → List ℕ → (T → Texts) → List T → Texts
 between mark f [] = []
-between mark f (x ∷ xs) = f x ++ marked mark f xs
+between mark f (x ∷ xs) = f x ++ texts_behind_mark mark f xs
 
 -- what is there, behind the token `mark`
-abbrev pub opt_marked : {T : Type 0} → List ℕ → (T → Texts) → Option T → Texts
-opt_marked mark f None = []
-opt_marked mark f (Some x) = mark ∷ f x
+abbrev pub option_behind_mark : {T : Type 0} → List ℕ → (T → Texts) → Option T → Texts
+option_behind_mark mark f None = []
+option_behind_mark mark f (Some x) = mark ∷ f x
 
 -- each item before the token `mark`
-abbrev pub followed : {T : Type 0} → List ℕ → (T → Texts) → List T → Texts
-followed mark f [] = []
-followed mark f (x ∷ xs) = (f x ++ (mark ∷ [])) ++ followed mark f xs
+abbrev pub texts_before_mark : {T : Type 0} → List ℕ → (T → Texts) → List T → Texts
+texts_before_mark mark f [] = []
+texts_before_mark mark f (x ∷ xs) = (f x ++ (mark ∷ [])) ++ texts_before_mark mark f xs
 
 abbrev pub node_texts : {T : Type 0} → (T → Texts) → Node T → Texts
 node_texts f n = f n.node

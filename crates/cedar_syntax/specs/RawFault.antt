@@ -8,20 +8,20 @@ use Rattle.cedar_syntax.specs.declared.err.to_cst.RawFault.{RawFault}
 use Rattle.cedar_syntax.specs.declared.err.to_cst.RawFault.TheVariants.{InvalidToken, UnrecognizedToken, UnrecognizedEof, User, ExtraToken}
 
 -- which of the five it is
-abbrev pub number_of : RawFault → ℕ
-number_of (InvalidToken location) = 0
-number_of (UnrecognizedToken start end token expected) = 1
-number_of (UnrecognizedEof location expected) = 2
-number_of (User error) = 3
-number_of (ExtraToken start end token) = 4
+abbrev pub variant_number : RawFault → ℕ
+variant_number (InvalidToken location) = 0
+variant_number (UnrecognizedToken start end token expected) = 1
+variant_number (UnrecognizedEof location expected) = 2
+variant_number (User error) = 3
+variant_number (ExtraToken start end token) = 4
 
 -- from where to where; the parser's own words have a place instead
-abbrev pub bytes_of : RawFault → ℕ × ℕ
-bytes_of (InvalidToken location) = (location, location)
-bytes_of (UnrecognizedToken start end token expected) = (start, end)
-bytes_of (UnrecognizedEof location expected) = (location, location)
-bytes_of (User error) = (0, 0)
-bytes_of (ExtraToken start end token) = (start, end)
+abbrev pub byte_range : RawFault → ℕ × ℕ
+byte_range (InvalidToken location) = (location, location)
+byte_range (UnrecognizedToken start end token expected) = (start, end)
+byte_range (UnrecognizedEof location expected) = (location, location)
+byte_range (User error) = (0, 0)
+byte_range (ExtraToken start end token) = (start, end)
 
 -- the refused token, or the parser's own words
 abbrev pub text_of : RawFault → List ℕ
@@ -40,12 +40,12 @@ expected_of (User error) = []
 expected_of (ExtraToken start end token) = []
 
 -- the place of the parser's own words
-abbrev pub place_of : RawFault → Option Loc
-place_of (InvalidToken location) = None
-place_of (UnrecognizedToken start end token expected) = None
-place_of (UnrecognizedEof location expected) = None
-place_of (User error) = error.loc
-place_of (ExtraToken start end token) = None
+abbrev pub own_words_place : RawFault → Option Loc
+own_words_place (InvalidToken location) = None
+own_words_place (UnrecognizedToken start end token expected) = None
+own_words_place (UnrecognizedEof location expected) = None
+own_words_place (User error) = error.loc
+own_words_place (ExtraToken start end token) = None
 
 -- where the parse stopped: an invalid token and the end take no bytes
 abbrev pub span_of_raw : RawFault → Option Span

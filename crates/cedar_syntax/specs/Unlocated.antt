@@ -10,8 +10,8 @@ use Rattle.cedar_syntax.specs.declared.cst.RefInit.{RefInit}
 use Rattle.cedar_syntax.specs.Located.{Located, Form, Parts, missing, at, only, ite, chain, has, like, is, is_in, unary, member, field, call, index, literal, name, slot, reference, parens, set, record_of, init, none, more}
 
 -- a node without its place, and without those of what it holds
-abbrev pub unlocated_by : {X : Type 0} → (X → X) → Node (Option X) → Node (Option X)
-unlocated_by f n = record { node = option_map f n.node; loc = None }
+abbrev pub unlocated_cell : {X : Type 0} → (X → X) → Node (Option X) → Node (Option X)
+unlocated_cell f n = record { node = option_map f n.node; loc = None }
 
 -- what it holds has none
 abbrev pub unlocated_node : {X : Type 0} → Node (Option X) → Node (Option X)
@@ -27,13 +27,13 @@ abbrev pub unlocated_name : Name → Name
 unlocated_name n = record { path = map unlocated_node n.path; name = unlocated_node n.name }
 
 abbrev pub unlocated_ref_init : RefInit → RefInit
-unlocated_ref_init i = record { 0 = unlocated_node i.0; 1 = unlocated_by unlocated_literal i.1 }
+unlocated_ref_init i = record { 0 = unlocated_node i.0; 1 = unlocated_cell unlocated_literal i.1 }
 
 abbrev pub unlocated_ref : Ref → Ref
 unlocated_ref (refs.Uid path eid) =
-    refs.Uid (unlocated_by unlocated_name path) (unlocated_node eid)
+    refs.Uid (unlocated_cell unlocated_name path) (unlocated_node eid)
 unlocated_ref (refs.Ref path inits) =
-    refs.Ref (unlocated_by unlocated_name path) (map (unlocated_by unlocated_ref_init) inits)
+    refs.Ref (unlocated_cell unlocated_name path) (map (unlocated_cell unlocated_ref_init) inits)
 
 unfoldable mutual
   pub unlocated : Located → Located
@@ -55,10 +55,10 @@ unfoldable mutual
   unlocated_form (field n) = field (unlocated_node n)
   unlocated_form (call items) = call (unlocated_parts items)
   unlocated_form (index n) = index (unlocated n)
-  unlocated_form (literal n) = literal (unlocated_by unlocated_literal n)
-  unlocated_form (name n) = name (unlocated_by unlocated_name n)
+  unlocated_form (literal n) = literal (unlocated_cell unlocated_literal n)
+  unlocated_form (name n) = name (unlocated_cell unlocated_name n)
   unlocated_form (slot n) = slot (unlocated_node n)
-  unlocated_form (reference n) = reference (unlocated_by unlocated_ref n)
+  unlocated_form (reference n) = reference (unlocated_cell unlocated_ref n)
   unlocated_form (parens n) = parens (unlocated n)
   unlocated_form (set items) = set (unlocated_parts items)
   unlocated_form (record_of inits) = record_of (unlocated_parts inits)

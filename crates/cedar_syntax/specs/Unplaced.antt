@@ -52,19 +52,19 @@ content n = or_missing n.node
 abbrev pub node_by : {X Y : Type 0} → (Option X → Option Y) → Node (Option X) → Node (Option Y)
 node_by g n = record { node = g n.node; loc = n.loc }
 
-abbrev pub unplaced_in : {X : Type 0} → (X → Tree) → Node (Option X) → Node (Option Tree)
-unplaced_in f n = node_by (option_map f) n
+abbrev pub unplaced_node : {X : Type 0} → (X → Tree) → Node (Option X) → Node (Option Tree)
+unplaced_node f n = node_by (option_map f) n
 
 -- the tree of a node
 abbrev pub tree_at : {X : Type 0} → (X → Tree) → Node (Option X) → Tree
-tree_at f n = content (unplaced_in f n)
+tree_at f n = content (unplaced_node f n)
 
 abbrev pub rest_of : List (Operator × Tree) → Rest
 rest_of [] = none
 rest_of (t ∷ ts) = more t.0 t.1 (rest_of ts)
 
-abbrev pub behind : Operator → List (Node (Option Tree)) → Rest
-behind op ns = rest_of (map (λ n. (op, content n)) ns)
+abbrev pub rest_behind : Operator → List (Node (Option Tree)) → Rest
+rest_behind op ns = rest_of (map (λ n. (op, content n)) ns)
 
 -- what is there, or not
 abbrev pub optional : Option Tree → Rest
@@ -115,8 +115,8 @@ ref_init_tree i = ref_init i.0.node (literal_in i.1.node)
 
 abbrev pub ref_tree : Ref → Tree
 ref_tree (refs.Uid path eid) = entity (name_in path.node) eid.node
-ref_tree (refs.Ref path inits) = reference (name_in path.node)
-    (behind beside (map (unplaced_in ref_init_tree) inits))
+ref_tree (refs.Ref path inits) =
+    reference (name_in path.node) (rest_behind beside (map (unplaced_node ref_init_tree) inits))
 
 abbrev pub ref_in : Option Ref → Tree
 ref_in r = or_missing (option_map ref_tree r)
@@ -127,118 +127,121 @@ annotation_tree a = annotation a.key.node (option_map (λ (v : Node (Option Str)
 -- ---- an expression without its places
 
 -- `is` alone, or with what stands behind `in`
-abbrev pub typed : Tree → Tree → Option (Node (Option Tree)) → Tree
-typed target entity_type None = is target entity_type
-typed target entity_type (Some n) = is_in target entity_type (content n)
+abbrev pub type_relation_tree : Tree → Tree → Option (Node (Option Tree)) → Tree
+type_relation_tree target entity_type None = is target entity_type
+type_relation_tree target entity_type (Some n) = is_in target entity_type (content n)
 
 unfoldable mutual
-  pub forget : Located → Tree
-  forget (p.missing place) = missing
-  forget (p.at place f) = forget_form f
+  pub unplaced_tree : Located → Tree
+  unplaced_tree (p.missing place) = missing
+  unplaced_tree (p.at place f) = unplaced_tree_form f
 
-  pub forget_form : Form → Tree
-  forget_form (p.only n) = forget n
-  forget_form (p.ite a b c) = ite (forget a) (forget b) (forget c)
-  forget_form (p.chain level first others) = chain level (forget first) (forget_parts others)
-  forget_form (p.has target right) = has (forget target) (forget right)
-  forget_form (p.like target pattern) = like (forget target) (forget pattern)
-  forget_form (p.is target entity_type) = is (forget target) (forget entity_type)
-  forget_form (p.is_in target entity_type within) =
-      is_in (forget target) (forget entity_type) (forget within)
-  forget_form (p.unary op item) = unary op (forget item)
-  forget_form (p.member item accesses) = member (forget item) (forget_parts accesses)
-  forget_form (p.field n) = field n.node
-  forget_form (p.call items) = call (forget_parts items)
-  forget_form (p.index n) = index (forget n)
-  forget_form (p.literal n) = literal_in n.node
-  forget_form (p.name n) = name_in n.node
-  forget_form (p.slot n) = slot_in n.node
-  forget_form (p.reference n) = ref_in n.node
-  forget_form (p.parens n) = parens (forget n)
-  forget_form (p.set items) = set (forget_parts items)
-  forget_form (p.record_of items) = record_of (forget_parts items)
-  forget_form (p.init key value) = init (forget key) (forget value)
+  pub unplaced_tree_form : Form → Tree
+  unplaced_tree_form (p.only n) = unplaced_tree n
+  unplaced_tree_form (p.ite a b c) = ite (unplaced_tree a) (unplaced_tree b) (unplaced_tree c)
+  unplaced_tree_form (p.chain level first others) = chain level (unplaced_tree first)
+      (unplaced_tree_parts others)
+  unplaced_tree_form (p.has target right) = has (unplaced_tree target) (unplaced_tree right)
+  unplaced_tree_form (p.like target pattern) = like (unplaced_tree target) (unplaced_tree pattern)
+  unplaced_tree_form (p.is target entity_type) = is (unplaced_tree target)
+      (unplaced_tree entity_type)
+  unplaced_tree_form (p.is_in target entity_type within) =
+      is_in (unplaced_tree target) (unplaced_tree entity_type) (unplaced_tree within)
+  unplaced_tree_form (p.unary op item) = unary op (unplaced_tree item)
+  unplaced_tree_form (p.member item accesses) = member (unplaced_tree item)
+      (unplaced_tree_parts accesses)
+  unplaced_tree_form (p.field n) = field n.node
+  unplaced_tree_form (p.call items) = call (unplaced_tree_parts items)
+  unplaced_tree_form (p.index n) = index (unplaced_tree n)
+  unplaced_tree_form (p.literal n) = literal_in n.node
+  unplaced_tree_form (p.name n) = name_in n.node
+  unplaced_tree_form (p.slot n) = slot_in n.node
+  unplaced_tree_form (p.reference n) = ref_in n.node
+  unplaced_tree_form (p.parens n) = parens (unplaced_tree n)
+  unplaced_tree_form (p.set items) = set (unplaced_tree_parts items)
+  unplaced_tree_form (p.record_of items) = record_of (unplaced_tree_parts items)
+  unplaced_tree_form (p.init key value) = init (unplaced_tree key) (unplaced_tree value)
 
-  pub forget_parts : Parts → Rest
-  forget_parts p.none = none
-  forget_parts (p.more op n others) = more op (forget n) (forget_parts others)
+  pub unplaced_tree_parts : Parts → Rest
+  unplaced_tree_parts p.none = none
+  unplaced_tree_parts (p.more op n others) = more op (unplaced_tree n) (unplaced_tree_parts others)
 
 unfoldable pub expr_tree : Expr → Tree
-expr_tree d = forget_form (expr_form d)
+expr_tree d = unplaced_tree_form (expr_form d)
 
 unfoldable pub data_tree : ExprData → Tree
-data_tree d = forget_form (data_form d)
+data_tree d = unplaced_tree_form (data_form d)
 
 unfoldable pub access_tree : MemAccess → Tree
-access_tree d = forget_form (access_form d)
+access_tree d = unplaced_tree_form (access_form d)
 
 unfoldable pub primary_tree : Primary → Tree
-primary_tree d = forget_form (primary_form d)
+primary_tree d = unplaced_tree_form (primary_form d)
 
 unfoldable pub relation_tree : Relation → Tree
-relation_tree d = forget_form (relation_form d)
+relation_tree d = unplaced_tree_form (relation_form d)
 
 unfoldable pub add_tree : Add → Tree
-add_tree d = forget_form (add_form d)
+add_tree d = unplaced_tree_form (add_form d)
 
 unfoldable pub and_tree : And → Tree
-and_tree d = forget_form (and_form d)
+and_tree d = unplaced_tree_form (and_form d)
 
 unfoldable pub impl_tree : ExprImpl → Tree
-impl_tree d = forget_form (impl_form d)
+impl_tree d = unplaced_tree_form (impl_form d)
 
 unfoldable pub member_tree : Member → Tree
-member_tree d = forget_form (member_form d)
+member_tree d = unplaced_tree_form (member_form d)
 
 unfoldable pub mult_tree : Mult → Tree
-mult_tree d = forget_form (mult_form d)
+mult_tree d = unplaced_tree_form (mult_form d)
 
 unfoldable pub or_tree : Or → Tree
-or_tree d = forget_form (or_form d)
+or_tree d = unplaced_tree_form (or_form d)
 
 unfoldable pub init_tree : RecInit → Tree
-init_tree d = forget_form (init_form d)
+init_tree d = unplaced_tree_form (init_form d)
 
 unfoldable pub unary_tree : Unary → Tree
-unary_tree d = forget_form (unary_form d)
+unary_tree d = unplaced_tree_form (unary_form d)
 
 -- ---- parts of an expression with their operators
 
-abbrev pub rel_unplaced : RelOp × Node (Option Add) → RelOp × Node (Option Tree)
-rel_unplaced p = (p.0, unplaced_in add_tree p.1)
+abbrev pub unplaced_relation_part : RelOp × Node (Option Add) → RelOp × Node (Option Tree)
+unplaced_relation_part p = (p.0, unplaced_node add_tree p.1)
 
-abbrev pub add_unplaced : AddOp × Node (Option Mult) → AddOp × Node (Option Tree)
-add_unplaced p = (p.0, unplaced_in mult_tree p.1)
+abbrev pub unplaced_sum_part : AddOp × Node (Option Mult) → AddOp × Node (Option Tree)
+unplaced_sum_part p = (p.0, unplaced_node mult_tree p.1)
 
-abbrev pub mult_unplaced : MultOp × Node (Option Unary) → MultOp × Node (Option Tree)
-mult_unplaced p = (p.0, unplaced_in unary_tree p.1)
+abbrev pub unplaced_product_part : MultOp × Node (Option Unary) → MultOp × Node (Option Tree)
+unplaced_product_part p = (p.0, unplaced_node unary_tree p.1)
 
 -- ---- policies
 
-abbrev pub compared : Option (RelOp × Node (Option Expr)) → Rest
-compared None = none
-compared (Some p) = more (compare p.0) (tree_at expr_tree p.1) none
+abbrev pub comparison_rest : Option (RelOp × Node (Option Expr)) → Rest
+comparison_rest None = none
+comparison_rest (Some p) = more (compare p.0) (tree_at expr_tree p.1) none
 
 abbrev pub variable_def_tree : VariableDef → Tree
 variable_def_tree v = variable_def v.variable.node
     (optional (option_map (tree_at name_tree) v.unused_type_name))
-    (optional (option_map (tree_at add_tree) v.entity_type)) (compared v.ineq)
+    (optional (option_map (tree_at add_tree) v.entity_type)) (comparison_rest v.ineq)
 
-abbrev pub condition_of : Option Ident → Option (Node (Option Expr)) → Tree
-condition_of i None = empty_condition i
-condition_of i (Some n) = condition i (tree_at expr_tree n)
+abbrev pub condition_tree : Option Ident → Option (Node (Option Expr)) → Tree
+condition_tree i None = empty_condition i
+condition_tree i (Some n) = condition i (tree_at expr_tree n)
 
 abbrev pub cond_tree : Cond → Tree
-cond_tree c = condition_of c.cond.node c.expr
+cond_tree c = condition_tree c.cond.node c.expr
 
 abbrev pub policy_impl_tree : PolicyImpl → Tree
 policy_impl_tree p =
-    policy (behind beside (map (unplaced_in annotation_tree) p.annotations)) p.effect.node
-    (behind beside (map (unplaced_in variable_def_tree) p.variables))
-    (behind beside (map (unplaced_in cond_tree) p.conds))
+    policy (rest_behind beside (map (unplaced_node annotation_tree) p.annotations)) p.effect.node
+    (rest_behind beside (map (unplaced_node variable_def_tree) p.variables))
+    (rest_behind beside (map (unplaced_node cond_tree) p.conds))
 
 abbrev pub policy_tree : Policy → Tree
 policy_tree (pol.Policy p) = policy_impl_tree p
 
 abbrev pub policies_tree : Policies → Tree
-policies_tree ps = policies (behind beside (map (unplaced_in policy_tree) ps.0))
+policies_tree ps = policies (rest_behind beside (map (unplaced_node policy_tree) ps.0))

@@ -1,6 +1,6 @@
 //! `Display` of each tree: its tokens' texts, one space between two.
 ghost use Rattle.std.specs.Prelude.{Some};
-ghost use Rattle.cedar_syntax.specs.Printed.{joined, printed, rel_op_texts, mult_op_texts, neg_op_texts};
+ghost use Rattle.cedar_syntax.specs.Printed.{tokens_text, printed, rel_op_texts, mult_op_texts, neg_op_texts};
 ghost use Rattle.cedar_syntax.specs.Unplaced.{policies_tree, annotation_tree, str_tree, policy_impl_tree, policy_tree, variable_def_tree, ident_tree, cond_tree, impl_tree, expr_tree, data_tree, or_tree, and_tree, relation_tree, add_tree, mult_tree, unary_tree, member_tree, access_tree, primary_tree, name_tree, ref_tree, ref_init_tree, init_tree, literal_tree, slot_tree};
 
 use crate::cst::{
@@ -12,7 +12,7 @@ use crate::tokens::Tokens;
 use std::fmt;
 
 impl fmt::Display for Policies {
-    ghost output = { λ x. Some (joined (printed (policies_tree x))) };
+    ghost output = { λ x. Some (tokens_text (printed (policies_tree x))) };
 
     fn fmt<W: fmt::Write>(&self, f: &mut fmt::Formatter<W>) -> fmt::Result {
         self.write_tokens(true, f)?;
@@ -21,7 +21,7 @@ impl fmt::Display for Policies {
 }
 
 impl fmt::Display for Annotation {
-    ghost output = { λ x. Some (joined (printed (annotation_tree x))) };
+    ghost output = { λ x. Some (tokens_text (printed (annotation_tree x))) };
 
     fn fmt<W: fmt::Write>(&self, f: &mut fmt::Formatter<W>) -> fmt::Result {
         self.write_tokens(true, f)?;
@@ -30,7 +30,7 @@ impl fmt::Display for Annotation {
 }
 
 impl fmt::Display for Str {
-    ghost output = { λ x. Some (joined (printed (str_tree x))) };
+    ghost output = { λ x. Some (tokens_text (printed (str_tree x))) };
 
     fn fmt<W: fmt::Write>(&self, f: &mut fmt::Formatter<W>) -> fmt::Result {
         self.write_tokens(true, f)?;
@@ -39,7 +39,7 @@ impl fmt::Display for Str {
 }
 
 impl fmt::Display for PolicyImpl {
-    ghost output = { λ x. Some (joined (printed (policy_impl_tree x))) };
+    ghost output = { λ x. Some (tokens_text (printed (policy_impl_tree x))) };
 
     fn fmt<W: fmt::Write>(&self, f: &mut fmt::Formatter<W>) -> fmt::Result {
         self.write_tokens(true, f)?;
@@ -48,7 +48,7 @@ impl fmt::Display for PolicyImpl {
 }
 
 impl fmt::Display for Policy {
-    ghost output = { λ x. Some (joined (printed (policy_tree x))) };
+    ghost output = { λ x. Some (tokens_text (printed (policy_tree x))) };
 
     fn fmt<W: fmt::Write>(&self, f: &mut fmt::Formatter<W>) -> fmt::Result {
         self.write_tokens(true, f)?;
@@ -57,7 +57,7 @@ impl fmt::Display for Policy {
 }
 
 impl fmt::Display for VariableDef {
-    ghost output = { λ x. Some (joined (printed (variable_def_tree x))) };
+    ghost output = { λ x. Some (tokens_text (printed (variable_def_tree x))) };
 
     fn fmt<W: fmt::Write>(&self, f: &mut fmt::Formatter<W>) -> fmt::Result {
         self.write_tokens(true, f)?;
@@ -66,7 +66,7 @@ impl fmt::Display for VariableDef {
 }
 
 impl fmt::Display for Ident {
-    ghost output = { λ x. Some (joined (printed (ident_tree x))) };
+    ghost output = { λ x. Some (tokens_text (printed (ident_tree x))) };
 
     fn fmt<W: fmt::Write>(&self, f: &mut fmt::Formatter<W>) -> fmt::Result {
         self.write_tokens(true, f)?;
@@ -75,7 +75,7 @@ impl fmt::Display for Ident {
 }
 
 impl fmt::Display for Cond {
-    ghost output = { λ x. Some (joined (printed (cond_tree x))) };
+    ghost output = { λ x. Some (tokens_text (printed (cond_tree x))) };
 
     fn fmt<W: fmt::Write>(&self, f: &mut fmt::Formatter<W>) -> fmt::Result {
         self.write_tokens(true, f)?;
@@ -84,7 +84,7 @@ impl fmt::Display for Cond {
 }
 
 impl fmt::Display for ExprImpl {
-    ghost output = { λ x. Some (joined (printed (impl_tree x))) };
+    ghost output = { λ x. Some (tokens_text (printed (impl_tree x))) };
 
     fn fmt<W: fmt::Write>(&self, f: &mut fmt::Formatter<W>) -> fmt::Result {
         self.write_tokens(true, f)?;
@@ -93,7 +93,7 @@ impl fmt::Display for ExprImpl {
 }
 
 impl fmt::Display for Expr {
-    ghost output = { λ x. Some (joined (printed (expr_tree x))) };
+    ghost output = { λ x. Some (tokens_text (printed (expr_tree x))) };
 
     fn fmt<W: fmt::Write>(&self, f: &mut fmt::Formatter<W>) -> fmt::Result {
         self.write_tokens(true, f)?;
@@ -102,7 +102,7 @@ impl fmt::Display for Expr {
 }
 
 impl fmt::Display for ExprData {
-    ghost output = { λ x. Some (joined (printed (data_tree x))) };
+    ghost output = { λ x. Some (tokens_text (printed (data_tree x))) };
 
     fn fmt<W: fmt::Write>(&self, f: &mut fmt::Formatter<W>) -> fmt::Result {
         self.write_tokens(true, f)?;
@@ -111,7 +111,7 @@ impl fmt::Display for ExprData {
 }
 
 impl fmt::Display for Or {
-    ghost output = { λ x. Some (joined (printed (or_tree x))) };
+    ghost output = { λ x. Some (tokens_text (printed (or_tree x))) };
 
     fn fmt<W: fmt::Write>(&self, f: &mut fmt::Formatter<W>) -> fmt::Result {
         self.write_tokens(true, f)?;
@@ -120,7 +120,7 @@ impl fmt::Display for Or {
 }
 
 impl fmt::Display for And {
-    ghost output = { λ x. Some (joined (printed (and_tree x))) };
+    ghost output = { λ x. Some (tokens_text (printed (and_tree x))) };
 
     fn fmt<W: fmt::Write>(&self, f: &mut fmt::Formatter<W>) -> fmt::Result {
         self.write_tokens(true, f)?;
@@ -129,7 +129,7 @@ impl fmt::Display for And {
 }
 
 impl fmt::Display for Relation {
-    ghost output = { λ x. Some (joined (printed (relation_tree x))) };
+    ghost output = { λ x. Some (tokens_text (printed (relation_tree x))) };
 
     fn fmt<W: fmt::Write>(&self, f: &mut fmt::Formatter<W>) -> fmt::Result {
         self.write_tokens(true, f)?;
@@ -138,7 +138,7 @@ impl fmt::Display for Relation {
 }
 
 impl fmt::Display for RelOp {
-    ghost output = { λ x. Some (joined (rel_op_texts x)) };
+    ghost output = { λ x. Some (tokens_text (rel_op_texts x)) };
 
     fn fmt<W: fmt::Write>(&self, f: &mut fmt::Formatter<W>) -> fmt::Result {
         self.write_tokens(true, f)?;
@@ -147,7 +147,7 @@ impl fmt::Display for RelOp {
 }
 
 impl fmt::Display for MultOp {
-    ghost output = { λ x. Some (joined (mult_op_texts x)) };
+    ghost output = { λ x. Some (tokens_text (mult_op_texts x)) };
 
     fn fmt<W: fmt::Write>(&self, f: &mut fmt::Formatter<W>) -> fmt::Result {
         self.write_tokens(true, f)?;
@@ -156,7 +156,7 @@ impl fmt::Display for MultOp {
 }
 
 impl fmt::Display for NegOp {
-    ghost output = { λ x. Some (joined (neg_op_texts x)) };
+    ghost output = { λ x. Some (tokens_text (neg_op_texts x)) };
 
     fn fmt<W: fmt::Write>(&self, f: &mut fmt::Formatter<W>) -> fmt::Result {
         self.write_tokens(true, f)?;
@@ -165,7 +165,7 @@ impl fmt::Display for NegOp {
 }
 
 impl fmt::Display for Add {
-    ghost output = { λ x. Some (joined (printed (add_tree x))) };
+    ghost output = { λ x. Some (tokens_text (printed (add_tree x))) };
 
     fn fmt<W: fmt::Write>(&self, f: &mut fmt::Formatter<W>) -> fmt::Result {
         self.write_tokens(true, f)?;
@@ -174,7 +174,7 @@ impl fmt::Display for Add {
 }
 
 impl fmt::Display for Mult {
-    ghost output = { λ x. Some (joined (printed (mult_tree x))) };
+    ghost output = { λ x. Some (tokens_text (printed (mult_tree x))) };
 
     fn fmt<W: fmt::Write>(&self, f: &mut fmt::Formatter<W>) -> fmt::Result {
         self.write_tokens(true, f)?;
@@ -183,7 +183,7 @@ impl fmt::Display for Mult {
 }
 
 impl fmt::Display for Unary {
-    ghost output = { λ x. Some (joined (printed (unary_tree x))) };
+    ghost output = { λ x. Some (tokens_text (printed (unary_tree x))) };
 
     fn fmt<W: fmt::Write>(&self, f: &mut fmt::Formatter<W>) -> fmt::Result {
         self.write_tokens(true, f)?;
@@ -192,7 +192,7 @@ impl fmt::Display for Unary {
 }
 
 impl fmt::Display for Member {
-    ghost output = { λ x. Some (joined (printed (member_tree x))) };
+    ghost output = { λ x. Some (tokens_text (printed (member_tree x))) };
 
     fn fmt<W: fmt::Write>(&self, f: &mut fmt::Formatter<W>) -> fmt::Result {
         self.write_tokens(true, f)?;
@@ -201,7 +201,7 @@ impl fmt::Display for Member {
 }
 
 impl fmt::Display for MemAccess {
-    ghost output = { λ x. Some (joined (printed (access_tree x))) };
+    ghost output = { λ x. Some (tokens_text (printed (access_tree x))) };
 
     fn fmt<W: fmt::Write>(&self, f: &mut fmt::Formatter<W>) -> fmt::Result {
         self.write_tokens(true, f)?;
@@ -210,7 +210,7 @@ impl fmt::Display for MemAccess {
 }
 
 impl fmt::Display for Primary {
-    ghost output = { λ x. Some (joined (printed (primary_tree x))) };
+    ghost output = { λ x. Some (tokens_text (printed (primary_tree x))) };
 
     fn fmt<W: fmt::Write>(&self, f: &mut fmt::Formatter<W>) -> fmt::Result {
         self.write_tokens(true, f)?;
@@ -219,7 +219,7 @@ impl fmt::Display for Primary {
 }
 
 impl fmt::Display for Name {
-    ghost output = { λ x. Some (joined (printed (name_tree x))) };
+    ghost output = { λ x. Some (tokens_text (printed (name_tree x))) };
 
     fn fmt<W: fmt::Write>(&self, f: &mut fmt::Formatter<W>) -> fmt::Result {
         self.write_tokens(true, f)?;
@@ -228,7 +228,7 @@ impl fmt::Display for Name {
 }
 
 impl fmt::Display for Ref {
-    ghost output = { λ x. Some (joined (printed (ref_tree x))) };
+    ghost output = { λ x. Some (tokens_text (printed (ref_tree x))) };
 
     fn fmt<W: fmt::Write>(&self, f: &mut fmt::Formatter<W>) -> fmt::Result {
         self.write_tokens(true, f)?;
@@ -237,7 +237,7 @@ impl fmt::Display for Ref {
 }
 
 impl fmt::Display for RefInit {
-    ghost output = { λ x. Some (joined (printed (ref_init_tree x))) };
+    ghost output = { λ x. Some (tokens_text (printed (ref_init_tree x))) };
 
     fn fmt<W: fmt::Write>(&self, f: &mut fmt::Formatter<W>) -> fmt::Result {
         self.write_tokens(true, f)?;
@@ -246,7 +246,7 @@ impl fmt::Display for RefInit {
 }
 
 impl fmt::Display for RecInit {
-    ghost output = { λ x. Some (joined (printed (init_tree x))) };
+    ghost output = { λ x. Some (tokens_text (printed (init_tree x))) };
 
     fn fmt<W: fmt::Write>(&self, f: &mut fmt::Formatter<W>) -> fmt::Result {
         self.write_tokens(true, f)?;
@@ -255,7 +255,7 @@ impl fmt::Display for RecInit {
 }
 
 impl fmt::Display for Literal {
-    ghost output = { λ x. Some (joined (printed (literal_tree x))) };
+    ghost output = { λ x. Some (tokens_text (printed (literal_tree x))) };
 
     fn fmt<W: fmt::Write>(&self, f: &mut fmt::Formatter<W>) -> fmt::Result {
         self.write_tokens(true, f)?;
@@ -264,7 +264,7 @@ impl fmt::Display for Literal {
 }
 
 impl fmt::Display for Slot {
-    ghost output = { λ x. Some (joined (printed (slot_tree x))) };
+    ghost output = { λ x. Some (tokens_text (printed (slot_tree x))) };
 
     fn fmt<W: fmt::Write>(&self, f: &mut fmt::Formatter<W>) -> fmt::Result {
         self.write_tokens(true, f)?;

@@ -1,7 +1,7 @@
 //! Writes tokens with one space between two.
 ghost use Rattle.std.specs.Prelude.{◌≡◌, [], ◌∷◌, ◌++◌, codes, decimal, IfOk, List, ℕ, replicate};
-ghost use Rattle.cedar_syntax.specs.Printed.{Texts, option_texts, quoted};
-ghost use Rattle.cedar_syntax.specs.Printing.{Prints, marked, in_row, between, opt_marked, followed, node_texts, pair_texts};
+ghost use Rattle.cedar_syntax.specs.Printed.{Texts, option_texts, quoted_text};
+ghost use Rattle.cedar_syntax.specs.Printing.{Prints, texts_behind_mark, in_row, between, option_behind_mark, texts_before_mark, node_texts, pair_texts};
 
 use crate::node::Node;
 use cedar_expressions::{Boxed, Items};
@@ -61,7 +61,7 @@ fn write_all_marked<T: Tokens, W: fmt::Write>(
     f: &mut fmt::Formatter<W>,
 ) -> Result<bool, fmt::Error>
     ensures { Prints W.write_str_gives f.old fresh
-        (marked mark.now T.tokens items.now) result f.new }
+        (texts_behind_mark mark.now T.tokens items.now) result f.new }
 {
     let mut fresh = fresh;
     for item in items {
@@ -79,7 +79,7 @@ pub fn write_marked<T: Tokens, W: fmt::Write>(
     f: &mut fmt::Formatter<W>,
 ) -> Result<bool, fmt::Error>
     ensures { Prints W.write_str_gives f.old fresh
-        (marked mark.now T.tokens items.now) result f.new }
+        (texts_behind_mark mark.now T.tokens items.now) result f.new }
 {
     write_all_marked(mark, items.as_slice(), fresh, f)
 }
@@ -111,7 +111,7 @@ pub fn write_opt_marked<T: Tokens, W: fmt::Write>(
     f: &mut fmt::Formatter<W>,
 ) -> Result<bool, fmt::Error>
     ensures { Prints W.write_str_gives f.old fresh
-        (opt_marked mark.now T.tokens item.now) result f.new }
+        (option_behind_mark mark.now T.tokens item.now) result f.new }
 {
     match item {
         None => Ok(fresh),
@@ -130,7 +130,7 @@ pub fn write_followed<T: Tokens, W: fmt::Write>(
     f: &mut fmt::Formatter<W>,
 ) -> Result<bool, fmt::Error>
     ensures { Prints W.write_str_gives f.old fresh
-        (followed mark.now T.tokens items.now) result f.new }
+        (texts_before_mark mark.now T.tokens items.now) result f.new }
 {
     let mut fresh = fresh;
     for item in items.as_slice() {
@@ -146,7 +146,7 @@ pub fn write_quoted<W: fmt::Write>(
     fresh: bool,
     f: &mut fmt::Formatter<W>,
 ) -> Result<bool, fmt::Error>
-    ensures { Prints W.write_str_gives f.old fresh (quoted text.now ∷ []) result f.new }
+    ensures { Prints W.write_str_gives f.old fresh (quoted_text text.now ∷ []) result f.new }
 {
     if !fresh {
         f.write_str(" ")?;

@@ -5,30 +5,30 @@ use Rattle.cedar_text.specs.declared.text_to_cst.outlook.Outlook.{Outlook}
 use Rattle.cedar_syntax.specs.declared.reading.taken.Taken.{Taken}
 use Rattle.cedar_syntax.specs.declared.reading.taken.Taken.TheVariants as taking
 use Rattle.cedar_syntax.specs.machines.Door.{Answer, next, ended, refused, too_large, is_some}
-use Rattle.cedar_text.specs.machines.ExpressionShapes.{Shape, told}
+use Rattle.cedar_text.specs.machines.ExpressionShapes.{Shape, shape_answer}
 use Rattle.cedar_syntax.specs.machines.Judged.{answer_of, may_take}
 use Rattle.cedar_syntax.specs.machines.Mapping.{mapped_answer}
-use Rattle.cedar_text.specs.machines.Outlooks.{foreseen, outcome, outlook_of}
-use Rattle.cedar_text.specs.machines.Words.{ended_with}
+use Rattle.cedar_text.specs.machines.Outlooks.{foreseen, bare_answer, outlook_of}
+use Rattle.cedar_text.specs.machines.Words.{end_or_refusal}
 
 -- what is told of an answer that is there
 pub ok_so : {A T E : Type 0} (r : Result A E) (f : A → T) (a b : T) → b ≡ a → IfOk r (λ x. f x ≡ a) → IfOk r (λ x. f x ≡ b)
 ok_so (Ok x) f a b e h = h ∙ sym e
 ok_so (Err m) f a b e h = h
 
-pub refused_if : {S T : Type 0} (o : Option T) → is_some o ≡ false → ◌≡◌ {A = Answer S T} refused (ended_with o)
+pub refused_if : {S T : Type 0} (o : Option T) → is_some o ≡ false → ◌≡◌ {A = Answer S T} refused (end_or_refusal o)
 refused_if (Some x) e = absurd (cc)
 refused_if None e = refl
 
 -- what is foreseen
 
-foretold : {W : Type 0} (e : Bool) (o : Option (Shape W)) → foreseen (outlook_of (is_some o) e) ≡ outcome (told e o)
+foretold : {W : Type 0} (e : Bool) (o : Option (Shape W)) → foreseen (outlook_of (is_some o) e) ≡ bare_answer (shape_answer e o)
 foretold true (Some s) = refl
 foretold false (Some s) = refl
 foretold true None = refl
 foretold false None = refl
 
-pub foretold_by : {W : Type 0} (r : Outlook) (t e b : Bool) (o : Option (Shape W)) → r ≡ outlook_of t e → t ≡ is_some o → e ≡ b → foreseen r ≡ outcome (told b o)
+pub foretold_by : {W : Type 0} (r : Outlook) (t e b : Bool) (o : Option (Shape W)) → r ≡ outlook_of t e → t ≡ is_some o → e ≡ b → foreseen r ≡ bare_answer (shape_answer b o)
 foretold_by r t e b o h i j = ap (λ r. foreseen r) h ∙ (ap (λ t. foreseen (outlook_of t e)) i ∙ (ap (λ e. foreseen (outlook_of (is_some o) e)) j ∙ foretold b o))
 
 -- ---- whole texts

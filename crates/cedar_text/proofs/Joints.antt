@@ -4,9 +4,9 @@ use Rattle.std.specs.List.{prefix_len}
 use Rattle.std.specs.Char.{is_ascii_digit}
 use Rattle.std.specs.Str.{IsUtf8}
 use Rattle.std.proofs.lemmas.List.{length-append, drop-drop, drop_at, take_at}
-use Rattle.cedar_lexer.specs.Spelling.{begins_identifier, continues_identifier, Spells}
+use Rattle.cedar_lexer.specs.Spelling.{is_identifier_start, is_identifier_part, Spells}
 use Rattle.cedar_lexer.specs.Cut.{IsSkip, space, comment, EndsLine, IsTokenAt, Layout, nothing, skip, token}
-use Rattle.cedar_lexer.specs.Scan.{spelling, Found, word, words, number, slot, slots, kind_among, string_len, string_of, mark}
+use Rattle.cedar_lexer.specs.Scan.{spelling, KindAndLength, word, words, number, slot, slots, kind_with_text, string_len, string_of, mark}
 use Rattle.cedar_lexer.specs.Token.{Lexeme}
 use Rattle.cedar_lexer.specs.declared.token.TokenKind.{TokenKind}
 use Rattle.cedar_lexer.specs.declared.token.TokenKind.TheVariants as kind
@@ -40,30 +40,30 @@ prefix_alike p [] _ _ stops (same c {a = a} {b = b}) e = none_first (p c) (prefi
 prefix_alike p [] _ _ stops fresh e = rw stops refl
 prefix_alike p (x ∷ text) a b stops j e = one_longer (p x) (prefix_len p (text ++ a)) (prefix_len p (text ++ b)) (length text) (prefix_alike p text a b stops j) e
 
-word_is : (k : TokenKind) (text b : List ℕ) (n : ℕ) → n ≡ length text → kind_among words text kind.Identifier ≡ k → ◌≡◌ {A = Option Found} (Some (kind_among words (take n (text ++ b)) kind.Identifier, n)) (Some (k, length text))
+word_is : (k : TokenKind) (text b : List ℕ) (n : ℕ) → n ≡ length text → kind_with_text words text kind.Identifier ≡ k → ◌≡◌ {A = Option KindAndLength} (Some (kind_with_text words (take n (text ++ b)) kind.Identifier, n)) (Some (k, length text))
 word_is k text b n e h = rw (e, take_at text b (length text) refl, h) refl
 
 word_alike : (k : TokenKind) (text a b : List ℕ) → Alike a b → word (text ++ a) ≡ Some (k, length text) → word (text ++ b) ≡ Some (k, length text)
 word_alike k text a b j e =
-    let h = found_same _ k (prefix_len continues_identifier (text ++ a)) (length text) e in
-    let front : take (prefix_len continues_identifier (text ++ a)) (text ++ a) ≡ text = take_at text a _ h.1 in
-    word_is k text b (prefix_len continues_identifier (text ++ b)) (prefix_alike continues_identifier text a b refl j (sym h.1)) (ap (λ t. kind_among words t kind.Identifier) (sym front) ∙ h.0)
+    let h = found_same _ k (prefix_len is_identifier_part (text ++ a)) (length text) e in
+    let front : take (prefix_len is_identifier_part (text ++ a)) (text ++ a) ≡ text = take_at text a _ h.1 in
+    word_is k text b (prefix_len is_identifier_part (text ++ b)) (prefix_alike is_identifier_part text a b refl j (sym h.1)) (ap (λ t. kind_with_text words t kind.Identifier) (sym front) ∙ h.0)
 
 number_alike : (k : TokenKind) (text a b : List ℕ) → Alike a b → number (text ++ a) ≡ Some (k, length text) → number (text ++ b) ≡ Some (k, length text)
 number_alike k text a b j e =
     let h = found_same kind.Number k (prefix_len is_ascii_digit (text ++ a)) (length text) e in
     ap₂ (λ (q : TokenKind) (n : ℕ). Some (q, n)) h.0 (prefix_alike is_ascii_digit text a b refl j (sym h.1))
 
-slot_is : (k : TokenKind) (text b : List ℕ) (n : ℕ) → n ≡ length text → kind_among slots text kind.OtherSlot ≡ k → ◌≡◌ {A = Option Found} (Some (kind_among slots (take n (text ++ b)) kind.OtherSlot, n)) (Some (k, length text))
+slot_is : (k : TokenKind) (text b : List ℕ) (n : ℕ) → n ≡ length text → kind_with_text slots text kind.OtherSlot ≡ k → ◌≡◌ {A = Option KindAndLength} (Some (kind_with_text slots (take n (text ++ b)) kind.OtherSlot, n)) (Some (k, length text))
 slot_is k text b n e h = rw (e, take_at text b (length text) refl, h) refl
 
 slot_alike : (k : TokenKind) (y : ℕ) (ys a b : List ℕ) → Alike a b → slot (63 ∷ y ∷ ys ++ a) ≡ Some (k, length (63 ∷ y ∷ ys)) → slot (63 ∷ y ∷ ys ++ b) ≡ Some (k, length (63 ∷ y ∷ ys))
-slot_alike k y ys a b j e = elim (pick (begins_identifier y) _ _ _ e) [
+slot_alike k y ys a b j e = elim (pick (is_identifier_start y) _ _ _ e) [
   | inl (begins, f) ↦
-      let h = found_same _ k (1 + prefix_len continues_identifier (y ∷ ys ++ a)) (length (63 ∷ y ∷ ys)) f in
-      let front : take (1 + prefix_len continues_identifier (y ∷ ys ++ a)) (63 ∷ y ∷ ys ++ a) ≡ 63 ∷ y ∷ ys = take_at (63 ∷ y ∷ ys) a _ h.1 in
-      let more : prefix_len continues_identifier (y ∷ ys ++ b) ≡ length (y ∷ ys) = prefix_alike continues_identifier (y ∷ ys) a b refl j (omega (arith, h.1)) in
-      rw begins (slot_is k (63 ∷ y ∷ ys) b (1 + prefix_len continues_identifier (y ∷ ys ++ b)) (omega (arith, more)) (ap (λ t. kind_among slots t kind.OtherSlot) (sym front) ∙ h.0))
+      let h = found_same _ k (1 + prefix_len is_identifier_part (y ∷ ys ++ a)) (length (63 ∷ y ∷ ys)) f in
+      let front : take (1 + prefix_len is_identifier_part (y ∷ ys ++ a)) (63 ∷ y ∷ ys ++ a) ≡ 63 ∷ y ∷ ys = take_at (63 ∷ y ∷ ys) a _ h.1 in
+      let more : prefix_len is_identifier_part (y ∷ ys ++ b) ≡ length (y ∷ ys) = prefix_alike is_identifier_part (y ∷ ys) a b refl j (omega (arith, h.1)) in
+      rw begins (slot_is k (63 ∷ y ∷ ys) b (1 + prefix_len is_identifier_part (y ∷ ys ++ b)) (omega (arith, more)) (ap (λ t. kind_with_text slots t kind.OtherSlot) (sym front) ∙ h.0))
   | inr (_, f) ↦ absurd (cc)
 ]
 
@@ -96,10 +96,10 @@ at_question k (y ∷ ys) a b s j e = slot_alike k y ys a b j e
 
 scan_alike : (k : TokenKind) (text a b : List ℕ) → Spells k text → Alike a b → spelling (text ++ a) ≡ Some (k, length text) → spelling (text ++ b) ≡ Some (k, length text)
 scan_alike k [] a b s j e = absurd (omega (arith, spelling_some k [] s))
-scan_alike k (x ∷ xs) a b s j e = elim (pick (begins_identifier x) _ _ _ e) [
+scan_alike k (x ∷ xs) a b s j e = elim (pick (is_identifier_start x) _ _ _ e) [
   | inl (begins, f) ↦ rw begins (word_alike k (x ∷ xs) a b j f)
   | inr (w, e) ↦ elim (pick (is_ascii_digit x) _ _ _ e) [
-    | inl (digit, f) ↦ cond-false (begins_identifier x) _ _ w ∙ cond-true (is_ascii_digit x) _ _ digit ∙ number_alike k (x ∷ xs) a b j f
+    | inl (digit, f) ↦ cond-false (is_identifier_start x) _ _ w ∙ cond-true (is_ascii_digit x) _ _ digit ∙ number_alike k (x ∷ xs) a b j f
     | inr (n, e) ↦ elim (pick (x == 63) _ _ _ e) [
       | inl (question, f) ↦ rw (w, n, question)
           (subst (λ y. slot (y ∷ xs ++ b) ≡ Some (k, length (y ∷ xs))) (sym (eqb-true x 63 question))

@@ -15,7 +15,7 @@ use Rattle.cedar_text.specs.machines.Expressions.{step_of, expr_at_end, sum_at_e
 use Rattle.cedar_text.specs.machines.Named.{named_words}
 use Rattle.cedar_text.specs.machines.NamedShapes.{named_shapes}
 use Rattle.cedar_text.specs.machines.WordShapes.{words_shape}
-use Rattle.cedar_text.specs.machines.ExpressionShapes.{Shape, step_shape, stack_shape, left_shape, mode_shape, shape_of, told, ends, ends_with}
+use Rattle.cedar_text.specs.machines.ExpressionShapes.{Shape, step_shape, stack_shape, left_shape, mode_shape, shape_of, shape_answer, ends, ends_with}
 use Rattle.cedar_text.specs.machines.Stepped.{advance_of}
 use Rattle.cedar_text.specs.machines.Whole.{shapes_by}
 use Rattle.cedar_syntax.proofs.machines.Laws.{ends_alike}
@@ -25,7 +25,7 @@ use Rattle.cedar_text.proofs.expressions.shapes.Operators.{Alike}
 use Rattle.cedar_text.proofs.expressions.shapes.Shaped.{step_alike, expressions_shaped, sums_shaped, primaries_shaped}
 
 -- a machine over kinds takes just where there is a next shape
-pub told_taken : {W : Type 0} (b : Bool) (o : Option (Shape W)) → is_taken (told b o) ≡ is_some o
+pub told_taken : {W : Type 0} (b : Bool) (o : Option (Shape W)) → is_taken (shape_answer b o) ≡ is_some o
 told_taken b (Some s) = refl
 told_taken true None = refl
 told_taken false None = refl
@@ -34,7 +34,7 @@ pub ends_some : (b : Bool) → is_some (ends_with b) ≡ b
 ends_some true = refl
 ends_some false = refl
 
-none_refused : {W : Type 0} (f : WordsState → W) (a : Advance) (o : Option (Shape W)) (b : Bool) → Alike f a o → is_taken (told b o) ≡ true → a ≡ advance.not_taken → ⊥
+none_refused : {W : Type 0} (f : WordsState → W) (a : Advance) (o : Option (Shape W)) (b : Bool) → Alike f a o → is_taken (shape_answer b o) ≡ true → a ≡ advance.not_taken → ⊥
 none_refused f (advance.next s) o b h t e = cc
 none_refused f advance.too_large o b h t e = cc
 none_refused f advance.not_taken None true h t e = cc

@@ -12,22 +12,22 @@ use Rattle.cedar_syntax.specs.declared.reading.taken.Taken.{Taken}
 use Rattle.cedar_text.specs.declared.text_to_cst.state.Words.{Words}
 use Rattle.cedar_text.specs.declared.text_to_cst.state.WordsState.{WordsState}
 use Rattle.cedar_syntax.specs.machines.Door.{Answer, next, ended, refused, too_large, is_some, is_taken, option_image, AnswersRightly, IsShape}
-use Rattle.cedar_text.specs.machines.Expressions.{answered}
+use Rattle.cedar_text.specs.machines.Expressions.{advance_answer}
 use Rattle.cedar_text.specs.machines.ExpressionShapes.{WordShapes, FrameShape, LeftShape, after_words, word_shape}
-use Rattle.cedar_syntax.specs.machines.Judged.{answer_of, taken_as}
-use Rattle.cedar_text.specs.machines.Named.{named_of}
+use Rattle.cedar_syntax.specs.machines.Judged.{answer_of, take_answer}
+use Rattle.cedar_text.specs.machines.Named.{words_tree}
 use Rattle.cedar_text.specs.machines.Advance.{Advance}
 use Rattle.cedar_text.specs.machines.Whole.{outcome_as}
-use Rattle.cedar_text.specs.machines.Words.{kept, kept_end, words_machine}
-use Rattle.cedar_text.specs.machines.WordsAhead.{goes_from, goes_of, ends_of, given_named}
+use Rattle.cedar_text.specs.machines.Words.{kept_answer, kept_end, words_machine}
+use Rattle.cedar_text.specs.machines.WordsAhead.{goes_from, goes_of, ends_of, words_answer}
 use Rattle.cedar_text.specs.machines.WordShapes.{WordsKind, words_kind, words_shape, words_shapes}
 use Rattle.cedar_text.proofs.machines.WordsDoor.{words_door}
 use Rattle.cedar_text.proofs.machines.WordShapes.{words_shaped}
 
 -- ---- a step of words
 
-pub step_named : {E : Type 0} (src : List ℕ) (r : Result (Taken Words) E) (s : WordsState) (a : Answer WordsState Words) → IfOk r (λ taken. answer_of taken s ≡ a) → IfOk r (λ taken. given_named src taken s ≡ kept (λ x. Some (named_of src x)) a)
-step_named src (Ok taken) s a h = ap (λ a. kept (λ x. Some (named_of src x)) a) h
+pub step_named : {E : Type 0} (src : List ℕ) (r : Result (Taken Words) E) (s : WordsState) (a : Answer WordsState Words) → IfOk r (λ taken. answer_of taken s ≡ a) → IfOk r (λ taken. words_answer src taken s ≡ kept_answer (λ x. Some (words_tree src x)) a)
+step_named src (Ok taken) s a h = ap (λ a. kept_answer (λ x. Some (words_tree src x)) a) h
 step_named src (Err e) s a h = h
 
 -- ---- how words go on
@@ -78,11 +78,11 @@ behind_ended w n st l p k too_large b r h e = cc
 
 -- ---- what reads a whole text
 
-pub answered_as : {T : Type 0} (o : Option T) (b : Bool) (s : State) → taken_as b s ≡ answered o (outcome_as b s)
+pub answered_as : {T : Type 0} (o : Option T) (b : Bool) (s : State) → take_answer b s ≡ advance_answer o (outcome_as b s)
 answered_as o true s = refl
 answered_as o false s = refl
 
-pub kept_as : {T U : Type 0} (f : T → U) (o : Option T) (b : Bool) (s : State) → taken_as b s ≡ kept (λ x. Some (f x)) (answered o (outcome_as b s))
+pub kept_as : {T U : Type 0} (f : T → U) (o : Option T) (b : Bool) (s : State) → take_answer b s ≡ kept_answer (λ x. Some (f x)) (advance_answer o (outcome_as b s))
 kept_as f o true s = refl
 kept_as f o false s = refl
 
@@ -91,12 +91,12 @@ image_kept f (Some x) = refl
 image_kept f None = refl
 
 -- what is told of the state inside is told of the state that it is
-pub taken_whole : {T E : Type 0} (r : Result Bool E) (o : Option T) (s : State) (g : State → Advance) (x y : State) → x ≡ y → IfOk r (λ fits. outcome_as fits s ≡ g x) → IfOk r (λ fits. taken_as fits s ≡ answered o (g y))
-taken_whole (Ok b) o s g x y e h = answered_as o b s ∙ ap (λ a. answered o a) (h ∙ ap (λ x. g x) e)
+pub taken_whole : {T E : Type 0} (r : Result Bool E) (o : Option T) (s : State) (g : State → Advance) (x y : State) → x ≡ y → IfOk r (λ fits. outcome_as fits s ≡ g x) → IfOk r (λ fits. take_answer fits s ≡ advance_answer o (g y))
+taken_whole (Ok b) o s g x y e h = answered_as o b s ∙ ap (λ a. advance_answer o a) (h ∙ ap (λ x. g x) e)
 taken_whole (Err m) o s g x y e h = h
 
-pub taken_kept : {T U E : Type 0} (f : T → U) (r : Result Bool E) (o : Option T) (s : State) (g : State → Advance) (x y : State) → x ≡ y → IfOk r (λ fits. outcome_as fits s ≡ g x) → IfOk r (λ fits. taken_as fits s ≡ kept (λ x. Some (f x)) (answered o (g y)))
-taken_kept f (Ok b) o s g x y e h = kept_as f o b s ∙ ap (λ a. kept (λ x. Some (f x)) (answered o a)) (h ∙ ap (λ x. g x) e)
+pub taken_kept : {T U E : Type 0} (f : T → U) (r : Result Bool E) (o : Option T) (s : State) (g : State → Advance) (x y : State) → x ≡ y → IfOk r (λ fits. outcome_as fits s ≡ g x) → IfOk r (λ fits. take_answer fits s ≡ kept_answer (λ x. Some (f x)) (advance_answer o (g y)))
+taken_kept f (Ok b) o s g x y e h = kept_as f o b s ∙ ap (λ a. kept_answer (λ x. Some (f x)) (advance_answer o a)) (h ∙ ap (λ x. g x) e)
 taken_kept f (Err m) o s g x y e h = h
 
 pub finished_kept : {T U E : Type 0} (f : T → U) (r : Result U E) (g : State → Option T) (x y : State) → x ≡ y → IfOk r (λ tree. option_image f (g x) ≡ Some tree) → IfOk r (λ tree. kept_end (λ x. Some (f x)) (g y) ≡ Some tree)

@@ -19,8 +19,8 @@ pub record Completion {T : Type 0} (R : Rule T) (front : List ℕ) (ts : List Le
   pub tree : HasTree (R (front ++ rest)) (ts ++ behind)
 
 -- a law of a rule: where a text is laid out into tokens with which a sentence begins, its bytes up
--- to there go on with all kinds with which a sentence does; so also with each kind that is expected
--- there
+-- to there go on with all kinds with which a sentence does; so also with each kind that is
+-- expected there
 abbrev pub GoesOnInText : {T : Type 0} → Rule T → Type 0
 GoesOnInText R =
     (text : List ℕ) (ts : List Lexeme) (place : ℕ) (ks : List TokenKind) → IsUtf8 text →

@@ -95,11 +95,16 @@ pub(super) fn spans(rt: &impl Abort, failure: &Failure, wanted: &[(usize, usize)
 }
 
 /// Policies that are no static ones, where each fault stands, and what the last one says.
-const NOT_STATIC: [(&str, &[(usize, usize)], &str); 4] = [
+const NOT_STATIC: [(&str, &[(usize, usize)], &str); 5] = [
     (
         "permit(principal, action, resource) when { ?principal == 1 };",
         &[(43, 53), (43, 53)],
         "expected a static policy, got a template containing the slot ?principal",
+    ),
+    (
+        "permit(principal, action, resource) when { ?principal == ?principal } unless { [?resource] };",
+        &[(43, 53), (57, 67), (80, 89), (43, 53), (57, 67), (80, 89)],
+        "expected a static policy, got a template containing the slot ?resource",
     ),
     (
         "permit(principal == ?principal, action, resource);",

@@ -20,12 +20,12 @@ use Rattle.cedar_syntax.specs.Piece.{IsUnescaped}
 use Rattle.cedar_syntax.specs.Place.{placed}
 use Rattle.cedar_syntax.specs.Tokens.{Spot, one, between_quotes}
 use Rattle.cedar_syntax.specs.Trees.{Cell, annotation_of}
-use Rattle.cedar_policy_parser.specs.AnnotationKeys.{Annotated, annotated, annotation_outcome, gather_node, gathered, has_key, key_given, nothing_gathered, pair_given, with_new_key}
+use Rattle.cedar_policy_parser.specs.AnnotationKeys.{AnnotationContent, annotation_at, annotation_outcome, gathering_with_node, gathering, has_key, converted_key, empty_gathering, key_value_outcome, with_new_key}
 use Rattle.cedar_policy_parser.specs.Names.{any_ident, any_ident_of}
 use Rattle.cedar_policy_parser.specs.Outcome.{Outcome, both, next}
 use Rattle.cedar_policy_parser.specs.Seen.{item_more}
 use Rattle.cedar_policy_parser.specs.StrictPolicy as m
-use Rattle.cedar_policy_parser.specs.StrictPolicy.{AreAnnotations, IsAnnotation, IsAnyWord, keys_of}
+use Rattle.cedar_policy_parser.specs.StrictPolicy.{AreAnnotations, IsAnnotation, IsAnyWord, keys_of_annotations}
 use Rattle.cedar_policy_parser.specs.StrictWords as w
 use Rattle.cedar_policy_parser.proofs.Loops.{map_snoc}
 use Rattle.cedar_policy_parser.proofs.MappedValues.{fold_snoc}
@@ -78,12 +78,12 @@ record AnnotationRead (src : List ℕ) (ts : List Lexeme) (key text : List ℕ) 
   reads : ReadsAnnotation src ts tree
   string : Option (List ℕ)
   same : unwrap_or string [] ≡ text
-  gives : (place : Option Loc) → pair_given place tree ≡ Ok (annotated place (key, string))
+  gives : (place : Option Loc) → key_value_outcome place tree ≡ Ok (annotation_at place (key, string))
 
-pair_alone : (place : Option Loc) (o : Outcome (List ℕ)) (key : List ℕ) → o ≡ Ok key → next (both o (Ok None)) (λ p. Ok (annotated place p)) ≡ Ok (annotated place (key, None))
+pair_alone : (place : Option Loc) (o : Outcome (List ℕ)) (key : List ℕ) → o ≡ Ok key → next (both o (Ok None)) (λ p. Ok (annotation_at place p)) ≡ Ok (annotation_at place (key, None))
 pair_alone place o key h = rw h refl
 
-pair_with : (place : Option Loc) (o q : Outcome (List ℕ)) (key text : List ℕ) → o ≡ Ok key → q ≡ Ok text → next (both o (next q (λ t. Ok (Some t)))) (λ p. Ok (annotated place p)) ≡ Ok (annotated place (key, Some text))
+pair_with : (place : Option Loc) (o q : Outcome (List ℕ)) (key text : List ℕ) → o ≡ Ok key → q ≡ Ok text → next (both o (next q (λ t. Ok (Some t)))) (λ p. Ok (annotation_at place p)) ≡ Ok (annotation_at place (key, Some text))
 pair_with place o q key text h k = rw (h, k) refl
 
 annotation_read : (src : List ℕ) {ts : List Lexeme} {key text : List ℕ} → IsAnnotation ts key text → AnnotationRead src ts key text
@@ -108,40 +108,40 @@ annotation_read src (m.with_text {ts = ts} {key = key} p o e i (w.string {text =
 pub record AnnotationsRead (src : List ℕ) (ts : List Lexeme) (pairs : List (List ℕ × List ℕ)) : Type 0 where
   pub cells : List (Cell Annotation)
   pub reads : ReadsMany src (ReadsAnnotation src) ts cells
-  pub all : List Annotated
-  pub gives : (gathered cells).all ≡ Ok all
-  pub same_keys : (gathered cells).keys ≡ keys_of pairs
+  pub all : List AnnotationContent
+  pub gives : (gathering cells).all ≡ Ok all
+  pub same_keys : (gathering cells).keys ≡ keys_of_annotations pairs
   pub same : texts all ≡ pairs
 
 or_none : (a b : Bool) → (a || b) ≡ false → (a ≡ false) × (b ≡ false)
 or_none true b h = cc
 or_none false b h = (refl, h)
 
-more_given : (o : Outcome (List Annotated)) (x : Outcome Annotated) (keys : List (List ℕ)) (ys : List Annotated) (y : Annotated) → o ≡ Ok ys → x ≡ Ok y → has_key keys y.key ≡ false → item_more o (next x (with_new_key keys)) ≡ Ok (ys ++ y ∷ [])
+more_given : (o : Outcome (List AnnotationContent)) (x : Outcome AnnotationContent) (keys : List (List ℕ)) (ys : List AnnotationContent) (y : AnnotationContent) → o ≡ Ok ys → x ≡ Ok y → has_key keys y.key ≡ false → item_more o (next x (with_new_key keys)) ≡ Ok (ys ++ y ∷ [])
 more_given o x keys ys y h k new = rw (h, k, new) refl
 
-key_more : (keys : List (List ℕ)) (x : Outcome Annotated) (y : Annotated) → x ≡ Ok y → keys ++ key_given x ≡ keys ++ y.key ∷ []
+key_more : (keys : List (List ℕ)) (x : Outcome AnnotationContent) (y : AnnotationContent) → x ≡ Ok y → keys ++ converted_key x ≡ keys ++ y.key ∷ []
 key_more keys x y h = rw h refl
 
 last_text : (xs ys : List (List ℕ × List ℕ)) (key a b : List ℕ) → xs ≡ ys → a ≡ b → xs ++ (key, a) ∷ [] ≡ ys ++ (key, b) ∷ []
 last_text xs ys key a b h k = rw (h, k) refl
 
-pub annotations_read : (src : List ℕ) {ts : List Lexeme} {pairs : List (List ℕ × List ℕ)} → AreAnnotations ts pairs → repeats_key (keys_of pairs) ≡ false → AnnotationsRead src ts pairs
+pub annotations_read : (src : List ℕ) {ts : List Lexeme} {pairs : List (List ℕ × List ℕ)} → AreAnnotations ts pairs → repeats_key (keys_of_annotations pairs) ≡ false → AnnotationsRead src ts pairs
 annotations_read src m.no_annotation differ = record { cells = []; reads = l.none; all = []; gives = refl; same_keys = refl; same = refl }
 annotations_read src (m.more_annotations {us = us} {all = pairs} {key = key} {text = text} i j) differ =
     let keys = map_snoc (λ p. p.0) pairs (key, text) in
-    let apart = or_none (repeats_key (keys_of pairs)) (list_any (bytes_eq key) (keys_of pairs)) (sym (ap repeats_key keys ∙ repeats-push (keys_of pairs) key) ∙ differ) in
+    let apart = or_none (repeats_key (keys_of_annotations pairs)) (list_any (bytes_eq key) (keys_of_annotations pairs)) (sym (ap repeats_key keys ∙ repeats-push (keys_of_annotations pairs) key) ∙ differ) in
     let c = annotations_read src i apart.0 in
     let d = annotation_read src j in
     let n = placed src us d.tree in
-    let y = annotated n.loc (key, d.string) in
-    let step = fold_snoc gather_node nothing_gathered c.cells n in
-    let new : has_key (gathered c.cells).keys key ≡ false = ap (λ ks. has_key ks key) c.same_keys ∙ apart.1 in
+    let y = annotation_at n.loc (key, d.string) in
+    let step = fold_snoc gathering_with_node empty_gathering c.cells n in
+    let new : has_key (gathering c.cells).keys key ≡ false = ap (λ ks. has_key ks key) c.same_keys ∙ apart.1 in
     record {
       cells = c.cells ++ n ∷ [];
       reads = l.more c.reads d.reads;
       all = c.all ++ y ∷ [];
-      gives = ap (λ g. g.all) step ∙ more_given (gathered c.cells).all (annotation_outcome n) (gathered c.cells).keys c.all y c.gives (d.gives n.loc) new;
-      same_keys = ap (λ g. g.keys) step ∙ key_more (gathered c.cells).keys (annotation_outcome n) y (d.gives n.loc) ∙ ap (λ ks. ks ++ key ∷ []) c.same_keys ∙ sym keys;
+      gives = ap (λ g. g.all) step ∙ more_given (gathering c.cells).all (annotation_outcome n) (gathering c.cells).keys c.all y c.gives (d.gives n.loc) new;
+      same_keys = ap (λ g. g.keys) step ∙ key_more (gathering c.cells).keys (annotation_outcome n) y (d.gives n.loc) ∙ ap (λ ks. ks ++ key ∷ []) c.same_keys ∙ sym keys;
       same = map_snoc (λ a. (a.key, text_in a)) c.all y ∙ last_text (texts c.all) pairs key (text_in y) text c.same d.same;
     }

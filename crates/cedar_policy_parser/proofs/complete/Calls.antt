@@ -9,15 +9,15 @@ use Rattle.cedar_policy_parser.specs.Members as g
 use Rattle.cedar_policy_parser.specs.Members.{standard_method, method_outcome, method_by, function_outcome, is_method_id}
 use Rattle.cedar_policy_parser.specs.StrictCalls as m
 use Rattle.cedar_policy_parser.specs.StrictCalls.{CallsMethod, IsFunction, is_standard, names_method}
-use Rattle.cedar_policy_parser.specs.StrictWords.{name_of}
+use Rattle.cedar_policy_parser.specs.StrictWords.{path_value}
 use Rattle.cedar_policy_parser.proofs.sound.Calls.{standard_same, method_same}
 
-none_standard : (o : Option Standard) → g.is_standard o ≡ false → o ≡ None
+none_standard : (o : Option Standard) → g.is_some_standard o ≡ false → o ≡ None
 none_standard (Some s) h = cc
 none_standard None h = refl
 
 by_table : (e : Extensions) (place : Option Loc) (id : List ℕ) (o : Option Standard) (a : Value) (args : List Value) → o ≡ None → e.methods id ≡ true
-    → method_by e place id o a args ≡ Ok (v.call_extension_fn (name_of [] id) (values (a ∷ args)))
+    → method_by e place id o a args ≡ Ok (v.call_extension_fn (path_value [] id) (values (a ∷ args)))
 by_table e place id o a args h k = rw (h, k) refl
 
 -- a method called on a value
@@ -30,10 +30,10 @@ method_given e place m.get_tag = refl
 method_given e place m.has_tag = refl
 method_given e place (m.by_table {id = id} {a = a} {args = args} h k) = by_table e place id (standard_method id) a args (none_standard (standard_method id) (standard_same id ∙ h)) k
 
-by_name : (e : Extensions) (place : Option Loc) (ids : List (List ℕ)) (id : List ℕ) (args : List Value) → is_method_id e ids id ≡ false → e.functions (name_of ids id) ≡ true
-    → function_outcome e place (name_of ids id) args ≡ Ok (v.call_extension_fn (name_of ids id) (values args))
+by_name : (e : Extensions) (place : Option Loc) (ids : List (List ℕ)) (id : List ℕ) (args : List Value) → is_method_id e ids id ≡ false → e.functions (path_value ids id) ≡ true
+    → function_outcome e place (path_value ids id) args ≡ Ok (v.call_extension_fn (path_value ids id) (values args))
 by_name e place ids id args h k = rw (h, k) refl
 
 -- a function called by its name
-pub function_given : (e : Extensions) (place : Option Loc) (ids : List (List ℕ)) (id : List ℕ) (args : List Value) → IsFunction e ids id → function_outcome e place (name_of ids id) args ≡ Ok (v.call_extension_fn (name_of ids id) (values args))
+pub function_given : (e : Extensions) (place : Option Loc) (ids : List (List ℕ)) (id : List ℕ) (args : List Value) → IsFunction e ids id → function_outcome e place (path_value ids id) args ≡ Ok (v.call_extension_fn (path_value ids id) (values args))
 function_given e place ids id args f = by_name e place ids id args (method_same e ids id ∙ f.0) f.1

@@ -1,8 +1,8 @@
--- Conditions have trees that give them, wherever slots were looked for.
-use Rattle.std.proofs.Common.{◌≡◌, ℕ, List, [], ◌∷◌, ◌++◌, Option, Some, Ok, true, false, refl, sym, ap, ◌∙◌}
+-- Conditions have trees that give them.
+use Rattle.std.proofs.Common.{◌≡◌, ℕ, List, [], ◌∷◌, ◌++◌, map, Option, Some, Ok, true, false, refl, sym, ap, ◌∙◌}
 use Rattle.cedar_lexer.specs.Token.{Lexeme}
 use Rattle.cedar_lexer.specs.declared.token.TokenKind.TheVariants as kind
-use Rattle.cedar_expressions.specs.declared.literal.SlotId.{SlotId}
+use Rattle.cedar_expressions.specs.declared.place.Slot.{Slot}
 use Rattle.cedar_expressions.specs.Value as v
 use Rattle.cedar_expressions.specs.Value.{Value}
 use Rattle.cedar_syntax.specs.declared.loc.Loc.{Loc}
@@ -16,32 +16,31 @@ use Rattle.cedar_syntax.specs.LooseWords as lw
 use Rattle.cedar_syntax.specs.Place.{placed}
 use Rattle.cedar_syntax.specs.Tokens.{Spot, one}
 use Rattle.cedar_syntax.specs.Trees.{Cell, cond_of}
-use Rattle.cedar_policy_parser.specs.Conditions.{Found, condition_of, condition_outcome, conditions_outcome, meant, paired, slots_outcome, slots_told, without_slots}
+use Rattle.cedar_policy_parser.specs.Conditions.{condition_of, condition_outcome, conditions_outcome, condition_slot_fault, slots_outcome, without_slots}
 use Rattle.cedar_policy_parser.specs.Conversion.{value_outcome}
 use Rattle.cedar_policy_parser.specs.Extensions.{Extensions}
 use Rattle.cedar_policy_parser.specs.Names.{all_of}
 use Rattle.cedar_policy_parser.specs.Outcome.{Outcome, both, next}
-use Rattle.cedar_policy_parser.specs.Scope.{unless_told}
+use Rattle.cedar_policy_parser.specs.Scope.{faults_outcome}
 use Rattle.cedar_policy_parser.specs.StrictPolicy as m
 use Rattle.cedar_policy_parser.specs.StrictPolicy.{AreConditions, IsCondition}
-use Rattle.cedar_policy_parser.specs.ValueSlots.{slots_of}
+use Rattle.cedar_expressions.specs.Slots.{slots_of}
 use Rattle.cedar_policy_parser.proofs.Inverted.{ok_is, next_ok, both_ok}
 use Rattle.cedar_policy_parser.proofs.complete.Whole.{complete}
-use Rattle.cedar_policy_parser.proofs.sound.Clauses.{paired_snoc}
 
 record ConditionRead (e : Extensions) (src : List ℕ) (ts : List Lexeme) (c : Value) : Type 0 where
   tree : Cond
   reads : ReadsCond src ts tree
-  gives : (found : Found) (place : Option Loc) → condition_of e found place tree ≡ Ok c
+  gives : (place : Option Loc) → condition_of e place tree ≡ Ok c
 
-none_found : (place : Option Loc) (found : Found) (ids : List SlotId) → ids ≡ [] → unless_told (slots_told place ids found) ≡ Ok tt
-none_found place found ids h = rw h refl
+none_there : (place : Option Loc) (slots : List Slot) → slots ≡ [] → faults_outcome (map (condition_slot_fault place) slots) ≡ Ok tt
+none_there place slots h = rw h refl
 
-when_given : (place : Option Loc) (found : Found) (o : Outcome Value) (x : Value) → o ≡ Ok x → slots_of x ≡ [] → next o (without_slots place found true) ≡ Ok x
-when_given place found o x h none = rw h (ap (λ u. next u (λ _. Ok x)) (none_found place found (slots_of x) none))
+when_given : (place : Option Loc) (o : Outcome Value) (x : Value) → o ≡ Ok x → slots_of x ≡ [] → next o (without_slots place true) ≡ Ok x
+when_given place o x h none = rw h (ap (λ u. next u (λ _. Ok x)) (none_there place (slots_of x) none))
 
-unless_given : (place : Option Loc) (found : Found) (o : Outcome Value) (x : Value) → o ≡ Ok x → slots_of x ≡ [] → next o (without_slots place found false) ≡ Ok (v.not x)
-unless_given place found o x h none = rw h (ap (λ u. next u (λ _. Ok (v.not x))) (none_found place found (slots_of x) none))
+unless_given : (place : Option Loc) (o : Outcome Value) (x : Value) → o ≡ Ok x → slots_of x ≡ [] → next o (without_slots place false) ≡ Ok (v.not x)
+unless_given place o x h none = rw h (ap (λ u. next u (λ _. Ok (v.not x))) (none_there place (slots_of x) none))
 
 condition_read : (e : Extensions) (src : List ℕ) {ts : List Lexeme} {c : Value} → IsCondition e SIGN_LIMIT ts c → ConditionRead e src ts c
 condition_read e src (m.when {ts = ts} {a = x} p a z i none) =
@@ -50,7 +49,7 @@ condition_read e src (m.when {ts = ts} {a = x} p a z i none) =
     record {
       tree = cond_of (placed src (one kind.When p) ident.When) (Some n);
       reads = l.cond a z (lw.any p refl) (l.body d.reads);
-      gives = λ found place. when_given place found (value_outcome e (located expr_form n)) x (d.gives n.loc) none;
+      gives = λ place. when_given place (value_outcome e (located expr_form n)) x (d.gives n.loc) none;
     }
 condition_read e src (m.unless {ts = ts} {a = x} p a z i none) =
     let d = complete e src i in
@@ -58,7 +57,7 @@ condition_read e src (m.unless {ts = ts} {a = x} p a z i none) =
     record {
       tree = cond_of (placed src (one kind.Unless p) ident.Unless) (Some n);
       reads = l.cond a z (lw.any p refl) (l.body d.reads);
-      gives = λ found place. unless_given place found (value_outcome e (located expr_form n)) x (d.gives n.loc) none;
+      gives = λ place. unless_given place (value_outcome e (located expr_form n)) x (d.gives n.loc) none;
     }
 
 -- ---- all of a policy
@@ -76,10 +75,10 @@ all_last f (w ∷ xs) x ys y h k =
 pub record ConditionsRead (e : Extensions) (src : List ℕ) (ts : List Lexeme) (cs : List Value) : Type 0 where
   pub cells : List (Cell Cond)
   pub reads : ReadsMany src (ReadsCond src) ts cells
-  pub gives : (found : List Found) → conditions_outcome e found cells ≡ Ok cs
+  pub gives : conditions_outcome e cells ≡ Ok cs
 
 pub conditions_read : (e : Extensions) (src : List ℕ) {ts : List Lexeme} {cs : List Value} → AreConditions e SIGN_LIMIT ts cs → ConditionsRead e src ts cs
-conditions_read e src m.no_condition = record { cells = []; reads = l.none; gives = λ found. refl }
+conditions_read e src m.no_condition = record { cells = []; reads = l.none; gives = refl }
 conditions_read e src (m.more_conditions {us = us} {cs = cs} {c = c} i j) =
     let d = conditions_read e src i in
     let k = condition_read e src j in
@@ -87,7 +86,5 @@ conditions_read e src (m.more_conditions {us = us} {cs = cs} {c = c} i j) =
     record {
       cells = d.cells ++ n ∷ [];
       reads = l.more d.reads k.reads;
-      gives = λ found.
-          let f = paired_snoc found d.cells n in
-          ap (all_of (condition_outcome e)) f.1 ∙ all_last (condition_outcome e) (paired found d.cells) (f.0, n) cs c (d.gives found) (k.gives f.0 n.loc);
+      gives = all_last (condition_outcome e) d.cells n cs c d.gives (k.gives n.loc);
     }

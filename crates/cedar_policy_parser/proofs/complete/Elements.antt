@@ -15,7 +15,7 @@ use Rattle.cedar_policy_store.specs.declared.constraints.PrincipalOrResourceCons
 use Rattle.cedar_policy_store.specs.declared.constraints.PrincipalOrResourceConstraint.TheVariants as constraint
 use Rattle.cedar_policy_store.specs.Actions.{is_action, but_actions, named_entities}
 use Rattle.cedar_policy_store.specs.PlaceFree as free
-use Rattle.cedar_policy_store.specs.PlaceFree.{Constraint, constrained}
+use Rattle.cedar_policy_store.specs.PlaceFree.{Constraint, constraint_meaning}
 use Rattle.cedar_syntax.specs.declared.loc.Loc.{Loc}
 use Rattle.cedar_syntax.specs.declared.cst.Add.{Add}
 use Rattle.cedar_syntax.specs.declared.cst.Expr.{Expr}
@@ -33,13 +33,13 @@ use Rattle.cedar_syntax.specs.Trees.{Cell, variable_def_of}
 use Rattle.cedar_policy_parser.specs.declared.to_ref_or_refs.OneOrMultipleRefs.{OneOrMultipleRefs}
 use Rattle.cedar_policy_parser.specs.declared.to_ref_or_refs.SingleEntity.{SingleEntity}
 use Rattle.cedar_policy_parser.specs.Extensions.{Extensions}
-use Rattle.cedar_policy_parser.specs.Held.{type_named}
+use Rattle.cedar_policy_parser.specs.Held.{type_of_name}
 use Rattle.cedar_policy_parser.specs.Outcome.{Outcome, next}
-use Rattle.cedar_policy_parser.specs.References.{entity_or_slot, one_or_multiple, referred, single_entity}
+use Rattle.cedar_policy_parser.specs.References.{entity_or_slot, one_or_multiple, referent_outcome, single_entity}
 use Rattle.cedar_policy_parser.specs.Scope as s
 use Rattle.cedar_policy_parser.specs.StrictScope as z
 use Rattle.cedar_policy_parser.specs.StrictScope.{Asks, AsksAction}
-use Rattle.cedar_policy_parser.specs.StrictWords.{IsName, name_of}
+use Rattle.cedar_policy_parser.specs.StrictWords.{IsName, path_value}
 use Rattle.cedar_policy_parser.proofs.complete.Lone.{type_read}
 use Rattle.cedar_policy_parser.proofs.complete.Referred.{actions_read, reference_read, single_read}
 use Rattle.cedar_policy_parser.proofs.sound.Elements.{within_is}
@@ -56,7 +56,7 @@ pub record ElementRead (e : Extensions) (x : Var) (src : List ℕ) (ts : List Le
   pub tree : VariableDef
   pub reads : ReadsVariableDef src ts tree
   pub asked : PrincipalOrResourceConstraint
-  pub same : constrained asked ≡ c
+  pub same : constraint_meaning asked ≡ c
   pub gives : s.element_outcome e x (placed src ts tree) ≡ Ok asked
 
 element_as : {e : Extensions} {x : Var} {src : List ℕ} {ts us : List Lexeme} {c : Constraint} → ts ≡ us → ElementRead e x src ts c → ElementRead e x src us c
@@ -64,7 +64,7 @@ element_as h d = rw (← h) d
 
 -- an element by its type and its constraint
 built : {x : Var} {k : TokenKind} (e : Extensions) (src : List ℕ) (p : Spot) (vs ws : List Lexeme) (y : Option (Cell Add)) (w : Option (RelOp × Cell Expr)) (c : PrincipalOrResourceConstraint) (i : SlotOf x k) → ReadsEntityType src vs y → ReadsConstraint src ws w
-    → ((place : Option Loc) → s.asked e place x y w ≡ Ok c) → ElementRead e x src (one (word_of i) p ++ (vs ++ ws)) (constrained c)
+    → ((place : Option Loc) → s.constraint_outcome e place x y w ≡ Ok c) → ElementRead e x src (one (word_of i) p ++ (vs ++ ws)) (constraint_meaning c)
 built e src p vs ws y w c principal r t h =
     let d = variable_def_of (placed src (one kind.Principal p) ident.Principal) None y w in
     let place = (placed src (one kind.Principal p ++ (vs ++ ws)) d).loc in
@@ -74,8 +74,8 @@ built e src p vs ws y w c resource r t h =
     let place = (placed src (one kind.Resource p ++ (vs ++ ws)) d).loc in
     record { tree = d; reads = l.variable_def (lw.any p refl) l.no_type_name r t; asked = c; same = refl; gives = ap (λ o. next o (s.in_its_place place vars.Resource vars.Resource)) (h place) }
 
-asked_given : (e : Extensions) (place : Option Loc) (x : Var) (y : Option (Cell Add)) (o : RelOp) (n : Cell Expr) (r : EntityReference) (c : PrincipalOrResourceConstraint) → s.is_inverted e o n ≡ false → referred entity_or_slot x n ≡ Ok r → s.asked_by e place o y r ≡ Ok c
-    → s.asked e place x y (Some (o, n)) ≡ Ok c
+asked_given : (e : Extensions) (place : Option Loc) (x : Var) (y : Option (Cell Add)) (o : RelOp) (n : Cell Expr) (r : EntityReference) (c : PrincipalOrResourceConstraint) → s.is_inverted e o n ≡ false → referent_outcome entity_or_slot x n ≡ Ok r → s.operator_outcome e place o y r ≡ Ok c
+    → s.constraint_outcome e place x y (Some (o, n)) ≡ Ok c
 asked_given e place x y o n r c h k g = rw (h, k) g
 
 typed_given : (o : Outcome EntityType) (t : EntityType) → o ≡ Ok t → next o (λ u. Ok (constraint.Is u)) ≡ Ok (constraint.Is t)
@@ -102,17 +102,17 @@ element_read {x = x} e src p i (z.to_be_in {ts = ts} q r) =
 element_read e src p i (z.to_be_of_type {ts = ts} {ids = ids} {id = id} q n) =
     let t = type_read e src n in
     let y = placed src ts t.tree in
-    element_as (ap (λ us. one (word_of i) p ++ us) (append-nil (one kind.Is q ++ ts))) (built e src p (one kind.Is q ++ ts) [] (Some y) None (constraint.Is (type_named (name_of ids id))) i (l.entity_type q t.reads) l.no_constraint
-    (λ place. typed_given (s.type_outcome e y) (type_named (name_of ids id)) (t.gives y.loc)))
+    element_as (ap (λ us. one (word_of i) p ++ us) (append-nil (one kind.Is q ++ ts))) (built e src p (one kind.Is q ++ ts) [] (Some y) None (constraint.Is (type_of_name (path_value ids id))) i (l.entity_type q t.reads) l.no_constraint
+    (λ place. typed_given (s.type_outcome e y) (type_of_name (path_value ids id)) (t.gives y.loc)))
 element_read {x = x} e src p i (z.to_be_of_type_in {ts = ts} {us = us} {ids = ids} {id = id} q o n r) =
     let t = type_read e src n in
     let y = placed src ts t.tree in
     let d = reference_read e src i r in
     let m = placed src us d.read.tree in
-    let c = constraint.IsIn (type_named (name_of ids id)) d.placed_reference in
+    let c = constraint.IsIn (type_of_name (path_value ids id)) d.placed_reference in
     element_as (ap (λ vs. one (word_of i) p ++ vs) (sym (append_assoc (one kind.Is q ++ ts) (one kind.In o) us)))
-    (same_as (ap (free.typed_inside (type_named (name_of ids id))) d.same) (built e src p (one kind.Is q ++ ts) (one kind.In o ++ us) (Some y) (Some (rel.In, m)) c i (l.entity_type q t.reads) (l.constraint o lx.within d.read.reads)
-    (λ place. asked_given e place x (Some y) rel.In m d.placed_reference c (d.read.plain m.loc) (d.read.gives m.loc) (both_given (s.type_outcome e y) (type_named (name_of ids id)) d.placed_reference (t.gives y.loc)))))
+    (same_as (ap (free.typed_inside (type_of_name (path_value ids id))) d.same) (built e src p (one kind.Is q ++ ts) (one kind.In o ++ us) (Some y) (Some (rel.In, m)) c i (l.entity_type q t.reads) (l.constraint o lx.within d.read.reads)
+    (λ place. asked_given e place x (Some y) rel.In m d.placed_reference c (d.read.plain m.loc) (d.read.gives m.loc) (both_given (s.type_outcome e y) (type_of_name (path_value ids id)) d.placed_reference (t.gives y.loc)))))
 
 -- ---- action
 
@@ -129,7 +129,7 @@ no_others : (uids : List EntityUID) → list_all is_action uids ≡ true → but
 no_others [] h = refl
 no_others (uid ∷ uids) h = one_other (is_action uid) uid uids refl (λ k. no_others uids k) h
 
-action_built : (e : Extensions) (src : List ℕ) (p : Spot) (ws : List Lexeme) (w : Option (RelOp × Cell Expr)) (c : ActionConstraint) → ReadsConstraint src ws w → ((place : Option Loc) → s.action_asked e place w ≡ Ok c) → ActionRead e src (one kind.Action p ++ ws) c
+action_built : (e : Extensions) (src : List ℕ) (p : Spot) (ws : List Lexeme) (w : Option (RelOp × Cell Expr)) (c : ActionConstraint) → ReadsConstraint src ws w → ((place : Option Loc) → s.asked_action e place w ≡ Ok c) → ActionRead e src (one kind.Action p ++ ws) c
 action_built e src p ws w c t h =
     let d = variable_def_of (placed src (one kind.Action p) ident.Action) None None w in
     record { tree = d; reads = l.variable_def (lw.any p refl) l.no_type_name l.no_entity_type t; gives = h (placed src (one kind.Action p ++ ws) d).loc }
@@ -140,7 +140,7 @@ only_given at o c h k = rw (h, k) refl
 eq_given : (o : Outcome SingleEntity) (uid : EntityUID) → o ≡ Ok (single_entity.single uid) → next o (λ one. Ok (s.equal_to one)) ≡ Ok (action.Eq uid)
 eq_given o uid h = rw h refl
 
-in_given : (e : Extensions) (place : Option Loc) (n : Cell Expr) (all : OneOrMultipleRefs) (uids : List EntityUID) → s.is_inverted e rel.In n ≡ false → referred one_or_multiple vars.Action n ≡ Ok all → uids_of all ≡ uids → s.action_in e place n ≡ Ok (action.In uids)
+in_given : (e : Extensions) (place : Option Loc) (n : Cell Expr) (all : OneOrMultipleRefs) (uids : List EntityUID) → s.is_inverted e rel.In n ≡ false → referent_outcome one_or_multiple vars.Action n ≡ Ok all → uids_of all ≡ uids → s.action_in e place n ≡ Ok (action.In uids)
 in_given e place n all uids h k g = rw (h, k) (ap Ok (within_is all ∙ ap action.In g))
 
 pub action_read : (e : Extensions) (src : List ℕ) (p : Spot) {ts : List Lexeme} {c : ActionConstraint} → AsksAction ts c → ActionRead e src (one kind.Action p ++ ts) c
@@ -150,7 +150,7 @@ action_read e src p (z.to_be {ts = ts} {uid = uid} q i is) =
     let n = placed src ts d.tree in
     let only : list_all is_action (uid ∷ []) ≡ true = rw is refl in
     action_built e src p (one kind.EqEq q ++ ts) (Some (rel.Eq, n)) (action.Eq uid) (l.constraint q lx.equal d.reads)
-    (λ place. only_given n.loc (s.action_eq n) (action.Eq uid) (eq_given (referred single_entity vars.Action n) uid (d.gives n.loc)) (no_others (uid ∷ []) only))
+    (λ place. only_given n.loc (s.action_eq n) (action.Eq uid) (eq_given (referent_outcome single_entity vars.Action n) uid (d.gives n.loc)) (no_others (uid ∷ []) only))
 action_read e src p (z.to_be_in {ts = ts} {uids = uids} q i all) =
     let d = actions_read e vars.Action src i in
     let n = placed src ts d.read.tree in

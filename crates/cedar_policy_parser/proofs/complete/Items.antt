@@ -14,7 +14,7 @@ use Rattle.cedar_syntax.specs.LooseExpressions as l
 use Rattle.cedar_syntax.specs.Place.{placed}
 use Rattle.cedar_syntax.specs.Tokens.{Spot, one}
 use Rattle.cedar_syntax.specs.Trees.{rec_init_of}
-use Rattle.cedar_policy_parser.specs.Conversion.{Part, operands, pairs_given, pair_outcome, set_of, record_held, made}
+use Rattle.cedar_policy_parser.specs.Conversion.{Part, operands, pairs_outcome, pair_outcome, set_value_outcome, record_outcome, expression_at}
 use Rattle.cedar_policy_parser.specs.Extensions.{Extensions}
 use Rattle.cedar_policy_parser.specs.Held.{Held, as_expression, as_attribute}
 use Rattle.cedar_policy_parser.specs.Outcome.{Outcome, both, next}
@@ -55,15 +55,15 @@ entry_tree {e = e} {src = src} {ts = ts} {us = us} {key = key} {a = a} p f g = r
 pub entry_read : {e : Extensions} {src : List ℕ} {ts us : List Lexeme} {key : List ℕ} {a : Value} (p : Spot) → IsKey ts key → ExprRead e src us a → EntryRead e src (ts ++ one kind.Colon p ++ us) (key, a)
 entry_read {e = e} {src = src} p k g = entry_tree p (key_read e src k) g
 
-pairs_more : (e : Extensions) (ps : List (Operator × Located)) (p : Operator × Located) (zs : List (List ℕ × Value)) (a : List ℕ × Value) → pairs_given e (parts_of ps) ≡ Ok zs → pair_outcome e p.1 ≡ Ok a → pairs_given e (parts_of (ps ++ p ∷ [])) ≡ Ok (zs ++ a ∷ [])
-unfolding pairs_given
+pairs_more : (e : Extensions) (ps : List (Operator × Located)) (p : Operator × Located) (zs : List (List ℕ × Value)) (a : List ℕ × Value) → pairs_outcome e (parts_of ps) ≡ Ok zs → pair_outcome e p.1 ≡ Ok a → pairs_outcome e (parts_of (ps ++ p ∷ [])) ≡ Ok (zs ++ a ∷ [])
+unfolding pairs_outcome
 pairs_more e [] p zs a h k = with_more (pair_outcome e p.1) (Ok []) a [] k refl ∙ ap (λ xs. Ok (xs ++ a ∷ [])) (ok_is h)
 pairs_more e (q ∷ ps) p zs a h k =
-    let d = first_of (pair_outcome e q.1) (pairs_given e (parts_of ps)) zs h in
-    with_more (pair_outcome e q.1) (pairs_given e (parts_of (ps ++ p ∷ []))) d.0 (d.1 ++ a ∷ []) d.2 (pairs_more e ps p d.1 a d.3 k) ∙ ap (λ xs. Ok (xs ++ a ∷ [])) (sym d.4)
+    let d = first_of (pair_outcome e q.1) (pairs_outcome e (parts_of ps)) zs h in
+    with_more (pair_outcome e q.1) (pairs_outcome e (parts_of (ps ++ p ∷ []))) d.0 (d.1 ++ a ∷ []) d.2 (pairs_more e ps p d.1 a d.3 k) ∙ ap (λ xs. Ok (xs ++ a ∷ [])) (sym d.4)
 
 pub one_pair : {e : Extensions} {src : List ℕ} {ts : List Lexeme} {f : List ℕ × Value} → EntryRead e src ts f → PairsRead e src ts (f ∷ [])
-unfolding pairs_given
+unfolding pairs_outcome
 one_pair {e = e} {src = src} {ts = ts} {f = f} n = record {
   cells = placed src ts n.tree ∷ [];
   reads = l.one_init n.reads;
@@ -74,11 +74,11 @@ pub more_pairs : {e : Extensions} {src : List ℕ} {ts us : List Lexeme} {f : Li
 more_pairs {e = e} {src = src} {us = us} {f = f} {fs = fs} p h n = record {
   cells = h.cells ++ placed src us n.tree ∷ [];
   reads = l.more_inits p h.reads n.reads;
-  give = ap (λ ys. pairs_given e (parts_of ys)) (map_snoc listed_init h.cells (placed src us n.tree)) ∙ pairs_more e (map listed_init h.cells) (listed_init (placed src us n.tree)) fs f h.give (n.gives (placed src us n.tree).loc);
+  give = ap (λ ys. pairs_outcome e (parts_of ys)) (map_snoc listed_init h.cells (placed src us n.tree)) ∙ pairs_more e (map listed_init h.cells) (listed_init (placed src us n.tree)) fs f h.give (n.gives (placed src us n.tree).loc);
 }
 
 pub no_entries : {e : Extensions} {src : List ℕ} → EntriesRead e src [] []
-unfolding pairs_given
+unfolding pairs_outcome
 no_entries = record { cells = []; reads = l.no_init; give = refl }
 
 pub entries_read : {e : Extensions} {src : List ℕ} {ts : List Lexeme} {fs : List (List ℕ × Value)} → PairsRead e src ts fs → EntriesRead e src ts fs
@@ -89,7 +89,7 @@ entries_comma p h = record { cells = h.cells; reads = l.inits_comma p h.reads; g
 
 -- ---- brackets
 
-set_gives : (p : Option Loc) (o : Outcome (List Part)) (bs : List Value) → o ≡ Ok (under beside bs) → next (next o (set_of p)) as_expression ≡ Ok (v.set (values bs))
+set_gives : (p : Option Loc) (o : Outcome (List Part)) (bs : List Value) → o ≡ Ok (under beside bs) → next (next o (set_value_outcome p)) as_expression ≡ Ok (v.set (values bs))
 set_gives p o bs h = rw (h, bodies-under beside bs) refl
 
 pub set_read : {e : Extensions} {src : List ℕ} {ts : List Lexeme} {bs : List Value} (i o : Spot) → ListRead e src ts bs → PrimaryRead e src (one kind.OpenBracket i ++ ts ++ one kind.CloseBracket o) (v.set (values bs))
@@ -99,7 +99,7 @@ set_read {e = e} {bs = bs} i o h = record {
   gives = λ p. value_from _ _ _ (gives_set e p h.cells) (set_gives p _ bs (h.give p));
 }
 
-record_gives : (p : Option Loc) (o : Outcome (List (List ℕ × Value))) (fs : List (List ℕ × Value)) → o ≡ Ok fs → repeats_key (keys_of fs) ≡ false → next (next o (record_held p)) as_expression ≡ Ok (v.«record» (fields fs))
+record_gives : (p : Option Loc) (o : Outcome (List (List ℕ × Value))) (fs : List (List ℕ × Value)) → o ≡ Ok fs → repeats_key (keys_of fs) ≡ false → next (next o (record_outcome p)) as_expression ≡ Ok (v.«record» (fields fs))
 record_gives p o fs h k = rw (h, k) refl
 
 pub braces_read : {e : Extensions} {src : List ℕ} {ts : List Lexeme} {fs : List (List ℕ × Value)} (i o : Spot) → EntriesRead e src ts fs → repeats_key (keys_of fs) ≡ false → PrimaryRead e src (one kind.OpenBrace i ++ ts ++ one kind.CloseBrace o) (v.«record» (fields fs))
@@ -109,7 +109,7 @@ braces_read {e = e} {fs = fs} i o h k = record {
   gives = λ p. value_from _ _ _ (gives_braces e p h.cells) (record_gives p _ fs h.give k);
 }
 
-inner_gives : (p : Option Loc) (x : Outcome Value) (a : Value) → x ≡ Ok a → next (next x (made p)) as_expression ≡ Ok a
+inner_gives : (p : Option Loc) (x : Outcome Value) (a : Value) → x ≡ Ok a → next (next x (expression_at p)) as_expression ≡ Ok a
 inner_gives p x a h = rw h refl
 
 pub paren_read : {e : Extensions} {src : List ℕ} {ts : List Lexeme} {a : Value} (i o : Spot) → ExprRead e src ts a → PrimaryRead e src (one kind.OpenParen i ++ ts ++ one kind.CloseParen o) a

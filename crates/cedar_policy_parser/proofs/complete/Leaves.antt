@@ -29,11 +29,11 @@ use Rattle.cedar_syntax.specs.Trees.{name_of as tree_name}
 use Rattle.cedar_policy_parser.specs.Entities.{slot_id}
 use Rattle.cedar_policy_parser.specs.Extensions.{Extensions}
 use Rattle.cedar_policy_parser.specs.Held.{expression, as_expression}
-use Rattle.cedar_policy_parser.specs.Leaves.{variable_or_name}
+use Rattle.cedar_policy_parser.specs.Leaves.{slot_value, variable_or_name}
 use Rattle.cedar_policy_parser.specs.Literals.{literal_outcome}
 use Rattle.cedar_policy_parser.specs.Names.{variable_of}
 use Rattle.cedar_policy_parser.specs.Outcome.{next}
-use Rattle.cedar_policy_parser.specs.Strict.{largest}
+use Rattle.cedar_policy_parser.specs.Strict.{largest, slot_there}
 use Rattle.cedar_policy_parser.specs.StrictWords as m
 use Rattle.cedar_policy_parser.specs.StrictWords.{IsVariable, IsText, IsEntity}
 use Rattle.cedar_policy_parser.proofs.Inverted.{value_from}
@@ -90,19 +90,19 @@ variable_read {src = src} p m.context = word_primary src kind.Context p ident.Co
 
 -- ---- slots and entities
 
-slot_primary : {e : Extensions} (src : List ℕ) (k : TokenKind) (p : Spot) (x : Slot) (id : SlotId) → ReadsSlot k p.text x → ((q : Option Loc) → slot_id q x ≡ Ok id) → PrimaryRead e src (one k p) (v.slot id)
+slot_primary : {e : Extensions} (src : List ℕ) (k : TokenKind) (p : Spot) (x : Slot) (id : SlotId) → ReadsSlot k p.text x → ((q : Option Loc) → slot_id q x ≡ Ok id) → PrimaryRead e src (one k p) (slot_there id p)
 slot_primary {e = e} src k p x id r g =
     let n = placed src (one k p) x in
     record {
       tree = primary.Slot n;
       reads = l.slotted p r;
-      gives = λ q. value_from _ _ _ (gives_slot e q n) (ap (λ o. next (next o (λ i. Ok (expression n.loc (v.slot i)))) as_expression) (g n.loc));
+      gives = λ q. value_from _ _ _ (gives_slot e q n) (ap (λ o. next (next o (λ i. Ok (expression n.loc (slot_value n.loc i)))) as_expression) (g n.loc));
     }
 
-pub principal_slot_read : {e : Extensions} {src : List ℕ} (p : Spot) → PrimaryRead e src (one kind.PrincipalSlot p) (v.slot slots.Principal)
+pub principal_slot_read : {e : Extensions} {src : List ℕ} (p : Spot) → PrimaryRead e src (one kind.PrincipalSlot p) (slot_there slots.Principal p)
 principal_slot_read {src = src} p = slot_primary src kind.PrincipalSlot p slot.Principal slots.Principal l.principal_slot (λ q. refl)
 
-pub resource_slot_read : {e : Extensions} {src : List ℕ} (p : Spot) → PrimaryRead e src (one kind.ResourceSlot p) (v.slot slots.Resource)
+pub resource_slot_read : {e : Extensions} {src : List ℕ} (p : Spot) → PrimaryRead e src (one kind.ResourceSlot p) (slot_there slots.Resource p)
 resource_slot_read {src = src} p = slot_primary src kind.ResourceSlot p slot.Resource slots.Resource l.resource_slot (λ q. refl)
 
 uid_primary : {e : Extensions} (src : List ℕ) (ts : List Lexeme) (uid : EntityUID) → EntityRead src ts uid → PrimaryRead e src ts (v.val (literals.EntityUID uid))

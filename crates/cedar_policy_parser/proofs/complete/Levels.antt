@@ -21,7 +21,7 @@ use Rattle.cedar_syntax.specs.LooseExpressions.{ReadsAnds, ReadsRelations, Reads
 use Rattle.cedar_syntax.specs.Place.{placed}
 use Rattle.cedar_syntax.specs.Tokens.{Spot, one}
 use Rattle.cedar_syntax.specs.Trees.{Cell, expr_of, or_of, and_of, add_of, mult_of}
-use Rattle.cedar_policy_parser.specs.Conversion.{Part, Converts, outcome, operands, chained, combined, allowed, made}
+use Rattle.cedar_policy_parser.specs.Conversion.{Part, Converts, outcome, operands, chain_outcome, level_outcome, operator_limit, expression_at}
 use Rattle.cedar_policy_parser.specs.Extensions.{Extensions}
 use Rattle.cedar_policy_parser.specs.Held.{Held, as_expression}
 use Rattle.cedar_policy_parser.specs.Outcome.{Outcome, next}
@@ -181,11 +181,11 @@ one_mult_read {src = src} {ts = ts} h = record { first = placed src ts h.tree; o
 
 -- a chain of two parts or more
 pub chain_gives : (level : Level) (p : Option Loc) (ps : Parts) (x : Outcome Held) (r : Outcome (List Part)) (a : Value) (q : Part) (qs : List Part) (w : Value) → next x as_expression ≡ Ok a → r ≡ Ok (q ∷ qs)
-    → allowed level p ps ≡ Ok tt → combined level p (q ∷ qs) a ≡ made p w → next (chained level p ps x r) as_expression ≡ Ok w
+    → operator_limit level p ps ≡ Ok tt → level_outcome level p (q ∷ qs) a ≡ expression_at p w → next (chain_outcome level p ps x r) as_expression ≡ Ok w
 chain_gives level p ps (Ok s) r a q qs w h k u g = rw (k, u, h, g) refl
 chain_gives level p ps (Err fs) r a q qs w h k u g = cc
 
-pub alone_gives : (level : Level) (p : Option Loc) (ps : Parts) (x : Outcome Held) (r : Outcome (List Part)) (a : Value) → next x as_expression ≡ Ok a → r ≡ Ok [] → allowed level p ps ≡ Ok tt → next (chained level p ps x r) as_expression ≡ Ok a
+pub alone_gives : (level : Level) (p : Option Loc) (ps : Parts) (x : Outcome Held) (r : Outcome (List Part)) (a : Value) → next x as_expression ≡ Ok a → r ≡ Ok [] → operator_limit level p ps ≡ Ok tt → next (chain_outcome level p ps x r) as_expression ≡ Ok a
 alone_gives level p ps (Ok s) r a h k u = rw (k, u) h
 alone_gives level p ps (Err fs) r a h k u = cc
 
@@ -195,7 +195,7 @@ or_read {e = e} {a = a} {bs = b ∷ bs} h some = record {
   tree = or_of h.first h.others;
   reads = l.or h.reads;
   gives = λ p. value_from _ _ _ (gives_or e p h.first h.others)
-      (chain_gives disjunction p (parts_of (map or_operand h.others)) (outcome e (located and_form h.first)) (operands e p (parts_of (map or_operand h.others))) a (or_or, b) (under or_or bs) _ h.gives (h.give p) refl (ap (λ xs. made p (v.or_nary a (values (b ∷ xs)))) (bodies-under or_or bs)));
+      (chain_gives disjunction p (parts_of (map or_operand h.others)) (outcome e (located and_form h.first)) (operands e p (parts_of (map or_operand h.others))) a (or_or, b) (under or_or bs) _ h.gives (h.give p) refl (ap (λ xs. expression_at p (v.or_nary a (values (b ∷ xs)))) (bodies-under or_or bs)));
 }
 
 pub or_alone : {e : Extensions} {src : List ℕ} {ts : List Lexeme} {a : Value} → AndsRead e src ts a [] → OrRead e src ts a
@@ -207,7 +207,7 @@ and_read {e = e} {a = a} {bs = b ∷ bs} h some = record {
   tree = and_of h.first h.others;
   reads = l.and h.reads;
   gives = λ p. value_from _ _ _ (gives_and e p h.first h.others)
-      (chain_gives conjunction p (parts_of (map and_operand h.others)) (outcome e (located relation_form h.first)) (operands e p (parts_of (map and_operand h.others))) a (and_and, b) (under and_and bs) _ h.gives (h.give p) refl (ap (λ xs. made p (v.and_naryl a (values (b ∷ xs)))) (bodies-under and_and bs)));
+      (chain_gives conjunction p (parts_of (map and_operand h.others)) (outcome e (located relation_form h.first)) (operands e p (parts_of (map and_operand h.others))) a (and_and, b) (under and_and bs) _ h.gives (h.give p) refl (ap (λ xs. expression_at p (v.and_naryl a (values (b ∷ xs)))) (bodies-under and_and bs)));
 }
 
 pub and_alone : {e : Extensions} {src : List ℕ} {ts : List Lexeme} {a : Value} → RelationsRead e src ts a [] → AndRead e src ts a
@@ -219,7 +219,7 @@ mult_read {e = e} {a = a} {bs = b ∷ bs} h some = record {
   tree = mult_of h.first h.others;
   reads = l.mult h.reads;
   gives = λ p. value_from _ _ _ (gives_mult e p h.first h.others)
-      (chain_gives product p (parts_of (map mult_operand h.others)) (outcome e (located unary_form h.first)) (operands e p (parts_of (map mult_operand h.others))) a ((multiply mul.Times), b) (under (multiply mul.Times) bs) _ h.gives (h.give p) refl (ap (λ xs. made p (v.mul_nary a (values (b ∷ xs)))) (bodies-under (multiply mul.Times) bs)));
+      (chain_gives product p (parts_of (map mult_operand h.others)) (outcome e (located unary_form h.first)) (operands e p (parts_of (map mult_operand h.others))) a ((multiply mul.Times), b) (under (multiply mul.Times) bs) _ h.gives (h.give p) refl (ap (λ xs. expression_at p (v.mul_nary a (values (b ∷ xs)))) (bodies-under (multiply mul.Times) bs)));
 }
 
 pub mult_alone : {e : Extensions} {src : List ℕ} {ts : List Lexeme} {a : Value} → UnariesRead e src ts a [] → MultRead e src ts a
@@ -231,7 +231,7 @@ add_read {e = e} {a = a} {bs = b ∷ bs} h some = record {
   tree = add_of h.first h.others;
   reads = l.add h.reads;
   gives = λ p. value_from _ _ _ (gives_add e p h.first h.others)
-      (chain_gives sum p (parts_of (map add_operand h.others)) (outcome e (located mult_form h.first)) (operands e p (parts_of (map add_operand h.others))) a (add b.0, b.1) (summed bs) _ h.gives (h.give p) refl (ap (λ xs. made p (v.add_nary a (terms ((b.0, b.1) ∷ xs)))) (added-summed bs)));
+      (chain_gives sum p (parts_of (map add_operand h.others)) (outcome e (located mult_form h.first)) (operands e p (parts_of (map add_operand h.others))) a (add b.0, b.1) (summed bs) _ h.gives (h.give p) refl (ap (λ xs. expression_at p (v.add_nary a (terms ((b.0, b.1) ∷ xs)))) (added-summed bs)));
 }
 
 pub add_alone : {e : Extensions} {src : List ℕ} {ts : List Lexeme} {a : Value} → MultsRead e src ts a [] → AddRead e src ts a

@@ -7,7 +7,7 @@ use Rattle.cedar_syntax.specs.declared.loc.Loc.{Loc}
 use Rattle.cedar_syntax.specs.Forms.{parts_of}
 use Rattle.cedar_syntax.specs.Located.{Located}
 use Rattle.cedar_syntax.specs.Tree.{Operator}
-use Rattle.cedar_policy_parser.specs.Conversion.{accesses_given, access_outcome}
+use Rattle.cedar_policy_parser.specs.Conversion.{accesses_outcome, access_outcome}
 use Rattle.cedar_policy_parser.specs.Extensions.{Extensions}
 use Rattle.cedar_policy_parser.specs.Held.{Held, expression, variable, bare_name, bare_truth, bare_string, as_expression}
 use Rattle.cedar_policy_parser.specs.Members.{Access, field, call, index, accesses_of, name_accesses, variable_accesses, some_accesses, member_outcome, method_outcome, function_outcome}
@@ -17,12 +17,12 @@ use Rattle.cedar_policy_parser.proofs.sound.Items.{with_more, first_of}
 
 -- ---- what accesses give, one by one
 
-pub accesses_more : (e : Extensions) (ps : List (Operator × Located)) (p : Operator × Located) (zs : List Access) (a : Access) → accesses_given e (parts_of ps) ≡ Ok zs → access_outcome e p.1 ≡ Ok a → accesses_given e (parts_of (ps ++ p ∷ [])) ≡ Ok (zs ++ a ∷ [])
-unfolding accesses_given
+pub accesses_more : (e : Extensions) (ps : List (Operator × Located)) (p : Operator × Located) (zs : List Access) (a : Access) → accesses_outcome e (parts_of ps) ≡ Ok zs → access_outcome e p.1 ≡ Ok a → accesses_outcome e (parts_of (ps ++ p ∷ [])) ≡ Ok (zs ++ a ∷ [])
+unfolding accesses_outcome
 accesses_more e [] p zs a h k = with_more (access_outcome e p.1) (Ok []) a [] k refl ∙ ap (λ xs. Ok (xs ++ a ∷ [])) (ok_is h)
 accesses_more e (q ∷ ps) p zs a h k =
-    let d = first_of (access_outcome e q.1) (accesses_given e (parts_of ps)) zs h in
-    with_more (access_outcome e q.1) (accesses_given e (parts_of (ps ++ p ∷ []))) d.0 (d.1 ++ a ∷ []) d.2 (accesses_more e ps p d.1 a d.3 k) ∙ ap (λ xs. Ok (xs ++ a ∷ [])) (sym d.4)
+    let d = first_of (access_outcome e q.1) (accesses_outcome e (parts_of ps)) zs h in
+    with_more (access_outcome e q.1) (accesses_outcome e (parts_of (ps ++ p ∷ []))) d.0 (d.1 ++ a ∷ []) d.2 (accesses_more e ps p d.1 a d.3 k) ∙ ap (λ xs. Ok (xs ++ a ∷ [])) (sym d.4)
 
 -- ---- accesses of a value
 

@@ -22,15 +22,15 @@ use Rattle.cedar_syntax.specs.Pattern.{IsPattern}
 use Rattle.cedar_syntax.specs.Place.{placed}
 use Rattle.cedar_syntax.specs.Tokens.{Spot, one, between_quotes}
 use Rattle.cedar_syntax.specs.Trees.{Cell, member_of}
-use Rattle.cedar_policy_parser.specs.Conversion.{outcome, accesses_given}
+use Rattle.cedar_policy_parser.specs.Conversion.{outcome, accesses_outcome}
 use Rattle.cedar_policy_parser.specs.Extensions.{Extensions}
 use Rattle.cedar_policy_parser.specs.HasSide.{Attributes, right_side, attributes_of, behind_first, fields_of, field_of, field_form}
-use Rattle.cedar_policy_parser.specs.Held.{Held, bare_string, as_entity_type, as_pattern, as_string, as_attribute, type_named}
+use Rattle.cedar_policy_parser.specs.Held.{Held, bare_string, as_entity_type, as_pattern, as_string, as_attribute, type_of_name}
 use Rattle.cedar_policy_parser.specs.Members.{member_outcome}
 use Rattle.cedar_policy_parser.specs.Names.{unreserved_ident}
 use Rattle.cedar_policy_parser.specs.Outcome.{Outcome, next}
 use Rattle.cedar_policy_parser.specs.StrictWords as m
-use Rattle.cedar_policy_parser.specs.StrictWords.{IsIdentifier, IsName, IsText, IsKey, IsSought, AreAttributes, name_of}
+use Rattle.cedar_policy_parser.specs.StrictWords.{IsIdentifier, IsName, IsText, IsKey, IsSought, AreAttributes, path_value}
 use Rattle.cedar_policy_parser.proofs.Inverted.{ok_is, next_ok}
 use Rattle.cedar_policy_parser.proofs.Loops.{map_snoc}
 use Rattle.cedar_policy_parser.proofs.Made.{gives_member, gives_named, gives_literally}
@@ -60,7 +60,7 @@ by_itself e p (Ok h) = refl
 by_itself e p (Err fs) = refl
 
 pub alone_gives : (e : Extensions) (src : List ℕ) (ts : List Lexeme) (p : Option Loc) (x : Primary) → outcome e (at p (member_form (member_of (placed src ts x) []))) ≡ outcome e (located primary_form (placed src ts x))
-unfolding accesses_given
+unfolding accesses_outcome
 alone_gives e src ts p x =
     gives_member e p (placed src ts x) []
     ∙ two_given (outcome e (located primary_form (placed src ts x))) (Ok []) [] (λ h zs. member_outcome e p h zs) refl
@@ -95,10 +95,10 @@ text_wanted : {X : Type 0} (e : Extensions) (src : List ℕ) (ts : List Lexeme) 
 text_wanted e src ts text wanted y t q h = ap (λ o. next o wanted) (gives_literally e q (placed src ts t.tree) ∙ t.gives (placed src ts t.tree).loc) ∙ h
 
 -- the name of a type
-pub type_read : (e : Extensions) (src : List ℕ) {ts : List Lexeme} {ids : List (List ℕ)} {id : List ℕ} → IsName ts ids id → AddAs e src ts as_entity_type (type_named (name_of ids id))
+pub type_read : (e : Extensions) (src : List ℕ) {ts : List Lexeme} {ids : List (List ℕ)} {id : List ℕ} → IsName ts ids id → AddAs e src ts as_entity_type (type_of_name (path_value ids id))
 type_read e src {ts = ts} {ids = ids} {id = id} i =
     let n = name_read src i in
-    primary_add e src ts as_entity_type (type_named (name_of ids id)) (primary.Name (placed src ts n.tree)) (l.named n.reads) (λ q. name_wanted e src ts ids id as_entity_type (type_named (name_of ids id)) n q (λ h k. name_type ts q ids id h k))
+    primary_add e src ts as_entity_type (type_of_name (path_value ids id)) (primary.Name (placed src ts n.tree)) (l.named n.reads) (λ q. name_wanted e src ts ids id as_entity_type (type_of_name (path_value ids id)) n q (λ h k. name_type ts q ids id h k))
 
 -- a pattern
 pub pattern_read : (e : Extensions) (src : List ℕ) (p : Spot) (pattern : List PatternElem) → IsPattern (between_quotes p.text) pattern → AddAs e src (one kind.StringLit p) as_pattern pattern

@@ -14,7 +14,7 @@ use Rattle.cedar_syntax.specs.LooseExpressions.{ReadsExpr, ReadsMember, ReadsPri
 use Rattle.cedar_syntax.specs.Place.{placed}
 use Rattle.cedar_syntax.specs.Tokens.{Spot, one}
 use Rattle.cedar_syntax.specs.Trees.{add_of, and_of, common_of, member_of, mult_of, or_of, unary_of}
-use Rattle.cedar_policy_parser.specs.Conversion.{made, outcome, place_of, value_outcome}
+use Rattle.cedar_policy_parser.specs.Conversion.{expression_at, outcome, tree_place, value_outcome}
 use Rattle.cedar_policy_parser.specs.Extensions.{Extensions}
 use Rattle.cedar_policy_parser.specs.Held.{as_expression}
 use Rattle.cedar_policy_parser.specs.Outcome.{Outcome, next}
@@ -62,7 +62,7 @@ alone_as e src ts wanted x y r found h plain = record {
   plain = λ p. ap (λ o. is_made_by_is (next o as_expression)) (tree_given e src ts y p) ∙ plain;
 }
 
-inner_plain : (p : Option Loc) (o : Outcome Value) → is_made_by_is o ≡ false → is_made_by_is (next (next o (made p)) as_expression) ≡ false
+inner_plain : (p : Option Loc) (o : Outcome Value) → is_made_by_is o ≡ false → is_made_by_is (next (next o (expression_at p)) as_expression) ≡ false
 inner_plain p (Ok x) h = h
 inner_plain p (Err fs) h = refl
 
@@ -75,5 +75,5 @@ in_parentheses e src {ts = ts} wanted x a b d =
       reads = expr_reads src all (member_of (placed src all y) []) (alone_reads src all y (l.paren a b d.reads));
       gives = λ p. ap (λ o. next o wanted) (lone_tree src all y p ∙ lones.lone_paren (placed src all y).loc (placed src ts d.tree)) ∙ d.gives (placed src ts d.tree).loc;
       plain = λ p. ap (λ o. is_made_by_is (next o as_expression)) (tree_given e src all y p ∙ gives_paren e (placed src all y).loc (placed src ts d.tree))
-          ∙ inner_plain (place_of (located expr_form (placed src ts d.tree))) (value_outcome e (located expr_form (placed src ts d.tree))) (d.plain (placed src ts d.tree).loc);
+          ∙ inner_plain (tree_place (located expr_form (placed src ts d.tree))) (value_outcome e (located expr_form (placed src ts d.tree))) (d.plain (placed src ts d.tree).loc);
     }

@@ -17,14 +17,14 @@ use Rattle.cedar_syntax.specs.LooseExpressions.{ReadsMember, ReadsAccess}
 use Rattle.cedar_syntax.specs.Place.{placed}
 use Rattle.cedar_syntax.specs.Tokens.{Spot, one}
 use Rattle.cedar_syntax.specs.Trees.{Cell, member_of}
-use Rattle.cedar_policy_parser.specs.Conversion.{Converts, Part, outcome, operands, accesses_given, access_outcome, bodies}
+use Rattle.cedar_policy_parser.specs.Conversion.{Converts, Part, outcome, operands, accesses_outcome, access_outcome, bodies}
 use Rattle.cedar_policy_parser.specs.Extensions.{Extensions}
 use Rattle.cedar_policy_parser.specs.Held.{Held, expression, bare_name, as_expression}
 use Rattle.cedar_policy_parser.specs.Members.{Access, field, call, index, accesses_of, member_outcome, method_outcome, function_outcome}
 use Rattle.cedar_policy_parser.specs.Names.{unreserved_ident}
 use Rattle.cedar_policy_parser.specs.Outcome.{Outcome, next}
 use Rattle.cedar_policy_parser.specs.StrictCalls.{CallsMethod, IsFunction}
-use Rattle.cedar_policy_parser.specs.StrictWords.{IsIdentifier, IsName, IsText, IsVariableWord, name_of}
+use Rattle.cedar_policy_parser.specs.StrictWords.{IsIdentifier, IsName, IsText, IsVariableWord, path_value}
 use Rattle.cedar_policy_parser.proofs.Inverted.{value_from}
 use Rattle.cedar_policy_parser.proofs.Loops.{map_snoc}
 use Rattle.cedar_policy_parser.proofs.Made.{gives_member, gives_field, gives_call, gives_index, gives_named}
@@ -49,7 +49,7 @@ tree_reads {src = src} {ts = ts} h = read_at src ts (h.first_tokens ++ h.other_t
 pub tree_gives : {e : Extensions} {src : List ℕ} {ts : List Lexeme} {a : Value} (h : MemberRead e src ts a) (p : Option Loc) → Converts e (at p (member_form (tree_of h))) a
 tree_gives {e = e} {src = src} h p =
     let x = placed src h.first_tokens h.first in
-    value_from _ _ _ (gives_member e p x h.others ∙ two_given (outcome e (located primary_form x)) (accesses_given e (parts_of (map listed_access h.others))) h.links (λ s zs. member_outcome e p s zs) h.given) (h.gives p x.loc)
+    value_from _ _ _ (gives_member e p x h.others ∙ two_given (outcome e (located primary_form x)) (accesses_outcome e (parts_of (map listed_access h.others))) h.links (λ s zs. member_outcome e p s zs) h.given) (h.gives p x.loc)
 
 -- the same for other words of the tokens
 pub member_at : {e : Extensions} {src : List ℕ} {a : Value} (ts us : List Lexeme) → ts ≡ us → MemberRead e src us a → MemberRead e src ts a
@@ -58,7 +58,7 @@ member_at ts us h r = rw h r
 -- ---- a primary alone
 
 pub member_alone : {e : Extensions} {src : List ℕ} {ts : List Lexeme} {a : Value} → PrimaryRead e src ts a → MemberRead e src ts a
-unfolding accesses_given
+unfolding accesses_outcome
 member_alone {e = e} {ts = ts} h = record {
   first_tokens = ts;
   other_tokens = [];
@@ -108,9 +108,9 @@ call_read e src {args = args} i o list = record {
 
 -- ---- one more access
 
-one_more : (e : Extensions) (src : List ℕ) (xs : List (Cell MemAccess)) (us : List Lexeme) (x : MemAccess) (zs : List Access) (w : Access) → accesses_given e (parts_of (map listed_access xs)) ≡ Ok zs → access_outcome e (located access_form (placed src us x)) ≡ Ok w
-    → accesses_given e (parts_of (map listed_access (xs ++ placed src us x ∷ []))) ≡ Ok (zs ++ w ∷ [])
-one_more e src xs us x zs w h k = ap (λ ys. accesses_given e (parts_of ys)) (map_snoc listed_access xs (placed src us x)) ∙ accesses_more e (map listed_access xs) (listed_access (placed src us x)) zs w h k
+one_more : (e : Extensions) (src : List ℕ) (xs : List (Cell MemAccess)) (us : List Lexeme) (x : MemAccess) (zs : List Access) (w : Access) → accesses_outcome e (parts_of (map listed_access xs)) ≡ Ok zs → access_outcome e (located access_form (placed src us x)) ≡ Ok w
+    → accesses_outcome e (parts_of (map listed_access (xs ++ placed src us x ∷ []))) ≡ Ok (zs ++ w ∷ [])
+one_more e src xs us x zs w h k = ap (λ ys. accesses_outcome e (parts_of ys)) (map_snoc listed_access xs (placed src us x)) ∙ accesses_more e (map listed_access xs) (listed_access (placed src us x)) zs w h k
 
 linked : {e : Extensions} {src : List ℕ} (ts us : List Lexeme) (a b : Value) (w : Access) → NoCall (w ∷ []) → ((p : Option Loc) → accesses_of e p a (w ∷ []) ≡ Ok (expression p b)) → MemberRead e src ts a → AccessRead e src us w → MemberRead e src (ts ++ us) b
 linked {e = e} {src = src} ts us a b w no_call f h r = record {
@@ -162,13 +162,13 @@ method_read {e = e} {src = src} {ts = ts} {us = us} {vs = vs} {a = a} {b = b} {i
 
 -- ---- a function's name and its arguments
 
-name_value : (e : Extensions) (p q : Option Loc) (ids : List (List ℕ)) (id : List ℕ) (args : List Value) (o : Outcome Held) (h : Held) (b : Value) → o ≡ Ok h → h ≡ bare_name q (name_of ids id) → function_outcome e p (name_of ids id) args ≡ Ok b
+name_value : (e : Extensions) (p q : Option Loc) (ids : List (List ℕ)) (id : List ℕ) (args : List Value) (o : Outcome Held) (h : Held) (b : Value) → o ≡ Ok h → h ≡ bare_name q (path_value ids id) → function_outcome e p (path_value ids id) args ≡ Ok b
     → next (next o (λ s. member_outcome e p s (call args ∷ []))) as_expression ≡ Ok b
 name_value e p q ids id args o h b f g k = rw (f, g, k) refl
 
 call_alone : {e : Extensions} {src : List ℕ} (ts vs : List Lexeme) (ids : List (List ℕ)) (id : List ℕ) (args : List Value) → IsFunction e ids id → (IsVariableWord ts → ⊥) → NameRead src ts ids id → AccessRead e src vs (call args)
-    → MemberRead e src (ts ++ vs) (v.call_extension_fn (name_of ids id) (values args))
-unfolding accesses_given
+    → MemberRead e src (ts ++ vs) (v.call_extension_fn (path_value ids id) (values args))
+unfolding accesses_outcome
 call_alone {e = e} {src = src} ts vs ids id args f other n r = record {
   first_tokens = ts;
   other_tokens = vs;
@@ -181,11 +181,11 @@ call_alone {e = e} {src = src} ts vs ids id args f other n r = record {
   given = one_more e src [] vs r.tree [] (call args) refl (r.gives (placed src vs r.tree).loc);
   gives = λ p q.
       let d = n.gives q in
-      name_value e p q ids id args (outcome e (at q (primary_form (primary.Name (placed src ts n.tree))))) d.0 (v.call_extension_fn (name_of ids id) (values args))
+      name_value e p q ids id args (outcome e (at q (primary_form (primary.Name (placed src ts n.tree))))) d.0 (v.call_extension_fn (path_value ids id) (values args))
       (gives_named e q (placed src ts n.tree) ∙ d.1) (name_only ts q ids id d.0 d.2 other) (function_given e p ids id args f);
 }
 
 pub called_read : {e : Extensions} {src : List ℕ} {ts us : List Lexeme} {ids : List (List ℕ)} {id : List ℕ} {args : List Value} (i o : Spot) → IsName ts ids id → (IsVariableWord ts → ⊥) → IsFunction e ids id → ListRead e src us args
-    → MemberRead e src (ts ++ one kind.OpenParen i ++ us ++ one kind.CloseParen o) (v.call_extension_fn (name_of ids id) (values args))
+    → MemberRead e src (ts ++ one kind.OpenParen i ++ us ++ one kind.CloseParen o) (v.call_extension_fn (path_value ids id) (values args))
 called_read {e = e} {src = src} {ts = ts} {us = us} {ids = ids} {id = id} {args = args} i o n other f list =
     member_at _ _ (bracketed ts (one kind.OpenParen i) us (one kind.CloseParen o)) (call_alone ts (one kind.OpenParen i ++ us ++ one kind.CloseParen o) ids id args f other (name_read src n) (call_read e src i o list))

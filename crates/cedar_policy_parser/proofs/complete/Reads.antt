@@ -19,7 +19,7 @@ use Rattle.cedar_syntax.specs.Located.{at}
 use Rattle.cedar_syntax.specs.Tree.{Operator, add, beside}
 use Rattle.cedar_syntax.specs.LooseExpressions.{ReadsExpr, ReadsOr, ReadsAnd, ReadsRelation, ReadsAdd, ReadsMult, ReadsUnary, ReadsAccesses, ReadsPrimary, ReadsExprItems, ReadsExprs, ReadsRecInit, ReadsInitItems, ReadsRecInits}
 use Rattle.cedar_syntax.specs.Trees.{Cell}
-use Rattle.cedar_policy_parser.specs.Conversion.{Part, Converts, outcome, operands, accesses_given, pair_outcome, pairs_given, bodies, added}
+use Rattle.cedar_policy_parser.specs.Conversion.{Part, Converts, outcome, operands, accesses_outcome, pair_outcome, pairs_outcome, bodies, sum_terms}
 use Rattle.cedar_policy_parser.specs.Extensions.{Extensions}
 use Rattle.cedar_policy_parser.specs.HasSide.{Attributes, right_side}
 use Rattle.cedar_policy_parser.specs.Held.{Held, as_expression}
@@ -86,7 +86,7 @@ pub record MemberRead (e : Extensions) (src : List ℕ) (ts : List Lexeme) (w : 
   pub reads_first : ReadsPrimary src first_tokens first
   pub reads_others : ReadsAccesses src other_tokens others
   pub links : List Access
-  pub given : accesses_given e (parts_of (map listed_access others)) ≡ Ok links
+  pub given : accesses_outcome e (parts_of (map listed_access others)) ≡ Ok links
   pub gives : (p q : Option Loc) → next (next (outcome e (at q (primary_form first))) (λ h. member_outcome e p h links)) as_expression ≡ Ok w
 
 pub record PrimaryRead (e : Extensions) (src : List ℕ) (ts : List Lexeme) (w : Value) : Type 0 where
@@ -116,7 +116,7 @@ pub bodies-under : (op : Operator) (bs : List Value) → bodies (under op bs) �
 bodies-under op [] = refl
 bodies-under op (b ∷ bs) = ap (λ xs. b ∷ xs) (bodies-under op bs)
 
-pub added-summed : (bs : List (AddOp × Value)) → added (summed bs) ≡ bs
+pub added-summed : (bs : List (AddOp × Value)) → sum_terms (summed bs) ≡ bs
 added-summed [] = refl
 added-summed (b ∷ bs) = ap (λ xs. (b.0, b.1) ∷ xs) (added-summed bs)
 
@@ -140,9 +140,9 @@ pub record EntryRead (e : Extensions) (src : List ℕ) (ts : List Lexeme) (f : L
 pub record PairsRead (e : Extensions) (src : List ℕ) (ts : List Lexeme) (fs : List (List ℕ × Value)) : Type 0 where
   pub cells : List (Cell RecInit)
   pub reads : ReadsInitItems src ts cells
-  pub give : pairs_given e (parts_of (map listed_init cells)) ≡ Ok fs
+  pub give : pairs_outcome e (parts_of (map listed_init cells)) ≡ Ok fs
 
 pub record EntriesRead (e : Extensions) (src : List ℕ) (ts : List Lexeme) (fs : List (List ℕ × Value)) : Type 0 where
   pub cells : List (Cell RecInit)
   pub reads : ReadsRecInits src ts cells
-  pub give : pairs_given e (parts_of (map listed_init cells)) ≡ Ok fs
+  pub give : pairs_outcome e (parts_of (map listed_init cells)) ≡ Ok fs

@@ -32,16 +32,17 @@ use Rattle.cedar_syntax.specs.Trees.{Cell}
 use Rattle.cedar_policy_parser.specs.declared.to_ref_or_refs.OneOrMultipleRefs.{OneOrMultipleRefs}
 use Rattle.cedar_policy_parser.specs.declared.to_ref_or_refs.OneOrMultipleRefs.TheVariants as refs
 use Rattle.cedar_policy_parser.specs.declared.to_ref_or_refs.SingleEntity.{SingleEntity}
-use Rattle.cedar_policy_parser.specs.Conversion.{Part, operands, outcome, set_of}
+use Rattle.cedar_policy_parser.specs.Conversion.{Part, operands, outcome, set_value_outcome}
 use Rattle.cedar_policy_parser.specs.Entities.{entity_outcome}
 use Rattle.cedar_policy_parser.specs.Extensions.{Extensions}
 use Rattle.cedar_policy_parser.specs.Held.{as_expression, expression}
 use Rattle.cedar_policy_parser.specs.Outcome.{Outcome, both, next}
-use Rattle.cedar_policy_parser.specs.References.{RefKind, entities, entity_at, entity_form, entity_or_slot, lone, lone_form, lone_entity, mark_of, one_or_multiple, referred_at, referred_form, single_entity}
+use Rattle.cedar_policy_parser.specs.References.{RefKind, entities, entity_at, entity_form, entity_or_slot, lone, lone_form, lone_entity, one_or_multiple, referent_at, referred_form, single_entity}
+use Rattle.cedar_policy_parser.specs.Places.{place_mark}
 use Rattle.cedar_policy_parser.specs.Scope.{is_made_by_is}
 use Rattle.cedar_policy_parser.specs.Seen.{item_more}
 use Rattle.cedar_policy_parser.specs.StrictScope as m
-use Rattle.cedar_policy_parser.specs.StrictScope.{AreActions, AreEntities, IsEntityAlone, IsListed, IsReference}
+use Rattle.cedar_policy_parser.specs.StrictScope.{AreActions, AreEntities, IsEntityAlone, IsEntityList, IsReference}
 use Rattle.cedar_policy_parser.specs.StrictWords.{IsEntity}
 use Rattle.cedar_policy_parser.proofs.Inverted.{ok_is}
 use Rattle.cedar_policy_parser.proofs.Loops.{map_snoc}
@@ -66,7 +67,7 @@ list_alone : (p : Option Loc) (xs : List (Cell Expr)) → lone (at p (primary_fo
 unfolding lone_form
 list_alone p xs = made.lone_at p _ _ (primary_list xs) ∙ ap (λ t. Ok (at p t)) (sym (primary_list xs))
 
-referred_form_at : {T : Type 0} (k : RefKind T) (x : Var) (p : Option Loc) (t u : Form) → t ≡ u → referred_at k x (at p t) ≡ referred_form k x p u
+referred_form_at : {T : Type 0} (k : RefKind T) (x : Var) (p : Option Loc) (t u : Form) → t ≡ u → referent_at k x (at p t) ≡ referred_form k x p u
 referred_form_at k x p t u h = ap (referred_form k x p) h
 
 entity_form_at : (p : Option Loc) (t u : Form) → t ≡ u → entity_at (at p t) ≡ entity_form p u
@@ -77,7 +78,7 @@ entity_form_at p t u h = ap (entity_form p) h
 entity_plain : (e : Extensions) (p : Option Loc) (y : Cell Ref) (uid : EntityUID) → entity_outcome y ≡ Ok uid → is_made_by_is (next (outcome e (at p (primary_form (P.Ref y)))) as_expression) ≡ false
 entity_plain e p y uid h = ap (λ o. is_made_by_is (next o as_expression)) (gives_referred e p y ∙ ap (λ o. next o (λ u. Ok (expression y.loc (v.val (literals.EntityUID u))))) h)
 
-listed_plain : (p : Option Loc) (o : Outcome (List Part)) → is_made_by_is (next (next o (set_of p)) as_expression) ≡ false
+listed_plain : (p : Option Loc) (o : Outcome (List Part)) → is_made_by_is (next (next o (set_value_outcome p)) as_expression) ≡ false
 listed_plain p (Ok ps) = refl
 listed_plain p (Err fs) = refl
 
@@ -87,12 +88,12 @@ set_plain e p xs = ap (λ o. is_made_by_is (next o as_expression)) (gives_set e 
 -- ---- an entity
 
 -- an entity where a kind of reference is wanted
-entity_as : {T : Type 0} (e : Extensions) (k : RefKind T) (x : Var) (src : List ℕ) {ts : List Lexeme} {uid : EntityUID} → IsEntity ts uid → LoneAs e src ts (referred_at k x) (k.single uid)
+entity_as : {T : Type 0} (e : Extensions) (k : RefKind T) (x : Var) (src : List ℕ) {ts : List Lexeme} {uid : EntityUID} → IsEntity ts uid → LoneAs e src ts (referent_at k x) (k.single uid)
 entity_as e k x src {ts = ts} {uid = uid} i =
     let d = entity_read src i in
     let y = placed src ts d.tree in
     let made_of : entity_outcome y ≡ Ok uid = d.gives y.loc in
-    alone_as e src ts (referred_at k x) (k.single uid) (P.Ref y) (l.referred d.reads) (ref_alone _ y)
+    alone_as e src ts (referent_at k x) (k.single uid) (P.Ref y) (l.referred d.reads) (ref_alone _ y)
     (referred_form_at k x _ _ _ (primary_ref y) ∙ ap (λ o. next o (λ u. Ok (k.single u))) made_of) (entity_plain e _ y uid made_of)
 
 entity_alone_as : (e : Extensions) (src : List ℕ) {ts : List Lexeme} {uid : EntityUID} → IsEntity ts uid → LoneAs e src ts entity_at uid
@@ -105,32 +106,32 @@ pub lone_entity_read : (e : Extensions) (src : List ℕ) {ts : List Lexeme} {uid
 lone_entity_read e src (m.bare_entity i) = entity_alone_as e src i
 lone_entity_read e src (m.entity_in_parentheses {uid = uid} a b i) = in_parentheses e src entity_at uid a b (lone_entity_read e src i)
 
-pub single_read : (e : Extensions) (src : List ℕ) {ts : List Lexeme} {uid : EntityUID} (x : Var) → IsEntityAlone ts uid → LoneAs e src ts (referred_at single_entity x) (single_entity.single uid)
+pub single_read : (e : Extensions) (src : List ℕ) {ts : List Lexeme} {uid : EntityUID} (x : Var) → IsEntityAlone ts uid → LoneAs e src ts (referent_at single_entity x) (single_entity.single uid)
 single_read e src x (m.bare_entity i) = entity_as e single_entity x src i
-single_read e src x (m.entity_in_parentheses {uid = uid} a b i) = in_parentheses e src (referred_at single_entity x) (single_entity.single uid) a b (single_read e src x i)
+single_read e src x (m.entity_in_parentheses {uid = uid} a b i) = in_parentheses e src (referent_at single_entity x) (single_entity.single uid) a b (single_read e src x i)
 
 -- ---- an entity or the variable's slot
 
 -- a reference is one with a place for a slot
 pub record ReferenceRead (e : Extensions) (x : Var) (src : List ℕ) (ts : List Lexeme) (r : Reference) : Type 0 where
   pub placed_reference : EntityReference
-  pub same : free.referred placed_reference ≡ r
-  pub read : LoneAs e src ts (referred_at entity_or_slot x) placed_reference
+  pub same : free.reference_meaning placed_reference ≡ r
+  pub read : LoneAs e src ts (referent_at entity_or_slot x) placed_reference
 
 slot_read : {x : Var} {k : TokenKind} (e : Extensions) (src : List ℕ) (p : Spot) → SlotOf x k → ReferenceRead e x src (one k p) free.own_slot
 slot_read e src p principal =
     let y = placed src (one kind.PrincipalSlot p) slot.Principal in
     record {
-      placed_reference = reference.Slot (mark_of (placed src (one kind.PrincipalSlot p) (P.Slot y)).loc);
+      placed_reference = reference.Slot (place_mark (placed src (one kind.PrincipalSlot p) (P.Slot y)).loc);
       same = refl;
-      read = alone_as e src (one kind.PrincipalSlot p) (referred_at entity_or_slot vars.Principal) _ (P.Slot y) (l.slotted p l.principal_slot) (slot_alone _ y) (referred_form_at entity_or_slot vars.Principal _ _ _ (primary_slot y)) (ap (λ o. is_made_by_is (next o as_expression)) (gives_slot e _ y));
+      read = alone_as e src (one kind.PrincipalSlot p) (referent_at entity_or_slot vars.Principal) _ (P.Slot y) (l.slotted p l.principal_slot) (slot_alone _ y) (referred_form_at entity_or_slot vars.Principal _ _ _ (primary_slot y)) (ap (λ o. is_made_by_is (next o as_expression)) (gives_slot e _ y));
     }
 slot_read e src p resource =
     let y = placed src (one kind.ResourceSlot p) slot.Resource in
     record {
-      placed_reference = reference.Slot (mark_of (placed src (one kind.ResourceSlot p) (P.Slot y)).loc);
+      placed_reference = reference.Slot (place_mark (placed src (one kind.ResourceSlot p) (P.Slot y)).loc);
       same = refl;
-      read = alone_as e src (one kind.ResourceSlot p) (referred_at entity_or_slot vars.Resource) _ (P.Slot y) (l.slotted p l.resource_slot) (slot_alone _ y) (referred_form_at entity_or_slot vars.Resource _ _ _ (primary_slot y)) (ap (λ o. is_made_by_is (next o as_expression)) (gives_slot e _ y));
+      read = alone_as e src (one kind.ResourceSlot p) (referent_at entity_or_slot vars.Resource) _ (P.Slot y) (l.slotted p l.resource_slot) (slot_alone _ y) (referred_form_at entity_or_slot vars.Resource _ _ _ (primary_slot y)) (ap (λ o. is_made_by_is (next o as_expression)) (gives_slot e _ y));
     }
 
 pub reference_read : {x : Var} {k : TokenKind} (e : Extensions) (src : List ℕ) {ts : List Lexeme} {r : Reference} → SlotOf x k → IsReference k ts r → ReferenceRead e x src ts r
@@ -138,7 +139,7 @@ reference_read {x = x} e src s (m.to_entity {uid = uid} i) = record { placed_ref
 reference_read e src s (m.to_slot p) = slot_read e src p s
 reference_read {x = x} e src s (m.in_parentheses a b i) =
     let d = reference_read e src s i in
-    record { placed_reference = d.placed_reference; same = d.same; read = in_parentheses e src (referred_at entity_or_slot x) d.placed_reference a b d.read }
+    record { placed_reference = d.placed_reference; same = d.same; read = in_parentheses e src (referent_at entity_or_slot x) d.placed_reference a b d.read }
 
 -- ---- entities of a set
 
@@ -174,7 +175,7 @@ items_read e src (m.more_entities {us = us} {uids = uids} {uid = uid} p es i) =
           ∙ more_given (entities (parts_of (map listed_expr c.cells))) (lone_entity (located expr_form y)) uids uid c.give (d.gives y.loc);
     }
 
-list_read : (e : Extensions) (src : List ℕ) {ts : List Lexeme} {uids : List EntityUID} → IsListed ts uids → ListRead src ts uids
+list_read : (e : Extensions) (src : List ℕ) {ts : List Lexeme} {uids : List EntityUID} → IsEntityList ts uids → ListRead src ts uids
 list_read e src m.no_entities = record { cells = []; reads = l.no_expr; give = refl }
 list_read e src (m.listed es) = let c = items_read e src es in record { cells = c.cells; reads = l.exprs c.reads; give = c.give }
 list_read e src (m.listed_comma p es) = let c = items_read e src es in record { cells = c.cells; reads = l.exprs_comma p c.reads; give = c.give }
@@ -184,7 +185,7 @@ list_read e src (m.listed_comma p es) = let c = items_read e src es in record { 
 pub record ActionsRead (e : Extensions) (x : Var) (src : List ℕ) (ts : List Lexeme) (uids : List EntityUID) : Type 0 where
   pub all : OneOrMultipleRefs
   pub same : uids_of all ≡ uids
-  pub read : LoneAs e src ts (referred_at one_or_multiple x) all
+  pub read : LoneAs e src ts (referent_at one_or_multiple x) all
 
 set_given : (p : Option Loc) (o : Outcome (List EntityUID)) (uids : List EntityUID) → o ≡ Ok uids → next o (λ all. Ok (refs.Multiple all)) ≡ Ok (refs.Multiple uids)
 set_given p o uids h = rw h refl
@@ -198,9 +199,9 @@ actions_read e x src (m.action_set {ts = ts} {uids = uids} a b es) =
     record {
       all = refs.Multiple uids;
       same = refl;
-      read = alone_as e src all (referred_at one_or_multiple x) (refs.Multiple uids) (P.EList c.cells) (l.set a b c.reads) (list_alone place c.cells)
+      read = alone_as e src all (referent_at one_or_multiple x) (refs.Multiple uids) (P.EList c.cells) (l.set a b c.reads) (list_alone place c.cells)
           (referred_form_at one_or_multiple x place _ _ (primary_list c.cells) ∙ set_given place (entities (parts_of (map listed_expr c.cells))) uids c.give) (set_plain e place c.cells);
     }
 actions_read e x src (m.actions_in_parentheses a b es) =
     let d = actions_read e x src es in
-    record { all = d.all; same = d.same; read = in_parentheses e src (referred_at one_or_multiple x) d.all a b d.read }
+    record { all = d.all; same = d.same; read = in_parentheses e src (referent_at one_or_multiple x) d.all a b d.read }

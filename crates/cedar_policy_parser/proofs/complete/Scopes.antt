@@ -5,7 +5,7 @@ use Rattle.cedar_lexer.specs.declared.token.TokenKind.TheVariants as kind
 use Rattle.cedar_expressions.specs.declared.literal.Var.TheVariants as vars
 use Rattle.cedar_policy_store.specs.declared.constraints.ActionConstraint.{ActionConstraint}
 use Rattle.cedar_policy_store.specs.declared.constraints.PrincipalOrResourceConstraint.{PrincipalOrResourceConstraint}
-use Rattle.cedar_policy_store.specs.PlaceFree.{Constraint, constrained}
+use Rattle.cedar_policy_store.specs.PlaceFree.{Constraint, constraint_meaning}
 use Rattle.cedar_syntax.specs.declared.loc.Loc.{Loc}
 use Rattle.cedar_syntax.specs.declared.cst.VariableDef.{VariableDef}
 use Rattle.cedar_syntax.specs.LoosePolicies.{ReadsVariableDef}
@@ -27,9 +27,9 @@ pub record ScopeRead (e : Extensions) (src : List ℕ) (ts : List Lexeme) (p : C
   pub reads : ReadsList src (ReadsVariableDef src) ts cells
   pub scope : Scope
   pub gives : (before : Option Loc) → s.elements_outcome e before cells ≡ Ok scope
-  pub same_principal : constrained scope.0.constraint ≡ p
+  pub same_principal : constraint_meaning scope.0.constraint ≡ p
   pub same_action : scope.1 ≡ a
-  pub same_resource : constrained scope.2.constraint ≡ r
+  pub same_resource : constraint_meaning scope.2.constraint ≡ r
 
 scope_as : {e : Extensions} {src : List ℕ} {ts us : List Lexeme} {p r : Constraint} {a : ActionConstraint} → ts ≡ us → ScopeRead e src ts p a r → ScopeRead e src us p a r
 scope_as h d = rw (← h) d

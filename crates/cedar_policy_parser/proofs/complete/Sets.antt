@@ -22,13 +22,13 @@ use Rattle.cedar_syntax.specs.LooseWords.{ReadsAny}
 use Rattle.cedar_syntax.specs.Place.{placed}
 use Rattle.cedar_syntax.specs.Tokens.{Spot, one}
 use Rattle.cedar_syntax.specs.Trees.{Cell, policies_of, policy_of}
-use Rattle.cedar_policy_parser.specs.AnnotationKeys.{Annotated, annotation_map, annotations_outcome}
-use Rattle.cedar_policy_parser.specs.Conditions.{Found, conditions_outcome, paired}
+use Rattle.cedar_policy_parser.specs.AnnotationKeys.{AnnotationContent, annotation_map, annotations_outcome}
+use Rattle.cedar_policy_parser.specs.Conditions.{conditions_outcome}
 use Rattle.cedar_policy_parser.specs.Extensions.{Extensions}
 use Rattle.cedar_policy_parser.specs.Outcome.{Outcome, both, next}
 use Rattle.cedar_policy_parser.specs.Policies as k
-use Rattle.cedar_policy_parser.specs.Policies.{Parts}
-use Rattle.cedar_policy_parser.specs.PolicyMeaning.{condition_meant, no_policies, policy_id, with_policy}
+use Rattle.cedar_policy_parser.specs.Policies.{TemplateParts}
+use Rattle.cedar_policy_parser.specs.PolicyMeaning.{joint_condition, no_policies, policy_id, with_policy}
 use Rattle.cedar_policy_parser.specs.Scope.{elements_outcome}
 use Rattle.cedar_policy_parser.specs.Seen.{item_more}
 use Rattle.cedar_policy_parser.specs.StrictPolicy as m
@@ -38,7 +38,6 @@ use Rattle.cedar_policy_parser.proofs.complete.Annotated.{annotations_read}
 use Rattle.cedar_policy_parser.proofs.complete.Clauses.{conditions_read}
 use Rattle.cedar_policy_parser.proofs.complete.Scopes.{scope_read}
 use Rattle.cedar_policy_parser.proofs.sound.Annotated.{kept_by_key, texts}
-use Rattle.cedar_policy_parser.proofs.sound.Clauses.{paired_snoc}
 use Rattle.cedar_policy_parser.proofs.sound.Sets.{folded_meanings, meant_length, given_many, numbered_snoc, value_of, zero-plus}
 
 -- ---- a policy
@@ -56,21 +55,21 @@ effect_read p m.forbid = record { word = ident.Forbid; reads = lw.any p refl; gi
 pub record PolicyRead (e : Extensions) (src : List ℕ) (id : List ℕ) (ts : List Lexeme) (x : free.Policy) : Type 0 where
   pub tree : Policy
   pub reads : ReadsPolicy src ts tree
-  pub parts : Parts
-  pub gives : (found : List Found) → k.template_outcome e found id (placed src ts tree) ≡ Ok parts
+  pub parts : TemplateParts
+  pub gives : k.template_outcome e id (placed src ts tree) ≡ Ok parts
   pub same : k.meaning_of parts ≡ x
 
 four_given : {A B C D X : Type 0} (o : Outcome A) (q : Outcome B) (r : Outcome C) (s : Outcome D) (f : (A × B) × (C × D) → X) (a : A) (b : B) (c : C) (d : D) → o ≡ Ok a → q ≡ Ok b → r ≡ Ok c → s ≡ Ok d
     → next (both (both o q) (both r s)) (λ p. Ok (f p)) ≡ Ok (f ((a, b), (c, d)))
 four_given o q r s f a b c d h i j l = rw (h, i, j, l) refl
 
-notes_given : (o : Outcome (List Annotated)) (all : List Annotated) → o ≡ Ok all → next o (λ as2. Ok (annotation_map as2)) ≡ Ok (annotation_map all)
+notes_given : (o : Outcome (List AnnotationContent)) (all : List AnnotationContent) → o ≡ Ok all → next o (λ as2. Ok (annotation_map as2)) ≡ Ok (annotation_map all)
 notes_given o all h = rw h refl
 
 -- what parts mean, of what their places leave
-same_value : (id : List ℕ) (given : k.Given) (notes : List (List ℕ × List ℕ)) {p r : free.Constraint} {a : ActionConstraint} → free.constrained given.1.0.0.constraint ≡ p → given.1.0.1 ≡ a → free.constrained given.1.0.2.constraint ≡ r
-    → free.with_values free.annotated given.0.1 ≡ by_key notes
-    → value_of id given (free.with_values free.annotated given.0.1) ≡ record { id = id; annotations = by_key notes; effect = given.0.0; principal = p; action = a; resource = r; condition = condition_meant given.1.1 }
+same_value : (id : List ℕ) (given : k.Given) (notes : List (List ℕ × List ℕ)) {p r : free.Constraint} {a : ActionConstraint} → free.constraint_meaning given.1.0.0.constraint ≡ p → given.1.0.1 ≡ a → free.constraint_meaning given.1.0.2.constraint ≡ r
+    → free.with_values free.annotation_value given.0.1 ≡ by_key notes
+    → value_of id given (free.with_values free.annotation_value given.0.1) ≡ record { id = id; annotations = by_key notes; effect = given.0.0; principal = p; action = a; resource = r; condition = joint_condition given.1.1 }
 same_value id given notes h i j l = rw (h, i, j, l) refl
 
 pub policy_read : (e : Extensions) (src : List ℕ) (id : List ℕ) {ts : List Lexeme} {x : free.Policy} → IsPolicy e SIGN_LIMIT id ts x → PolicyRead e src id ts x
@@ -88,9 +87,8 @@ policy_read e src id (m.policy {ts = ts} {us = us} {vs = vs} {annotations = note
       tree = tree;
       reads = l.policy o c z n.reads w.reads y.reads q.reads;
       parts = k.given_parts id place given;
-      gives = λ found.
-          four_given (k.effect_outcome first) (k.kept_outcome n.cells) (elements_outcome e first.loc y.cells) (conditions_outcome e found q.cells) (k.given_parts id place) effect (annotation_map n.all) y.scope cs
-          (w.gives first.loc) (notes_given (annotations_outcome n.cells) n.all n.gives) (y.gives first.loc) (q.gives found);
+      gives = four_given (k.effect_outcome first) (k.kept_outcome n.cells) (elements_outcome e first.loc y.cells) (conditions_outcome e q.cells) (k.given_parts id place) effect (annotation_map n.all) y.scope cs
+          (w.gives first.loc) (notes_given (annotations_outcome n.cells) n.all n.gives) (y.gives first.loc) q.gives;
       same = same_value id given notes y.same_principal y.same_action y.same_resource (kept_by_key n.all ∙ ap by_key n.same);
     }
 
@@ -99,8 +97,8 @@ policy_read e src id (m.policy {ts = ts} {us = us} {vs = vs} {annotations = note
 pub record PoliciesRead (e : Extensions) (src : List ℕ) (ts : List Lexeme) (xs : List free.Policy) : Type 0 where
   pub cells : List (Cell Policy)
   pub reads : ReadsMany src (ReadsPolicy src) ts cells
-  pub all : List Parts
-  pub gives : (found : List (List Found)) → k.policies_from e 0 (paired found cells) ≡ Ok all
+  pub all : List TemplateParts
+  pub gives : k.policies_from e 0 cells ≡ Ok all
   pub same : map k.meaning_of all ≡ xs
 
 more_given : {X : Type 0} (o : Outcome (List X)) (x : Outcome X) (ys : List X) (y : X) → o ≡ Ok ys → x ≡ Ok y → item_more o x ≡ Ok (ys ++ y ∷ [])
@@ -110,30 +108,28 @@ last_same : (xs ys : List free.Policy) (a b : free.Policy) → xs ≡ ys → a �
 last_same xs ys a b h k = rw (h, k) refl
 
 policies_read : (e : Extensions) (src : List ℕ) {ts : List Lexeme} {xs : List free.Policy} → ArePolicies e SIGN_LIMIT ts xs → PoliciesRead e src ts xs
-policies_read e src m.no_policy = record { cells = []; reads = l.none; all = []; gives = λ found. refl; same = refl }
+policies_read e src m.no_policy = record { cells = []; reads = l.none; all = []; gives = refl; same = refl }
 policies_read e src (m.more_policies {us = us} {ps = xs} {p = x} i j) =
     let c = policies_read e src i in
     let d = policy_read e src (policy_id (length xs)) j in
     let n = placed src us d.tree in
-    let count : (found : List (List Found)) → 0 + length (paired found c.cells) ≡ length xs = λ found. zero-plus (length (paired found c.cells)) ∙ sym (meant_length c.all ∙ given_many e 0 (paired found c.cells) c.all (c.gives found)) ∙ ap length c.same in
+    let count : 0 + length c.cells ≡ length xs = zero-plus (length c.cells) ∙ sym (meant_length c.all ∙ given_many e 0 c.cells c.all c.gives) ∙ ap length c.same in
     record {
       cells = c.cells ++ n ∷ [];
       reads = l.more c.reads d.reads;
       all = c.all ++ d.parts ∷ [];
-      gives = λ found.
-          let f = paired_snoc found c.cells n in
-          ap (k.policies_from e 0) f.1 ∙ numbered_snoc e 0 (paired found c.cells) (f.0, n)
-          ∙ more_given (k.policies_from e 0 (paired found c.cells)) (k.template_outcome e f.0 (policy_id (0 + length (paired found c.cells))) n) c.all d.parts (c.gives found)
-          (ap (λ l. k.template_outcome e f.0 (policy_id l) n) (count found) ∙ d.gives f.0);
+      gives = numbered_snoc e 0 c.cells n
+          ∙ more_given (k.policies_from e 0 c.cells) (k.template_outcome e (policy_id (0 + length c.cells)) n) c.all d.parts c.gives
+          (ap (λ l. k.template_outcome e (policy_id l) n) count ∙ d.gives);
       same = map_snoc k.meaning_of c.all d.parts ∙ last_same (map k.meaning_of c.all) xs (k.meaning_of d.parts) x c.same d.same;
     }
 
 pub record SetRead (e : Extensions) (src : List ℕ) (ts : List Lexeme) (set : free.Policies) : Type 0 where
   pub tree : Policies
   pub reads : ReadsPolicies src ts tree
-  pub gives : (found : List (List Found)) → k.policies_outcome e found (placed src ts tree) ≡ Ok set
+  pub gives : k.policies_outcome e (placed src ts tree) ≡ Ok set
 
-set_given : (o : Outcome (List Parts)) (ps : List Parts) (set : free.Policies) → o ≡ Ok ps → k.set_of ps ≡ set → next o (λ ts. Ok (k.set_of ts)) ≡ Ok set
+set_given : (o : Outcome (List TemplateParts)) (ps : List TemplateParts) (set : free.Policies) → o ≡ Ok ps → k.set_of ps ≡ set → next o (λ ts. Ok (k.set_of ts)) ≡ Ok set
 set_given o ps set h k = rw h (ap Ok k)
 
 pub set_read : (e : Extensions) (src : List ℕ) {ts : List Lexeme} {set : free.Policies} → IsPolicySet e SIGN_LIMIT ts set → SetRead e src ts set
@@ -142,5 +138,5 @@ set_read e src (m.policy_set {ps = xs} i) =
     record {
       tree = policies_of c.cells;
       reads = l.policies c.reads;
-      gives = λ found. set_given (k.policies_from e 0 (paired found c.cells)) c.all (fold with_policy no_policies xs) (c.gives found) (folded_meanings no_policies c.all ∙ ap (fold with_policy no_policies) c.same);
+      gives = set_given (k.policies_from e 0 c.cells) c.all (fold with_policy no_policies xs) c.gives (folded_meanings no_policies c.all ∙ ap (fold with_policy no_policies) c.same);
     }

@@ -18,7 +18,7 @@ use Rattle.cedar_syntax.specs.LooseExpressions.{ReadsRelOp}
 use Rattle.cedar_syntax.specs.Place.{placed}
 use Rattle.cedar_syntax.specs.Tokens.{Spot, one}
 use Rattle.cedar_syntax.specs.Trees.{if_of, common_of, has_of, like_of, is_of}
-use Rattle.cedar_policy_parser.specs.Conversion.{outcome, operands, compared, made, chosen, with_attributes, matched, beside_type, typed, typed_within}
+use Rattle.cedar_policy_parser.specs.Conversion.{outcome, operands, comparison_outcome, expression_at, conditional_outcome, with_attributes, match_outcome, beside_type, type_test_outcome, type_within_outcome}
 use Rattle.cedar_policy_parser.specs.Extensions.{Extensions}
 use Rattle.cedar_policy_parser.specs.HasSide.{Attributes}
 use Rattle.cedar_policy_parser.specs.Held.{Held, as_expression, as_pattern, as_entity_type}
@@ -36,7 +36,7 @@ use Rattle.cedar_policy_parser.proofs.complete.Reads.{ExprRead, RelationRead, Ad
 pub record OperatorRead (k : TokenKind) (a b w : Value) : Type 0 where
   op : RelOp
   pub reads : ReadsRelOp k op
-  gives : (p : Option Loc) → compared p op a b ≡ made p w
+  gives : (p : Option Loc) → comparison_outcome p op a b ≡ expression_at p w
 
 pub operator_read : {k : TokenKind} {a b w : Value} → Relates k a b w → OperatorRead k a b w
 operator_read m.less = record { op = rel.Less; reads = l.less; gives = λ p. refl }
@@ -80,7 +80,7 @@ has_read {e = e} {src = src} {ts = ts} {us = us} {a = a} {id = id} {ids = ids} p
   gives = λ q. value_from _ _ _ (gives_has e q (placed src ts f.tree) (placed src us g.tree)) (has_gives q _ _ a id ids (g.gives (placed src us g.tree).loc (placed src us g.tree).loc) (f.gives (placed src ts f.tree).loc));
 }
 
-like_gives : (p : Option Loc) (side : Outcome Held) (x : Outcome Value) (a : Value) (pattern : List PatternElem) → next side as_pattern ≡ Ok pattern → x ≡ Ok a → next (next side (λ h. next (both x (as_pattern h)) (matched p))) as_expression ≡ Ok (v.like a pattern)
+like_gives : (p : Option Loc) (side : Outcome Held) (x : Outcome Value) (a : Value) (pattern : List PatternElem) → next side as_pattern ≡ Ok pattern → x ≡ Ok a → next (next side (λ h. next (both x (as_pattern h)) (match_outcome p))) as_expression ≡ Ok (v.like a pattern)
 like_gives p (Ok h) x a pattern i k = rw (k, i) refl
 like_gives p (Err fs) x a pattern i k = cc
 
@@ -95,7 +95,7 @@ type_gives : (side : Outcome Held) (x : Outcome Value) (a : Value) (t : EntityTy
 type_gives (Ok h) x a t i k = rw (k, i) refl
 type_gives (Err fs) x a t i k = cc
 
-is_gives : (p : Option Loc) (o : Outcome (Value × EntityType)) (a : Value) (t : EntityType) → o ≡ Ok (a, t) → next (next o (typed p)) as_expression ≡ Ok (v.is_entity_type a t)
+is_gives : (p : Option Loc) (o : Outcome (Value × EntityType)) (a : Value) (t : EntityType) → o ≡ Ok (a, t) → next (next o (type_test_outcome p)) as_expression ≡ Ok (v.is_entity_type a t)
 is_gives p o a t h = rw h refl
 
 pub is_read : {e : Extensions} {src : List ℕ} {ts us : List Lexeme} {a : Value} {t : EntityType} (p : Spot) → AddRead e src ts a → AddAs e src us as_entity_type t → RelationRead e src (ts ++ one kind.Is p ++ us) (v.is_entity_type a t)
@@ -105,7 +105,7 @@ is_read {e = e} {src = src} {ts = ts} {us = us} {a = a} {t = t} p f g = record {
   gives = λ q. value_from _ _ _ (gives_is e q (placed src ts f.tree) (placed src us g.tree)) (is_gives q _ a t (type_gives _ _ a t (g.gives (placed src us g.tree).loc) (f.gives (placed src ts f.tree).loc)));
 }
 
-is_in_gives : (p : Option Loc) (o : Outcome (Value × EntityType)) (x : Outcome Value) (a b : Value) (t : EntityType) → o ≡ Ok (a, t) → x ≡ Ok b → next (next o (λ q. next x (typed_within p q))) as_expression ≡ Ok (v.is_in_entity_type a t b)
+is_in_gives : (p : Option Loc) (o : Outcome (Value × EntityType)) (x : Outcome Value) (a b : Value) (t : EntityType) → o ≡ Ok (a, t) → x ≡ Ok b → next (next o (λ q. next x (type_within_outcome p q))) as_expression ≡ Ok (v.is_in_entity_type a t b)
 is_in_gives p o x a b t h k = rw (h, k) refl
 
 pub is_in_read : {e : Extensions} {src : List ℕ} {ts us vs : List Lexeme} {a b : Value} {t : EntityType} (p o : Spot) → AddRead e src ts a → AddAs e src us as_entity_type t → AddRead e src vs b
@@ -119,7 +119,7 @@ is_in_read {e = e} {src = src} {ts = ts} {us = us} {vs = vs} {a = a} {b = b} {t 
 
 -- ---- conditionals
 
-if_gives : (p : Option Loc) (x y z : Outcome Value) (a b d : Value) → x ≡ Ok a → y ≡ Ok b → z ≡ Ok d → next (next (both (both x y) z) (chosen p)) as_expression ≡ Ok (v.ite a b d)
+if_gives : (p : Option Loc) (x y z : Outcome Value) (a b d : Value) → x ≡ Ok a → y ≡ Ok b → z ≡ Ok d → next (next (both (both x y) z) (conditional_outcome p)) as_expression ≡ Ok (v.ite a b d)
 if_gives p x y z a b d h k g = rw (h, k, g) refl
 
 pub if_read : {e : Extensions} {src : List ℕ} {ts us vs : List Lexeme} {a b d : Value} (i t o : Spot) → ExprRead e src ts a → ExprRead e src us b → ExprRead e src vs d

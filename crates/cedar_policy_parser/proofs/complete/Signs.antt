@@ -22,7 +22,7 @@ use Rattle.cedar_syntax.specs.Tokens.{Spot, one, number_of, fits}
 use Rattle.cedar_syntax.specs.Trees.{Cell, unary_of, member_of, bangs_of, dashes_of, sign_limit}
 use Rattle.cedar_policy_parser.specs.Conversion.{number_in, lone_literal, literal_alone}
 use Rattle.cedar_policy_parser.specs.Extensions.{Extensions}
-use Rattle.cedar_policy_parser.specs.Strict.{repeated, IsNumeral}
+use Rattle.cedar_policy_parser.specs.Strict.{iteration, IsNumeral}
 use Rattle.cedar_policy_parser.proofs.Inverted.{value_from}
 use Rattle.cedar_policy_parser.proofs.Lists.{no_snoc}
 use Rattle.cedar_policy_parser.proofs.Made.{gives_unary, lone_member, lone_accessed, lone_literally, lone_named, lone_slot, lone_referred, lone_paren, lone_set, lone_braces}
@@ -75,14 +75,14 @@ plain_read {e = e} {src = src} {ts = ts} h = record {
   gives = λ p. value_from _ _ _ (gives_unary e p None (placed src ts (tree_of h))) (tree_gives h (placed src ts (tree_of h)).loc);
 }
 
-pub banged_read : {e : Extensions} {src : List ℕ} {ts us : List Lexeme} {a : Value} {n : ℕ} → ReadsSigns kind.Bang ts n → n ≤ sign_limit → MemberRead e src us a → UnaryRead e src (ts ++ us) (repeated n v.not a)
+pub banged_read : {e : Extensions} {src : List ℕ} {ts us : List Lexeme} {a : Value} {n : ℕ} → ReadsSigns kind.Bang ts n → n ≤ sign_limit → MemberRead e src us a → UnaryRead e src (ts ++ us) (iteration n v.not a)
 banged_read {e = e} {src = src} {us = us} {a = a} {n = n} r few h = record {
   tree = unary_of (Some (bangs_of n)) (placed src us (tree_of h));
   reads = l.banged r (tree_reads h);
   gives = λ p. value_from _ _ _ (gives_unary e p (Some (bangs_of n)) (placed src us (tree_of h))) (bangs_give p n _ _ a (signs_there r) few (tree_gives h (placed src us (tree_of h)).loc));
 }
 
-pub dashed_read : {e : Extensions} {src : List ℕ} {ts us : List Lexeme} {a : Value} {n : ℕ} → ReadsSigns kind.Minus ts n → n ≤ sign_limit → (IsNumeral us → ⊥) → MemberRead e src us a → UnaryRead e src (ts ++ us) (repeated n v.neg a)
+pub dashed_read : {e : Extensions} {src : List ℕ} {ts us : List Lexeme} {a : Value} {n : ℕ} → ReadsSigns kind.Minus ts n → n ≤ sign_limit → (IsNumeral us → ⊥) → MemberRead e src us a → UnaryRead e src (ts ++ us) (iteration n v.neg a)
 dashed_read {e = e} {src = src} {us = us} {a = a} {n = n} r few other h = record {
   tree = unary_of (Some (dashes_of n)) (placed src us (tree_of h));
   reads = l.dashed r (tree_reads h);

@@ -23,14 +23,14 @@ use Rattle.cedar_syntax.specs.LooseWords.{ReadsAny, ReadsLiteral, ReadsName, Rea
 use Rattle.cedar_syntax.specs.Tokens.{Spot, one, between_quotes}
 use Rattle.cedar_syntax.specs.Trees.{Cell, name_of as tree_name}
 use Rattle.cedar_policy_parser.specs.Entities.{entity_of, reference_outcome}
-use Rattle.cedar_policy_parser.specs.Held.{Held, variable, bare_name, bare_string, as_entity_type, as_attribute, variable_text, type_named}
+use Rattle.cedar_policy_parser.specs.Held.{Held, variable, bare_name, bare_string, as_entity_type, as_attribute, variable_text, type_of_name}
 use Rattle.cedar_policy_parser.specs.HasSide.{attributes_of, behind_first}
-use Rattle.cedar_policy_parser.specs.Leaves.{named, variable_or_name}
+use Rattle.cedar_policy_parser.specs.Leaves.{name_leaf, variable_or_name}
 use Rattle.cedar_policy_parser.specs.Literals.{literal_outcome}
 use Rattle.cedar_policy_parser.specs.Names.{all_of, valid_ident, valid_ident_of, unreserved_ident, unreserved, path_outcome, variable_of}
 use Rattle.cedar_policy_parser.specs.Outcome.{Outcome, both, next}
 use Rattle.cedar_policy_parser.specs.StrictWords as m
-use Rattle.cedar_policy_parser.specs.StrictWords.{IsVariable, IsVariableWord, IsIdentifier, IsName, IsText, IsEntity, name_of}
+use Rattle.cedar_policy_parser.specs.StrictWords.{IsVariable, IsVariableWord, IsIdentifier, IsName, IsText, IsEntity, path_value}
 use Rattle.cedar_syntax.specs.Located.{Parts}
 use Rattle.cedar_policy_parser.proofs.Inverted.{next_ok, both_ok, ok_is}
 use Rattle.cedar_policy_parser.proofs.Quoted.{text_expected}
@@ -127,34 +127,34 @@ path_read src (m.more_identifiers {us = us} {ids = ids} {id = id} p n i) =
 
 -- what a name's identifiers give together
 pub path_given : (place : Option Loc) (xs : List (Cell Ident)) (x : Cell Ident) (ids : List (List ℕ)) (id : List ℕ) → all_of valid_ident xs ≡ Ok ids → valid_ident x ≡ Ok id → list_any is_reserved_namespace ids ≡ false → is_reserved_namespace id ≡ false
-    → path_outcome place (tree_name xs x) ≡ Ok (name_of ids id)
+    → path_outcome place (tree_name xs x) ≡ Ok (path_value ids id)
 path_given place xs x ids id h k free last = rw (h, k, free, last) refl
 
 -- a name is a variable, or not
 pub data IsHeldName (ts : List Lexeme) (place : Option Loc) : List (List ℕ) → List ℕ → Held → Type 0 where
-  as_name : {ids : List (List ℕ)} {id : List ℕ} → IsHeldName ts place ids id (bare_name place (name_of ids id))
+  as_name : {ids : List (List ℕ)} {id : List ℕ} → IsHeldName ts place ids id (bare_name place (path_value ids id))
   as_variable : (x : Var) → IsVariableWord ts → IsHeldName ts place [] (variable_text x) (variable place x)
 
 pub record NameRead (src : List ℕ) (ts : List Lexeme) (ids : List (List ℕ)) (id : List ℕ) : Type 0 where
   pub tree : Name
   pub reads : ReadsName src ts tree
-  pub gives : (place : Option Loc) → (h : Held) × (named place (placed src ts tree) ≡ Ok h) × IsHeldName ts place ids id h
+  pub gives : (place : Option Loc) → (h : Held) × (name_leaf place (placed src ts tree) ≡ Ok h) × IsHeldName ts place ids id h
 
 variable_held : (ts : List Lexeme) (place : Option Loc) (id : List ℕ) (x : Var) → id ≡ variable_text x → IsVariableWord ts → IsHeldName ts place [] id (variable place x)
 variable_held ts place id x h w = rw h (as_variable x w)
 
-bare_given : (place : Option Loc) (ids : List (List ℕ)) (id : List ℕ) (src : List ℕ) (ts : List Lexeme) (x : Name) → path_outcome (placed src ts x).loc x ≡ Ok (name_of ids id) → variable_or_name place None (placed src ts x) ≡ Ok (bare_name place (name_of ids id))
+bare_given : (place : Option Loc) (ids : List (List ℕ)) (id : List ℕ) (src : List ℕ) (ts : List Lexeme) (x : Name) → path_outcome (placed src ts x).loc x ≡ Ok (path_value ids id) → variable_or_name place None (placed src ts x) ≡ Ok (bare_name place (path_value ids id))
 bare_given place ids id src ts x h = rw h refl
 
-word_named : (src : List ℕ) (ts : List Lexeme) (id : List ℕ) (place : Option Loc) (word : Ident) (o : Option Var) → variable_of word ≡ o → IsWord ts id o → path_outcome (placed src ts (tree_name [] (placed src ts word))).loc (tree_name [] (placed src ts word)) ≡ Ok (name_of [] id)
-    → (h : Held) × (named place (placed src ts (tree_name [] (placed src ts word))) ≡ Ok h) × IsHeldName ts place [] id h
+word_named : (src : List ℕ) (ts : List Lexeme) (id : List ℕ) (place : Option Loc) (word : Ident) (o : Option Var) → variable_of word ≡ o → IsWord ts id o → path_outcome (placed src ts (tree_name [] (placed src ts word))).loc (tree_name [] (placed src ts word)) ≡ Ok (path_value [] id)
+    → (h : Held) × (name_leaf place (placed src ts (tree_name [] (placed src ts word))) ≡ Ok h) × IsHeldName ts place [] id h
 word_named src ts id place word None e w h =
-    (bare_name place (name_of [] id), ap (λ o. variable_or_name place o (placed src ts (tree_name [] (placed src ts word)))) e ∙ bare_given place [] id src ts (tree_name [] (placed src ts word)) h, as_name)
+    (bare_name place (path_value [] id), ap (λ o. variable_or_name place o (placed src ts (tree_name [] (placed src ts word)))) e ∙ bare_given place [] id src ts (tree_name [] (placed src ts word)) h, as_name)
 word_named src ts id place word (Some x) e w h =
     (variable place x, ap (λ o. variable_or_name place o (placed src ts (tree_name [] (placed src ts word)))) e, variable_held ts place id x w.0 w.1)
 
-path_named : (src : List ℕ) (ts : List Lexeme) (ids : List (List ℕ)) (id : List ℕ) (place : Option Loc) (xs : List (Cell Ident)) (x y : Cell Ident) → path_outcome (placed src ts (tree_name (xs ++ x ∷ []) y)).loc (tree_name (xs ++ x ∷ []) y) ≡ Ok (name_of ids id)
-    → named place (placed src ts (tree_name (xs ++ x ∷ []) y)) ≡ Ok (bare_name place (name_of ids id))
+path_named : (src : List ℕ) (ts : List Lexeme) (ids : List (List ℕ)) (id : List ℕ) (place : Option Loc) (xs : List (Cell Ident)) (x y : Cell Ident) → path_outcome (placed src ts (tree_name (xs ++ x ∷ []) y)).loc (tree_name (xs ++ x ∷ []) y) ≡ Ok (path_value ids id)
+    → name_leaf place (placed src ts (tree_name (xs ++ x ∷ []) y)) ≡ Ok (bare_name place (path_value ids id))
 path_named src ts ids id place [] x y h = bare_given place ids id src ts (tree_name (x ∷ []) y) h
 path_named src ts ids id place (z ∷ xs) x y h = bare_given place ids id src ts (tree_name (z ∷ (xs ++ x ∷ [])) y) h
 
@@ -178,7 +178,7 @@ name_read src (m.more_identifiers {ts = ts} {us = us} {ids = ids} {id = id} {las
       tree = name;
       reads = l.qualified p h.reads w.reads;
       gives = λ q. (
-        bare_name q (name_of (ids ++ id ∷ []) last),
+        bare_name q (path_value (ids ++ id ∷ []) last),
         path_named src all (ids ++ id ∷ []) last q h.others h.last (placed src us w.word)
             (path_given (placed src all name).loc (h.others ++ h.last ∷ []) (placed src us w.word) (ids ++ id ∷ []) last (all_last valid_ident h.others h.last ids id h.given h.given_last) (w.valid (placed src us w.word).loc) (none_last is_reserved_namespace ids id h.free h.free_last) w.free),
         as_name,
@@ -187,11 +187,11 @@ name_read src (m.more_identifiers {ts = ts} {us = us} {ids = ids} {id = id} {las
 
 -- ---- what a name may be
 
-pub name_only : (ts : List Lexeme) (place : Option Loc) (ids : List (List ℕ)) (id : List ℕ) (h : Held) → IsHeldName ts place ids id h → (IsVariableWord ts → ⊥) → h ≡ bare_name place (name_of ids id)
+pub name_only : (ts : List Lexeme) (place : Option Loc) (ids : List (List ℕ)) (id : List ℕ) (h : Held) → IsHeldName ts place ids id h → (IsVariableWord ts → ⊥) → h ≡ bare_name place (path_value ids id)
 name_only ts place _ _ _ as_name other = refl
 name_only ts place _ _ _ (as_variable x w) other = absurd (other w)
 
-pub name_type : (ts : List Lexeme) (place : Option Loc) (ids : List (List ℕ)) (id : List ℕ) (h : Held) → IsHeldName ts place ids id h → as_entity_type h ≡ Ok (type_named (name_of ids id))
+pub name_type : (ts : List Lexeme) (place : Option Loc) (ids : List (List ℕ)) (id : List ℕ) (h : Held) → IsHeldName ts place ids id h → as_entity_type h ≡ Ok (type_of_name (path_value ids id))
 name_type ts place _ _ _ as_name = refl
 name_type ts place _ _ _ (as_variable x w) = refl
 
@@ -232,11 +232,11 @@ pub record EntityRead (src : List ℕ) (ts : List Lexeme) (uid : EntityUID) : Ty
   pub reads : ReadsRef src ts tree
   pub gives : (place : Option Loc) → reference_outcome place tree ≡ Ok uid
 
-uid_given : (place : Option Loc) (xs : List (Cell Ident)) (x : Cell Ident) (ids : List (List ℕ)) (id eid raw src : List ℕ) (ts us : List Lexeme) → path_outcome (placed src ts (tree_name xs x)).loc (tree_name xs x) ≡ Ok (name_of ids id) → IsUnescaped raw eid
-    → reference_outcome place (ref.Uid (placed src ts (tree_name xs x)) (placed src us (str.String raw))) ≡ Ok (entity_of (name_of ids id, eid))
+uid_given : (place : Option Loc) (xs : List (Cell Ident)) (x : Cell Ident) (ids : List (List ℕ)) (id eid raw src : List ℕ) (ts us : List Lexeme) → path_outcome (placed src ts (tree_name xs x)).loc (tree_name xs x) ≡ Ok (path_value ids id) → IsUnescaped raw eid
+    → reference_outcome place (ref.Uid (placed src ts (tree_name xs x)) (placed src us (str.String raw))) ≡ Ok (entity_of (path_value ids id, eid))
 uid_given place xs x ids id eid raw src ts us h u = rw (h, text_expected place raw eid u) refl
 
-uid_read : (src : List ℕ) {ts us : List Lexeme} {ids : List (List ℕ)} {id eid : List ℕ} (p : Spot) → PathRead src ts ids id → IsText us eid → EntityRead src (ts ++ one kind.ColonColon p ++ us) (entity_of (name_of ids id, eid))
+uid_read : (src : List ℕ) {ts us : List Lexeme} {ids : List (List ℕ)} {id eid : List ℕ} (p : Spot) → PathRead src ts ids id → IsText us eid → EntityRead src (ts ++ one kind.ColonColon p ++ us) (entity_of (path_value ids id, eid))
 uid_read src {ts = ts} {ids = ids} {id = id} {eid = eid} p h (m.string q u) = record {
   tree = ref.Uid (placed src ts (tree_name h.others h.last)) (placed src (one kind.StringLit q) (str.String (between_quotes q.text)));
   reads = l.uid p q h.reads;

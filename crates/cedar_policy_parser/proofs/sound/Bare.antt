@@ -20,7 +20,7 @@ use Rattle.cedar_policy_parser.specs.Held.{Held, expression, variable, bare_name
 use Rattle.cedar_policy_parser.specs.Strict as m
 use Rattle.cedar_policy_parser.specs.Strict.{Sort, Means}
 use Rattle.cedar_policy_parser.specs.StrictWords as w
-use Rattle.cedar_policy_parser.specs.StrictWords.{IsVariable, IsVariableWord, IsIdentifier, IsName, IsText, IsKey, name_of}
+use Rattle.cedar_policy_parser.specs.StrictWords.{IsVariable, IsVariableWord, IsIdentifier, IsName, IsText, IsKey, path_value}
 use Rattle.cedar_policy_parser.proofs.Inverted.{ok_is}
 use Rattle.cedar_policy_parser.proofs.Lists.{no_snoc}
 use Rattle.cedar_policy_parser.proofs.Quoted.{string_meant, pattern_meant}
@@ -119,7 +119,7 @@ unqualified_word place [] id text n h = word_as id text (ok_is h) (word_alone []
 unqualified_word place (x ∷ ids) id text n h = cc
 
 -- the type that is named, by its identifiers
-pub held_type : (e : Extensions) {ts : List Lexeme} (s : Sort) (h : Held) (t : EntityType) → HeldAs e s ts h → as_entity_type h ≡ Ok t → (ids : List (List ℕ)) × (id : List ℕ) × IsName ts ids id × (t ≡ record { name = name_of ids id })
+pub held_type : (e : Extensions) {ts : List Lexeme} (s : Sort) (h : Held) (t : EntityType) → HeldAs e s ts h → as_entity_type h ≡ Ok t → (ids : List (List ℕ)) × (id : List ℕ) × IsName ts ids id × (t ≡ record { name = path_value ids id })
 held_type e s (expression place y) t i h = cc
 held_type e s (variable place y) t i h = ([], variable_text y, w.one_identifier (held_word e s place y i), sym (ok_is h))
 held_type e s (bare_name place name) t i h = (name.path, name.id, i.0, sym (ok_is h))

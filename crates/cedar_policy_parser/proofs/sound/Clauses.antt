@@ -1,9 +1,9 @@
 -- Conditions are held of their tokens.
-use Rattle.std.proofs.Common.{◌≡◌, ℕ, Bool, true, false, List, [], ◌∷◌, ◌++◌, Option, Some, None, Ok, Err, refl, sym, ap, ◌∙◌}
+use Rattle.std.proofs.Common.{◌≡◌, ℕ, Bool, true, false, List, [], ◌∷◌, ◌++◌, map, Option, Some, None, Ok, Err, refl, sym, ap, ◌∙◌}
 use Rattle.cedar_lexer.specs.Token.{Lexeme}
 use Rattle.cedar_lexer.specs.declared.token.TokenKind.{TokenKind}
 use Rattle.cedar_lexer.specs.declared.token.TokenKind.TheVariants as kind
-use Rattle.cedar_expressions.specs.declared.literal.SlotId.{SlotId}
+use Rattle.cedar_expressions.specs.declared.place.Slot.{Slot}
 use Rattle.cedar_expressions.specs.Value as v
 use Rattle.cedar_expressions.specs.Value.{Value}
 use Rattle.cedar_syntax.specs.declared.loc.Loc.{Loc}
@@ -18,15 +18,15 @@ use Rattle.cedar_syntax.specs.LooseWords.{ReadsAny}
 use Rattle.cedar_syntax.specs.Place.{placed}
 use Rattle.cedar_syntax.specs.Tokens.{Spot, one, any_of}
 use Rattle.cedar_syntax.specs.Trees.{Cell}
-use Rattle.cedar_policy_parser.specs.Conditions.{Found, clause, condition_of, condition_outcome, conditions_outcome, is_when, is_when_of, meant, paired, slots_outcome, slots_told, without_slots}
+use Rattle.cedar_policy_parser.specs.Conditions.{clause, condition_of, condition_outcome, conditions_outcome, is_when, is_when_of, condition_value, condition_slot_fault, slots_outcome, without_slots}
 use Rattle.cedar_policy_parser.specs.Extensions.{Extensions}
-use Rattle.cedar_policy_parser.specs.Names.{all_of, filled}
-use Rattle.cedar_policy_parser.specs.Outcome.{Told, next}
-use Rattle.cedar_policy_parser.specs.Scope.{unless_told}
+use Rattle.cedar_policy_parser.specs.Names.{all_of, content_outcome}
+use Rattle.cedar_policy_parser.specs.Outcome.{NamedFault, next}
+use Rattle.cedar_policy_parser.specs.Scope.{faults_outcome}
 use Rattle.cedar_policy_parser.specs.Strict.{Means, expression}
 use Rattle.cedar_policy_parser.specs.StrictPolicy as m
 use Rattle.cedar_policy_parser.specs.StrictPolicy.{AreConditions, IsCondition}
-use Rattle.cedar_policy_parser.specs.ValueSlots.{slots_of}
+use Rattle.cedar_expressions.specs.Slots.{slots_of}
 use Rattle.cedar_policy_parser.proofs.Inverted.{ok_is, next_ok}
 use Rattle.cedar_policy_parser.proofs.sound.Whole.{sound_value}
 use Rattle.cedar_policy_parser.proofs.sound.Words.{all_snoc}
@@ -39,52 +39,43 @@ pub data ClauseOf : Bool → TokenKind → Type 0 where
 clause_as : {k : TokenKind} (a b : Bool) → a ≡ b → ClauseOf a k → ClauseOf b k
 clause_as a b h i = rw (← h) i
 
-kind_clause : (k : TokenKind) (text : List ℕ) (place : Option Loc) (b : Bool) → next (filled place (any_of k text)) (is_when_of place) ≡ Ok b → ClauseOf b k
+kind_clause : (k : TokenKind) (text : List ℕ) (place : Option Loc) (b : Bool) → next (content_outcome place (any_of k text)) (is_when_of place) ≡ Ok b → ClauseOf b k
 kind_clause kind.When text place b h = clause_as true b (ok_is h) when_clause
 kind_clause kind.Unless text place b h = clause_as false b (ok_is h) unless_clause
 kind_clause _ text place b h = cc
 
 clause_word : (src : List ℕ) {ts : List Lexeme} {i : Ident} (b : Bool) → ReadsAny ts i → is_when (placed src ts i) ≡ Ok b → (k : TokenKind) × (p : Spot) × ClauseOf b k × (ts ≡ one k p)
 clause_word src {ts = ts} {i = i} b (lw.any {k = k} p h) g =
-    (k, p, kind_clause k p.text (placed src ts i).loc b (ap (λ o. next (filled (placed src ts i).loc o) (is_when_of (placed src ts i).loc)) h ∙ g), refl)
+    (k, p, kind_clause k p.text (placed src ts i).loc b (ap (λ o. next (content_outcome (placed src ts i).loc o) (is_when_of (placed src ts i).loc)) h ∙ g), refl)
 
-pub no_slots : (place : Option Loc) (ids : List SlotId) (found : Found) (u : Unit {0}) → unless_told (slots_told place ids found) ≡ Ok u → ids ≡ []
-no_slots place [] found u h = refl
-no_slots place (id ∷ ids) [] u h = cc
-no_slots place (id ∷ ids) (p ∷ found) u h = cc
+pub no_slots : (place : Option Loc) (slots : List Slot) (u : Unit {0}) → faults_outcome (map (condition_slot_fault place) slots) ≡ Ok u → slots ≡ []
+no_slots place [] u h = refl
+no_slots place (s ∷ slots) u h = cc
 
-clause_meant : {k : TokenKind} {ts us : List Lexeme} (e : Extensions) (b : Bool) (x c : Value) (p a z : Spot) → ClauseOf b k → ts ≡ one k p → Means e SIGN_LIMIT expression us x → slots_of x ≡ [] → meant b x ≡ c
+clause_meant : {k : TokenKind} {ts us : List Lexeme} (e : Extensions) (b : Bool) (x c : Value) (p a z : Spot) → ClauseOf b k → ts ≡ one k p → Means e SIGN_LIMIT expression us x → slots_of x ≡ [] → condition_value b x ≡ c
     → IsCondition e SIGN_LIMIT (ts ++ one kind.OpenBrace a ++ us ++ one kind.CloseBrace z) c
 clause_meant e _ x c p a z when_clause h i none same = rw (h, ← same) (m.when p a z i none)
 clause_meant e _ x c p a z unless_clause h i none same = rw (h, ← same) (m.unless p a z i none)
 
-condition_meant : {src : List ℕ} {ts : List Lexeme} {x : Cond} (e : Extensions) (found : Found) (place : Option Loc) (c : Value) → ReadsCond src ts x → condition_of e found place x ≡ Ok c → IsCondition e SIGN_LIMIT ts c
-condition_meant {src = src} e found place c (l.cond {ts = ts} {us = us} {i = i} a z r (l.body {x = x} b)) h =
+condition_meant : {src : List ℕ} {ts : List Lexeme} {x : Cond} (e : Extensions) (place : Option Loc) (c : Value) → ReadsCond src ts x → condition_of e place x ≡ Ok c → IsCondition e SIGN_LIMIT ts c
+condition_meant {src = src} e place c (l.cond {ts = ts} {us = us} {i = i} a z r (l.body {x = x} b)) h =
     let f = next_ok (is_when (placed src ts i)) _ c h in
-    let g = next_ok (clause e place (Some (placed src us x))) (without_slots place found f.0) c f.2 in
-    let n = next_ok (slots_outcome place found g.0) _ c g.2 in
+    let g = next_ok (clause e place (Some (placed src us x))) (without_slots place f.0) c f.2 in
+    let n = next_ok (slots_outcome place g.0) _ c g.2 in
     let word = clause_word src f.0 r f.1 in
-    clause_meant e f.0 g.0 c word.1 a z word.2 word.3 (sound_value e (placed src us x).loc g.0 b g.1) (no_slots place (slots_of g.0) found n.0 n.1) (ok_is n.2)
-condition_meant {src = src} e found place c (l.cond {ts = ts} {i = i} a z r l.no_body) h =
+    clause_meant e f.0 g.0 c word.1 a z word.2 word.3 (sound_value e (placed src us x).loc g.0 b g.1) (no_slots place (slots_of g.0) n.0 n.1) (ok_is n.2)
+condition_meant {src = src} e place c (l.cond {ts = ts} {i = i} a z r l.no_body) h =
     let f = next_ok (is_when (placed src ts i)) _ c h in
-    let g = next_ok (clause e place None) (without_slots place found f.0) c f.2 in
+    let g = next_ok (clause e place None) (without_slots place f.0) c f.2 in
     let impossible = g.1 in cc
 
 -- ---- all of a policy
 
--- one item more is paired with what was found in it
-pub paired_snoc : {F X : Type 0} (found : List (List F)) (xs : List X) (x : X) → (f : List F) × (paired found (xs ++ x ∷ []) ≡ paired found xs ++ (f, x) ∷ [])
-paired_snoc [] [] x = ([], refl)
-paired_snoc (f ∷ found) [] x = (f, refl)
-paired_snoc [] (y ∷ xs) x = let d = paired_snoc [] xs x in (d.0, ap (λ ps. ([], y) ∷ ps) d.1)
-paired_snoc (f ∷ found) (y ∷ xs) x = let d = paired_snoc found xs x in (d.0, ap (λ ps. (f, y) ∷ ps) d.1)
-
 conditions_as : {e : Extensions} {ts : List Lexeme} (cs ds : List Value) → cs ≡ ds → AreConditions e SIGN_LIMIT ts cs → AreConditions e SIGN_LIMIT ts ds
 conditions_as cs ds h i = rw (← h) i
 
-pub conditions_meant : {src : List ℕ} {ts : List Lexeme} {xs : List (Cell Cond)} (e : Extensions) (found : List Found) (cs : List Value) → ReadsMany src (ReadsCond src) ts xs → conditions_outcome e found xs ≡ Ok cs → AreConditions e SIGN_LIMIT ts cs
-conditions_meant e found cs l.none h = conditions_as [] cs (ok_is h) m.no_condition
-conditions_meant {src = src} e found cs (l.more {us = us} {xs = xs} {y = y} r s) h =
-    let d = paired_snoc found xs (placed src us y) in
-    let a = all_snoc (condition_outcome e) (paired found xs) (d.0, placed src us y) cs (ap (all_of (condition_outcome e)) (sym d.1) ∙ h) in
-    conditions_as (a.0 ++ a.1 ∷ []) cs (sym a.4) (m.more_conditions (conditions_meant e found a.0 r a.2) (condition_meant e d.0 (placed src us y).loc a.1 s a.3))
+pub conditions_meant : {src : List ℕ} {ts : List Lexeme} {xs : List (Cell Cond)} (e : Extensions) (cs : List Value) → ReadsMany src (ReadsCond src) ts xs → conditions_outcome e xs ≡ Ok cs → AreConditions e SIGN_LIMIT ts cs
+conditions_meant e cs l.none h = conditions_as [] cs (ok_is h) m.no_condition
+conditions_meant {src = src} e cs (l.more {us = us} {xs = xs} {y = y} r s) h =
+    let a = all_snoc (condition_outcome e) xs (placed src us y) cs h in
+    conditions_as (a.0 ++ a.1 ∷ []) cs (sym a.4) (m.more_conditions (conditions_meant e a.0 r a.2) (condition_meant e (placed src us y).loc a.1 s a.3))

@@ -14,7 +14,7 @@ use Rattle.cedar_policy_store.specs.declared.constraints.EntityReference.{Entity
 use Rattle.cedar_policy_store.specs.declared.constraints.PrincipalOrResourceConstraint.{PrincipalOrResourceConstraint}
 use Rattle.cedar_policy_store.specs.declared.constraints.PrincipalOrResourceConstraint.TheVariants as constraint
 use Rattle.cedar_policy_store.specs.Actions.{is_action, but_actions, named_entities}
-use Rattle.cedar_policy_store.specs.PlaceFree.{constrained, referred as free_reference}
+use Rattle.cedar_policy_store.specs.PlaceFree.{constraint_meaning, reference_meaning as free_reference}
 use Rattle.cedar_syntax.specs.declared.loc.Loc.{Loc}
 use Rattle.cedar_syntax.specs.declared.node.Node.{Node}
 use Rattle.cedar_syntax.specs.declared.cst.Add.{Add}
@@ -39,14 +39,14 @@ use Rattle.cedar_policy_parser.specs.declared.to_ref_or_refs.OneOrMultipleRefs.T
 use Rattle.cedar_policy_parser.specs.Conversion.{outcome}
 use Rattle.cedar_policy_parser.specs.Extensions.{Extensions}
 use Rattle.cedar_policy_parser.specs.Held.{Held, as_entity_type}
-use Rattle.cedar_policy_parser.specs.Names.{filled}
+use Rattle.cedar_policy_parser.specs.Names.{content_outcome}
 use Rattle.cedar_policy_parser.specs.Outcome.{next, is_in_action_scope}
-use Rattle.cedar_policy_parser.specs.References.{entity_or_slot, one_or_multiple, referred, single_entity}
+use Rattle.cedar_policy_parser.specs.References.{entity_or_slot, one_or_multiple, referent_outcome, single_entity}
 use Rattle.cedar_policy_parser.specs.Scope as s
 use Rattle.cedar_policy_parser.specs.Strict as m
 use Rattle.cedar_policy_parser.specs.StrictScope as z
 use Rattle.cedar_policy_parser.specs.StrictScope.{Asks, AsksAction}
-use Rattle.cedar_policy_parser.specs.StrictWords.{IsName, name_of}
+use Rattle.cedar_policy_parser.specs.StrictWords.{IsName, path_value}
 use Rattle.cedar_policy_parser.proofs.Inverted.{ok_is, next_ok, if_ok, unless_ok}
 use Rattle.cedar_policy_parser.proofs.sound.Bare.{held_type}
 use Rattle.cedar_policy_parser.proofs.sound.Referred.{SlotOf, principal, resource, reference_meant, several_meant, single_meant, uids_of}
@@ -63,7 +63,7 @@ pub data WordOf : Var → TokenKind → Type 0 where
 word_as : {k : TokenKind} (x y : Var) → x ≡ y → WordOf x k → WordOf y k
 word_as x y h i = rw (← h) i
 
-kind_word : (k : TokenKind) (text : List ℕ) (place : Option Loc) (x : Var) → next (filled place (any_of k text)) (s.scope_variable_of place) ≡ Ok x → WordOf x k
+kind_word : (k : TokenKind) (text : List ℕ) (place : Option Loc) (x : Var) → next (content_outcome place (any_of k text)) (s.scope_variable_of place) ≡ Ok x → WordOf x k
 kind_word kind.Principal text place x h = word_as vars.Principal x (ok_is h) principal_word
 kind_word kind.Action text place x h = word_as vars.Action x (ok_is h) action_word
 kind_word kind.Resource text place x h = word_as vars.Resource x (ok_is h) resource_word
@@ -71,7 +71,7 @@ kind_word _ text place x h = cc
 
 scope_word : (src : List ℕ) {ts : List Lexeme} {i : Ident} (x : Var) → ReadsAny ts i → s.scope_variable (placed src ts i) ≡ Ok x → (k : TokenKind) × (p : Spot) × WordOf x k × (ts ≡ one k p)
 scope_word src {ts = ts} {i = i} x (lw.any {k = k} p h) g =
-    (k, p, kind_word k p.text (placed src ts i).loc x (ap (λ o. next (filled (placed src ts i).loc o) (s.scope_variable_of (placed src ts i).loc)) h ∙ g), refl)
+    (k, p, kind_word k p.text (placed src ts i).loc x (ap (λ o. next (content_outcome (placed src ts i).loc o) (s.scope_variable_of (placed src ts i).loc)) h ∙ g), refl)
 
 no_type_there : {src : List ℕ} {us : List Lexeme} {x : Option (Cell Name)} (u : Unit {0}) → ReadsTypeName src us x → s.no_type_name x ≡ Ok u → us ≡ []
 no_type_there u l.no_type_name h = refl
@@ -80,31 +80,31 @@ no_type_there u (l.type_name p r) h = cc
 -- ---- principal and resource
 
 -- the right side of `is`
-type_meant : {src : List ℕ} {ts : List Lexeme} {x : Add} (e : Extensions) (t : EntityType) → ReadsAdd src ts x → s.type_outcome e (placed src ts x) ≡ Ok t → (ids : List (List ℕ)) × (id : List ℕ) × IsName ts ids id × (t ≡ record { name = name_of ids id })
+type_meant : {src : List ℕ} {ts : List Lexeme} {x : Add} (e : Extensions) (t : EntityType) → ReadsAdd src ts x → s.type_outcome e (placed src ts x) ≡ Ok t → (ids : List (List ℕ)) × (id : List ℕ) × IsName ts ids id × (t ≡ record { name = path_value ids id })
 type_meant {src = src} {ts = ts} {x = x} e t r h =
     let a = next_ok (outcome e (located add_form (placed src ts x))) as_entity_type t h in
     held_type e m.sum a.0 t (sound_add e (placed src ts x).loc a.0 r a.1) a.2
 
-asks_as : {k : TokenKind} {ts us : List Lexeme} (c d : PrincipalOrResourceConstraint) → ts ≡ us → c ≡ d → Asks k ts (constrained c) → Asks k us (constrained d)
+asks_as : {k : TokenKind} {ts us : List Lexeme} (c d : PrincipalOrResourceConstraint) → ts ≡ us → c ≡ d → Asks k ts (constraint_meaning c) → Asks k us (constraint_meaning d)
 asks_as c d h g i = rw (← h, ← g) i
 
 type_alone : {k : TokenKind} {src : List ℕ} {ts : List Lexeme} {x : Add} (e : Extensions) (c : PrincipalOrResourceConstraint) (p : Spot) → ReadsAdd src ts x → next (s.type_outcome e (placed src ts x)) (λ t. Ok (constraint.Is t)) ≡ Ok c
-    → Asks k (one kind.Is p ++ ts) (constrained c)
+    → Asks k (one kind.Is p ++ ts) (constraint_meaning c)
 type_alone {k = k} {src = src} {ts = ts} {x = x} e c p r h =
     let a = next_ok (s.type_outcome e (placed src ts x)) _ c h in
     let d = type_meant e a.0 r a.1 in
-    asks_as (constraint.Is (record { name = name_of d.0 d.1 })) c refl (ap (λ t. constraint.Is t) (sym d.3) ∙ ok_is a.2) (z.to_be_of_type p d.2)
+    asks_as (constraint.Is (record { name = path_value d.0 d.1 })) c refl (ap (λ t. constraint.Is t) (sym d.3) ∙ ok_is a.2) (z.to_be_of_type p d.2)
 
 type_beside : {k : TokenKind} {src : List ℕ} {ts us : List Lexeme} {x : Add} (e : Extensions) (q : EntityReference) (c : PrincipalOrResourceConstraint) (p o : Spot) → ReadsAdd src ts x → z.IsReference k us (free_reference q) → s.type_and e q (placed src ts x) ≡ Ok c
-    → Asks k ((one kind.Is p ++ ts) ++ (one kind.In o ++ us)) (constrained c)
+    → Asks k ((one kind.Is p ++ ts) ++ (one kind.In o ++ us)) (constraint_meaning c)
 type_beside {src = src} {ts = ts} {us = us} {x = x} e q c p o r i h =
     let a = next_ok (s.type_outcome e (placed src ts x)) _ c h in
     let d = type_meant e a.0 r a.1 in
-    asks_as (constraint.IsIn (record { name = name_of d.0 d.1 }) q) c (append_assoc (one kind.Is p ++ ts) (one kind.In o) us) (ap (λ t. constraint.IsIn t q) (sym d.3) ∙ ok_is a.2) (z.to_be_of_type_in p o d.2 i)
+    asks_as (constraint.IsIn (record { name = path_value d.0 d.1 }) q) c (append_assoc (one kind.Is p ++ ts) (one kind.In o) us) (ap (λ t. constraint.IsIn t q) (sym d.3) ∙ ok_is a.2) (z.to_be_of_type_in p o d.2 i)
 
 -- an operator and what stands right of it, beside a type or none
 operator_meant : {src : List ℕ} {vs ts : List Lexeme} {y : Option (Cell Add)} {j k : TokenKind} {o : RelOp} (e : Extensions) (place : Option Loc) (q : EntityReference) (c : PrincipalOrResourceConstraint) (p : Spot) → ReadsEntityType src vs y → ReadsRelOp j o
-    → z.IsReference k ts (free_reference q) → s.asked_by e place o y q ≡ Ok c → Asks k (vs ++ (one j p ++ ts)) (constrained c)
+    → z.IsReference k ts (free_reference q) → s.operator_outcome e place o y q ≡ Ok c → Asks k (vs ++ (one j p ++ ts)) (constraint_meaning c)
 operator_meant e place q c p l.no_entity_type lx.equal i h = asks_as (constraint.Eq q) c refl (ok_is h) (z.to_be p i)
 operator_meant e place q c p l.no_entity_type lx.within i h = asks_as (constraint.In q) c refl (ok_is h) (z.to_be_in p i)
 operator_meant e place q c p l.no_entity_type lx.less i h = cc
@@ -123,12 +123,12 @@ operator_meant e place q c p (l.entity_type t r) lx.not_eq i h = cc
 operator_meant e place q c p (l.entity_type t r) lx.single_eq i h = cc
 
 asked_meant : {src : List ℕ} {vs ws : List Lexeme} {y : Option (Cell Add)} {w : Option (RelOp × Cell Expr)} {k : TokenKind} {x : Var} (e : Extensions) (place : Option Loc) (c : PrincipalOrResourceConstraint) → SlotOf x k → ReadsEntityType src vs y → ReadsConstraint src ws w
-    → s.asked e place x y w ≡ Ok c → Asks k (vs ++ ws) (constrained c)
+    → s.constraint_outcome e place x y w ≡ Ok c → Asks k (vs ++ ws) (constraint_meaning c)
 asked_meant e place c k l.no_entity_type l.no_constraint h = asks_as constraint.Any c refl (ok_is h) z.nothing
 asked_meant e place c k (l.entity_type {ts = ts} p r) l.no_constraint h = asks_as c c (sym (append-nil (one kind.Is p ++ ts))) refl (type_alone e c p r h)
 asked_meant {src = src} {y = y} {x = x} e place c k t (l.constraint {ts = ts} {o = o} {x = v} p i r) h =
     let a = unless_ok (s.is_inverted e o (placed src ts v)) _ _ c h in
-    let b = next_ok (referred entity_or_slot x (placed src ts v)) (s.asked_by e place o y) c a.1 in
+    let b = next_ok (referent_outcome entity_or_slot x (placed src ts v)) (s.operator_outcome e place o y) c a.1 in
     operator_meant e place b.0 c p t i (reference_meant b.0 k r b.1) b.2
 
 same_variable : {x : Var} {k : TokenKind} → SlotOf x k → (y : Var) → s.stands_there x y ≡ true → x ≡ y
@@ -148,13 +148,13 @@ pub record ElementMeant (x : Var) (k : TokenKind) (ts : List Lexeme) (c : Princi
   pub rest : List Lexeme
   pub is_word : WordOf x word
   pub together : ts ≡ one word spot ++ rest
-  pub asks : Asks k rest (constrained c)
+  pub asks : Asks k rest (constraint_meaning c)
 
-element_at : {x y : Var} {k j : TokenKind} {ts us rest : List Lexeme} {c d : PrincipalOrResourceConstraint} (p : Spot) → x ≡ y → WordOf y j → ts ≡ one j p → us ≡ [] → d ≡ c → Asks k rest (constrained d) → ElementMeant x k (ts ++ (us ++ rest)) c
+element_at : {x y : Var} {k j : TokenKind} {ts us rest : List Lexeme} {c d : PrincipalOrResourceConstraint} (p : Spot) → x ≡ y → WordOf y j → ts ≡ one j p → us ≡ [] → d ≡ c → Asks k rest (constraint_meaning d) → ElementMeant x k (ts ++ (us ++ rest)) c
 element_at {j = j} {rest = rest} {c = c} {d = d} p same w h none e i =
     record { word = j; spot = p; rest = rest; is_word = rw same w; together = rw (h, none) refl; asks = asks_as d c refl e i }
 
-asked_same : (e : Extensions) (place : Option Loc) (x z : Var) (y : Option (Cell Add)) (w : Option (RelOp × Cell Expr)) (c : PrincipalOrResourceConstraint) → x ≡ z → s.asked e place z y w ≡ Ok c → s.asked e place x y w ≡ Ok c
+asked_same : (e : Extensions) (place : Option Loc) (x z : Var) (y : Option (Cell Add)) (w : Option (RelOp × Cell Expr)) (c : PrincipalOrResourceConstraint) → x ≡ z → s.constraint_outcome e place z y w ≡ Ok c → s.constraint_outcome e place x y w ≡ Ok c
 asked_same e place x z y w c same h = rw same h
 
 pub element_meant : {src : List ℕ} {ts : List Lexeme} {d : VariableDef} {x : Var} {k : TokenKind} (e : Extensions) (c : PrincipalOrResourceConstraint) → SlotOf x k → ReadsVariableDef src ts d → s.element_outcome e x (placed src ts d) ≡ Ok c
@@ -165,7 +165,7 @@ element_meant {src = src} {ts = all} {x = x} e c k (l.variable_def {ts = ts} {us
     let a = next_ok (s.element_variable d) _ c h in
     let b = next_ok (s.scope_variable (placed src ts i)) _ a.0 a.1 in
     let f = next_ok (s.no_type_name t) _ a.0 b.2 in
-    let g = next_ok (s.asked e place a.0 y w) _ c a.2 in
+    let g = next_ok (s.constraint_outcome e place a.0 y w) _ c a.2 in
     let there = if_ok (s.stands_there x a.0) (Ok g.0) _ c g.2 in
     let same = same_variable k a.0 there.0 in
     let word = scope_word src b.0 r b.1 in
@@ -195,8 +195,8 @@ asks_action_as c d h g i = rw (← h, ← g) i
 
 action_in_meant : {src : List ℕ} {ts : List Lexeme} {x : Expr} (e : Extensions) (place at : Option Loc) (c d : ActionConstraint) (p : Spot) → ReadsExpr src ts x → s.action_in e place (placed src ts x) ≡ Ok c → s.only_actions at c ≡ Ok d → AsksAction (one kind.In p ++ ts) d
 action_in_meant {src = src} {ts = ts} {x = x} e place at c d p r h g =
-    let a = unless_ok (s.is_inverted e rel.In (placed src ts x)) (next (referred one_or_multiple vars.Action (placed src ts x)) (λ all. Ok (s.within all))) ((is_in_action_scope, place) ∷ []) c h in
-    let b = next_ok (referred one_or_multiple vars.Action (placed src ts x)) (λ all. Ok (s.within all)) c a.1 in
+    let a = unless_ok (s.is_inverted e rel.In (placed src ts x)) (next (referent_outcome one_or_multiple vars.Action (placed src ts x)) (λ all. Ok (s.within all))) ((is_in_action_scope, place) ∷ []) c h in
+    let b = next_ok (referent_outcome one_or_multiple vars.Action (placed src ts x)) (λ all. Ok (s.within all)) c a.1 in
     let same : c ≡ action.In (uids_of b.0) = sym (ok_is b.2) ∙ within_is b.0 in
     let o = others_none at c d (but_actions (named_entities c)) g in
     let all : but_actions (uids_of b.0) ≡ [] = sym (ap (λ k. but_actions (named_entities k)) same) ∙ o.0 in
@@ -211,13 +211,13 @@ alone_true uid h = first_true (is_action uid) true h
 
 action_eq_meant : {src : List ℕ} {ts : List Lexeme} {x : Expr} (at : Option Loc) (c d : ActionConstraint) (p : Spot) → ReadsExpr src ts x → s.action_eq (placed src ts x) ≡ Ok c → s.only_actions at c ≡ Ok d → AsksAction (one kind.EqEq p ++ ts) d
 action_eq_meant {src = src} {ts = ts} {x = x} at c d p r h g =
-    let b = next_ok (referred single_entity vars.Action (placed src ts x)) _ c h in
+    let b = next_ok (referent_outcome single_entity vars.Action (placed src ts x)) _ c h in
     let same : c ≡ action.Eq b.0.0 = sym (ok_is b.2) in
     let o = others_none at c d (but_actions (named_entities c)) g in
     let all : but_actions (b.0.0 ∷ []) ≡ [] = sym (ap (λ k. but_actions (named_entities k)) same) ∙ o.0 in
     asks_action_as (action.Eq b.0.0) d refl (sym same ∙ o.1) (z.to_be p (single_meant vars.Action b.0 r b.1) (alone_true b.0.0 (no_actions (b.0.0 ∷ []) all)))
 
-action_asked_meant : {src : List ℕ} {ws : List Lexeme} {w : Option (RelOp × Cell Expr)} (e : Extensions) (place : Option Loc) (d : ActionConstraint) → ReadsConstraint src ws w → s.action_asked e place w ≡ Ok d → AsksAction ws d
+action_asked_meant : {src : List ℕ} {ws : List Lexeme} {w : Option (RelOp × Cell Expr)} (e : Extensions) (place : Option Loc) (d : ActionConstraint) → ReadsConstraint src ws w → s.asked_action e place w ≡ Ok d → AsksAction ws d
 action_asked_meant e place d l.no_constraint h = asks_action_as action.Any d refl (ok_is h) z.nothing
 action_asked_meant {src = src} e place d (l.constraint {ts = ts} {x = x} p lx.within r) h = let a = next_ok (s.action_in e place (placed src ts x)) _ d h in action_in_meant e place (placed src ts x).loc a.0 d p r a.1 a.2
 action_asked_meant {src = src} e place d (l.constraint {ts = ts} {x = x} p lx.equal r) h = let a = next_ok (s.action_eq (placed src ts x)) _ d h in action_eq_meant (placed src ts x).loc a.0 d p r a.1 a.2
@@ -250,7 +250,7 @@ pub action_meant : {src : List ℕ} {ts : List Lexeme} {d : VariableDef} (e : Ex
 action_meant {src = src} {ts = all} e c (l.variable_def {ts = ts} {us = us} {vs = vs} {ws = ws} {i = i} {x = t} {y = y} {z = w} r nr yr wr) h =
     let d : VariableDef = record { variable = placed src ts i; unused_type_name = t; entity_type = y; ineq = w } in
     let place = (placed src all d).loc in
-    let a = next_ok (s.action_begun place d) _ c h in
+    let a = next_ok (s.action_variable place d) _ c h in
     let b = next_ok (s.scope_variable (placed src ts i)) _ a.0 a.1 in
     let f = next_ok (s.action_alone place b.0) _ a.0 b.2 in
     let g = next_ok (s.no_type_name t) _ a.0 f.2 in

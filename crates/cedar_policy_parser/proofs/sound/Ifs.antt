@@ -19,11 +19,11 @@ use Rattle.cedar_syntax.specs.LooseExpressions.{if_name, lone_add, lone_expr}
 use Rattle.cedar_syntax.specs.Place.{placed}
 use Rattle.cedar_syntax.specs.Tokens.{Spot, one}
 use Rattle.cedar_syntax.specs.Trees.{Cell, or_of, and_of, common_of, mult_of, unary_of, member_of, name_of}
-use Rattle.cedar_policy_parser.specs.Conversion.{outcome, operands, accesses_given}
+use Rattle.cedar_policy_parser.specs.Conversion.{outcome, operands, accesses_outcome}
 use Rattle.cedar_policy_parser.specs.Extensions.{Extensions}
 use Rattle.cedar_policy_parser.specs.HasSide.{Attributes, right_side, right_form, begins_with, attributes_of}
 use Rattle.cedar_policy_parser.specs.Held.{Held}
-use Rattle.cedar_policy_parser.specs.Leaves.{named}
+use Rattle.cedar_policy_parser.specs.Leaves.{name_leaf}
 use Rattle.cedar_policy_parser.specs.Outcome.{both}
 use Rattle.cedar_policy_parser.proofs.Inverted.{next_ok, both_ok}
 use Rattle.cedar_policy_parser.proofs.Made.{gives_or_alone, gives_or, gives_and, gives_common, gives_add, gives_mult, gives_unary, gives_member, gives_named}
@@ -76,7 +76,7 @@ lone_given e place src ts x =
 -- ---- `if`
 
 -- the name `if` gives nothing
-if_named : (place : Option Loc) (src : List ℕ) (p : Spot) (h : Held) → named place (placed src (one kind.If p) (name_of [] (placed src (one kind.If p) ident.If))) ≡ Ok h → ⊥
+if_named : (place : Option Loc) (src : List ℕ) (p : Spot) (h : Held) → name_leaf place (placed src (one kind.If p) (name_of [] (placed src (one kind.If p) ident.If))) ≡ Ok h → ⊥
 if_named place src p h k = cc
 
 pub if_sought : (whole place : Option Loc) (src : List ℕ) (ts : List Lexeme) (p : Spot) (xs : List (Cell MemAccess)) (r : Attributes)
@@ -86,7 +86,7 @@ if_sought whole place src ts p xs r h =
     let word : Cell Name = placed src (one kind.If p) (name_of [] (placed src (one kind.If p) ident.If)) in
     let begun : begins_with whole (parts_of (map listed_access xs)) (located primary_form first) ≡ Ok r =
     sym (right_member whole (placed src ts (member_of first xs)).loc first xs) ∙ sym (lone_right whole place src ts (member_of first xs)) ∙ h in
-    let d = next_ok (named first.loc word) (attributes_of whole (parts_of (map listed_access xs))) r (sym (begins_at whole (parts_of (map listed_access xs)) first.loc _ _ (primary_name word)) ∙ begun) in
+    let d = next_ok (name_leaf first.loc word) (attributes_of whole (parts_of (map listed_access xs))) r (sym (begins_at whole (parts_of (map listed_access xs)) first.loc _ _ (primary_name word)) ∙ begun) in
     if_named first.loc src p d.0 d.1
 
 pub if_given : (e : Extensions) (place : Option Loc) (src : List ℕ) (ts : List Lexeme) (p : Spot) (h : Held)
@@ -95,6 +95,6 @@ if_given e place src ts p h k =
     let first : Cell Primary = placed src (one kind.If p) (if_name src p) in
     let word : Cell Name = placed src (one kind.If p) (name_of [] (placed src (one kind.If p) ident.If)) in
     let given = sym (gives_member e (placed src ts (member_of first [])).loc first []) ∙ sym (lone_given e place src ts (member_of first [])) ∙ k in
-    let d = next_ok (both (outcome e (located primary_form first)) (accesses_given e (parts_of (map listed_access [])))) _ h given in
-    let b = both_ok (outcome e (located primary_form first)) (accesses_given e (parts_of (map listed_access []))) d.0 d.1 in
+    let d = next_ok (both (outcome e (located primary_form first)) (accesses_outcome e (parts_of (map listed_access [])))) _ h given in
+    let b = both_ok (outcome e (located primary_form first)) (accesses_outcome e (parts_of (map listed_access []))) d.0 d.1 in
     if_named first.loc src p d.0.0 (sym (gives_named e first.loc word) ∙ b.0)

@@ -11,7 +11,7 @@ use Rattle.cedar_syntax.specs.Forms.{parts_of}
 use Rattle.cedar_syntax.specs.Located.{Located}
 use Rattle.cedar_syntax.specs.Tree.{Operator}
 use Rattle.cedar_syntax.specs.Tokens.{Spot, one}
-use Rattle.cedar_policy_parser.specs.Conversion.{Part, bodies, accesses_given, access_outcome, pairs_given, pair_outcome, with_first, set_of, record_held, keys}
+use Rattle.cedar_policy_parser.specs.Conversion.{Part, bodies, accesses_outcome, access_outcome, pairs_outcome, pair_outcome, with_first, set_value_outcome, record_outcome, keys}
 use Rattle.cedar_policy_parser.specs.Extensions.{Extensions}
 use Rattle.cedar_policy_parser.specs.Held.{Held, expression}
 use Rattle.cedar_policy_parser.specs.Members.{Access}
@@ -32,39 +32,39 @@ first_of o r zs h =
     let b = both_ok o r a.0 a.1 in
     (a.0.0, a.0.1, b.0, b.1, sym (ok_is a.2))
 
-pub accesses_snoc : (e : Extensions) (ps : List (Operator × Located)) (p : Operator × Located) (zs : List Access) → accesses_given e (parts_of (ps ++ p ∷ [])) ≡ Ok zs
-    → (as_given : List Access) × (a : Access) × (accesses_given e (parts_of ps) ≡ Ok as_given) × (access_outcome e p.1 ≡ Ok a) × (zs ≡ as_given ++ a ∷ [])
-unfolding accesses_given
+pub accesses_snoc : (e : Extensions) (ps : List (Operator × Located)) (p : Operator × Located) (zs : List Access) → accesses_outcome e (parts_of (ps ++ p ∷ [])) ≡ Ok zs
+    → (as_given : List Access) × (a : Access) × (accesses_outcome e (parts_of ps) ≡ Ok as_given) × (access_outcome e p.1 ≡ Ok a) × (zs ≡ as_given ++ a ∷ [])
+unfolding accesses_outcome
 accesses_snoc e [] p zs h =
     let d = first_of (access_outcome e p.1) (Ok []) zs h in
     ([], d.0, refl, d.2, d.4 ∙ ap (λ xs. d.0 ∷ xs) (sym (ok_is d.3)))
 accesses_snoc e (q ∷ ps) p zs h =
-    let d = first_of (access_outcome e q.1) (accesses_given e (parts_of (ps ++ p ∷ []))) zs h in
+    let d = first_of (access_outcome e q.1) (accesses_outcome e (parts_of (ps ++ p ∷ []))) zs h in
     let c = accesses_snoc e ps p d.1 d.3 in
-    (d.0 ∷ c.0, c.1, with_more (access_outcome e q.1) (accesses_given e (parts_of ps)) d.0 c.0 d.2 c.2, c.3, d.4 ∙ ap (λ xs. d.0 ∷ xs) c.4)
+    (d.0 ∷ c.0, c.1, with_more (access_outcome e q.1) (accesses_outcome e (parts_of ps)) d.0 c.0 d.2 c.2, c.3, d.4 ∙ ap (λ xs. d.0 ∷ xs) c.4)
 
-pub pairs_snoc : (e : Extensions) (ps : List (Operator × Located)) (p : Operator × Located) (zs : List (List ℕ × Value)) → pairs_given e (parts_of (ps ++ p ∷ [])) ≡ Ok zs
-    → (before : List (List ℕ × Value)) × (a : List ℕ × Value) × (pairs_given e (parts_of ps) ≡ Ok before) × (pair_outcome e p.1 ≡ Ok a) × (zs ≡ before ++ a ∷ [])
-unfolding pairs_given
+pub pairs_snoc : (e : Extensions) (ps : List (Operator × Located)) (p : Operator × Located) (zs : List (List ℕ × Value)) → pairs_outcome e (parts_of (ps ++ p ∷ [])) ≡ Ok zs
+    → (before : List (List ℕ × Value)) × (a : List ℕ × Value) × (pairs_outcome e (parts_of ps) ≡ Ok before) × (pair_outcome e p.1 ≡ Ok a) × (zs ≡ before ++ a ∷ [])
+unfolding pairs_outcome
 pairs_snoc e [] p zs h =
     let d = first_of (pair_outcome e p.1) (Ok []) zs h in
     ([], d.0, refl, d.2, d.4 ∙ ap (λ xs. d.0 ∷ xs) (sym (ok_is d.3)))
 pairs_snoc e (q ∷ ps) p zs h =
-    let d = first_of (pair_outcome e q.1) (pairs_given e (parts_of (ps ++ p ∷ []))) zs h in
+    let d = first_of (pair_outcome e q.1) (pairs_outcome e (parts_of (ps ++ p ∷ []))) zs h in
     let c = pairs_snoc e ps p d.1 d.3 in
-    (d.0 ∷ c.0, c.1, with_more (pair_outcome e q.1) (pairs_given e (parts_of ps)) d.0 c.0 d.2 c.2, c.3, d.4 ∙ ap (λ xs. d.0 ∷ xs) c.4)
+    (d.0 ∷ c.0, c.1, with_more (pair_outcome e q.1) (pairs_outcome e (parts_of ps)) d.0 c.0 d.2 c.2, c.3, d.4 ∙ ap (λ xs. d.0 ∷ xs) c.4)
 
 -- ---- sets and records
 
 pub set_held : (e : Extensions) (ts : List Lexeme) (l n : Spot) (place : Option Loc) (r : Outcome (List Part)) (h : Held) → ((ps : List Part) → r ≡ Ok ps → Listed e SIGN_LIMIT ts (bodies ps))
-    → next r (set_of place) ≡ Ok h → HeldAs e m.primary (one kind.OpenBracket l ++ ts ++ one kind.CloseBracket n) h
+    → next r (set_value_outcome place) ≡ Ok h → HeldAs e m.primary (one kind.OpenBracket l ++ ts ++ one kind.CloseBracket n) h
 set_held e ts l n place r h items k =
-    let a = next_ok r (set_of place) h k in
+    let a = next_ok r (set_value_outcome place) h k in
     held_as e m.primary _ _ h (ok_is a.2) (m.set l n (items a.0 a.1))
 
 pub braces_held : (e : Extensions) (ts : List Lexeme) (l n : Spot) (place : Option Loc) (r : Outcome (List (List ℕ × Value))) (h : Held) → ((fs : List (List ℕ × Value)) → r ≡ Ok fs → Entries e SIGN_LIMIT ts fs)
-    → next r (record_held place) ≡ Ok h → HeldAs e m.primary (one kind.OpenBrace l ++ ts ++ one kind.CloseBrace n) h
+    → next r (record_outcome place) ≡ Ok h → HeldAs e m.primary (one kind.OpenBrace l ++ ts ++ one kind.CloseBrace n) h
 braces_held e ts l n place r h items k =
-    let a = next_ok r (record_held place) h k in
+    let a = next_ok r (record_outcome place) h k in
     let b = unless_ok (repeats_key (keys a.0)) (Ok (expression place (v.«record» (fields a.0)))) _ h a.2 in
     held_as e m.primary _ _ h (ok_is b.1) (m.in_braces l n (items a.0 a.1) b.0)

@@ -23,7 +23,7 @@ use Rattle.cedar_syntax.specs.Trees.{Cell, name_of}
 use Rattle.cedar_policy_parser.specs.Extensions.{Extensions}
 use Rattle.cedar_policy_parser.specs.Entities.{entity_outcome}
 use Rattle.cedar_policy_parser.specs.Held.{Held, expression, as_expression}
-use Rattle.cedar_policy_parser.specs.Leaves.{named, variable_or_name, slot_held, entity_held}
+use Rattle.cedar_policy_parser.specs.Leaves.{name_leaf, variable_or_name, slot_leaf, entity_leaf}
 use Rattle.cedar_policy_parser.specs.Literals.{literal_outcome}
 use Rattle.cedar_policy_parser.specs.Names.{name_outcome, variable_in, lone_variable}
 use Rattle.cedar_policy_parser.specs.Outcome.{next}
@@ -52,12 +52,12 @@ literal_held e place h (lw.string p) k = held_as e m.primary _ _ h (ok_is k) (p,
 
 -- ---- slots and entities
 
-pub slot_held_as : {k : TokenKind} {x : Slot} (e : Extensions) (src : List ℕ) (p : Spot) (h : Held) → ReadsSlot k p.text x → slot_held (placed src (one k p) x) ≡ Ok h → HeldAs e m.primary (one k p) h
+pub slot_held_as : {k : TokenKind} {x : Slot} (e : Extensions) (src : List ℕ) (p : Spot) (h : Held) → ReadsSlot k p.text x → slot_leaf (placed src (one k p) x) ≡ Ok h → HeldAs e m.primary (one k p) h
 slot_held_as e src p h l.principal_slot k = held_as e m.primary _ _ h (ok_is k) (m.principal_slot p)
 slot_held_as e src p h l.resource_slot k = held_as e m.primary _ _ h (ok_is k) (m.resource_slot p)
 slot_held_as e src p h l.other_slot k = cc
 
-pub entity_held_as : {src : List ℕ} {ts : List Lexeme} {x : Ref} (e : Extensions) (h : Held) → ReadsRef src ts x → entity_held (placed src ts x) ≡ Ok h → HeldAs e m.primary ts h
+pub entity_held_as : {src : List ℕ} {ts : List Lexeme} {x : Ref} (e : Extensions) (h : Held) → ReadsRef src ts x → entity_leaf (placed src ts x) ≡ Ok h → HeldAs e m.primary ts h
 entity_held_as {src = src} {ts = ts} {x = x} e h r k =
     let d = next_ok (entity_outcome (placed src ts x)) _ h k in
     held_as e m.primary _ _ h (ok_is d.2) (m.entity (entity_meant (placed src ts x).loc d.0 r d.1))
@@ -115,7 +115,7 @@ lone_none : (xs : List (Cell Ident)) (x : Cell Ident) (i : Option Ident) → lon
 lone_none [] x i = refl
 lone_none (y ∷ xs) x i = refl
 
-pub name_held : {src : List ℕ} {ts : List Lexeme} {x : Name} (e : Extensions) (place : Option Loc) (h : Held) → ReadsName src ts x → named place (placed src ts x) ≡ Ok h → HeldAs e m.primary ts h
+pub name_held : {src : List ℕ} {ts : List Lexeme} {x : Name} (e : Extensions) (place : Option Loc) (h : Held) → ReadsName src ts x → name_leaf place (placed src ts x) ≡ Ok h → HeldAs e m.primary ts h
 name_held e place h (lw.common {i = i} r fine) k = common_named e place h (variable_in (Some i)) (lw.common r fine) r refl k
 name_held {src = src} {ts = all} e place h (lw.qualified {ts = ts} {us = us} {xs = xs} {x = x} {i = i} p r s) k =
     let n = placed src (ts ++ one kind.ColonColon p ++ us) (name_of (xs ++ x ∷ []) (placed src us i)) in

@@ -10,7 +10,7 @@ use Rattle.cedar_syntax.specs.declared.cst.TheConstants.{SIGN_LIMIT}
 use Rattle.cedar_syntax.specs.Located.{Parts}
 use Rattle.cedar_syntax.specs.Tree.{Level, Operator, disjunction, conjunction, product}
 use Rattle.cedar_syntax.specs.Tokens.{Spot, one}
-use Rattle.cedar_policy_parser.specs.Conversion.{Part, chained, combined, joined, allowed, bodies}
+use Rattle.cedar_policy_parser.specs.Conversion.{Part, chain_outcome, level_outcome, joint_outcome, operator_limit, bodies}
 use Rattle.cedar_policy_parser.specs.Extensions.{Extensions}
 use Rattle.cedar_policy_parser.specs.Held.{Held, as_expression}
 use Rattle.cedar_policy_parser.specs.Outcome.{Outcome, both}
@@ -31,18 +31,18 @@ AddedAs e ts a bs = Added e SIGN_LIMIT ts a bs
 
 abbrev pub IsChain : Level → Option Loc → Parts → Outcome Held → Outcome (List Part) → Held → Type 0
 IsChain level place ps x r h = ((x ≡ Ok h) × (r ≡ Ok []))
-    ⊎ ((s : Held) × (a : Value) × (q : Part) × (qs : List Part) × (x ≡ Ok s) × (r ≡ Ok (q ∷ qs)) × (as_expression s ≡ Ok a) × (allowed level place ps ≡ Ok tt) × (combined level place (q ∷ qs) a ≡ Ok h))
+    ⊎ ((s : Held) × (a : Value) × (q : Part) × (qs : List Part) × (x ≡ Ok s) × (r ≡ Ok (q ∷ qs)) × (as_expression s ≡ Ok a) × (operator_limit level place ps ≡ Ok tt) × (level_outcome level place (q ∷ qs) a ≡ Ok h))
 
-joined_held : (level : Level) (place : Option Loc) (ps : Parts) (s h : Held) (rs : List Part) (x : Outcome Held) (r : Outcome (List Part)) → x ≡ Ok s → r ≡ Ok rs → allowed level place ps ≡ Ok tt → joined level place s rs ≡ Ok h → IsChain level place ps x r h
+joined_held : (level : Level) (place : Option Loc) (ps : Parts) (s h : Held) (rs : List Part) (x : Outcome Held) (r : Outcome (List Part)) → x ≡ Ok s → r ≡ Ok rs → operator_limit level place ps ≡ Ok tt → joint_outcome level place s rs ≡ Ok h → IsChain level place ps x r h
 joined_held level place ps s h [] x r e f u g = inl (e ∙ g, f)
 joined_held level place ps s h (q ∷ qs) x r e f u g =
     let a = next_ok (as_expression s) _ h g in
     inr (s, a.0, q, qs, e, f, a.1, u, a.2)
 
-pub chain_held : (level : Level) (place : Option Loc) (ps : Parts) (x : Outcome Held) (r : Outcome (List Part)) (h : Held) → chained level place ps x r ≡ Ok h → IsChain level place ps x r h
+pub chain_held : (level : Level) (place : Option Loc) (ps : Parts) (x : Outcome Held) (r : Outcome (List Part)) (h : Held) → chain_outcome level place ps x r ≡ Ok h → IsChain level place ps x r h
 chain_held level place ps x r h e =
-    let b = next_ok (both (both x r) (allowed level place ps)) _ h e in
-    let c = both_ok (both x r) (allowed level place ps) b.0 b.1 in
+    let b = next_ok (both (both x r) (operator_limit level place ps)) _ h e in
+    let c = both_ok (both x r) (operator_limit level place ps) b.0 b.1 in
     let d = both_ok x r b.0.0 c.0 in
     joined_held level place ps b.0.0.0 h b.0.0.1 x r d.0 d.1 c.1 b.2
 
@@ -73,21 +73,21 @@ pub parted_more : (e : Extensions) (k : TokenKind) (s : Sort) (ts us : List Lexe
 parted_more e k s ts us h op qs ps b p f i n = some_parted e k s (ts ++ one k p ++ us) h qs ps (op, b) f (λ a g. joined_more op qs ps b p f (parted_joined e k s ts h qs a i g) n)
 
 pub or_held : (e : Extensions) (ts : List Lexeme) (place : Option Loc) (ps : Parts) (x : Outcome Held) (r : Outcome (List Part)) (h : Held) → ((s : Held) (qs : List Part) → x ≡ Ok s → r ≡ Ok qs → Parted e kind.OrOr m.conjunction ts s qs)
-    → chained disjunction place ps x r ≡ Ok h → HeldAs e m.disjunction ts h
+    → chain_outcome disjunction place ps x r ≡ Ok h → HeldAs e m.disjunction ts h
 or_held e ts place ps x r h j g = elim (chain_held disjunction place ps x r h g) [
   | inl i ↦ held_up e m.conjunction m.disjunction h (λ y n. m.one_conjunction n) (j h [] i.0 i.1)
   | inr i ↦ held_as e m.disjunction ts _ h (ok_is i.8) (m.disjoined (j i.0 (i.2 ∷ i.3) i.4 i.5 i.1 i.6) (length-bodies i.2 i.3))
 ]
 
 pub and_held : (e : Extensions) (ts : List Lexeme) (place : Option Loc) (ps : Parts) (x : Outcome Held) (r : Outcome (List Part)) (h : Held) → ((s : Held) (qs : List Part) → x ≡ Ok s → r ≡ Ok qs → Parted e kind.AndAnd m.relation ts s qs)
-    → chained conjunction place ps x r ≡ Ok h → HeldAs e m.conjunction ts h
+    → chain_outcome conjunction place ps x r ≡ Ok h → HeldAs e m.conjunction ts h
 and_held e ts place ps x r h j g = elim (chain_held conjunction place ps x r h g) [
   | inl i ↦ held_up e m.relation m.conjunction h (λ y n. m.one_relation n) (j h [] i.0 i.1)
   | inr i ↦ held_as e m.conjunction ts _ h (ok_is i.8) (m.conjoined (j i.0 (i.2 ∷ i.3) i.4 i.5 i.1 i.6) (length-bodies i.2 i.3))
 ]
 
 pub mult_held : (e : Extensions) (ts : List Lexeme) (place : Option Loc) (ps : Parts) (x : Outcome Held) (r : Outcome (List Part)) (h : Held) → ((s : Held) (qs : List Part) → x ≡ Ok s → r ≡ Ok qs → Parted e kind.Star m.signed ts s qs)
-    → chained product place ps x r ≡ Ok h → HeldAs e m.product ts h
+    → chain_outcome product place ps x r ≡ Ok h → HeldAs e m.product ts h
 mult_held e ts place ps x r h j g = elim (chain_held product place ps x r h g) [
   | inl i ↦ held_up e m.signed m.product h (λ y n. m.one_signed n) (j h [] i.0 i.1)
   | inr i ↦ held_as e m.product ts _ h (ok_is i.8) (m.multiplied (j i.0 (i.2 ∷ i.3) i.4 i.5 i.1 i.6) (length-bodies i.2 i.3))

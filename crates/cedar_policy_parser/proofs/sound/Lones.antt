@@ -36,7 +36,7 @@ use Rattle.cedar_syntax.specs.LooseWords.{ReadsLiteral, ReadsName, ReadsRef}
 use Rattle.cedar_syntax.specs.Tokens.{Spot, one}
 use Rattle.cedar_syntax.specs.Trees.{Cell, bangs_of, dashes_of, sign_limit}
 use Rattle.cedar_policy_parser.specs.HasSide.{no_sign}
-use Rattle.cedar_policy_parser.specs.Outcome.{Told, Outcome, refused, wrong_node}
+use Rattle.cedar_policy_parser.specs.Outcome.{NamedFault, Outcome, fault_outcome, wrong_node}
 use Rattle.cedar_policy_parser.specs.References.{lone, lone_form}
 use Rattle.cedar_policy_parser.proofs.Inverted.{ok_is}
 use Rattle.cedar_policy_parser.proofs.Loops.{map_snoc}
@@ -61,7 +61,7 @@ lone_within a b d = record { tokens = d.tokens; tree = d.tree; parens = wrapped 
 lone_as : {src : List ℕ} {ts us : List Lexeme} {n : Located} → us ≡ ts → Lone src us n → Lone src ts n
 lone_as h d = rw (← h) d
 
-never : {Y : Type 0} (fs : List Told) (y : Y) (o : Outcome Y) → o ≡ Err fs → o ≡ Ok y → ⊥
+never : {Y : Type 0} (fs : List NamedFault) (y : Y) (o : Outcome Y) → o ≡ Err fs → o ≡ Ok y → ⊥
 never fs y (Ok z) h k = cc
 never fs y (Err gs) h k = cc
 
@@ -105,7 +105,7 @@ pub dashes_sign : (n : ℕ) → 0 < n → no_sign (Some (dashes_of n)) ≡ false
 dashes_sign zero h = absurd (omega arith)
 dashes_sign (suc n) h = dash_sign n (nat_le (suc n) sign_limit)
 
-signed_none : (b : Bool) (o : Outcome Located) (p : Option Loc) (n : Located) → b ≡ false → cond b o (refused wrong_node p) ≡ Ok n → ⊥
+signed_none : (b : Bool) (o : Outcome Located) (p : Option Loc) (n : Located) → b ≡ false → cond b o (fault_outcome wrong_node p) ≡ Ok n → ⊥
 signed_none true o p n e h = cc
 signed_none false o p n e h = cc
 

@@ -29,11 +29,12 @@ use Rattle.cedar_policy_parser.specs.declared.to_ref_or_refs.OneOrMultipleRefs.T
 use Rattle.cedar_policy_parser.specs.declared.to_ref_or_refs.SingleEntity.{SingleEntity}
 use Rattle.cedar_policy_parser.specs.Conversion.{with_first}
 use Rattle.cedar_policy_parser.specs.Entities.{entity_outcome}
-use Rattle.cedar_policy_parser.specs.Outcome.{Told, Outcome, refused, both, next, wrong_node, wrong_entity_argument}
-use Rattle.cedar_policy_parser.specs.References.{RefKind, entities, entity_at, entity_form, entity_found, entity_or_slot, form_told, literal_told, lone, lone_entity, mark_of, of_variable, one_or_multiple, referred, referred_at, referred_form, set_referred, single_entity, slot_found}
+use Rattle.cedar_policy_parser.specs.Outcome.{NamedFault, Outcome, fault_outcome, both, next, wrong_node, wrong_entity_argument}
+use Rattle.cedar_policy_parser.specs.References.{RefKind, entities, entity_at, entity_form, single_outcome, entity_or_slot, form_fault, literal_fault, lone, lone_entity, of_variable, one_or_multiple, referent_outcome, referent_at, referred_form, several_outcome, single_entity, own_slot_outcome}
+use Rattle.cedar_policy_parser.specs.Places.{place_mark}
 use Rattle.cedar_policy_parser.specs.Seen.{item_more}
 use Rattle.cedar_policy_parser.specs.StrictScope as m
-use Rattle.cedar_policy_parser.specs.StrictScope.{AreActions, AreEntities, IsEntityAlone, IsListed, IsReference}
+use Rattle.cedar_policy_parser.specs.StrictScope.{AreActions, AreEntities, IsEntityAlone, IsEntityList, IsReference}
 use Rattle.cedar_policy_parser.specs.StrictWords.{IsEntity}
 use Rattle.cedar_policy_parser.proofs.Inverted.{ok_is, next_ok, both_ok}
 use Rattle.cedar_policy_parser.proofs.Loops.{map_snoc}
@@ -41,7 +42,7 @@ use Rattle.cedar_policy_parser.proofs.ReferredNodes.{entities_snoc}
 use Rattle.cedar_policy_parser.proofs.sound.Lones.{InParens, bare, wrapped, Lone, lone_expr}
 use Rattle.cedar_policy_parser.proofs.sound.Words.{entity_meant}
 
-never : {Y : Type 0} (fs : List Told) (y : Y) (o : Outcome Y) → o ≡ Err fs → o ≡ Ok y → ⊥
+never : {Y : Type 0} (fs : List NamedFault) (y : Y) (o : Outcome Y) → o ≡ Err fs → o ≡ Ok y → ⊥
 never fs y (Ok z) h k = cc
 never fs y (Err gs) h k = cc
 
@@ -91,10 +92,10 @@ entity_items {src = src} uids (l.more_exprs {us = us} {xs = xs} {y = y} p r s) h
     let d = more_ok (entities (parts_of (map listed_expr xs))) (lone_entity (located expr_form (placed src us y))) uids (sym (ap (λ zs. entities (parts_of zs)) (map_snoc listed_expr xs (placed src us y)) ∙ snoc) ∙ h) in
     entities_as (d.0 ++ d.1 ∷ []) uids (sym d.4) (m.more_entities p (entity_items d.0 r d.2) (entity_alone d.1 s d.3))
 
-listed_as : {ts : List Lexeme} (us vs : List EntityUID) → us ≡ vs → IsListed ts us → IsListed ts vs
+listed_as : {ts : List Lexeme} (us vs : List EntityUID) → us ≡ vs → IsEntityList ts us → IsEntityList ts vs
 listed_as us vs h i = rw (← h) i
 
-entity_list : {src : List ℕ} {ts : List Lexeme} {xs : List (Cell Expr)} (uids : List EntityUID) → ReadsExprs src ts xs → entities (parts_of (map listed_expr xs)) ≡ Ok uids → IsListed ts uids
+entity_list : {src : List ℕ} {ts : List Lexeme} {xs : List (Cell Expr)} (uids : List EntityUID) → ReadsExprs src ts xs → entities (parts_of (map listed_expr xs)) ≡ Ok uids → IsEntityList ts uids
 entity_list uids l.no_expr h = listed_as [] uids (ok_is h) m.no_entities
 entity_list uids (l.exprs r) h = m.listed (entity_items uids r h)
 entity_list uids (l.exprs_comma p r) h = m.listed_comma p (entity_items uids r h)
@@ -110,13 +111,13 @@ reference_in : {k : TokenKind} {ts us : List Lexeme} {r : Reference} → InParen
 reference_in bare i = i
 reference_in (wrapped a b p) i = m.in_parentheses a b (reference_in p i)
 
-reference_as : {k : TokenKind} {ts : List Lexeme} (r s : EntityReference) → r ≡ s → IsReference k ts (free.referred r) → IsReference k ts (free.referred s)
+reference_as : {k : TokenKind} {ts : List Lexeme} (r s : EntityReference) → r ≡ s → IsReference k ts (free.reference_meaning r) → IsReference k ts (free.reference_meaning s)
 reference_as r s h i = rw (← h) i
 
-referred_form_at : {T : Type 0} (k : RefKind T) (x : Var) (p : Option Loc) (t u : Form) → t ≡ u → referred_at k x (at p t) ≡ referred_form k x p u
+referred_form_at : {T : Type 0} (k : RefKind T) (x : Var) (p : Option Loc) (t u : Form) → t ≡ u → referent_at k x (at p t) ≡ referred_form k x p u
 referred_form_at k x p t u h = ap (referred_form k x p) h
 
-own_slot : {k j : TokenKind} {x : Var} {s : Slot} (p : Spot) (place : Option Loc) (r : EntityReference) → SlotOf x k → ReadsSlot j p.text s → of_variable place x (reference.Slot (mark_of place)) s ≡ Ok r → IsReference k (one j p) (free.referred r)
+own_slot : {k j : TokenKind} {x : Var} {s : Slot} (p : Spot) (place : Option Loc) (r : EntityReference) → SlotOf x k → ReadsSlot j p.text s → of_variable place x (reference.Slot (place_mark place)) s ≡ Ok r → IsReference k (one j p) (free.reference_meaning r)
 own_slot p place r principal l.principal_slot h = reference_as _ r (ok_is h) (m.to_slot p)
 own_slot p place r resource l.resource_slot h = reference_as _ r (ok_is h) (m.to_slot p)
 own_slot p place r principal l.resource_slot h = cc
@@ -124,8 +125,8 @@ own_slot p place r resource l.principal_slot h = cc
 own_slot p place r principal l.other_slot h = cc
 own_slot p place r resource l.other_slot h = cc
 
-reference_primary : {src : List ℕ} {us : List Lexeme} {d : Primary} {x : Var} {k : TokenKind} (r : EntityReference) → SlotOf x k → ReadsPrimary src us d → referred_at entity_or_slot x (located primary_form (placed src us d)) ≡ Ok r
-    → IsReference k us (free.referred r)
+reference_primary : {src : List ℕ} {us : List Lexeme} {d : Primary} {x : Var} {k : TokenKind} (r : EntityReference) → SlotOf x k → ReadsPrimary src us d → referent_at entity_or_slot x (located primary_form (placed src us d)) ≡ Ok r
+    → IsReference k us (free.reference_meaning r)
 reference_primary {src = src} {x = x} r s (l.referred {ts = ts} {x = y} i) h =
     let a = next_ok (entity_outcome (placed src ts y)) _ r (sym (referred_form_at entity_or_slot x _ _ _ (primary_ref (placed src ts y))) ∙ h) in
     reference_as (reference.EUID a.0) r (ok_is a.2) (m.to_entity (entity_meant (placed src ts y).loc a.0 i a.1))
@@ -137,15 +138,15 @@ reference_primary {src = src} {x = x} r s (l.paren {ts = ts} {x = y} a b i) h = 
 reference_primary {x = x} r s (l.set {xs = xs} a b i) h = absurd (never _ r _ (referred_form_at entity_or_slot x _ _ _ (primary_list xs)) h)
 reference_primary {x = x} r s (l.in_braces {xs = xs} a b i) h = absurd (never _ r _ (referred_form_at entity_or_slot x _ _ _ (primary_inits xs)) h)
 
-pub reference_meant : {src : List ℕ} {ts : List Lexeme} {t : Expr} {x : Var} {k : TokenKind} (r : EntityReference) → SlotOf x k → ReadsExpr src ts t → referred entity_or_slot x (placed src ts t) ≡ Ok r → IsReference k ts (free.referred r)
+pub reference_meant : {src : List ℕ} {ts : List Lexeme} {t : Expr} {x : Var} {k : TokenKind} (r : EntityReference) → SlotOf x k → ReadsExpr src ts t → referent_outcome entity_or_slot x (placed src ts t) ≡ Ok r → IsReference k ts (free.reference_meaning r)
 reference_meant {src = src} {ts = ts} {t = t} {x = x} r s i h =
-    let a = next_ok (lone (located expr_form (placed src ts t))) (referred_at entity_or_slot x) r h in
+    let a = next_ok (lone (located expr_form (placed src ts t))) (referent_at entity_or_slot x) r h in
     let d = lone_expr a.0 i a.1 in
-    reference_in d.parens (reference_primary r s d.reads (sym (ap (referred_at entity_or_slot x) d.same) ∙ a.2))
+    reference_in d.parens (reference_primary r s d.reads (sym (ap (referent_at entity_or_slot x) d.same) ∙ a.2))
 
 -- ---- one entity
 
-single_primary : {src : List ℕ} {us : List Lexeme} {d : Primary} (x : Var) (r : SingleEntity) → ReadsPrimary src us d → referred_at single_entity x (located primary_form (placed src us d)) ≡ Ok r → IsEntity us r.0
+single_primary : {src : List ℕ} {us : List Lexeme} {d : Primary} (x : Var) (r : SingleEntity) → ReadsPrimary src us d → referent_at single_entity x (located primary_form (placed src us d)) ≡ Ok r → IsEntity us r.0
 single_primary {src = src} x r (l.referred {ts = ts} {x = y} i) h =
     let a = next_ok (entity_outcome (placed src ts y)) _ r (sym (referred_form_at single_entity x _ _ _ (primary_ref (placed src ts y))) ∙ h) in
     rw (← ok_is a.2) (entity_meant (placed src ts y).loc a.0 i a.1)
@@ -156,11 +157,11 @@ single_primary {src = src} x r (l.paren {ts = ts} {x = y} a b i) h = absurd (nev
 single_primary x r (l.set {xs = xs} a b i) h = absurd (never _ r _ (referred_form_at single_entity x _ _ _ (primary_list xs)) h)
 single_primary x r (l.in_braces {xs = xs} a b i) h = absurd (never _ r _ (referred_form_at single_entity x _ _ _ (primary_inits xs)) h)
 
-pub single_meant : {src : List ℕ} {ts : List Lexeme} {t : Expr} (x : Var) (r : SingleEntity) → ReadsExpr src ts t → referred single_entity x (placed src ts t) ≡ Ok r → IsEntityAlone ts r.0
+pub single_meant : {src : List ℕ} {ts : List Lexeme} {t : Expr} (x : Var) (r : SingleEntity) → ReadsExpr src ts t → referent_outcome single_entity x (placed src ts t) ≡ Ok r → IsEntityAlone ts r.0
 single_meant {src = src} {ts = ts} {t = t} x r i h =
-    let a = next_ok (lone (located expr_form (placed src ts t))) (referred_at single_entity x) r h in
+    let a = next_ok (lone (located expr_form (placed src ts t))) (referent_at single_entity x) r h in
     let d = lone_expr a.0 i a.1 in
-    alone_in d.parens (single_primary x r d.reads (sym (ap (referred_at single_entity x) d.same) ∙ a.2))
+    alone_in d.parens (single_primary x r d.reads (sym (ap (referent_at single_entity x) d.same) ∙ a.2))
 
 -- ---- one entity or those of a set
 
@@ -176,7 +177,7 @@ actions_in (wrapped a b p) i = m.actions_in_parentheses a b (actions_in p i)
 actions_as : {ts : List Lexeme} (r s : OneOrMultipleRefs) → r ≡ s → AreActions ts (uids_of r) → AreActions ts (uids_of s)
 actions_as r s h i = rw (← h) i
 
-several_primary : {src : List ℕ} {us : List Lexeme} {d : Primary} (x : Var) (r : OneOrMultipleRefs) → ReadsPrimary src us d → referred_at one_or_multiple x (located primary_form (placed src us d)) ≡ Ok r → AreActions us (uids_of r)
+several_primary : {src : List ℕ} {us : List Lexeme} {d : Primary} (x : Var) (r : OneOrMultipleRefs) → ReadsPrimary src us d → referent_at one_or_multiple x (located primary_form (placed src us d)) ≡ Ok r → AreActions us (uids_of r)
 several_primary {src = src} x r (l.referred {ts = ts} {x = y} i) h =
     let a = next_ok (entity_outcome (placed src ts y)) _ r (sym (referred_form_at one_or_multiple x _ _ _ (primary_ref (placed src ts y))) ∙ h) in
     actions_as (refs.Single a.0) r (ok_is a.2) (m.one_action (entity_meant (placed src ts y).loc a.0 i a.1))
@@ -189,8 +190,8 @@ several_primary {src = src} x r (l.named {ts = ts} {x = y} i) h = absurd (never 
 several_primary {src = src} x r (l.paren {ts = ts} {x = y} a b i) h = absurd (never _ r _ (referred_form_at one_or_multiple x _ _ _ (primary_expr (placed src ts y))) h)
 several_primary x r (l.in_braces {xs = xs} a b i) h = absurd (never _ r _ (referred_form_at one_or_multiple x _ _ _ (primary_inits xs)) h)
 
-pub several_meant : {src : List ℕ} {ts : List Lexeme} {t : Expr} (x : Var) (r : OneOrMultipleRefs) → ReadsExpr src ts t → referred one_or_multiple x (placed src ts t) ≡ Ok r → AreActions ts (uids_of r)
+pub several_meant : {src : List ℕ} {ts : List Lexeme} {t : Expr} (x : Var) (r : OneOrMultipleRefs) → ReadsExpr src ts t → referent_outcome one_or_multiple x (placed src ts t) ≡ Ok r → AreActions ts (uids_of r)
 several_meant {src = src} {ts = ts} {t = t} x r i h =
-    let a = next_ok (lone (located expr_form (placed src ts t))) (referred_at one_or_multiple x) r h in
+    let a = next_ok (lone (located expr_form (placed src ts t))) (referent_at one_or_multiple x) r h in
     let d = lone_expr a.0 i a.1 in
-    actions_in d.parens (several_primary x r d.reads (sym (ap (referred_at one_or_multiple x) d.same) ∙ a.2))
+    actions_in d.parens (several_primary x r d.reads (sym (ap (referent_at one_or_multiple x) d.same) ∙ a.2))

@@ -8,7 +8,7 @@ use Rattle.cedar_policy_store.specs.declared.constraints.ActionConstraint.{Actio
 use Rattle.cedar_policy_store.specs.declared.constraints.PrincipalConstraint.{PrincipalConstraint}
 use Rattle.cedar_policy_store.specs.declared.constraints.PrincipalOrResourceConstraint.{PrincipalOrResourceConstraint}
 use Rattle.cedar_policy_store.specs.declared.constraints.ResourceConstraint.{ResourceConstraint}
-use Rattle.cedar_policy_store.specs.PlaceFree.{Constraint, constrained}
+use Rattle.cedar_policy_store.specs.PlaceFree.{Constraint, constraint_meaning}
 use Rattle.cedar_syntax.specs.declared.loc.Loc.{Loc}
 use Rattle.cedar_syntax.specs.declared.cst.VariableDef.{VariableDef}
 use Rattle.cedar_syntax.specs.LoosePolicies.{ReadsVariableDef}
@@ -18,7 +18,7 @@ use Rattle.cedar_syntax.specs.Place.{placed}
 use Rattle.cedar_syntax.specs.Tokens.{Spot, one}
 use Rattle.cedar_syntax.specs.Trees.{Cell}
 use Rattle.cedar_policy_parser.specs.Extensions.{Extensions}
-use Rattle.cedar_policy_parser.specs.Outcome.{Told, Outcome, both, next}
+use Rattle.cedar_policy_parser.specs.Outcome.{NamedFault, Outcome, both, next}
 use Rattle.cedar_policy_parser.specs.Scope as s
 use Rattle.cedar_policy_parser.specs.Scope.{Scope}
 use Rattle.cedar_policy_parser.specs.StrictScope as z
@@ -62,7 +62,7 @@ elements_ok : (e : Extensions) (before : Option Loc) (ns : List (Cell VariableDe
     → (first_of e before ns ≡ Ok t.0) × (second_of e before ns ≡ Ok t.1) × (third_of e before ns ≡ Ok t.2) × (u : Unit {0}) × (s.no_extra (drop 3 ns) ≡ Ok u)
 elements_ok e before ns t h = parts_ok (first_of e before ns) (second_of e before ns) (third_of e before ns) (s.no_extra (drop 3 ns)) t h
 
-never : {Y : Type 0} (fs : List Told) (y : Y) → Err fs ≡ Ok y → ⊥
+never : {Y : Type 0} (fs : List NamedFault) (y : Y) → Err fs ≡ Ok y → ⊥
 never fs y h = cc
 
 three_given : (e : Extensions) (before : Option Loc) (ns : List (Cell VariableDef)) (t : Scope) → s.elements_outcome e before ns ≡ Ok t → ThreeGiven e ns t
@@ -144,14 +144,14 @@ is_resource resource_word = refl
 
 -- three elements, each by its word and what stands behind it
 scope_at : {ps bs rs qs : List Lexeme} {p r : PrincipalOrResourceConstraint} {a : ActionConstraint} (ts : List Lexeme) (l m : Spot) (x : ElementMeant vars.Principal kind.PrincipalSlot ps p) (y : ActionMeant bs a) (w : ElementMeant vars.Resource kind.ResourceSlot rs r)
-    → IsLastComma qs → ts ≡ ((ps ++ one kind.Comma l ++ bs) ++ one kind.Comma m ++ rs) ++ qs → IsScope ts (constrained p) a (constrained r)
+    → IsLastComma qs → ts ≡ ((ps ++ one kind.Comma l ++ bs) ++ one kind.Comma m ++ rs) ++ qs → IsScope ts (constraint_meaning p) a (constraint_meaning r)
 scope_at ts l m x y w q h = rw (h, x.together, y.together, w.together, is_principal x.is_word, is_resource w.is_word) (z.scope x.spot l y.spot m w.spot x.asks y.asks w.asks q)
 
 scope_as : {ts : List Lexeme} {a : ActionConstraint} (p q r t : Constraint) → p ≡ q → r ≡ t → IsScope ts p a r → IsScope ts q a t
 scope_as p q r t h g i = rw (← h, ← g) i
 
 items_meant : {src : List ℕ} {us ts qs : List Lexeme} (e : Extensions) (ns : List (Cell VariableDef)) (t : Scope) → ReadsItems src (ReadsVariableDef src) us ns → ThreeGiven e ns t → IsLastComma qs → ts ≡ us ++ qs
-    → IsScope ts (constrained t.0.constraint) t.1 (constrained t.2.constraint)
+    → IsScope ts (constraint_meaning t.0.constraint) t.1 (constraint_meaning t.2.constraint)
 items_meant {src = src} {ts = ts} {qs = qs} e ns t r d q h =
     let three = three_of d.first d.second d.third r d.these in
     let two = three.read_two in
@@ -161,11 +161,11 @@ items_meant {src = src} {ts = ts} {qs = qs} e ns t r d q h =
     let y = action_meant e t.1 two.read_second.reads (ap (s.action_outcome e) two.read_second.same ∙ d.action) in
     let v = element_meant e w.0 resource three.read_third.reads (ap (s.element_outcome e vars.Resource) three.read_third.same ∙ w.1) in
     let whole = h ∙ ap (λ xs. xs ++ qs) (three.together ∙ ap (λ xs. xs ++ one kind.Comma three.comma ++ three.third) two.together) in
-    scope_as (constrained p.0) (constrained t.0.constraint) (constrained w.0) (constrained t.2.constraint) (ap (λ c. constrained c.constraint) (ok_is p.2)) (ap (λ c. constrained c.constraint) (ok_is w.2))
+    scope_as (constraint_meaning p.0) (constraint_meaning t.0.constraint) (constraint_meaning w.0) (constraint_meaning t.2.constraint) (ap (λ c. constraint_meaning c.constraint) (ok_is p.2)) (ap (λ c. constraint_meaning c.constraint) (ok_is w.2))
     (scope_at ts two.comma three.comma x y v q whole)
 
 pub scope_meant : {src : List ℕ} {ts : List Lexeme} {ns : List (Cell VariableDef)} (e : Extensions) (before : Option Loc) (t : Scope) → ReadsList src (ReadsVariableDef src) ts ns → s.elements_outcome e before ns ≡ Ok t
-    → IsScope ts (constrained t.0.constraint) t.1 (constrained t.2.constraint)
+    → IsScope ts (constraint_meaning t.0.constraint) t.1 (constraint_meaning t.2.constraint)
 scope_meant e before t lw.no_item h = let d = three_given e before [] t h in let no = d.these in cc
 scope_meant {ts = ts} {ns = ns} e before t (lw.items r) h = items_meant e ns t r (three_given e before ns t h) z.no_comma (sym (append-nil ts))
 scope_meant {ns = ns} e before t (lw.items_comma p r) h = items_meant e ns t r (three_given e before ns t h) (z.last_comma p) refl

@@ -22,24 +22,24 @@ use Rattle.cedar_syntax.specs.Place.{placed}
 use Rattle.cedar_syntax.specs.Tokens.{Spot, one, any_of}
 use Rattle.cedar_syntax.specs.Trees.{Cell}
 use Rattle.cedar_expressions.specs.Keys.{repeats_key}
-use Rattle.cedar_policy_parser.specs.AnnotationKeys.{Annotated, annotations_outcome}
-use Rattle.cedar_policy_parser.specs.Conditions.{Found, conditions_outcome, paired}
+use Rattle.cedar_policy_parser.specs.AnnotationKeys.{AnnotationContent, annotations_outcome}
+use Rattle.cedar_policy_parser.specs.Conditions.{conditions_outcome}
 use Rattle.cedar_policy_parser.specs.Conversion.{with_first}
 use Rattle.cedar_policy_parser.specs.Extensions.{Extensions}
-use Rattle.cedar_policy_parser.specs.Names.{filled}
+use Rattle.cedar_policy_parser.specs.Names.{content_outcome}
 use Rattle.cedar_policy_parser.specs.Outcome.{Outcome, both, next}
 use Rattle.cedar_policy_parser.specs.Policies as k
-use Rattle.cedar_policy_parser.specs.Policies.{Parts}
-use Rattle.cedar_policy_parser.specs.PolicyMeaning.{condition_meant, no_policies, policy_id, with_policy}
+use Rattle.cedar_policy_parser.specs.Policies.{TemplateParts}
+use Rattle.cedar_policy_parser.specs.PolicyMeaning.{joint_condition, no_policies, policy_id, with_policy}
 use Rattle.cedar_policy_parser.specs.Scope.{elements_outcome}
 use Rattle.cedar_policy_parser.specs.Seen.{item_more}
 use Rattle.cedar_policy_parser.specs.StrictPolicy as m
-use Rattle.cedar_policy_parser.specs.StrictPolicy.{ArePolicies, IsEffect, IsPolicy, IsPolicySet, by_key, keys_of}
+use Rattle.cedar_policy_parser.specs.StrictPolicy.{ArePolicies, IsEffect, IsPolicy, IsPolicySet, by_key, keys_of_annotations}
 use Rattle.cedar_policy_parser.proofs.Gathered.{last, shifted}
 use Rattle.cedar_policy_parser.proofs.Inverted.{ok_is, next_ok, both_ok}
 use Rattle.cedar_policy_parser.proofs.Loops.{map_snoc}
 use Rattle.cedar_policy_parser.proofs.sound.Annotated.{annotation_keys, annotations_meant, kept_by_key, texts}
-use Rattle.cedar_policy_parser.proofs.sound.Clauses.{conditions_meant, paired_snoc}
+use Rattle.cedar_policy_parser.proofs.sound.Clauses.{conditions_meant}
 use Rattle.cedar_policy_parser.proofs.sound.Scopes.{scope_meant}
 
 -- ---- numbers
@@ -58,20 +58,20 @@ plus-suc m n = omega arith
 effect_as : {j : TokenKind} (a b : Effect) → a ≡ b → IsEffect j a → IsEffect j b
 effect_as a b h i = rw (← h) i
 
-kind_effect : (j : TokenKind) (text : List ℕ) (place : Option Loc) (x : Effect) → next (filled place (any_of j text)) (k.effect_of place) ≡ Ok x → IsEffect j x
+kind_effect : (j : TokenKind) (text : List ℕ) (place : Option Loc) (x : Effect) → next (content_outcome place (any_of j text)) (k.effect_of place) ≡ Ok x → IsEffect j x
 kind_effect kind.Permit text place x h = effect_as effects.Permit x (ok_is h) m.permit
 kind_effect kind.Forbid text place x h = effect_as effects.Forbid x (ok_is h) m.forbid
 kind_effect _ text place x h = cc
 
 effect_word : (src : List ℕ) {ts : List Lexeme} {i : Ident} (x : Effect) → ReadsAny ts i → k.effect_outcome (placed src ts i) ≡ Ok x → (j : TokenKind) × (p : Spot) × IsEffect j x × (ts ≡ one j p)
 effect_word src {ts = ts} {i = i} x (lw.any {k = j} p h) g =
-    (j, p, kind_effect j p.text (placed src ts i).loc x (ap (λ o. next (filled (placed src ts i).loc o) (k.effect_of (placed src ts i).loc)) h ∙ g), refl)
+    (j, p, kind_effect j p.text (placed src ts i).loc x (ap (λ o. next (content_outcome (placed src ts i).loc o) (k.effect_of (placed src ts i).loc)) h ∙ g), refl)
 
 -- the keys of annotations with their texts are the annotations'
-texts_differ : (all : List Annotated) → repeats_key (annotation_keys all) ≡ false → repeats_key (keys_of (texts all)) ≡ false
+texts_differ : (all : List AnnotationContent) → repeats_key (annotation_keys all) ≡ false → repeats_key (keys_of_annotations (texts all)) ≡ false
 texts_differ all h = rw (same_keys all) h
   where
-    same_keys : (bs : List Annotated) → keys_of (texts bs) ≡ annotation_keys bs
+    same_keys : (bs : List AnnotationContent) → keys_of_annotations (texts bs) ≡ annotation_keys bs
     same_keys [] = refl
     same_keys (b ∷ bs) = ap (λ ns. b.key ∷ ns) (same_keys bs)
 
@@ -81,49 +81,49 @@ value_of id p notes = record {
   id = id;
   annotations = notes;
   effect = p.0.0;
-  principal = free.constrained p.1.0.0.constraint;
+  principal = free.constraint_meaning p.1.0.0.constraint;
   action = p.1.0.1;
-  resource = free.constrained p.1.0.2.constraint;
-  condition = condition_meant p.1.1;
+  resource = free.constraint_meaning p.1.0.2.constraint;
+  condition = joint_condition p.1.1;
 }
 
 -- a policy by its parts
 policy_at : {e : Extensions} {id : List ℕ} {us vs : List Lexeme} (x y : free.Policy) → us ≡ vs → x ≡ y → IsPolicy e SIGN_LIMIT id us x → IsPolicy e SIGN_LIMIT id vs y
 policy_at x y h g i = rw (← h, ← g) i
 
-pub policy_meant : {src : List ℕ} {ts : List Lexeme} {x : Policy} (e : Extensions) (found : List Found) (id : List ℕ) (t : Parts) → ReadsPolicy src ts x → k.template_outcome e found id (placed src ts x) ≡ Ok t → IsPolicy e SIGN_LIMIT id ts (k.meaning_of t)
-policy_meant {src = src} {ts = all} e found id t (l.policy {ts = ts} {us = us} {vs = vs} {ws = ws} {xs = xs} {i = i} {ys = ys} {zs = zs} o c s ar r vr cr) h =
+pub policy_meant : {src : List ℕ} {ts : List Lexeme} {x : Policy} (e : Extensions) (id : List ℕ) (t : TemplateParts) → ReadsPolicy src ts x → k.template_outcome e id (placed src ts x) ≡ Ok t → IsPolicy e SIGN_LIMIT id ts (k.meaning_of t)
+policy_meant {src = src} {ts = all} e id t (l.policy {ts = ts} {us = us} {vs = vs} {ws = ws} {xs = xs} {i = i} {ys = ys} {zs = zs} o c s ar r vr cr) h =
     let place = (placed src us i).loc in
-    let a = next_ok (both (both (k.effect_outcome (placed src us i)) (k.kept_outcome xs)) (both (elements_outcome e place ys) (conditions_outcome e found zs))) _ t h in
-    let b = both_ok (both (k.effect_outcome (placed src us i)) (k.kept_outcome xs)) (both (elements_outcome e place ys) (conditions_outcome e found zs)) a.0 a.1 in
+    let a = next_ok (both (both (k.effect_outcome (placed src us i)) (k.kept_outcome xs)) (both (elements_outcome e place ys) (conditions_outcome e zs))) _ t h in
+    let b = both_ok (both (k.effect_outcome (placed src us i)) (k.kept_outcome xs)) (both (elements_outcome e place ys) (conditions_outcome e zs)) a.0 a.1 in
     let f = both_ok (k.effect_outcome (placed src us i)) (k.kept_outcome xs) a.0.0 b.0 in
-    let g = both_ok (elements_outcome e place ys) (conditions_outcome e found zs) a.0.1 b.1 in
+    let g = both_ok (elements_outcome e place ys) (conditions_outcome e zs) a.0.1 b.1 in
     let n = next_ok (annotations_outcome xs) _ a.0.0.1 f.1 in
     let notes = annotations_meant n.0 ar n.1 in
     let word = effect_word src a.0.0.0 r f.0 in
     let scope = scope_meant e place a.0.1.0 vr g.0 in
-    let conds = conditions_meant e found a.0.1.1 cr g.1 in
-    let by_keys : free.with_values free.annotated a.0.0.1 ≡ by_key (texts n.0) = ap (free.with_values free.annotated) (sym (ok_is n.2)) ∙ kept_by_key n.0 in
+    let conds = conditions_meant e a.0.1.1 cr g.1 in
+    let by_keys : free.with_values free.annotation_value a.0.0.1 ≡ by_key (texts n.0) = ap (free.with_values free.annotation_value) (sym (ok_is n.2)) ∙ kept_by_key n.0 in
     let value = ap (value_of id a.0) (sym by_keys) ∙ ap k.meaning_of (ok_is a.2) in
     let tokens = ap (λ ws2. ts ++ ws2 ++ one kind.OpenParen o ++ vs ++ one kind.CloseParen c ++ ws ++ one kind.Semicolon s) (sym word.3) in
     policy_at (value_of id a.0 (by_key (texts n.0))) (k.meaning_of t) tokens value (m.policy word.1 o c s notes.mean (texts_differ n.0 notes.differ) word.2 scope conds)
 
 -- ---- sets
 
-pub numbered_snoc : (e : Extensions) (i : ℕ) (ps : List (List Found × Cell Policy)) (p : List Found × Cell Policy) → k.policies_from e i (ps ++ p ∷ []) ≡ item_more (k.policies_from e i ps) (k.template_outcome e p.0 (policy_id (i + length ps)) p.1)
-numbered_snoc e i [] p = rw (plus-zero i) (last (k.template_outcome e p.0 (policy_id i) p.1))
+pub numbered_snoc : (e : Extensions) (i : ℕ) (ps : List (Cell Policy)) (p : Cell Policy) → k.policies_from e i (ps ++ p ∷ []) ≡ item_more (k.policies_from e i ps) (k.template_outcome e (policy_id (i + length ps)) p)
+numbered_snoc e i [] p = rw (plus-zero i) (last (k.template_outcome e (policy_id i) p))
 numbered_snoc e i (q ∷ ps) p =
-    ap (λ o. next (both (k.template_outcome e q.0 (policy_id i) q.1) o) with_first) (numbered_snoc e (suc i) ps p ∙ ap (λ j. item_more (k.policies_from e (suc i) ps) (k.template_outcome e p.0 (policy_id j) p.1)) (plus-suc i (length ps)))
-    ∙ shifted (k.template_outcome e q.0 (policy_id i) q.1) (k.policies_from e (suc i) ps) (k.template_outcome e p.0 (policy_id (i + suc (length ps))) p.1)
+    ap (λ o. next (both (k.template_outcome e (policy_id i) q) o) with_first) (numbered_snoc e (suc i) ps p ∙ ap (λ j. item_more (k.policies_from e (suc i) ps) (k.template_outcome e (policy_id j) p)) (plus-suc i (length ps)))
+    ∙ shifted (k.template_outcome e (policy_id i) q) (k.policies_from e (suc i) ps) (k.template_outcome e (policy_id (i + suc (length ps))) p)
 
-pub given_many : (e : Extensions) (i : ℕ) (ps : List (List Found × Cell Policy)) (ts : List Parts) → k.policies_from e i ps ≡ Ok ts → length ts ≡ length ps
+pub given_many : (e : Extensions) (i : ℕ) (ps : List (Cell Policy)) (ts : List TemplateParts) → k.policies_from e i ps ≡ Ok ts → length ts ≡ length ps
 given_many e i [] ts h = ap length (sym (ok_is h))
 given_many e i (p ∷ ps) ts h =
-    let a = next_ok (both (k.template_outcome e p.0 (policy_id i) p.1) (k.policies_from e (suc i) ps)) with_first ts h in
-    let b = both_ok (k.template_outcome e p.0 (policy_id i) p.1) (k.policies_from e (suc i) ps) a.0 a.1 in
+    let a = next_ok (both (k.template_outcome e (policy_id i) p) (k.policies_from e (suc i) ps)) with_first ts h in
+    let b = both_ok (k.template_outcome e (policy_id i) p) (k.policies_from e (suc i) ps) a.0 a.1 in
     ap length (sym (ok_is a.2)) ∙ ap suc (given_many e (suc i) ps a.0.1 b.1)
 
-pub meant_length : (ts : List Parts) → length (map k.meaning_of ts) ≡ length ts
+pub meant_length : (ts : List TemplateParts) → length (map k.meaning_of ts) ≡ length ts
 meant_length [] = refl
 meant_length (t ∷ ts) = ap suc (meant_length ts)
 
@@ -139,25 +139,24 @@ more_ok o x zs h =
 named_as : {e : Extensions} {ts : List Lexeme} {x : free.Policy} (i j : ℕ) → i ≡ j → IsPolicy e SIGN_LIMIT (policy_id i) ts x → IsPolicy e SIGN_LIMIT (policy_id j) ts x
 named_as i j h p = rw (← h) p
 
-policies_meant : {src : List ℕ} {ts : List Lexeme} {xs : List (Cell Policy)} (e : Extensions) (found : List (List Found)) (ps : List Parts) → ReadsMany src (ReadsPolicy src) ts xs → k.policies_from e 0 (paired found xs) ≡ Ok ps → ArePolicies e SIGN_LIMIT ts (map k.meaning_of ps)
-policies_meant e found ps l.none h = policies_as [] (map k.meaning_of ps) (ap (map k.meaning_of) (ok_is h)) m.no_policy
-policies_meant {src = src} e found ps (l.more {us = us} {xs = xs} {y = y} r s) h =
+policies_meant : {src : List ℕ} {ts : List Lexeme} {xs : List (Cell Policy)} (e : Extensions) (ps : List TemplateParts) → ReadsMany src (ReadsPolicy src) ts xs → k.policies_from e 0 xs ≡ Ok ps → ArePolicies e SIGN_LIMIT ts (map k.meaning_of ps)
+policies_meant e ps l.none h = policies_as [] (map k.meaning_of ps) (ap (map k.meaning_of) (ok_is h)) m.no_policy
+policies_meant {src = src} e ps (l.more {us = us} {xs = xs} {y = y} r s) h =
     let n = placed src us y in
-    let d = paired_snoc found xs n in
-    let snoc = ap (k.policies_from e 0) d.1 ∙ numbered_snoc e 0 (paired found xs) (d.0, n) in
-    let a = more_ok (k.policies_from e 0 (paired found xs)) (k.template_outcome e d.0 (policy_id (0 + length (paired found xs))) n) ps (sym snoc ∙ h) in
-    let count : 0 + length (paired found xs) ≡ length (map k.meaning_of a.0) = zero-plus (length (paired found xs)) ∙ sym (meant_length a.0 ∙ given_many e 0 (paired found xs) a.0 a.2) in
-    let last_one = named_as (0 + length (paired found xs)) (length (map k.meaning_of a.0)) count (policy_meant e d.0 (policy_id (0 + length (paired found xs))) a.1 s a.3) in
-    policies_as (map k.meaning_of a.0 ++ k.meaning_of a.1 ∷ []) (map k.meaning_of ps) (sym (ap (map k.meaning_of) a.4 ∙ map_snoc k.meaning_of a.0 a.1)) (m.more_policies (policies_meant e found a.0 r a.2) last_one)
+    let snoc = numbered_snoc e 0 xs n in
+    let a = more_ok (k.policies_from e 0 xs) (k.template_outcome e (policy_id (0 + length xs)) n) ps (sym snoc ∙ h) in
+    let count : 0 + length xs ≡ length (map k.meaning_of a.0) = zero-plus (length xs) ∙ sym (meant_length a.0 ∙ given_many e 0 xs a.0 a.2) in
+    let last_one = named_as (0 + length xs) (length (map k.meaning_of a.0)) count (policy_meant e (policy_id (0 + length xs)) a.1 s a.3) in
+    policies_as (map k.meaning_of a.0 ++ k.meaning_of a.1 ∷ []) (map k.meaning_of ps) (sym (ap (map k.meaning_of) a.4 ∙ map_snoc k.meaning_of a.0 a.1)) (m.more_policies (policies_meant e a.0 r a.2) last_one)
 
-pub folded_meanings : (set : free.Policies) (ts : List Parts) → fold k.with_parts set ts ≡ fold with_policy set (map k.meaning_of ts)
+pub folded_meanings : (set : free.Policies) (ts : List TemplateParts) → fold k.with_parts set ts ≡ fold with_policy set (map k.meaning_of ts)
 folded_meanings set [] = refl
 folded_meanings set (t ∷ ts) = folded_meanings (with_policy set (k.meaning_of t)) ts
 
 set_as : {e : Extensions} {ts : List Lexeme} (x y : free.Policies) → x ≡ y → IsPolicySet e SIGN_LIMIT ts x → IsPolicySet e SIGN_LIMIT ts y
 set_as x y h i = rw (← h) i
 
-pub set_meant : {src : List ℕ} {ts : List Lexeme} {x : Policies} (e : Extensions) (found : List (List Found)) (set : free.Policies) → ReadsPolicies src ts x → k.policies_outcome e found (placed src ts x) ≡ Ok set → IsPolicySet e SIGN_LIMIT ts set
-set_meant e found set (l.policies {xs = xs} r) h =
-    let a = next_ok (k.policies_from e 0 (paired found xs)) _ set h in
-    set_as (fold with_policy no_policies (map k.meaning_of a.0)) set (sym (folded_meanings no_policies a.0) ∙ ok_is a.2) (m.policy_set (policies_meant e found a.0 r a.1))
+pub set_meant : {src : List ℕ} {ts : List Lexeme} {x : Policies} (e : Extensions) (set : free.Policies) → ReadsPolicies src ts x → k.policies_outcome e (placed src ts x) ≡ Ok set → IsPolicySet e SIGN_LIMIT ts set
+set_meant e set (l.policies {xs = xs} r) h =
+    let a = next_ok (k.policies_from e 0 xs) _ set h in
+    set_as (fold with_policy no_policies (map k.meaning_of a.0)) set (sym (folded_meanings no_policies a.0) ∙ ok_is a.2) (m.policy_set (policies_meant e a.0 r a.1))

@@ -11,7 +11,7 @@ use Rattle.cedar_syntax.specs.LooseExpressions as l
 use Rattle.cedar_syntax.specs.LooseExpressions.{ReadsSigns}
 use Rattle.cedar_syntax.specs.Tokens.{number_of}
 use Rattle.cedar_syntax.specs.Trees.{bangs_of, dashes_of, sign_limit}
-use Rattle.cedar_policy_parser.specs.Conversion.{applied, dashed, signed, made, negative}
+use Rattle.cedar_policy_parser.specs.Conversion.{application_outcome, dashes_outcome, signs_outcome, expression_at, negative}
 use Rattle.cedar_policy_parser.specs.Extensions.{Extensions}
 use Rattle.cedar_policy_parser.specs.Held.{Held, expression, as_expression}
 use Rattle.cedar_policy_parser.specs.Outcome.{Outcome, next, integer_literal_too_large}
@@ -27,19 +27,19 @@ pub signs_there : {k : TokenKind} {ts : List Lexeme} {n : ℕ} → ReadsSigns k 
 signs_there (l.one_sign p) = omega arith
 signs_there (l.more_signs p r) = omega arith
 
-applied_made : (place : Option Loc) (n : ℕ) (g : Value → Value) (x : Outcome Held) (h : Held) → applied place (suc n) g x ≡ Ok h → (w : Value) × (expression place w ≡ h)
+applied_made : (place : Option Loc) (n : ℕ) (g : Value → Value) (x : Outcome Held) (h : Held) → application_outcome place (suc n) g x ≡ Ok h → (w : Value) × (expression place w ≡ h)
 applied_made place n g x h k = let d = next_ok (next x as_expression) _ h k in (_, ok_is d.2)
 
-bangs_made : (place : Option Loc) (n : ℕ) (b : Bool) (bare : Option ℕ) (x : Outcome Held) (h : Held) → signed place (Some (cond b (sign.Bang (suc n)) sign.OverBang)) bare x ≡ Ok h → (w : Value) × (expression place w ≡ h)
+bangs_made : (place : Option Loc) (n : ℕ) (b : Bool) (bare : Option ℕ) (x : Outcome Held) (h : Held) → signs_outcome place (Some (cond b (sign.Bang (suc n)) sign.OverBang)) bare x ≡ Ok h → (w : Value) × (expression place w ≡ h)
 bangs_made place n true bare x h k = applied_made place n v.not x h k
 bangs_made place n false bare x h k = cc
 
-some_bangs : (place : Option Loc) (n : ℕ) (bare : Option ℕ) (x : Outcome Held) (h : Held) → 0 < n → signed place (Some (bangs_of n)) bare x ≡ Ok h → (w : Value) × (expression place w ≡ h)
+some_bangs : (place : Option Loc) (n : ℕ) (bare : Option ℕ) (x : Outcome Held) (h : Held) → 0 < n → signs_outcome place (Some (bangs_of n)) bare x ≡ Ok h → (w : Value) × (expression place w ≡ h)
 some_bangs place zero bare x h low k = absurd (omega arith)
 some_bangs place (suc n) bare x h low k = bangs_made place n (nat_le (suc n) sign_limit) bare x h k
 
 pub banged_held : (e : Extensions) (ts us : List Lexeme) (place : Option Loc) (n : ℕ) (bare : Option ℕ) (x : Outcome Held) (h : Held) → ReadsSigns kind.Bang ts n → ((a : Value) → next x as_expression ≡ Ok a → Meant e m.member us a)
-    → signed place (Some (bangs_of n)) bare x ≡ Ok h → HeldAs e m.signed (ts ++ us) h
+    → signs_outcome place (Some (bangs_of n)) bare x ≡ Ok h → HeldAs e m.signed (ts ++ us) h
 banged_held e ts us place n bare x h r operand_is k =
     let w = some_bangs place n bare x h (signs_there r) k in
     let few = bangs_value place n bare x w.0 (ap (λ o. next o as_expression) (k ∙ ap Ok (sym w.1))) in
@@ -50,23 +50,23 @@ banged_held e ts us place n bare x h r operand_is k =
 
 negative_made : (place : Option Loc) (n k : ℕ) (h : Held) → negative place n k ≡ Ok h → (w : Value) × (expression place w ≡ h)
 negative_made place n k h g =
-    let d = if_ok (nat_le k largest) (made place (literal_of n k)) ((integer_literal_too_large, place) ∷ []) h g in
+    let d = if_ok (nat_le k largest) (expression_at place (literal_of n k)) ((integer_literal_too_large, place) ∷ []) h g in
     (_, ok_is d.1)
 
-dashed_made : (place : Option Loc) (n : ℕ) (bare : Option ℕ) (x : Outcome Held) (h : Held) → dashed place (suc n) bare x ≡ Ok h → (w : Value) × (expression place w ≡ h)
+dashed_made : (place : Option Loc) (n : ℕ) (bare : Option ℕ) (x : Outcome Held) (h : Held) → dashes_outcome place (suc n) bare x ≡ Ok h → (w : Value) × (expression place w ≡ h)
 dashed_made place n (Some k) x h g = negative_made place n k h g
 dashed_made place n None x h g = applied_made place n v.neg x h g
 
-dashes_made : (place : Option Loc) (n : ℕ) (b : Bool) (bare : Option ℕ) (x : Outcome Held) (h : Held) → signed place (Some (cond b (sign.Dash (suc n)) sign.OverDash)) bare x ≡ Ok h → (w : Value) × (expression place w ≡ h)
+dashes_made : (place : Option Loc) (n : ℕ) (b : Bool) (bare : Option ℕ) (x : Outcome Held) (h : Held) → signs_outcome place (Some (cond b (sign.Dash (suc n)) sign.OverDash)) bare x ≡ Ok h → (w : Value) × (expression place w ≡ h)
 dashes_made place n true bare x h k = dashed_made place n bare x h k
 dashes_made place n false bare x h k = cc
 
-some_dashes : (place : Option Loc) (n : ℕ) (bare : Option ℕ) (x : Outcome Held) (h : Held) → 0 < n → signed place (Some (dashes_of n)) bare x ≡ Ok h → (w : Value) × (expression place w ≡ h)
+some_dashes : (place : Option Loc) (n : ℕ) (bare : Option ℕ) (x : Outcome Held) (h : Held) → 0 < n → signs_outcome place (Some (dashes_of n)) bare x ≡ Ok h → (w : Value) × (expression place w ≡ h)
 some_dashes place zero bare x h low k = absurd (omega arith)
 some_dashes place (suc n) bare x h low k = dashes_made place n (nat_le (suc n) sign_limit) bare x h k
 
 dashed_meant : (e : Extensions) (ts us : List Lexeme) (place : Option Loc) (n : ℕ) (bare : Option ℕ) (o : Outcome Held) (w : Value) → ReadsSigns kind.Minus ts n → n ≤ sign_limit → IsBareAs bare us
-    → ((a : Value) → next o as_expression ≡ Ok a → Meant e m.member us a) → next (dashed place n bare o) as_expression ≡ Ok w → Meant e m.signed (ts ++ us) w
+    → ((a : Value) → next o as_expression ≡ Ok a → Meant e m.member us a) → next (dashes_outcome place n bare o) as_expression ≡ Ok w → Meant e m.signed (ts ++ us) w
 dashed_meant e ts us place zero bare o w r few b operand_is h = let low = signs_there r in absurd (omega (arith, low))
 dashed_meant e ts us place (suc n) (Some k) o w r few b operand_is h = elim (dashed_value place n (Some k) o w h) [
   | inl i ↦
@@ -84,7 +84,7 @@ dashed_meant e ts us place (suc n) None o w r few b operand_is h = elim (dashed_
 ]
 
 pub dashed_held : (e : Extensions) (ts us : List Lexeme) (place : Option Loc) (n : ℕ) (bare : Option ℕ) (x : Outcome Held) (h : Held) → ReadsSigns kind.Minus ts n → IsBareAs bare us → ((a : Value) → next x as_expression ≡ Ok a → Meant e m.member us a)
-    → signed place (Some (dashes_of n)) bare x ≡ Ok h → HeldAs e m.signed (ts ++ us) h
+    → signs_outcome place (Some (dashes_of n)) bare x ≡ Ok h → HeldAs e m.signed (ts ++ us) h
 dashed_held e ts us place n bare x h r b operand_is k =
     let w = some_dashes place n bare x h (signs_there r) k in
     let few = dashes_value place n bare x w.0 (ap (λ o. next o as_expression) (k ∙ ap Ok (sym w.1))) in

@@ -26,11 +26,11 @@ use Rattle.cedar_syntax.specs.LooseExpressions.{ReadsAdd, ReadsMults, ReadsMult,
 use Rattle.cedar_syntax.specs.Tokens.{Spot, one}
 use Rattle.cedar_syntax.specs.Trees.{Cell, add_of, mult_of, unary_of, member_of, bangs_of, dashes_of, sign_limit}
 use Rattle.cedar_policy_parser.specs.Extensions.{Extensions, no_extensions}
-use Rattle.cedar_policy_parser.specs.HasSide.{Attributes, right_side, right_form, begins_with, begun_by, attributes_of, behind_first, fields_of, field_of, field_form, string_alone, no_sign}
+use Rattle.cedar_policy_parser.specs.HasSide.{Attributes, right_side, right_form, begins_with, beginning_outcome, attributes_of, behind_first, fields_of, field_of, field_form, string_alone, no_sign}
 use Rattle.cedar_policy_parser.specs.Held.{Held, expression, variable, bare_name, bare_truth, bare_string, variable_text, unqualified, as_string}
-use Rattle.cedar_policy_parser.specs.Leaves.{named}
+use Rattle.cedar_policy_parser.specs.Leaves.{name_leaf}
 use Rattle.cedar_policy_parser.specs.Literals.{literal_outcome}
-use Rattle.cedar_policy_parser.specs.Outcome.{Outcome, Told, refused, invalid_has_rhs}
+use Rattle.cedar_policy_parser.specs.Outcome.{Outcome, NamedFault, fault_outcome, invalid_has_rhs}
 use Rattle.cedar_policy_parser.specs.Strict as m
 use Rattle.cedar_policy_parser.specs.StrictWords as w
 use Rattle.cedar_policy_parser.specs.StrictWords.{IsIdentifier, AreAttributes, IsSought}
@@ -115,10 +115,10 @@ attributes_meant ts e whole (bare_string place raw) r i q k = string_sought e wh
 
 -- ---- through one part and no sign to the member
 
-pub begins_at : (whole : Option Loc) (ps : Parts) (p : Option Loc) (t u : Form) → t ≡ u → begins_with whole ps (at p t) ≡ begun_by whole ps p u
-begins_at whole ps p t u h = ap (begun_by whole ps p) h
+pub begins_at : (whole : Option Loc) (ps : Parts) (p : Option Loc) (t u : Form) → t ≡ u → begins_with whole ps (at p t) ≡ beginning_outcome whole ps p u
+begins_at whole ps p t u h = ap (beginning_outcome whole ps p) h
 
-never : {Y : Type 0} (fs : List Told) (y : Y) (o : Outcome Y) → o ≡ Err fs → o ≡ Ok y → ⊥
+never : {Y : Type 0} (fs : List NamedFault) (y : Y) (o : Outcome Y) → o ≡ Err fs → o ≡ Ok y → ⊥
 never fs y (Ok z) h k = cc
 never fs y (Err gs) h k = cc
 
@@ -128,7 +128,7 @@ begun_meant {src = src} {xs = ys} whole place r (l.literally {ts = ts} {x = x} p
     let d = next_ok (literal_outcome (placed src ts x).loc (Some x)) _ r (sym (begins_at whole (parts_of (map listed_access ys)) place _ _ (primary_literal (placed src ts x))) ∙ h) in
     attributes_meant ts no_extensions whole d.0 r (literal_held no_extensions (placed src ts x).loc d.0 p d.1) q d.2
 begun_meant {src = src} {xs = ys} whole place r (l.named {ts = ts} {x = x} p) q h =
-    let d = next_ok (named place (placed src ts x)) _ r (sym (begins_at whole (parts_of (map listed_access ys)) place _ _ (primary_name (placed src ts x))) ∙ h) in
+    let d = next_ok (name_leaf place (placed src ts x)) _ r (sym (begins_at whole (parts_of (map listed_access ys)) place _ _ (primary_name (placed src ts x))) ∙ h) in
     attributes_meant ts no_extensions whole d.0 r (name_held no_extensions place d.0 p d.1) q d.2
 begun_meant {src = src} {xs = ys} whole place r (l.referred {ts = ts} {x = x} p) q h = absurd (never ((invalid_has_rhs, place) ∷ []) r _ (begins_at whole (parts_of (map listed_access ys)) place _ _ (primary_ref (placed src ts x))) h)
 begun_meant {src = src} {xs = ys} whole place r (l.slotted {k = k} {x = x} p i) q h = absurd (never ((invalid_has_rhs, place) ∷ []) r _ (begins_at whole (parts_of (map listed_access ys)) place _ _ (primary_slot (placed src (one k p) x))) h)
@@ -144,7 +144,7 @@ pub right_member : (whole p : Option Loc) (x : Cell Primary) (xs : List (Cell Me
 unfolding right_form
 right_member whole p x xs = right_at whole p _ _ (member_out (member_of x xs))
 
-pub right_unary : (whole p : Option Loc) (o : Option NegOp) (x : Cell Member) → right_side whole (at p (unary_form (unary_of o x))) ≡ cond (no_sign o) (right_side whole (located member_form x)) (refused invalid_has_rhs whole)
+pub right_unary : (whole p : Option Loc) (o : Option NegOp) (x : Cell Member) → right_side whole (at p (unary_form (unary_of o x))) ≡ cond (no_sign o) (right_side whole (located member_form x)) (fault_outcome invalid_has_rhs whole)
 unfolding right_form
 right_unary whole p o x = right_at whole p _ _ (unary_out (unary_of o x) ∙ ap (λ d. f.unary d.op (located member_form d.item)) (out-roll-Unary record { op = o; item = x }))
 
@@ -190,7 +190,7 @@ dashes_sign : (n : ℕ) → 0 < n → no_sign (Some (dashes_of n)) ≡ false
 dashes_sign zero h = absurd (omega arith)
 dashes_sign (suc n) h = dash_sign n (nat_le (suc n) sign_limit)
 
-signed_none : (b : Bool) (o : Outcome Attributes) (whole : Option Loc) (r : Attributes) → b ≡ false → cond b o (refused invalid_has_rhs whole) ≡ Ok r → ⊥
+signed_none : (b : Bool) (o : Outcome Attributes) (whole : Option Loc) (r : Attributes) → b ≡ false → cond b o (fault_outcome invalid_has_rhs whole) ≡ Ok r → ⊥
 signed_none true o whole r e h = cc
 signed_none false o whole r e h = cc
 

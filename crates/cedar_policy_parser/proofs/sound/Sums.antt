@@ -15,7 +15,7 @@ use Rattle.cedar_syntax.specs.Tree.{Operator, compare, add, multiply, relation, 
 use Rattle.cedar_syntax.specs.LooseExpressions as l
 use Rattle.cedar_syntax.specs.LooseExpressions.{ReadsRelOp, ReadsAddOp, ReadsMultOp}
 use Rattle.cedar_syntax.specs.Tokens.{Spot, one}
-use Rattle.cedar_policy_parser.specs.Conversion.{Part, value_outcome, operands, chained, compared, related, factor, added}
+use Rattle.cedar_policy_parser.specs.Conversion.{Part, value_outcome, operands, chain_outcome, comparison_outcome, relation_outcome, factor, sum_terms}
 use Rattle.cedar_policy_parser.specs.Extensions.{Extensions}
 use Rattle.cedar_policy_parser.specs.Held.{Held, expression, as_expression}
 use Rattle.cedar_policy_parser.specs.Outcome.{Outcome, next}
@@ -33,18 +33,18 @@ use Rattle.cedar_policy_parser.proofs.sound.Levels.{AddedAs, chain_held}
 
 abbrev pub Summed : Extensions → List Lexeme → Held → List Part → Type 0
 Summed e ts h [] = HeldAs e m.product ts h
-Summed e ts h (q ∷ qs) = (a : Value) → as_expression h ≡ Ok a → AddedAs e ts a (added (q ∷ qs))
+Summed e ts h (q ∷ qs) = (a : Value) → as_expression h ≡ Ok a → AddedAs e ts a (sum_terms (q ∷ qs))
 
-summed_added : (e : Extensions) (ts : List Lexeme) (h : Held) (ps : List Part) (a : Value) → Summed e ts h ps → as_expression h ≡ Ok a → AddedAs e ts a (added ps)
+summed_added : (e : Extensions) (ts : List Lexeme) (h : Held) (ps : List Part) (a : Value) → Summed e ts h ps → as_expression h ≡ Ok a → AddedAs e ts a (sum_terms ps)
 summed_added e ts h [] a i g = m.one_term (held_means e m.product h a i g)
 summed_added e ts h (q ∷ qs) a i g = i a g
 
-some_summed : (e : Extensions) (ts : List Lexeme) (h : Held) (qs ps : List Part) (p : Part) → ps ≡ qs ++ p ∷ [] → ((a : Value) → as_expression h ≡ Ok a → AddedAs e ts a (added ps)) → Summed e ts h ps
+some_summed : (e : Extensions) (ts : List Lexeme) (h : Held) (qs ps : List Part) (p : Part) → ps ≡ qs ++ p ∷ [] → ((a : Value) → as_expression h ≡ Ok a → AddedAs e ts a (sum_terms ps)) → Summed e ts h ps
 some_summed e ts h qs [] p f j = absurd (no_snoc qs p (sym f))
 some_summed e ts h qs (r ∷ rs) p f j = j
 
 added_more : {e : Extensions} {ts us : List Lexeme} {a : Value} {k : TokenKind} (op : AddOp) (qs ps : List Part) (b : Value) (p : Spot) → ps ≡ qs ++ (add op, b) ∷ []
-    → AddedAs e ts a (added qs) → ReadsAddOp k op → Meant e m.product us b → AddedAs e (ts ++ one k p ++ us) a (added ps)
+    → AddedAs e ts a (sum_terms qs) → ReadsAddOp k op → Meant e m.product us b → AddedAs e (ts ++ one k p ++ us) a (sum_terms ps)
 added_more op qs ps b p h j r i = rw (h, added-snoc) (m.more_terms p j r i)
 
 pub summed_one : (e : Extensions) (ts : List Lexeme) (h : Held) (ps : List Part) → [] ≡ ps → HeldAs e m.product ts h → Summed e ts h ps
@@ -55,7 +55,7 @@ pub summed_more : (e : Extensions) (k : TokenKind) (ts us : List Lexeme) (h : He
 summed_more e k ts us h op qs ps b p f i r n = some_summed e (ts ++ one k p ++ us) h qs ps (add op, b) f (λ a g. added_more op qs ps b p f (summed_added e ts h qs a i g) r n)
 
 pub add_held : (e : Extensions) (ts : List Lexeme) (place : Option Loc) (ps : Parts) (x : Outcome Held) (r : Outcome (List Part)) (h : Held) → ((s : Held) (qs : List Part) → x ≡ Ok s → r ≡ Ok qs → Summed e ts s qs)
-    → chained sum place ps x r ≡ Ok h → HeldAs e m.sum ts h
+    → chain_outcome sum place ps x r ≡ Ok h → HeldAs e m.sum ts h
 add_held e ts place ps x r h j g = elim (chain_held sum place ps x r h g) [
   | inl i ↦ held_up e m.product m.sum h (λ y n. m.one_product n) (j h [] i.0 i.1)
   | inr i ↦ held_as e m.sum ts _ h (ok_is i.8) (m.added_up (j i.0 (i.2 ∷ i.3) i.4 i.5 i.1 i.6) (length-added i.2 i.3))
@@ -81,7 +81,7 @@ only_side e _ h _ (one_side i) f = i
 only_side e _ h _ (more_sides {b = b} {op = op} {ps = ps} p j r i) f = absurd (no_snoc ps (compare op, b) f)
 
 -- what a relation gives is an expression
-related_value : (place : Option Loc) (op : RelOp) (a b : Value) (h : Held) (k : TokenKind) → ReadsRelOp k op → compared place op a b ≡ Ok h → (w : Value) × (h ≡ expression place w) × Relates k a b w
+related_value : (place : Option Loc) (op : RelOp) (a b : Value) (h : Held) (k : TokenKind) → ReadsRelOp k op → comparison_outcome place op a b ≡ Ok h → (w : Value) × (h ≡ expression place w) × Relates k a b w
 related_value place _ a b h _ l.less g = (v.less a b, sym (ok_is g), m.less)
 related_value place _ a b h _ l.less_eq g = (v.lesseq a b, sym (ok_is g), m.less_eq)
 related_value place _ a b h _ l.greater_eq g = (v.greatereq a b, sym (ok_is g), m.greater_eq)
@@ -91,16 +91,16 @@ related_value place _ a b h _ l.equal g = (v.is_eq a b, sym (ok_is g), m.equal)
 related_value place _ a b h _ l.within g = (v.is_in a b, sym (ok_is g), m.within)
 related_value place _ a b h _ l.single_eq g = cc
 
-two_held : (e : Extensions) (ts : List Lexeme) (s : Held) (a : Value) (place : Option Loc) (q : Part) (qs rs : List Part) (h : Held) → Compared e ts s rs → as_expression s ≡ Ok a → rs ≡ q ∷ qs → qs ≡ [] → related place q.0 a q.1 ≡ Ok h → HeldAs e m.relation ts h
+two_held : (e : Extensions) (ts : List Lexeme) (s : Held) (a : Value) (place : Option Loc) (q : Part) (qs rs : List Part) (h : Held) → Compared e ts s rs → as_expression s ≡ Ok a → rs ≡ q ∷ qs → qs ≡ [] → relation_outcome place q.0 a q.1 ≡ Ok h → HeldAs e m.relation ts h
 two_held e _ s a place q qs _ h (one_side i) g f none k = cc
 two_held e _ s a place q qs _ h (more_sides {ts = ts} {b = b} {k = t} {op = op} {ps = rs} p j r i) g f none k =
     let last = snoc_one rs (compare op, b) q (f ∙ ap (λ xs. q ∷ xs) none) in
-    let found : compared place op a b ≡ Ok h = rw (← last.1) at k in
+    let found : comparison_outcome place op a b ≡ Ok h = rw (← last.1) at k in
     let d = related_value place op a b h t r found in
     held_as e m.relation _ (expression place d.0) h (sym d.1) (m.related p (held_means e m.sum s a (only_side e ts s rs j last.0) g) d.2 i)
 
 pub relation_held : (e : Extensions) (ts : List Lexeme) (place : Option Loc) (ps : Parts) (x : Outcome Held) (h : Held) → ((s : Held) (qs : List Part) → x ≡ Ok s → operands e place ps ≡ Ok qs → Compared e ts s qs)
-    → chained relation place ps x (operands e place ps) ≡ Ok h → HeldAs e m.relation ts h
+    → chain_outcome relation place ps x (operands e place ps) ≡ Ok h → HeldAs e m.relation ts h
 relation_held e ts place ps x h j g = elim (chain_held relation place ps x (operands e place ps) h g) [
   | inl i ↦ held_up e m.sum m.relation h (λ y n. m.one_sum n) (only_side e ts h [] (j h [] i.0 i.1) refl)
   | inr i ↦ two_held e ts i.0 i.1 place i.2 i.3 (i.2 ∷ i.3) h (j i.0 (i.2 ∷ i.3) i.4 i.5) i.6 refl (one_operator e place ps i.2 i.3 tt i.5 i.7) i.8

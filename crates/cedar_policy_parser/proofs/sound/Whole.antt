@@ -28,7 +28,7 @@ use Rattle.cedar_syntax.specs.LooseExpressions as l
 use Rattle.cedar_syntax.specs.LooseExpressions.{ReadsExpr, ReadsOr, ReadsAnds, ReadsAnd, ReadsRelations, ReadsRelation, ReadsAdds, ReadsAdd, ReadsMults, ReadsMult, ReadsUnaries, ReadsUnary, ReadsMember, ReadsAccesses, ReadsAccess, ReadsPrimary, ReadsExprs, ReadsExprItems, ReadsRecInits, ReadsInitItems, ReadsRecInit, if_name, lone_add}
 use Rattle.cedar_syntax.specs.Tokens.{Spot, one}
 use Rattle.cedar_syntax.specs.Trees.{Cell, member_of, bangs_of, dashes_of}
-use Rattle.cedar_policy_parser.specs.Conversion.{Part, outcome, operands, value_outcome, accesses_given, access_outcome, pairs_given, pair_outcome, made, number_in, lone_literal, bodies}
+use Rattle.cedar_policy_parser.specs.Conversion.{Part, outcome, operands, value_outcome, accesses_outcome, access_outcome, pairs_outcome, pair_outcome, expression_at, number_in, lone_literal, bodies}
 use Rattle.cedar_policy_parser.specs.Extensions.{Extensions}
 use Rattle.cedar_policy_parser.specs.HasSide.{right_side}
 use Rattle.cedar_policy_parser.specs.Held.{Held, expression, as_expression, as_string, as_attribute}
@@ -71,10 +71,10 @@ times_parted : (e : Extensions) (t : TokenKind) (ts us : List Lexeme) (h : Held)
 times_parted e t ts us h op qs ps b p star f i n = rw star (parted_more e kind.Star m.signed ts us h op qs ps b p f i n)
 
 -- what is in parentheses is an expression
-paren_held : (e : Extensions) (ts : List Lexeme) (a b : Spot) (place : Option Loc) (x : Outcome Value) (h : Held) → ((w : Value) → x ≡ Ok w → Meant e m.expression ts w) → next x (made place) ≡ Ok h
+paren_held : (e : Extensions) (ts : List Lexeme) (a b : Spot) (place : Option Loc) (x : Outcome Value) (h : Held) → ((w : Value) → x ≡ Ok w → Meant e m.expression ts w) → next x (expression_at place) ≡ Ok h
     → HeldAs e m.primary (one kind.OpenParen a ++ ts ++ one kind.CloseParen b) h
 paren_held e ts a b place x h i k =
-    let d = next_ok x (made place) h k in
+    let d = next_ok x (expression_at place) h k in
     held_as e m.primary _ (expression place d.0) h (ok_is d.2) (m.parenthesized a b (i d.0 d.1))
 
 -- a primary and its accesses
@@ -119,7 +119,7 @@ joined_as e ts xs ys h i = rw h i
 -- ---- the induction
 
 mutual
-  unfolding operands accesses_given pairs_given
+  unfolding operands accesses_outcome pairs_outcome
 
   sound_expr : {src : List ℕ} {ts : List Lexeme} {x : Expr} (e : Extensions) (place : Option Loc) (h : Held) → ReadsExpr src ts x → outcome e (at place (expr_form x)) ≡ Ok h → HeldAs e m.expression ts h
   sound_expr {src = src} e place h (l.or_expr {ts = ts} {x = x} r) k =
@@ -219,13 +219,13 @@ mutual
 
   sound_member : {src : List ℕ} {ts : List Lexeme} {x : Member} (e : Extensions) (place : Option Loc) (h : Held) → ReadsMember src ts x → outcome e (at place (member_form x)) ≡ Ok h → HeldAs e m.member ts h
   sound_member {src = src} e place h (l.member {ts = ts} {us = us} {x = x} {xs = xs} r s) k =
-      member_held e ts us place (outcome e (located primary_form (placed src ts x))) (accesses_given e (parts_of (map listed_access xs))) h
+      member_held e ts us place (outcome e (located primary_form (placed src ts x))) (accesses_outcome e (parts_of (map listed_access xs))) h
       (λ t i. sound_primary e (placed src ts x).loc t r i) (λ zs i. sound_accesses e zs s i) (sym (gives_member e place (placed src ts x) xs) ∙ k)
 
-  sound_accesses : {src : List ℕ} {ts : List Lexeme} {xs : List (Cell MemAccess)} (e : Extensions) (zs : List Access) → ReadsAccesses src ts xs → accesses_given e (parts_of (map listed_access xs)) ≡ Ok zs → AreLinks e ts zs
+  sound_accesses : {src : List ℕ} {ts : List Lexeme} {xs : List (Cell MemAccess)} (e : Extensions) (zs : List Access) → ReadsAccesses src ts xs → accesses_outcome e (parts_of (map listed_access xs)) ≡ Ok zs → AreLinks e ts zs
   sound_accesses e zs l.no_access k = links_as e [] zs [] (sym (ok_is k)) no_link
   sound_accesses {src = src} e zs (l.more_access {ts = ts} {us = us} {xs = xs} {x = x} r s) k =
-      let d = accesses_snoc e (map listed_access xs) (listed_access (placed src us x)) zs (ap (λ ys. accesses_given e (parts_of ys)) (sym (map_snoc listed_access xs (placed src us x))) ∙ k) in
+      let d = accesses_snoc e (map listed_access xs) (listed_access (placed src us x)) zs (ap (λ ys. accesses_outcome e (parts_of ys)) (sym (map_snoc listed_access xs (placed src us x))) ∙ k) in
       links_as e (ts ++ us) zs (d.0 ++ d.1 ∷ []) d.4 (links_snoc (sound_accesses e d.0 r d.2) (sound_access e (placed src us x).loc d.1 s d.3))
 
   sound_access : {src : List ℕ} {ts : List Lexeme} {x : MemAccess} (e : Extensions) (place : Option Loc) (a : Access) → ReadsAccess src ts x → access_outcome e (at place (access_form x)) ≡ Ok a → IsLink e ts a
@@ -250,7 +250,7 @@ mutual
   sound_primary e place h (l.set {ts = ts} {xs = xs} a b r) k =
       set_held e ts a b place (operands e place (parts_of (map listed_expr xs))) h (λ ps i. sound_exprs e place ps r i) (sym (gives_set e place xs) ∙ k)
   sound_primary e place h (l.in_braces {ts = ts} {xs = xs} a b r) k =
-      braces_held e ts a b place (pairs_given e (parts_of (map listed_init xs))) h (λ fs i. sound_inits e fs r i) (sym (gives_braces e place xs) ∙ k)
+      braces_held e ts a b place (pairs_outcome e (parts_of (map listed_init xs))) h (λ fs i. sound_inits e fs r i) (sym (gives_braces e place xs) ∙ k)
 
   sound_exprs : {src : List ℕ} {ts : List Lexeme} {xs : List (Cell Expr)} (e : Extensions) (place : Option Loc) (ps : List Part) → ReadsExprs src ts xs → operands e place (parts_of (map listed_expr xs)) ≡ Ok ps → Listed e SIGN_LIMIT ts (bodies ps)
   sound_exprs e place ps l.no_expr k = listed_as e [] (bodies ps) [] (ap bodies (sym (ok_is k))) m.no_items
@@ -269,17 +269,17 @@ mutual
       let d = snoc_parts e place listed_expr xs (placed src us y) ps k in
       joined_more e ts us p d.0 ps beside d.1 d.4 (sound_items e place d.0 r d.2) (expression_of e src us y d.1 (λ t j. sound_expr e (placed src us y).loc t s j) (plain_operand e place (listed_expr (placed src us y)) d.1 (λ v. refl) d.3))
 
-  sound_inits : {src : List ℕ} {ts : List Lexeme} {xs : List (Cell RecInit)} (e : Extensions) (fs : List (List ℕ × Value)) → ReadsRecInits src ts xs → pairs_given e (parts_of (map listed_init xs)) ≡ Ok fs → Entries e SIGN_LIMIT ts fs
+  sound_inits : {src : List ℕ} {ts : List Lexeme} {xs : List (Cell RecInit)} (e : Extensions) (fs : List (List ℕ × Value)) → ReadsRecInits src ts xs → pairs_outcome e (parts_of (map listed_init xs)) ≡ Ok fs → Entries e SIGN_LIMIT ts fs
   sound_inits e fs l.no_init k = entries_as e [] fs [] (sym (ok_is k)) m.no_entries
   sound_inits e fs (l.inits r) k = m.entries (sound_pairs e fs r k)
   sound_inits e fs (l.inits_comma p r) k = m.entries_comma p (sound_pairs e fs r k)
 
-  sound_pairs : {src : List ℕ} {ts : List Lexeme} {xs : List (Cell RecInit)} (e : Extensions) (fs : List (List ℕ × Value)) → ReadsInitItems src ts xs → pairs_given e (parts_of (map listed_init xs)) ≡ Ok fs → JoinedEntries e SIGN_LIMIT ts fs
+  sound_pairs : {src : List ℕ} {ts : List Lexeme} {xs : List (Cell RecInit)} (e : Extensions) (fs : List (List ℕ × Value)) → ReadsInitItems src ts xs → pairs_outcome e (parts_of (map listed_init xs)) ≡ Ok fs → JoinedEntries e SIGN_LIMIT ts fs
   sound_pairs {src = src} e fs (l.one_init {ts = ts} {x = x} r) k =
       let d = pairs_snoc e [] (listed_init (placed src ts x)) fs k in
       joined_as e ts fs (d.1 ∷ []) (d.4 ∙ ap (λ ys. ys ++ d.1 ∷ []) (sym (ok_is d.2))) (m.one_entry (sound_pair e (placed src ts x).loc d.1 r d.3))
   sound_pairs {src = src} e fs (l.more_inits {ts = ts} {us = us} {xs = xs} {y = y} p r s) k =
-      let d = pairs_snoc e (map listed_init xs) (listed_init (placed src us y)) fs (ap (λ ys. pairs_given e (parts_of ys)) (sym (map_snoc listed_init xs (placed src us y))) ∙ k) in
+      let d = pairs_snoc e (map listed_init xs) (listed_init (placed src us y)) fs (ap (λ ys. pairs_outcome e (parts_of ys)) (sym (map_snoc listed_init xs (placed src us y))) ∙ k) in
       joined_as e (ts ++ one kind.Comma p ++ us) fs (d.0 ++ d.1 ∷ []) d.4 (m.more_entries p (sound_pairs e d.0 r d.2) (sound_pair e (placed src us y).loc d.1 s d.3))
 
   sound_pair : {src : List ℕ} {ts : List Lexeme} {x : RecInit} (e : Extensions) (place : Option Loc) (z : List ℕ × Value) → ReadsRecInit src ts x → pair_outcome e (at place (init_form x)) ≡ Ok z → Entry e SIGN_LIMIT ts z.0 z.1

@@ -16,7 +16,7 @@ use Rattle.cedar_syntax.specs.LooseWords.{ReadsAny, ReadsPath, ReadsName, ReadsR
 use Rattle.cedar_syntax.specs.Tokens.{Spot, one, any_of, between_quotes}
 use Rattle.cedar_syntax.specs.Trees.{Cell, name_of}
 use Rattle.cedar_policy_parser.specs.Entities.{entity_of, reference_outcome}
-use Rattle.cedar_policy_parser.specs.Names.{filled, all_of, valid_ident_of, valid_ident, unreserved, unreserved_ident, path_of, identifiers, path_outcome, name_outcome}
+use Rattle.cedar_policy_parser.specs.Names.{content_outcome, all_of, valid_ident_of, valid_ident, unreserved, unreserved_ident, path_of, identifiers, path_outcome, name_outcome}
 use Rattle.cedar_policy_parser.specs.Outcome.{Outcome, both, next}
 use Rattle.cedar_policy_parser.specs.Strings.{text_outcome}
 use Rattle.cedar_policy_parser.specs.StrictWords as m
@@ -33,7 +33,7 @@ unreserved_both : (a b : Bool) → a ≡ true → b ≡ false → (a && not b) �
 unreserved_both a b h k = rw (h, k) refl
 
 -- what a token of this kind and text is, as an identifier
-any_meant : (k : TokenKind) (p : Spot) (place : Option Loc) (id : List ℕ) → next (filled place (any_of k p.text)) (valid_ident_of place) ≡ Ok id → is_reserved_namespace id ≡ false → IsIdentifier (one k p) id
+any_meant : (k : TokenKind) (p : Spot) (place : Option Loc) (id : List ℕ) → next (content_outcome place (any_of k p.text)) (valid_ident_of place) ≡ Ok id → is_reserved_namespace id ≡ false → IsIdentifier (one k p) id
 any_meant kind.Principal p place id h u = identifier_as (codes "principal") id (ok_is h) (m.variable_word p m.principal)
 any_meant kind.Action p place id h u = identifier_as (codes "action") id (ok_is h) (m.variable_word p m.action)
 any_meant kind.Resource p place id h u = identifier_as (codes "resource") id (ok_is h) (m.variable_word p m.resource)
@@ -50,7 +50,7 @@ any_meant kind.Identifier p place id h u =
 any_meant _ p place id h u = cc
 
 pub identifier_meant : {ts : List Lexeme} {i : Ident} (place : Option Loc) (id : List ℕ) → ReadsAny ts i → valid_ident_of place i ≡ Ok id → is_reserved_namespace id ≡ false → IsIdentifier ts id
-identifier_meant place id (l.any {k = k} {i = i} p h) g u = any_meant k p place id (ap (λ o. next (filled place o) (valid_ident_of place)) h ∙ g) u
+identifier_meant place id (l.any {k = k} {i = i} p h) g u = any_meant k p place id (ap (λ o. next (content_outcome place o) (valid_ident_of place)) h ∙ g) u
 
 -- an identifier that is no `__cedar`
 pub unreserved_meant : (src : List ℕ) {ts : List Lexeme} {i : Ident} (id : List ℕ) → ReadsAny ts i → unreserved_ident (placed src ts i) ≡ Ok id → IsIdentifier ts id

@@ -3,7 +3,7 @@ ghost use Rattle.std.specs.Prelude.{◌≡◌, Some, IfOk};
 ghost use Rattle.cedar_policy_parser.specs.Extensions.{table_of};
 ghost use Rattle.cedar_policy_parser.specs.Outcome.{invalid_action_type};
 ghost use Rattle.cedar_policy_parser.specs.Scope as s;
-ghost use Rattle.cedar_policy_parser.specs.Seen.{Gives, TellsAlone, itself, none_seen};
+ghost use Rattle.cedar_policy_parser.specs.Seen.{Gives, TellsAlone, itself, empty_view};
 
 use crate::cst_to_ast::ExtStyles;
 use crate::methods::Site;
@@ -21,7 +21,7 @@ use std::alloc::{AllocError, Global};
 
 /// Refuses another variable than the action.
 fn action_alone(alloc: Global, loc: &Option<Loc>, got: Var) -> Result<(), Failure>
-    ensures { Gives none_seen result (s.action_alone loc.now got) }
+    ensures { Gives empty_view result (s.action_alone loc.now got) }
 {
     match got {
         Var::Action => Ok(()),
@@ -41,7 +41,7 @@ fn no_entity_type(
     loc: &Option<Loc>,
     node: &Option<Node<Option<Add>>>,
 ) -> Result<(), Failure>
-    ensures { Gives none_seen result (s.no_entity_type loc.now node.now) }
+    ensures { Gives empty_view result (s.no_entity_type loc.now node.now) }
 {
     match node {
         Some(_) => Err(refusal(alloc, ToASTErrorKind::IsInActionScope, loc)),
@@ -50,7 +50,7 @@ fn no_entity_type(
 }
 
 fn action_begun(alloc: Global, loc: &Option<Loc>, element: &VariableDef) -> Result<(), Failure>
-    ensures { Gives none_seen result (s.action_begun loc.now element.now) }
+    ensures { Gives empty_view result (s.action_variable loc.now element.now) }
 {
     action_alone(alloc, loc, scope_variable(alloc, &element.variable)?)?;
     no_type_name(alloc, &element.unused_type_name)?;
@@ -144,7 +144,7 @@ fn action_beside(
     site: Site<'_>,
     ineq: &(RelOp, Node<Option<cst::Expr>>),
 ) -> Result<ActionConstraint, Failure>
-    ensures { Gives itself result (s.action_asked (table_of site.entry.styles.now)
+    ensures { Gives itself result (s.asked_action (table_of site.entry.styles.now)
         site.entry.loc.now (Some ineq.now)) }
 {
     let constraint = action_by(site, ineq.0, &ineq.1)?;
@@ -155,7 +155,7 @@ fn action_asked(
     site: Site<'_>,
     ineq: &Option<(RelOp, Node<Option<cst::Expr>>)>,
 ) -> Result<ActionConstraint, Failure>
-    ensures { Gives itself result (s.action_asked (table_of site.entry.styles.now)
+    ensures { Gives itself result (s.asked_action (table_of site.entry.styles.now)
         site.entry.loc.now ineq.now) }
 {
     match ineq {

@@ -1,6 +1,6 @@
 //! An element of a scope that asks of the principal or the resource; what both kinds of elements begin with.
 ghost use Rattle.std.specs.Prelude.{◌≡◌, Some, IfOk};
-ghost use Rattle.cedar_expressions.specs.Meaning.{unplaced};
+ghost use Rattle.cedar_expressions.specs.Meaning.{expr_meaning};
 ghost use Rattle.cedar_expressions.specs.Value.{Value};
 ghost use Rattle.cedar_expressions.specs.declared.literal.Var.TheVariants as vars;
 ghost use Rattle.cedar_syntax.specs.declared.cst.RelOp.TheVariants as rel;
@@ -9,7 +9,7 @@ ghost use Rattle.cedar_policy_parser.specs.Conversion.{value_outcome};
 ghost use Rattle.cedar_policy_parser.specs.Extensions.{table_of};
 ghost use Rattle.cedar_policy_parser.specs.Outcome.{Outcome, invalid_scope_variable};
 ghost use Rattle.cedar_policy_parser.specs.Scope as s;
-ghost use Rattle.cedar_policy_parser.specs.Seen.{Gives, Refuses, TellsAlone, itself, none_seen};
+ghost use Rattle.cedar_policy_parser.specs.Seen.{Gives, Refuses, TellsAlone, itself, empty_view};
 
 use crate::answer::{Converted, unanswered};
 use crate::convert::add;
@@ -55,7 +55,7 @@ pub(crate) fn scope_variable(alloc: Global, node: &Node<Option<Ident>>) -> Resul
 
 /// Refuses a name behind `:`.
 pub(crate) fn no_type_name(alloc: Global, name: &Option<Node<Option<Name>>>) -> Result<(), Failure>
-    ensures { Gives none_seen result (s.no_type_name name.now) }
+    ensures { Gives empty_view result (s.no_type_name name.now) }
 {
     match name {
         Some(node) => match &node.node {
@@ -93,7 +93,7 @@ fn is_call(call: &UnaryCall) -> bool
 
 /// Whether `is` makes an expression.
 fn made_by_is(expr: &Expr) -> bool
-    ensures { result ≡ s.made_by_is (unplaced expr.now) }
+    ensures { result ≡ s.made_by_is (expr_meaning expr.now) }
 {
     match expr.kind() {
         ExprKind::Unary(call, _) => is_call(call),
@@ -188,8 +188,8 @@ fn by_eq(
     element: &VariableDef,
     reference: EntityReference,
 ) -> Result<PrincipalOrResourceConstraint, Failure>
-    ensures { Gives itself result (s.asked_by (table_of site.entry.styles.now) site.entry.loc.now
-        rel.Eq element.now.entity_type reference) }
+    ensures { Gives itself result (s.operator_outcome (table_of site.entry.styles.now)
+        site.entry.loc.now rel.Eq element.now.entity_type reference) }
 {
     match &element.entity_type {
         Some(_) => Err(refusal(site.alloc, ToASTErrorKind::IsWithEq, site.loc)),
@@ -203,8 +203,8 @@ fn by_in(
     element: &VariableDef,
     reference: EntityReference,
 ) -> Result<PrincipalOrResourceConstraint, Failure>
-    ensures { Gives itself result (s.asked_by (table_of site.entry.styles.now) site.entry.loc.now
-        rel.In element.now.entity_type reference) }
+    ensures { Gives itself result (s.operator_outcome (table_of site.entry.styles.now)
+        site.entry.loc.now rel.In element.now.entity_type reference) }
 {
     match &element.entity_type {
         Some(node) => is_in(site, &element.variable.loc, node, reference),
@@ -219,8 +219,8 @@ fn asked_by(
     element: &VariableDef,
     reference: EntityReference,
 ) -> Result<PrincipalOrResourceConstraint, Failure>
-    ensures { Gives itself result (s.asked_by (table_of site.entry.styles.now) site.entry.loc.now
-        op element.now.entity_type reference) }
+    ensures { Gives itself result (s.operator_outcome (table_of site.entry.styles.now)
+        site.entry.loc.now op element.now.entity_type reference) }
 {
     match op {
         RelOp::Eq => by_eq(site, element, reference),
@@ -262,8 +262,8 @@ fn asked_beside(
     element: &VariableDef,
     ineq: &(RelOp, Node<Option<cst::Expr>>),
 ) -> Result<PrincipalOrResourceConstraint, Failure>
-    ensures { Gives itself result (s.asked (table_of site.entry.styles.now) site.entry.loc.now var
-        element.now.entity_type (Some ineq.now)) }
+    ensures { Gives itself result (s.constraint_outcome (table_of site.entry.styles.now)
+        site.entry.loc.now var element.now.entity_type (Some ineq.now)) }
 {
     if is_inverted(site, ineq.0, &ineq.1)? {
         return Err(refusal(site.alloc, ToASTErrorKind::InvertedIsIn, site.loc));
@@ -278,8 +278,8 @@ fn asked(
     var: Var,
     element: &VariableDef,
 ) -> Result<PrincipalOrResourceConstraint, Failure>
-    ensures { Gives itself result (s.asked (table_of site.entry.styles.now) site.entry.loc.now var
-        element.now.entity_type element.now.ineq) }
+    ensures { Gives itself result (s.constraint_outcome (table_of site.entry.styles.now)
+        site.entry.loc.now var element.now.entity_type element.now.ineq) }
 {
     match &element.ineq {
         Some(ineq) => asked_beside(site, var, element, ineq),

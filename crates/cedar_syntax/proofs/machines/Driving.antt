@@ -5,7 +5,7 @@ use Rattle.std.proofs.lemmas.List.{append-nil}
 use Rattle.std.specs.Str.{IsUtf8}
 use Rattle.cedar_lexer.specs.Token.{Lexeme, lexeme_of}
 use Rattle.cedar_lexer.specs.Cut.{Layout, nothing, Cuts, StopsAt, CutsFrom, StopsFrom}
-use Rattle.cedar_lexer.specs.LexerState.{LexerState, Answers, beginning, IsCutOrStop}
+use Rattle.cedar_lexer.specs.LexerState.{LexerState, LexerAnswers, fresh_lexer, IsCutOrStop}
 use Rattle.cedar_lexer.specs.declared.token.Token.{Token}
 use Rattle.cedar_lexer.specs.declared.token.TokenKind.{TokenKind}
 use Rattle.cedar_lexer.proofs.Cuts.{laid_on, laid_utf8, onward, nothing_at_end}
@@ -14,20 +14,20 @@ use Rattle.cedar_syntax.specs.declared.err.faults.Failure.{Failure}
 use Rattle.cedar_syntax.specs.declared.err.faults.Failure.TheVariants.{Memory, Errors}
 use Rattle.cedar_syntax.specs.declared.reading.extent.Extent.{Extent}
 use Rattle.cedar_syntax.specs.declared.reading.expected.Narrowing.{Narrowing}
-use Rattle.cedar_syntax.specs.FirstFault.{end_at, end_of, early_at}
-use Rattle.cedar_syntax.specs.Place.{join, extent_of, extent}
+use Rattle.cedar_syntax.specs.FirstFault.{end_at, tokens_end, early_at}
+use Rattle.cedar_syntax.specs.Place.{joint_extent, extent_of, extent}
 use Rattle.cedar_syntax.specs.WrittenTokens.{IsWritten}
-use Rattle.cedar_syntax.specs.machines.Door.{next, Machine, taken, Comes}
-use Rattle.cedar_syntax.specs.machines.Judged.{expected_by, Ahead, Progress, tokens_left, IsRead, IsFault, GivesToken, StopsBadly, told, IsStop, StopsAtToken, StopsAtEnd}
+use Rattle.cedar_syntax.specs.machines.Door.{next, Machine, answer_state, Comes}
+use Rattle.cedar_syntax.specs.machines.Judged.{wanted_kinds, Ahead, Progress, remaining_length, IsRead, IsFault, GivesToken, StopsBadly, stop_fault, IsStop, StopsAtToken, StopsAtEnd}
 use Rattle.cedar_syntax.proofs.machines.Laws.{then_steps}
 use Rattle.cedar_syntax.proofs.machines.Extents.{extent-append}
 use Rattle.cedar_syntax.proofs.Written.{AllWritten, all_written, one_bounds}
 
-pub end_joined : (o : Option Extent) (e : Extent) → end_at (join o (Some e)) ≡ e.end
+pub end_joined : (o : Option Extent) (e : Extent) → end_at (joint_extent o (Some e)) ≡ e.end
 end_joined None e = refl
 end_joined (Some a) e = refl
 
-pub end_snoc : (ts : List Lexeme) (t : Lexeme) → end_of (ts ++ t ∷ []) ≡ t.end
+pub end_snoc : (ts : List Lexeme) (t : Lexeme) → tokens_end (ts ++ t ∷ []) ≡ t.end
 end_snoc ts t = ap (λ o. end_at o) (extent-append ts (t ∷ [])) ∙ end_joined (extent ts) (extent_of t)
 
 -- ---- the lexer's next answer, behind tokens that are laid out
@@ -35,7 +35,7 @@ end_snoc ts t = ap (λ o. end_at o) (extent-append ts (t ∷ [])) ∙ end_joined
 abbrev pub Behind : List ℕ → List Lexeme → LexerState → Type 0
 Behind text before l = Layout text 0 before l.offset × (l.source ≡ text) × (l.ended ≡ false)
 
-pub token_ahead : (text : List ℕ) (before : List Lexeme) (l u : LexerState) (t : Token) → Behind text before l → Answers l (Some (Ok t)) u → Ahead text before (Some t) u
+pub token_ahead : (text : List ℕ) (before : List Lexeme) (l u : LexerState) (t : Token) → Behind text before l → LexerAnswers l (Some (Ok t)) u → Ahead text before (Some t) u
 token_ahead text before l u t b a =
     let next : Layout text l.offset (lexeme_of t ∷ []) t.end = subst (λ w. Layout w l.offset (lexeme_of t ∷ []) t.end) b.1 a.1 in
     (laid_on b.0 next, ap (λ r. r.source) a.2 ∙ b.1, ap (λ r. r.offset) a.2, ap (λ r. r.ended) a.2)
@@ -43,7 +43,7 @@ token_ahead text before l u t b a =
 not_ended : {b : Bool} → b ≡ false → b ≡ true → ⊥
 not_ended e f = cc
 
-pub end_ahead : (text : List ℕ) (before : List Lexeme) (l u : LexerState) → Behind text before l → Answers l None u → Cuts text before
+pub end_ahead : (text : List ℕ) (before : List Lexeme) (l u : LexerState) → Behind text before l → LexerAnswers l None u → Cuts text before
 end_ahead text before l u b a = go a.0
   where
     go : ((l.ended ≡ true) ⊎ CutsFrom l.source l.offset []) → Cuts text before
@@ -62,7 +62,7 @@ stops_behind text before l place b s =
 pub behind_of : (text : List ℕ) (before : List Lexeme) (t : Token) (l : LexerState) → Ahead text before (Some t) l → Behind text (before ++ lexeme_of t ∷ []) l
 behind_of text before t l a = (subst (λ n. Layout text 0 (before ++ lexeme_of t ∷ []) n) (sym a.2) a.0, a.1, a.3)
 
-pub begun : (text : List ℕ) → Behind text [] (beginning text)
+pub begun : (text : List ℕ) → Behind text [] (fresh_lexer text)
 begun text = (nothing, refl, refl)
 
 -- ---- the tokens behind some of them
@@ -84,16 +84,16 @@ snoc_on ts t us = simp append_assoc
 
 -- ---- the beginning
 
-pub at_start : {S T : Type 0} (m : Machine Lexeme S T) (text : List ℕ) (s : S) (l u : LexerState) (o : Option Token) → IsUtf8 text → m.start ≡ s → l ≡ beginning text → GivesToken l o u → Progress m text s 0 o u
+pub at_start : {S T : Type 0} (m : Machine Lexeme S T) (text : List ℕ) (s : S) (l u : LexerState) (o : Option Token) → IsUtf8 text → m.start ≡ s → l ≡ fresh_lexer text → GivesToken l o u → Progress m text s 0 o u
 at_start m text s l u o w f g a = record {
   utf8 = w;
   before = [];
   comes = ap (λ w. Some w) f;
   ends = refl;
-  goes = ahead_of text [] (beginning text) u o (begun text) (subst (λ w. GivesToken w o u) g a);
+  goes = ahead_of text [] (fresh_lexer text) u o (begun text) (subst (λ w. GivesToken w o u) g a);
 }
 
-bad_beginning : {S T : Type 0} (m : Machine Lexeme S T) (p : S → Option TokenKind → Bool) (n : Narrowing) (text : List ℕ) (l : LexerState) (f : Failure) → l ≡ beginning text → StopsBadly text l f → IsStop m p n text f
+bad_beginning : {S T : Type 0} (m : Machine Lexeme S T) (p : S → Option TokenKind → Bool) (n : Narrowing) (text : List ℕ) (l : LexerState) (f : Failure) → l ≡ fresh_lexer text → StopsBadly text l f → IsStop m p n text f
 bad_beginning m p n text l (Memory e) g s = tt
 bad_beginning m p n text l (Errors errors) g s = (
   _,
@@ -102,14 +102,14 @@ bad_beginning m p n text l (Errors errors) g s = (
     rest = [];
     bad = Some s.0;
     state = m.start;
-    cut = stops_behind text [] (beginning text) s.0 (begun text) (subst (λ w. StopsFrom w.source w.offset [] s.0) g s.1);
+    cut = stops_behind text [] (fresh_lexer text) s.0 (begun text) (subst (λ w. StopsFrom w.source w.offset [] s.0) g s.1);
     comes = refl;
     is = refl;
   },
   s.2,
 )
 
-pub bad_start : {S T : Type 0} (m : Machine Lexeme S T) (p : S → Option TokenKind → Bool) (n : Narrowing) (text src : List ℕ) (l : LexerState) (f : Failure) → src ≡ text → l ≡ beginning text → StopsBadly src l f → IsStop m p n text f
+pub bad_start : {S T : Type 0} (m : Machine Lexeme S T) (p : S → Option TokenKind → Bool) (n : Narrowing) (text src : List ℕ) (l : LexerState) (f : Failure) → src ≡ text → l ≡ fresh_lexer text → StopsBadly src l f → IsStop m p n text f
 bad_start m p n text src l f h g s = bad_beginning m p n text l f g (subst (λ w. StopsBadly w l f) h s)
 
 -- an error that `?` passes on
@@ -120,7 +120,7 @@ passed_on (Err y) f P Q is q = subst Q (sym is) q
 -- ---- one token more
 
 comes_on : {S T : Type 0} (m : Machine Lexeme S T) (before : List Lexeme) (s r : S) (t : Lexeme) → Comes m before s → m.step s t ≡ next r → Comes m (before ++ t ∷ []) r
-comes_on m before s r t c h = then_steps m (Some m.start) (Some s) (Some r) before (t ∷ []) c (ap (λ a. taken a) h)
+comes_on m before s r t c h = then_steps m (Some m.start) (Some s) (Some r) before (t ∷ []) c (ap (λ a. answer_state a) h)
 
 pub one_more : {S T : Type 0} (m : Machine Lexeme S T) (text : List ℕ) (s r : S) (end : ℕ) (t : Token) (l u : LexerState) (o : Option Token) → Progress m text s end (Some t) l → m.step s (lexeme_of t) ≡ next r → GivesToken l o u →
     Progress m text r t.end o u
@@ -170,8 +170,8 @@ stops_badly m p n text s r end t l (Errors errors) q h b =
       b.2,
     )
 
-early_told : {S T : Type 0} (m : Machine Lexeme S T) (p : S → Option TokenKind → Bool) (n : Narrowing) (text : List ℕ) (s : S) (ts : List Lexeme) → p s None ≡ false → told m p n text s ts [] None ≡ Some (early_at (end_of ts) (expected_by (p s) n None))
-early_told m p n text s ts h = ap (λ b. cond b None (Some (early_at (end_of ts) (expected_by (p s) n None)))) h
+early_told : {S T : Type 0} (m : Machine Lexeme S T) (p : S → Option TokenKind → Bool) (n : Narrowing) (text : List ℕ) (s : S) (ts : List Lexeme) → p s None ≡ false → stop_fault m p n text s ts [] None ≡ Some (early_at (tokens_end ts) (wanted_kinds (p s) n None))
+early_told m p n text s ts h = ap (λ b. cond b None (Some (early_at (tokens_end ts) (wanted_kinds (p s) n None)))) h
 
 stops_at_end : {S T : Type 0} (m : Machine Lexeme S T) (p : S → Option TokenKind → Bool) (n : Narrowing) (text : List ℕ) (s : S) (end : ℕ) (l : LexerState) (f : Failure) → Progress m text s end None l → StopsAtEnd m p n text s end f → IsStop m p n text f
 stops_at_end m p n text s end l (Memory e) q h = tt
@@ -186,7 +186,7 @@ stops_at_end m p n text s end l (Errors errors) q h = (
     comes = q.comes;
     is = early_told m p n text s q.before h.0;
   },
-  subst (λ e. IsFault text errors (early_at e (expected_by (p s) n None))) q.ends h.1,
+  subst (λ e. IsFault text errors (early_at e (wanted_kinds (p s) n None))) q.ends h.1,
 )
 
 reads_whole : {S T : Type 0} (m : Machine Lexeme S T) (text : List ℕ) (s : S) (end : ℕ) (l : LexerState) (x : T) → Progress m text s end None l → m.finish s ≡ Some x → IsRead m text x
@@ -208,7 +208,7 @@ next_bounds text i t h b u = one_bounds h b u
 pub less_left : (n a b : ℕ) → a < b → b ≤ n → 1 + (n - b) < 1 + (n - a)
 less_left n a b h g = omega arith
 
-pub fewer : (text : List ℕ) (l u : LexerState) (t : Token) → (l.source ≡ text) → l.offset ≤ length text → IsUtf8 (drop l.offset text) → Answers l (Some (Ok t)) u → 1 + (length u.source - u.offset) < 1 + (length l.source - l.offset)
+pub fewer : (text : List ℕ) (l u : LexerState) (t : Token) → (l.source ≡ text) → l.offset ≤ length text → IsUtf8 (drop l.offset text) → LexerAnswers l (Some (Ok t)) u → 1 + (length u.source - u.offset) < 1 + (length l.source - l.offset)
 fewer text l u t e b w a =
     let next : Layout text l.offset (lexeme_of t ∷ []) t.end = subst (λ w. Layout w l.offset (lexeme_of t ∷ []) t.end) e a.1 in
     let c = next_bounds text l.offset (lexeme_of t) next b w in
@@ -217,7 +217,7 @@ fewer text l u t e b w a =
     let h : length l.source ≡ length text = ap (λ x. length x) e in
     rw (f, g, h) (less_left (length text) l.offset t.end c.0 c.1)
 
-fewer_left : {S T : Type 0} (m : Machine Lexeme S T) (text : List ℕ) (s : S) (end : ℕ) (t : Token) (l u : LexerState) (o : Option Token) → Progress m text s end (Some t) l → GivesToken l o u → tokens_left o u < tokens_left (Some t) l
+fewer_left : {S T : Type 0} (m : Machine Lexeme S T) (text : List ℕ) (s : S) (end : ℕ) (t : Token) (l u : LexerState) (o : Option Token) → Progress m text s end (Some t) l → GivesToken l o u → remaining_length o u < remaining_length (Some t) l
 fewer_left m text s end t l u None p a = omega arith
 fewer_left m text s end t l u (Some w) p a =
     let b = behind_of text p.before t l p.goes in
@@ -230,8 +230,8 @@ pub ahead_is : {S T : Type 0} {m : Machine Lexeme S T} {text : List ℕ} {s : S}
 ahead_is {m = m} {text = text} {s = s} {end = end} {l = l} p h = subst (λ w. Progress m text s end w l) h p
 
 pub fewer_at : {S T : Type 0} (m : Machine Lexeme S T) (text : List ℕ) (s : S) (end : ℕ) (a : Option Token) (t : Token) (l u : LexerState) (o : Option Token) → Progress m text s end a l → a ≡ Some t → GivesToken l o u →
-    tokens_left o u < tokens_left a l
-fewer_at m text s end a t l u o p h g = subst (λ w. tokens_left o u < tokens_left w l) (sym h) (fewer_left m text s end t l u o (ahead_is p h) g)
+    remaining_length o u < remaining_length a l
+fewer_at m text s end a t l u o p h g = subst (λ w. remaining_length o u < remaining_length w l) (sym h) (fewer_left m text s end t l u o (ahead_is p h) g)
 
 pub concluded : {S T : Type 0} (m : Machine Lexeme S T) (p : S → Option TokenKind → Bool) (n : Narrowing) (text : List ℕ) (s : S) (end : ℕ) (a : Option Token) (l : LexerState) (r : Result T Failure) → Progress m text s end a l → a ≡ None →
     MatchResult r (λ x. m.finish s ≡ Some x) (λ f. StopsAtEnd m p n text s end f) → MatchResult r (λ x. IsRead m text x) (λ f. IsStop m p n text f)

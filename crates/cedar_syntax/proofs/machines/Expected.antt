@@ -7,7 +7,7 @@ use Rattle.cedar_lexer.specs.declared.token.TokenKind.TheVariants as kind
 use Rattle.cedar_syntax.specs.declared.reading.expected.Narrowing.{Narrowing}
 use Rattle.cedar_syntax.specs.Expected.{by_name, is_closer, can_narrow, IsNarrowed, Picks, no_kind, picked, passed, IsIn, here, there, IsExpected, all_allowed, closers}
 use Rattle.cedar_syntax.specs.Sentences.{Allowed}
-use Rattle.cedar_syntax.specs.machines.Judged.{any_closer, is_narrowed, picks, picked_from, expected_by}
+use Rattle.cedar_syntax.specs.machines.Judged.{any_closer, is_narrowed, picks, picked_kinds, wanted_kinds}
 use Rattle.cedar_syntax.proofs.machines.Laws.{false_true}
 
 -- a state allows just these kinds, and perhaps the end
@@ -40,9 +40,9 @@ pick_one : (P : TokenKind → Type 0) (k : TokenKind) (ks us : List TokenKind) (
 pick_one P k ks us true y n h = picked (y refl) h
 pick_one P k ks us false y n h = passed (n refl) h
 
-pick_all : (P : TokenKind → Type 0) (b : Bool) (p : Option TokenKind → Bool) → ((k : TokenKind) → picks b p k ≡ true → P k) → ((k : TokenKind) → picks b p k ≡ false → ¬ (P k)) → (ks : List TokenKind) → Picks P ks (picked_from b p ks)
+pick_all : (P : TokenKind → Type 0) (b : Bool) (p : Option TokenKind → Bool) → ((k : TokenKind) → picks b p k ≡ true → P k) → ((k : TokenKind) → picks b p k ≡ false → ¬ (P k)) → (ks : List TokenKind) → Picks P ks (picked_kinds b p ks)
 pick_all P b p y n [] = no_kind
-pick_all P b p y n (k ∷ ks) = pick_one P k ks (picked_from b p ks) (picks b p k) (y k) (n k) (pick_all P b p y n ks)
+pick_all P b p y n (k ∷ ks) = pick_one P k ks (picked_kinds b p ks) (picks b p k) (y k) (n k) (pick_all P b p y n ks)
 
 pub one_pick : {P : TokenKind → Type 0} {ks us vs : List TokenKind} → Picks P ks us → Picks P ks vs → us ≡ vs
 one_pick no_kind no_kind = refl
@@ -144,14 +144,14 @@ so_narrowed R ks p n after d h =
 
 -- ---- what is expected
 
-expected_as : {T : Type 0} (R : List Lexeme → T → Type 0) (ks : List TokenKind) (p : Option TokenKind → Bool) (n : Narrowing) (after : Option TokenKind) (b : Bool) → Decides R ks p → is_narrowed p n after ≡ b → IsExpected R n ks after (picked_from b p by_name)
+expected_as : {T : Type 0} (R : List Lexeme → T → Type 0) (ks : List TokenKind) (p : Option TokenKind → Bool) (n : Narrowing) (after : Option TokenKind) (b : Bool) → Decides R ks p → is_narrowed p n after ≡ b → IsExpected R n ks after (picked_kinds b p by_name)
 expected_as R ks p n after true d e =
     closers (narrowed_so R ks p n after d e)
     (pick_all (λ k. IsTrue (is_closer k) × Allowed R ks (Some k)) true p (λ k h. let w = both (is_closer k) (p (Some k)) h in (w.0, (d k).0 w.1)) (λ k h w. false_true h (and_true (is_closer k) (p (Some k)) w.0 ((d k).1 w.1))) by_name)
 expected_as R ks p n after false d e =
     all_allowed (λ h. false_true e (so_narrowed R ks p n after d h)) (pick_all (λ k. Allowed R ks (Some k)) false p (λ k h. (d k).0 h) (λ k h w. false_true h ((d k).1 w)) by_name)
 
-pub expected_is : {T : Type 0} (R : List Lexeme → T → Type 0) (ks : List TokenKind) (p : Option TokenKind → Bool) (n : Narrowing) (after : Option TokenKind) → Decides R ks p → IsExpected R n ks after (expected_by p n after)
+pub expected_is : {T : Type 0} (R : List Lexeme → T → Type 0) (ks : List TokenKind) (p : Option TokenKind → Bool) (n : Narrowing) (after : Option TokenKind) → Decides R ks p → IsExpected R n ks after (wanted_kinds p n after)
 expected_is R ks p n after d = expected_as R ks p n after (is_narrowed p n after) d refl
 
 -- at most one list is expected

@@ -4,7 +4,7 @@ use Rattle.std.proofs.Common.{◌≡◌, List, [], ◌∷◌, ◌++◌, Option, 
 use Rattle.cedar_lexer.specs.Token.{Lexeme}
 use Rattle.cedar_lexer.specs.declared.token.TokenKind.{TokenKind}
 use Rattle.cedar_syntax.specs.Sentences.{kinds, Starts, Sentence, Allowed, IsFirstRefused}
-use Rattle.cedar_syntax.specs.machines.Door.{Machine, Answer, next, ended, refused, too_large, taken, step_from, steps, Comes, RunsTo, AnswersRightly, Door, is_taken, is_some, allows, IsShape, option_image, Shapes}
+use Rattle.cedar_syntax.specs.machines.Door.{Machine, Answer, next, ended, refused, too_large, answer_state, step_from, steps, Comes, RunsTo, AnswersRightly, Door, is_taken, is_some, allows, IsShape, option_image, Shapes}
 
 -- some token of a kind
 abbrev pub some_token : TokenKind → Lexeme
@@ -56,8 +56,8 @@ starts_from {m = m} d ts s f =
 -- shapes go over kinds as the machine goes over tokens
 
 from_shaped : {S T U V : Type 0} (m : Machine Lexeme S T) (n : Machine TokenKind U V) (f : S → U) (g : T → V) (ts : List Lexeme) (r : S) (a : Answer S T) (c : Answer U V) →
-    ((w : S) → steps m (Some w) ts ≡ Some r → steps n (Some (f w)) (kinds ts) ≡ Some (f r)) → IsShape f g a c → steps m (taken a) ts ≡ Some r → steps n (taken c) (kinds ts) ≡ Some (f r)
-from_shaped m n f g ts r (next w) c go h e = ap (λ c. steps n (taken c) (kinds ts)) h ∙ go w e
+    ((w : S) → steps m (Some w) ts ≡ Some r → steps n (Some (f w)) (kinds ts) ≡ Some (f r)) → IsShape f g a c → steps m (answer_state a) ts ≡ Some r → steps n (answer_state c) (kinds ts) ≡ Some (f r)
+from_shaped m n f g ts r (next w) c go h e = ap (λ c. steps n (answer_state c) (kinds ts)) h ∙ go w e
 from_shaped m n f g ts r (ended x) c go h e = absurd (none_some (steps-none m ts) e)
 from_shaped m n f g ts r refused c go h e = absurd (none_some (steps-none m ts) e)
 from_shaped m n f g ts r too_large c go h e = absurd (none_some (steps-none m ts) e)
@@ -92,7 +92,7 @@ goes_on {m = m} {R = R} d ts s r t f e =
         tokens = ts ++ t ∷ c.more;
         spelled = kinds-append ts (t ∷ c.more);
         tree = c.tree;
-        reads = d.sound (ts ++ t ∷ c.more) c.last c.tree (then_steps m (Some m.start) (Some s) (Some c.last) ts (t ∷ c.more) f (ap (λ a. steps m (taken a) c.more) e ∙ c.goes)) c.ends;
+        reads = d.sound (ts ++ t ∷ c.more) c.last c.tree (then_steps m (Some m.start) (Some s) (Some c.last) ts (t ∷ c.more) f (ap (λ a. steps m (answer_state a) c.more) e ∙ c.goes)) c.ends;
       },
     )
 
@@ -103,7 +103,7 @@ takes_on f g d i ts s k (ended y) e h w v x = absurd (false_true (ap (λ a. is_t
 takes_on f g d i ts s k refused e h w v x = absurd (false_true (ap (λ a. is_taken a) w) x)
 takes_on f g d i ts s k too_large e h w v x = absurd (false_true v.1 refl)
 
-taken_run : {K S T : Type 0} (m : Machine K S T) (a : Answer S T) (ts : List K) (r : S) → steps m (taken a) ts ≡ Some r → is_taken a ≡ true
+taken_run : {K S T : Type 0} (m : Machine K S T) (a : Answer S T) (ts : List K) (r : S) → steps m (answer_state a) ts ≡ Some r → is_taken a ≡ true
 taken_run m (next s) ts r e = refl
 taken_run m (ended x) ts r e = absurd (none_some (steps-none m ts) e)
 taken_run m refused ts r e = absurd (none_some (steps-none m ts) e)

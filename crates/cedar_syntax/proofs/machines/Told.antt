@@ -14,14 +14,14 @@ use Rattle.cedar_syntax.specs.declared.err.faults.Failure.TheVariants.{Memory, E
 use Rattle.cedar_syntax.specs.declared.err.to_cst.RawFault.{RawFault}
 use Rattle.cedar_syntax.specs.declared.reading.expected.Narrowing.{Narrowing}
 use Rattle.cedar_syntax.specs.Expected.{IsExpected}
-use Rattle.cedar_syntax.specs.FirstFault.{end_of, unexpected_at, early_at, large_at, FirstFault, unexpected, early_end, large_number, bad_place, IsFaultIn, IsRefusal, IsMemory}
+use Rattle.cedar_syntax.specs.FirstFault.{tokens_end, unexpected_fault, early_at, large_at, FirstFault, unexpected, early_end, large_number, bad_place, IsFaultIn, IsRefusal, IsMemory}
 use Rattle.cedar_syntax.specs.Grammar.{Rule, IsNodeOf, IsTreeOf}
 use Rattle.cedar_syntax.specs.Place.{placed_or_start}
 use Rattle.cedar_syntax.specs.Tokens.{fits}
 use Rattle.cedar_syntax.specs.Trees.{Cell}
 use Rattle.cedar_syntax.specs.Sentences.{kinds, HasTree, Starts, Sentence, Allowed, IsFirstRefused}
-use Rattle.cedar_syntax.specs.machines.Door.{Answer, next, ended, refused, too_large, Machine, taken, steps, Comes, RunsTo, AnswersRightly, is_some}
-use Rattle.cedar_syntax.specs.machines.Judged.{may_take, ReadsBy, expected_by, IsRead, large_fault, told, IsStop}
+use Rattle.cedar_syntax.specs.machines.Door.{Answer, next, ended, refused, too_large, Machine, answer_state, steps, Comes, RunsTo, AnswersRightly, is_some}
+use Rattle.cedar_syntax.specs.machines.Judged.{may_take, ReadsBy, wanted_kinds, IsRead, large_fault, stop_fault, IsStop}
 use Rattle.cedar_syntax.proofs.machines.Laws.{some_is, none_some, false_true, steps-none, then_steps, starts_from, comes}
 use Rattle.cedar_syntax.proofs.machines.Expected.{expected_is, one_list}
 
@@ -74,7 +74,7 @@ refused_there : {S T : Type 0} {m : Machine Lexeme S (Cell T)} {R : Rule T} {src
 refused_there w ts s after c e = record { starts = w.begins ts s c; refuses = λ a. false_true e ((w.exact ts s after c).1 a) }
 
 expects : {S T : Type 0} {m : Machine Lexeme S (Cell T)} {R : Rule T} {src : List ℕ} {p : S → Option TokenKind → Bool} → Follows m R src p → (n : Narrowing) (ts : List Lexeme) (s : S) (after : Option TokenKind) → Comes m ts s →
-    IsExpected (R src) n (kinds ts) after (expected_by (p s) n after)
+    IsExpected (R src) n (kinds ts) after (wanted_kinds (p s) n after)
 expects {R = R} {src = src} {p = p} w n ts s after c = expected_is (R src) (kinds ts) (p s) n after (λ k. w.exact ts s (Some k) c)
 
 large_there : {S T : Type 0} {m : Machine Lexeme S (Cell T)} {R : Rule T} {src : List ℕ} {p : S → Option TokenKind → Bool} → Follows m R src p → (n : Narrowing) (ts us : List Lexeme) (t : Lexeme) (bad : Option ℕ) (s : S) (raw : RawFault) (a : Answer S (Cell T)) → Comes m ts s →
@@ -87,17 +87,17 @@ large_there {R = R} {src = src} w n ts us t bad s raw too_large c e h f =
     (large_number (w.begins ts s c) (subst (λ k. Allowed (R src) (kinds ts) (Some k)) h.0 ((w.exact ts s (Some t.kind) c).0 e)) h.0 h.1)
 
 token_told : {S T : Type 0} {m : Machine Lexeme S (Cell T)} {R : Rule T} {src : List ℕ} {p : S → Option TokenKind → Bool} → Follows m R src p → (n : Narrowing) (ts us : List Lexeme) (t : Lexeme) (bad : Option ℕ) (s : S) (raw : RawFault) (b : Bool) → Comes m ts s →
-    p s (Some t.kind) ≡ b → cond b (large_fault src (m.step s t) t) (Some (unexpected_at t (expected_by (p s) n (Some t.kind)))) ≡ Some raw → FirstFault (R src) n src ts (t ∷ us) bad raw
+    p s (Some t.kind) ≡ b → cond b (large_fault src (m.step s t) t) (Some (unexpected_fault t (wanted_kinds (p s) n (Some t.kind)))) ≡ Some raw → FirstFault (R src) n src ts (t ∷ us) bad raw
 token_told {m = m} w n ts us t bad s raw true c e f = large_there w n ts us t bad s raw (m.step s t) c e (w.answers s t) f
 token_told {R = R} {src = src} w n ts us t bad s raw false c e f =
     subst (λ raw. FirstFault (R src) n src ts (t ∷ us) bad raw) (some_is f) (unexpected (refused_there w ts s (Some t.kind) c e) (expects w n ts s (Some t.kind) c))
 
 end_told : {S T : Type 0} {m : Machine Lexeme S (Cell T)} {R : Rule T} {src : List ℕ} {p : S → Option TokenKind → Bool} → Follows m R src p → (n : Narrowing) (ts : List Lexeme) (s : S) (raw : RawFault) (b : Bool) → Comes m ts s → p s None ≡ b →
-    cond b None (Some (early_at (end_of ts) (expected_by (p s) n None))) ≡ Some raw → FirstFault (R src) n src ts [] None raw
+    cond b None (Some (early_at (tokens_end ts) (wanted_kinds (p s) n None))) ≡ Some raw → FirstFault (R src) n src ts [] None raw
 end_told w n ts s raw true c e f = absurd (none_some refl f)
 end_told {R = R} {src = src} w n ts s raw false c e f = subst (λ raw. FirstFault (R src) n src ts [] None raw) (some_is f) (early_end (refused_there w ts s None c e) (expects w n ts s None c))
 
-pub told_is : {S T : Type 0} {m : Machine Lexeme S (Cell T)} {R : Rule T} {src : List ℕ} {p : S → Option TokenKind → Bool} → Follows m R src p → (n : Narrowing) (ts us : List Lexeme) (bad : Option ℕ) (s : S) (raw : RawFault) → Comes m ts s → told m p n src s ts us bad ≡ Some raw →
+pub told_is : {S T : Type 0} {m : Machine Lexeme S (Cell T)} {R : Rule T} {src : List ℕ} {p : S → Option TokenKind → Bool} → Follows m R src p → (n : Narrowing) (ts us : List Lexeme) (bad : Option ℕ) (s : S) (raw : RawFault) → Comes m ts s → stop_fault m p n src s ts us bad ≡ Some raw →
     FirstFault (R src) n src ts us bad raw
 told_is {p = p} w n ts (t ∷ us) bad s raw c f = token_told w n ts us t bad s raw (p s (Some t.kind)) c refl f
 told_is {p = p} w n ts [] None s raw c f = end_told w n ts s raw (p s None) c refl f
@@ -108,7 +108,7 @@ told_is {R = R} {src = src} w n ts [] (Some place) s raw c f = subst (λ raw. Fi
 pub record Tells {S T : Type 0} (m : Machine Lexeme S T) (p : S → Option TokenKind → Bool) (n : Narrowing) (src : List ℕ) (ts us : List Lexeme) (bad : Option ℕ) (raw : RawFault) : Type 0 where
   pub state : S
   pub comes : Comes m ts state
-  pub is : told m p n src state ts us bad ≡ Some raw
+  pub is : stop_fault m p n src state ts us bad ≡ Some raw
 
 bool_false : (b : Bool) → (b ≡ true → ⊥) → b ≡ false
 bool_false true h = absurd (h refl)
@@ -129,21 +129,21 @@ fault_told {m = m} {src = src} {p = p} {n = n} w (unexpected {ts = ts} {t = t} h
     let c = w.state ts h.starts in record {
       state = c.0;
       comes = c.1;
-      is = ap (λ b. cond b (large_fault src (m.step c.0 t) t) (Some (unexpected_at t (expected_by (p c.0) n (Some t.kind))))) (is_refused w ts c.0 (Some t.kind) c.1 h.refuses) ∙
-          ap (λ ks. Some (unexpected_at t ks)) (one_list (expects w n ts c.0 (Some t.kind) c.1) e);
+      is = ap (λ b. cond b (large_fault src (m.step c.0 t) t) (Some (unexpected_fault t (wanted_kinds (p c.0) n (Some t.kind))))) (is_refused w ts c.0 (Some t.kind) c.1 h.refuses) ∙
+          ap (λ ks. Some (unexpected_fault t ks)) (one_list (expects w n ts c.0 (Some t.kind) c.1) e);
     }
 fault_told {src = src} {p = p} {n = n} w (early_end {ts = ts} h e) =
     let c = w.state ts h.starts in record {
       state = c.0;
       comes = c.1;
-      is = ap (λ b. cond b None (Some (early_at (end_of ts) (expected_by (p c.0) n None)))) (is_refused w ts c.0 None c.1 h.refuses) ∙ ap (λ ks. Some (early_at (end_of ts) ks)) (one_list (expects w n ts c.0 None c.1) e);
+      is = ap (λ b. cond b None (Some (early_at (tokens_end ts) (wanted_kinds (p c.0) n None)))) (is_refused w ts c.0 None c.1 h.refuses) ∙ ap (λ ks. Some (early_at (tokens_end ts) ks)) (one_list (expects w n ts c.0 None c.1) e);
     }
 fault_told {m = m} {R = R} {src = src} {p = p} {n = n} w (large_number {ts = ts} {t = t} h a k f) =
     let c = w.state ts h in
     let e : p c.0 (Some t.kind) ≡ true = (w.exact ts c.0 (Some t.kind) c.1).1 (subst (λ k. Allowed (R src) (kinds ts) (Some k)) (sym k) a) in record {
       state = c.0;
       comes = c.1;
-      is = ap (λ b. cond b (large_fault src (m.step c.0 t) t) (Some (unexpected_at t (expected_by (p c.0) n (Some t.kind))))) e ∙ large_answer src t (m.step c.0 t) (m.finish c.0) (w.answers c.0 t) (w.takes c.0 t ∙ e) k f;
+      is = ap (λ b. cond b (large_fault src (m.step c.0 t) t) (Some (unexpected_fault t (wanted_kinds (p c.0) n (Some t.kind))))) e ∙ large_answer src t (m.step c.0 t) (m.finish c.0) (w.answers c.0 t) (w.takes c.0 t ∙ e) k f;
     }
 fault_told w (bad_place {ts = ts} h) = let c = w.state ts h in record { state = c.0; comes = c.1; is = refl }
 
@@ -156,11 +156,11 @@ found_on refused o go = o
 found_on too_large o go = o
 
 abbrev found_by : {S T : Type 0} → Machine Lexeme S T → (S → Option TokenKind → Bool) → Narrowing → List ℕ → S → List Lexeme → List Lexeme → Option ℕ → Option RawFault
-found_by m p n src s ts [] bad = told m p n src s ts [] bad
-found_by m p n src s ts (t ∷ us) bad = found_on (m.step s t) (told m p n src s ts (t ∷ us) bad) (λ r. found_by m p n src r (ts ++ t ∷ []) us bad)
+found_by m p n src s ts [] bad = stop_fault m p n src s ts [] bad
+found_by m p n src s ts (t ∷ us) bad = found_on (m.step s t) (stop_fault m p n src s ts (t ∷ us) bad) (λ r. found_by m p n src r (ts ++ t ∷ []) us bad)
 
 -- behind tokens that are taken it goes on
-on_taken : {S T : Type 0} (m : Machine Lexeme S T) (a : Answer S T) (o : Option RawFault) (go : S → Option RawFault) (vs : List Lexeme) (r : S) (w : Option RawFault) → ((q : S) → steps m (Some q) vs ≡ Some r → go q ≡ w) → steps m (taken a) vs ≡ Some r →
+on_taken : {S T : Type 0} (m : Machine Lexeme S T) (a : Answer S T) (o : Option RawFault) (go : S → Option RawFault) (vs : List Lexeme) (r : S) (w : Option RawFault) → ((q : S) → steps m (Some q) vs ≡ Some r → go q ≡ w) → steps m (answer_state a) vs ≡ Some r →
     found_on a o go ≡ w
 on_taken m (next q) o go vs r w h e = h q e
 on_taken m (ended x) o go vs r w h e = absurd (none_some (steps-none m vs) e)
@@ -174,7 +174,7 @@ found_past : {S T : Type 0} (m : Machine Lexeme S T) (p : S → Option TokenKind
     found_by m p n src s ts (vs ++ us) bad ≡ found_by m p n src r (ts ++ vs) us bad
 found_past m p n src s r ts [] us bad e = ap (λ s. found_by m p n src s ts us bad) (some_is e) ∙ ap (λ ts. found_by m p n src r ts us bad) (sym (append-nil ts))
 found_past m p n src s r ts (v ∷ vs) us bad e =
-    on_taken m (m.step s v) (told m p n src s ts (v ∷ vs ++ us) bad) (λ r. found_by m p n src r (ts ++ v ∷ []) (vs ++ us) bad) vs r (found_by m p n src r (ts ++ v ∷ vs) us bad)
+    on_taken m (m.step s v) (stop_fault m p n src s ts (v ∷ vs ++ us) bad) (λ r. found_by m p n src r (ts ++ v ∷ []) (vs ++ us) bad) vs r (found_by m p n src r (ts ++ v ∷ vs) us bad)
     (λ q h. found_past m p n src q r (ts ++ v ∷ []) vs us bad h ∙ ap (λ ts. found_by m p n src r ts us bad) (snoc_on ts v vs)) e
 
 -- what is told is found
@@ -185,11 +185,11 @@ not_next src t (ended x) b o go raw h e = e
 not_next src t refused b o go raw h e = e
 not_next src t too_large b o go raw h e = e
 
-told_found : {S T : Type 0} {m : Machine Lexeme S (Cell T)} {R : Rule T} {src : List ℕ} {p : S → Option TokenKind → Bool} → Follows m R src p → (n : Narrowing) (s : S) (ts us : List Lexeme) (bad : Option ℕ) (raw : RawFault) → told m p n src s ts us bad ≡ Some raw →
+told_found : {S T : Type 0} {m : Machine Lexeme S (Cell T)} {R : Rule T} {src : List ℕ} {p : S → Option TokenKind → Bool} → Follows m R src p → (n : Narrowing) (s : S) (ts us : List Lexeme) (bad : Option ℕ) (raw : RawFault) → stop_fault m p n src s ts us bad ≡ Some raw →
     found_by m p n src s ts us bad ≡ Some raw
 told_found w n s ts [] bad raw e = e
 told_found {m = m} {src = src} {p = p} w n s ts (t ∷ us) bad raw e =
-    not_next src t (m.step s t) (p s (Some t.kind)) (Some (unexpected_at t (expected_by (p s) n (Some t.kind)))) (λ r. found_by m p n src r (ts ++ t ∷ []) us bad) raw (w.takes s t) e
+    not_next src t (m.step s t) (p s (Some t.kind)) (Some (unexpected_fault t (wanted_kinds (p s) n (Some t.kind)))) (λ r. found_by m p n src r (ts ++ t ∷ []) us bad) raw (w.takes s t) e
 
 found_in : {S T : Type 0} {m : Machine Lexeme S (Cell T)} {R : Rule T} {src : List ℕ} {p : S → Option TokenKind → Bool} → Follows m R src p → (n : Narrowing) (ts : List Lexeme) (bad : Option ℕ) (raw : RawFault) → IsFaultIn (R src) n src ts bad raw →
     found_by m p n src m.start [] ts bad ≡ Some raw
@@ -218,7 +218,7 @@ pub not_both_of : {S T : Type 0} {m : Machine Lexeme S (Cell T)} {R : Rule T} {s
 not_both_of {m = m} {src = src} {p = p} w n ts raw t h =
     let r = w.runs ts t.0 t.1 in
     let e : p r.last None ≡ true = sym (w.ends r.last) ∙ ap (λ o. is_some o) r.ends in
-    none_some (ap (λ ts. found_by m p n src m.start [] ts None) (sym (append-nil ts)) ∙ found_past m p n src m.start r.last [] ts [] None r.goes ∙ ap (λ b. cond b None (Some (early_at (end_of ts) (expected_by (p r.last) n None)))) e) (found_in w n ts None raw h)
+    none_some (ap (λ ts. found_by m p n src m.start [] ts None) (sym (append-nil ts)) ∙ found_past m p n src m.start r.last [] ts [] None r.goes ∙ ap (λ b. cond b None (Some (early_at (tokens_end ts) (wanted_kinds (p r.last) n None)))) e) (found_in w n ts None raw h)
 
 -- a tree or a first fault
 
@@ -226,7 +226,7 @@ abbrev Either : {T : Type 0} → Rule T → Narrowing → List ℕ → List Lexe
 Either R n src ts bad = (HasTree (R src) ts × (bad ≡ None)) ⊎ ((raw : RawFault) × IsFaultIn (R src) n src ts bad raw)
 
 either_there : {S T : Type 0} {m : Machine Lexeme S (Cell T)} {R : Rule T} {src : List ℕ} {p : S → Option TokenKind → Bool} → Follows m R src p → (n : Narrowing) (ts us : List Lexeme) (bad : Option ℕ) (s : S) (raw : RawFault) → Comes m ts s →
-    told m p n src s ts us bad ≡ Some raw → Either R n src (ts ++ us) bad
+    stop_fault m p n src s ts us bad ≡ Some raw → Either R n src (ts ++ us) bad
 either_there w n ts us bad s raw c e = inr (raw, record { before = ts; rest = us; is = refl; stands = told_is w n ts us bad s raw c e })
 
 -- a token that isn't taken is told
@@ -250,21 +250,21 @@ no_large a r e f = cc
 
 step_either : {S T : Type 0} {m : Machine Lexeme S (Cell T)} {R : Rule T} {src : List ℕ} {p : S → Option TokenKind → Bool} → Follows m R src p → (n : Narrowing) (ts us : List Lexeme) (t : Lexeme) (bad : Option ℕ) (s : S) (a : Answer S (Cell T)) → Comes m ts s → m.step s t ≡ a →
     ((r : S) → Comes m (ts ++ t ∷ []) r → Either R n src ((ts ++ t ∷ []) ++ us) bad) → Either R n src (ts ++ t ∷ us) bad
-step_either {m = m} {R = R} {src = src} w n ts us t bad s (next r) c e go = subst (λ ts. Either R n src ts bad) (snoc_on ts t us) (go r (then_steps m (Some m.start) (Some s) (Some r) ts (t ∷ []) c (ap (λ a. taken a) e)))
+step_either {m = m} {R = R} {src = src} w n ts us t bad s (next r) c e go = subst (λ ts. Either R n src ts bad) (snoc_on ts t us) (go r (then_steps m (Some m.start) (Some s) (Some r) ts (t ∷ []) c (ap (λ a. answer_state a) e)))
 step_either {m = m} {src = src} {p = p} w n ts us t bad s (ended x) c e go =
-    let k = told_token src t (m.step s t) (p s (Some t.kind)) (unexpected_at t (expected_by (p s) n (Some t.kind))) (w.takes s t) (λ r h. no_ended (m.step s t) x r e h) in
+    let k = told_token src t (m.step s t) (p s (Some t.kind)) (unexpected_fault t (wanted_kinds (p s) n (Some t.kind))) (w.takes s t) (λ r h. no_ended (m.step s t) x r e h) in
     either_there w n ts (t ∷ us) bad s k.0 c k.1
 step_either {m = m} {src = src} {p = p} w n ts us t bad s refused c e go =
-    let k = told_token src t (m.step s t) (p s (Some t.kind)) (unexpected_at t (expected_by (p s) n (Some t.kind))) (w.takes s t) (λ r h. no_refused (m.step s t) r e h) in
+    let k = told_token src t (m.step s t) (p s (Some t.kind)) (unexpected_fault t (wanted_kinds (p s) n (Some t.kind))) (w.takes s t) (λ r h. no_refused (m.step s t) r e h) in
     either_there w n ts (t ∷ us) bad s k.0 c k.1
 step_either {m = m} {src = src} {p = p} w n ts us t bad s too_large c e go =
-    let k = told_token src t (m.step s t) (p s (Some t.kind)) (unexpected_at t (expected_by (p s) n (Some t.kind))) (w.takes s t) (λ r h. no_large (m.step s t) r e h) in
+    let k = told_token src t (m.step s t) (p s (Some t.kind)) (unexpected_fault t (wanted_kinds (p s) n (Some t.kind))) (w.takes s t) (λ r h. no_large (m.step s t) r e h) in
     either_there w n ts (t ∷ us) bad s k.0 c k.1
 
 end_either : {S T : Type 0} {m : Machine Lexeme S (Cell T)} {R : Rule T} {src : List ℕ} {p : S → Option TokenKind → Bool} → Follows m R src p → (n : Narrowing) (ts : List Lexeme) (s : S) (o : Option (Cell T)) → Comes m ts s → m.finish s ≡ o → Either R n src (ts ++ []) None
 end_either {R = R} {src = src} w n ts s (Some y) c e = let r = w.reads ts s y c e in inl ((r.tree, subst (λ ts. R src ts r.tree) (sym (append-nil ts)) r.reads), refl)
 end_either {p = p} w n ts s None c e =
-    either_there w n ts [] None s _ c (ap (λ b. cond b None (Some (early_at (end_of ts) (expected_by (p s) n None)))) (sym (w.ends s) ∙ ap (λ o. is_some o) e))
+    either_there w n ts [] None s _ c (ap (λ b. cond b None (Some (early_at (tokens_end ts) (wanted_kinds (p s) n None)))) (sym (w.ends s) ∙ ap (λ o. is_some o) e))
 
 run_either : {S T : Type 0} {m : Machine Lexeme S (Cell T)} {R : Rule T} {src : List ℕ} {p : S → Option TokenKind → Bool} → Follows m R src p → (n : Narrowing) (ts us : List Lexeme) (bad : Option ℕ) (s : S) → Comes m ts s → Either R n src (ts ++ us) bad
 run_either {m = m} w n ts [] None s c = end_either w n ts s (m.finish s) c refl

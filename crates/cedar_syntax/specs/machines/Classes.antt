@@ -1,5 +1,5 @@
--- The classes of tokens that Cedar's grammar of expressions tells apart, where an operand is wanted
--- and behind one; and the signs before an operand.
+-- The classes of tokens that Cedar's grammar of expressions tells apart, where an operand is
+-- wanted and behind one; and the signs before an operand.
 use Rattle.std.specs.Prelude.{ℕ, ◌+◌, List, Option, Some, None, cond, nat_lt}
 use Rattle.cedar_lexer.specs.declared.token.TokenKind.{TokenKind}
 use Rattle.cedar_lexer.specs.declared.token.TokenKind.TheVariants as kind
@@ -85,16 +85,16 @@ operator_of kind.Else = operator.Ends closing.Else
 operator_of _ = operator.Other
 
 -- one sign more: both kinds of sign never stand together
-abbrev pub signed : Option NegOp → Sign → Option NegOp
-signed None sign.Bang = Some (neg.Bang 1)
-signed None sign.Dash = Some (neg.Dash 1)
-signed (Some (neg.Bang n)) sign.Bang =
+abbrev pub with_sign : Option NegOp → Sign → Option NegOp
+with_sign None sign.Bang = Some (neg.Bang 1)
+with_sign None sign.Dash = Some (neg.Dash 1)
+with_sign (Some (neg.Bang n)) sign.Bang =
     Some (cond (nat_lt n sign_limit) (neg.Bang (n + 1)) neg.OverBang)
-signed (Some (neg.Bang n)) sign.Dash = None
-signed (Some neg.OverBang) sign.Bang = Some neg.OverBang
-signed (Some neg.OverBang) sign.Dash = None
-signed (Some (neg.Dash n)) sign.Bang = None
-signed (Some (neg.Dash n)) sign.Dash =
+with_sign (Some (neg.Bang n)) sign.Dash = None
+with_sign (Some neg.OverBang) sign.Bang = Some neg.OverBang
+with_sign (Some neg.OverBang) sign.Dash = None
+with_sign (Some (neg.Dash n)) sign.Bang = None
+with_sign (Some (neg.Dash n)) sign.Dash =
     Some (cond (nat_lt n sign_limit) (neg.Dash (n + 1)) neg.OverDash)
-signed (Some neg.OverDash) sign.Bang = None
-signed (Some neg.OverDash) sign.Dash = Some neg.OverDash
+with_sign (Some neg.OverDash) sign.Bang = None
+with_sign (Some neg.OverDash) sign.Dash = Some neg.OverDash

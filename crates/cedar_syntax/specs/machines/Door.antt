@@ -23,15 +23,15 @@ pub record Machine (K S T : Type 0) : Type 0 where
   -- the tree, where it can end
   pub finish : S → Option T
 
-abbrev pub taken : {S T : Type 0} → Answer S T → Option S
-taken (next s) = Some s
-taken (ended x) = None
-taken refused = None
-taken too_large = None
+abbrev pub answer_state : {S T : Type 0} → Answer S T → Option S
+answer_state (next s) = Some s
+answer_state (ended x) = None
+answer_state refused = None
+answer_state too_large = None
 
 abbrev pub step_from : {K S T : Type 0} → Machine K S T → Option S → K → Option S
 step_from m None k = None
-step_from m (Some s) k = taken (m.step s k)
+step_from m (Some s) k = answer_state (m.step s k)
 
 abbrev pub steps : {K S T : Type 0} → Machine K S T → Option S → List K → Option S
 steps m s [] = s

@@ -3,7 +3,7 @@ use Rattle.std.specs.Prelude.{◌≡◌, ℕ, ◌+◌, ◌-◌, Bool, true, fals
 use Rattle.std.specs.Str.{IsUtf8}
 use Rattle.cedar_lexer.specs.Token.{Lexeme, lexeme_of}
 use Rattle.cedar_lexer.specs.Cut.{Layout, Cuts, StopsFrom}
-use Rattle.cedar_lexer.specs.LexerState.{LexerState, Answers, IsCutOrStop}
+use Rattle.cedar_lexer.specs.LexerState.{LexerState, LexerAnswers, IsCutOrStop}
 use Rattle.cedar_lexer.specs.declared.token.Token.{Token}
 use Rattle.cedar_lexer.specs.declared.token.TokenKind.{TokenKind}
 use Rattle.cedar_lexer.specs.declared.token.TokenKind.TheVariants as kind
@@ -18,7 +18,7 @@ use Rattle.cedar_syntax.specs.declared.reading.expected.Narrowing.{Narrowing}
 use Rattle.cedar_syntax.specs.declared.reading.taken.Taken.{Taken}
 use Rattle.cedar_syntax.specs.declared.reading.taken.Taken.TheVariants as taking
 use Rattle.cedar_syntax.specs.Expected.{by_name, is_closer, can_narrow}
-use Rattle.cedar_syntax.specs.FirstFault.{end_of, unexpected_at, early_at, large_at}
+use Rattle.cedar_syntax.specs.FirstFault.{tokens_end, unexpected_fault, early_at, large_at}
 use Rattle.cedar_syntax.specs.Sentences.{kinds, Allowed}
 use Rattle.cedar_syntax.specs.machines.Door.{Answer, next, ended, refused, too_large, Machine, Comes, RunsTo, Door, is_some}
 
@@ -30,9 +30,9 @@ answer_of taking.Refused s = refused
 answer_of taking.TooLarge s = too_large
 
 -- a token that is allowed was taken, or is a number that doesn't fit
-abbrev pub taken_as : {S T : Type 0} → Bool → S → Answer S T
-taken_as true s = next s
-taken_as false s = too_large
+abbrev pub take_answer : {S T : Type 0} → Bool → S → Answer S T
+take_answer true s = next s
+take_answer false s = too_large
 
 -- whether a kind is allowed, by what a machine answers to a token of it
 abbrev pub may_take : {S T : Type 0} → Answer S T → Bool
@@ -64,12 +64,12 @@ is_narrowed p n after =
 abbrev pub picks : Bool → (Option TokenKind → Bool) → TokenKind → Bool
 picks b p k = (not b || is_closer k) && p (Some k)
 
-abbrev pub picked_from : Bool → (Option TokenKind → Bool) → List TokenKind → List TokenKind
-picked_from b p [] = []
-picked_from b p (k ∷ ks) = cond (picks b p k) (k ∷ picked_from b p ks) (picked_from b p ks)
+abbrev pub picked_kinds : Bool → (Option TokenKind → Bool) → List TokenKind → List TokenKind
+picked_kinds b p [] = []
+picked_kinds b p (k ∷ ks) = cond (picks b p k) (k ∷ picked_kinds b p ks) (picked_kinds b p ks)
 
-abbrev pub expected_by : (Option TokenKind → Bool) → Narrowing → Option TokenKind → List TokenKind
-expected_by p n after = picked_from (is_narrowed p n after) p by_name
+abbrev pub wanted_kinds : (Option TokenKind → Bool) → Narrowing → Option TokenKind → List TokenKind
+wanted_kinds p n after = picked_kinds (is_narrowed p n after) p by_name
 
 -- ---- progress
 
@@ -90,13 +90,13 @@ pub record Progress {S T : Type 0} (m : Machine Lexeme S T) (text : List ℕ) (s
   pub utf8 : IsUtf8 text
   pub before : List Lexeme
   pub comes : Comes m before s
-  pub ends : end ≡ end_of before
+  pub ends : end ≡ tokens_end before
   pub goes : Ahead text before ahead l
 
 -- the bytes that are left, and the token ahead
-abbrev pub tokens_left : Option Token → LexerState → ℕ
-tokens_left None l = 0
-tokens_left (Some t) l = 1 + (length l.source - l.offset)
+abbrev pub remaining_length : Option Token → LexerState → ℕ
+remaining_length None l = 0
+remaining_length (Some t) l = 1 + (length l.source - l.offset)
 
 -- a tree that the tokens of the text run to
 pub record IsRead {S T : Type 0} (m : Machine Lexeme S T) (text : List ℕ) (x : T) : Type 0 where
@@ -116,8 +116,8 @@ FailsWith src raw (Errors errors) = IsFault src errors raw
 
 -- the lexer's next token, if there is one
 abbrev pub GivesToken : LexerState → Option Token → LexerState → Type 0
-GivesToken l (Some t) u = Answers l (Some (Ok t)) u
-GivesToken l None u = Answers l None u
+GivesToken l (Some t) u = LexerAnswers l (Some (Ok t)) u
+GivesToken l None u = LexerAnswers l None u
 
 -- its bad place
 abbrev pub StopsBadly : List ℕ → LexerState → Failure → Type 0
@@ -137,14 +137,14 @@ large_fault src too_large t = Some (large_at src t)
 
 -- what it tells in this state behind the tokens of the first group: of the token behind them, of
 -- the end, or of the bad place there
-abbrev pub told : {S T : Type 0} → Machine Lexeme S T → (S → Option TokenKind → Bool) →
+abbrev pub stop_fault : {S T : Type 0} → Machine Lexeme S T → (S → Option TokenKind → Bool) →
     Narrowing → List ℕ → S → List Lexeme → List Lexeme → Option ℕ → Option RawFault
-told m p n src s ts (t ∷ us) bad =
+stop_fault m p n src s ts (t ∷ us) bad =
     cond (p s (Some t.kind)) (large_fault src (m.step s t) t)
-    (Some (unexpected_at t (expected_by (p s) n (Some t.kind))))
-told m p n src s ts [] None =
-    cond (p s None) None (Some (early_at (end_of ts) (expected_by (p s) n None)))
-told m p n src s ts [] (Some place) = Some (fault.InvalidToken place)
+    (Some (unexpected_fault t (wanted_kinds (p s) n (Some t.kind))))
+stop_fault m p n src s ts [] None =
+    cond (p s None) None (Some (early_at (tokens_end ts) (wanted_kinds (p s) n None)))
+stop_fault m p n src s ts [] (Some place) = Some (fault.InvalidToken place)
 
 -- a text at which the machine stops with this fault
 pub record StopsWith {S T : Type 0} (m : Machine Lexeme S T) (p : S → Option TokenKind → Bool)
@@ -155,7 +155,7 @@ pub record StopsWith {S T : Type 0} (m : Machine Lexeme S T) (p : S → Option T
   pub state : S
   pub cut : IsCutOrStop text 0 (before ++ rest) bad
   pub comes : Comes m before state
-  pub is : told m p n text state before rest bad ≡ Some raw
+  pub is : stop_fault m p n text state before rest bad ≡ Some raw
 
 abbrev pub IsStop : {S T : Type 0} → Machine Lexeme S T → (S → Option TokenKind → Bool) →
     Narrowing → List ℕ → Failure → Type 0
@@ -168,11 +168,12 @@ abbrev pub StopsAtToken : {S T : Type 0} → Machine Lexeme S T → (S → Optio
     Narrowing → List ℕ → S → Lexeme → Failure → Type 0
 StopsAtToken m p n src s t (Memory e) = Unit {0}
 StopsAtToken m p n src s t (Errors errors) =
-    (raw : RawFault) × (told m p n src s [] (t ∷ []) None ≡ Some raw) × IsFault src errors raw
+    (raw : RawFault) × (stop_fault m p n src s [] (t ∷ []) None ≡ Some raw)
+    × IsFault src errors raw
 
 -- and one that can't end
 abbrev pub StopsAtEnd : {S T : Type 0} → Machine Lexeme S T → (S → Option TokenKind → Bool) →
     Narrowing → List ℕ → S → ℕ → Failure → Type 0
 StopsAtEnd m p n src s end (Memory e) = Unit {0}
 StopsAtEnd m p n src s end (Errors errors) =
-    (p s None ≡ false) × IsFault src errors (early_at end (expected_by (p s) n None))
+    (p s None ≡ false) × IsFault src errors (early_at end (wanted_kinds (p s) n None))

@@ -16,8 +16,8 @@ mapped_answer g (ended x) = ended (g x)
 mapped_answer g refused = refused
 mapped_answer g too_large = too_large
 
-abbrev pub mapped : {K S T Z : Type 0} → (T → Z) → Machine K S T → Machine K S Z
-mapped g m = record {
+abbrev pub mapped_machine : {K S T Z : Type 0} → (T → Z) → Machine K S T → Machine K S Z
+mapped_machine g m = record {
   start = m.start;
   step = λ s t. mapped_answer g (m.step s t);
   finish = λ s. option_image g (m.finish s);

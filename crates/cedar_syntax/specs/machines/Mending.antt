@@ -22,10 +22,10 @@ use Rattle.cedar_syntax.specs.declared.reading.mending.Refusal.{Refusal}
 use Rattle.cedar_syntax.specs.declared.reading.mending.Refusal.TheVariants as refusal
 use Rattle.cedar_syntax.specs.declared.reading.mending.Run.{Run}
 use Rattle.cedar_syntax.specs.declared.reading.recovery.Way.{Way}
-use Rattle.cedar_syntax.specs.FirstFault.{unexpected_at, early_at, large_at}
-use Rattle.cedar_syntax.specs.MendedFaults.{fault_of, listed}
+use Rattle.cedar_syntax.specs.FirstFault.{unexpected_fault, early_at, large_at}
+use Rattle.cedar_syntax.specs.MendedFaults.{fault_of, faults_with_last}
 use Rattle.cedar_syntax.specs.machines.Door.{Machine, Answer, next, ended, refused, too_large}
-use Rattle.cedar_syntax.specs.machines.Judged.{expected_by, StandsBehind}
+use Rattle.cedar_syntax.specs.machines.Judged.{wanted_kinds, StandsBehind}
 use Rattle.cedar_syntax.specs.machines.Marks.{mark_of}
 use Rattle.cedar_syntax.specs.machines.Recovery.{Recovers, Recovery, reading, skipping, stopped}
 use Rattle.cedar_syntax.specs.machines.Skipping.{skip, behind_skip}
@@ -45,8 +45,8 @@ bad_or o src (Some place) x = bad_fault o src place
 abbrev pub refused_fault : {F : Type 0} → (List ℕ → RawFault → F) → (Option TokenKind → Bool) →
     List ℕ → ℕ → Option Lexeme → F
 refused_fault o p src l (Some t) =
-    o src (unexpected_at t (expected_by p narrowing.Tokens (Some t.kind)))
-refused_fault o p src l None = o src (early_at l (expected_by p narrowing.Tokens None))
+    o src (unexpected_fault t (wanted_kinds p narrowing.Tokens (Some t.kind)))
+refused_fault o p src l None = o src (early_at l (wanted_kinds p narrowing.Tokens None))
 
 -- `p` says what a state allows, `w` how a fault is left in it, and `c` and `e` what a `}` and a
 -- `;` make of it that end skipping
@@ -79,31 +79,31 @@ taken_stage r xs t (ended x) = stopped xs (r.large t)
 taken_stage r xs t refused = stopped xs (r.large t)
 taken_stage r xs t too_large = stopped xs (r.large t)
 
-abbrev pub skipped_by : {S F : Type 0} → (S → S) → (S → S) → List F → Way → S → F → Lexeme →
+abbrev pub skip_step_by : {S F : Type 0} → (S → S) → (S → S) → List F → Way → S → F → Lexeme →
     Recovery S F
-skipped_by c e xs w s x t = behind_skip xs w x t (skip c e w s (mark_of t.kind))
+skip_step_by c e xs w s x t = behind_skip xs w x t (skip c e w s (mark_of t.kind))
 
-abbrev pub judged_by : {S T F : Type 0} → Bool → Recovers S F → List F → ℕ → S → Lexeme →
+abbrev pub judgment_by : {S T F : Type 0} → Bool → Recovers S F → List F → ℕ → S → Lexeme →
     Answer S T → Recovery S F
-judged_by b r xs l s t a = cond b (taken_stage r xs t a)
-    (skipped_by r.close r.end xs (r.way s) s (r.tell s l (Some t)) t)
+judgment_by b r xs l s t a = cond b (taken_stage r xs t a)
+    (skip_step_by r.close r.end xs (r.way s) s (r.tell s l (Some t)) t)
 
-abbrev pub recover_by : {S T F : Type 0} → Machine Lexeme S T → (S → Option TokenKind → Bool) →
-    Recovers S F → Recovery S F → Lexeme → Recovery S F
-recover_by m p r (reading xs l s) t = judged_by (p s (Some t.kind)) r xs l s t (m.step s t)
-recover_by m p r (skipping xs w s x) t = skipped_by r.close r.end xs w s x t
-recover_by m p r (stopped xs x) t = stopped xs x
+abbrev pub recovery_step_by : {S T F : Type 0} → Machine Lexeme S T
+    → (S → Option TokenKind → Bool) → Recovers S F → Recovery S F → Lexeme → Recovery S F
+recovery_step_by m p r (reading xs l s) t = judgment_by (p s (Some t.kind)) r xs l s t (m.step s t)
+recovery_step_by m p r (skipping xs w s x) t = skip_step_by r.close r.end xs w s x t
+recovery_step_by m p r (stopped xs x) t = stopped xs x
 
-abbrev pub recover_all_by : {S T F : Type 0} → Machine Lexeme S T → (S → Option TokenKind → Bool) →
-    Recovers S F → Recovery S F → List Lexeme → Recovery S F
-recover_all_by m p r q [] = q
-recover_all_by m p r q (t ∷ ts) = recover_all_by m p r (recover_by m p r q t) ts
+abbrev pub recovery_of_all_by : {S T F : Type 0} → Machine Lexeme S T
+    → (S → Option TokenKind → Bool) → Recovers S F → Recovery S F → List Lexeme → Recovery S F
+recovery_of_all_by m p r q [] = q
+recovery_of_all_by m p r q (t ∷ ts) = recovery_of_all_by m p r (recovery_step_by m p r q t) ts
 
 -- the faults that are mended
-abbrev pub mended_in : {S F : Type 0} → Recovery S F → List F
-mended_in (reading xs l s) = xs
-mended_in (skipping xs w s x) = xs
-mended_in (stopped xs x) = xs
+abbrev pub mended_faults : {S F : Type 0} → Recovery S F → List F
+mended_faults (reading xs l s) = xs
+mended_faults (skipping xs w s x) = xs
+mended_faults (stopped xs x) = xs
 
 -- the one at which the parse stops, at the end or at a bad place, where the fault in hand is given
 -- up
@@ -116,9 +116,9 @@ last_of p r b (skipping xs w s x) (Some place) = Some (b place)
 last_of p r b (stopped xs x) o = Some x
 
 -- and the one list of both
-abbrev pub told_at : {S F : Type 0} → (S → Option TokenKind → Bool) → Recovers S F → (ℕ → F) →
+abbrev pub met_faults : {S F : Type 0} → (S → Option TokenKind → Bool) → Recovers S F → (ℕ → F) →
     Recovery S F → Option ℕ → List F
-told_at p r b q o = listed (last_of p r b q o) (mended_in q)
+met_faults p r b q o = faults_with_last (last_of p r b q o) (mended_faults q)
 
 -- ---- a text
 
@@ -130,11 +130,11 @@ answer_as None None = None
 
 -- the lexer stands behind this token, or the text ends behind the others, or its bad place is
 -- there
-abbrev pub Ahead : List ℕ → List Lexeme → Option Token → Option ℕ → LexerState → Type 0
-Ahead text before (Some t) bad l =
+abbrev pub AheadOrStop : List ℕ → List Lexeme → Option Token → Option ℕ → LexerState → Type 0
+AheadOrStop text before (Some t) bad l =
     StandsBehind text before (lexeme_of t) × (l.source ≡ text) × (l.offset ≡ t.end)
     × (l.ended ≡ false)
-Ahead text before None bad l = IsCutOrStop text 0 before bad
+AheadOrStop text before None bad l = IsCutOrStop text 0 before bad
 
 -- some tokens of the text have been met, and the next is ahead
 pub record Met {S T F : Type 0} (m : Machine Lexeme S T) (p : S → Option TokenKind → Bool)
@@ -142,16 +142,16 @@ pub record Met {S T F : Type 0} (m : Machine Lexeme S T) (p : S → Option Token
     (l : LexerState) : Type 0 where
   pub utf8 : IsUtf8 text
   pub before : List Lexeme
-  pub is : q ≡ recover_all_by m p r (reading [] 0 m.start) before
-  pub goes : Ahead text before ahead bad l
+  pub is : q ≡ recovery_of_all_by m p r (reading [] 0 m.start) before
+  pub goes : AheadOrStop text before ahead bad l
 
 -- all faults of a text
-pub record TellsAll {S T F : Type 0} (m : Machine Lexeme S T) (p : S → Option TokenKind → Bool)
+pub record AreAllFaults {S T F : Type 0} (m : Machine Lexeme S T) (p : S → Option TokenKind → Bool)
     (r : Recovers S F) (b : ℕ → F) (text : List ℕ) (xs : List F) : Type 0 where
   pub tokens : List Lexeme
   pub bad : Option ℕ
   pub cut : IsCutOrStop text 0 tokens bad
-  pub is : xs ≡ told_at p r b (recover_all_by m p r (reading [] 0 m.start) tokens) bad
+  pub is : xs ≡ met_faults p r b (recovery_of_all_by m p r (reading [] 0 m.start) tokens) bad
 
 -- these faults, or want of memory
 abbrev pub RefusesWith : {F : Type 0} → List F → Refusal F → Type 0
@@ -161,10 +161,10 @@ RefusesWith xs (refusal.Faults faults) = list_of faults ≡ xs
 abbrev pub IsToldBy : {S T F : Type 0} → Machine Lexeme S T → (S → Option TokenKind → Bool) →
     Recovers S F → (ℕ → F) → List ℕ → Refusal F → Type 0
 IsToldBy m p r b text (refusal.Memory e) = Unit {0}
-IsToldBy m p r b text (refusal.Faults faults) = TellsAll m p r b text (list_of faults)
+IsToldBy m p r b text (refusal.Faults faults) = AreAllFaults m p r b text (list_of faults)
 
 abbrev pub IsTold : {S T : Type 0} → Machine Lexeme S T → (S → Option TokenKind → Bool) →
     Recovers S ParseError → List ℕ → Failure → Type 0
 IsTold m p r text (Memory e) = Unit {0}
 IsTold m p r text (Errors errors) =
-    TellsAll m p r (bad_fault fault_of text) text (faults_of errors)
+    AreAllFaults m p r (bad_fault fault_of text) text (faults_of errors)

@@ -27,10 +27,10 @@ skip c e way.ToEnd s _ = on s
 skip c e way.Stop s k = stop
 
 -- what a skipping step that left this state answered
-abbrev pub skipped_as : {S : Type 0} → Skipping → S → Skipped S
-skipped_as skipping.On s = on s
-skipped_as skipping.Over s = over s
-skipped_as skipping.Stop s = stop
+abbrev pub skip_answer : {S : Type 0} → Skipping → S → Skipped S
+skip_answer skipping.On s = on s
+skip_answer skipping.Over s = over s
+skip_answer skipping.Stop s = stop
 
 -- what the parser that recovers is then at, with the faults so far and the one in hand
 abbrev pub behind_skip : {S F : Type 0} → List F → Way → F → Lexeme → Skipped S → Recovery S F

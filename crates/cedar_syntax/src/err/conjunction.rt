@@ -2,7 +2,7 @@
 ghost use Rattle.std.specs.Prelude.{List, ℕ, map, codes, ◌++◌};
 ghost use Rattle.std.specs.List.{flat_map};
 ghost use Rattle.std.specs.Fmt.{WritesOnOk};
-ghost use Rattle.cedar_syntax.specs.Conjoined.{conjoined};
+ghost use Rattle.cedar_syntax.specs.Conjoined.{list_text};
 
 use std::fmt;
 
@@ -24,7 +24,7 @@ pub fn write_list<T: Listed, W: fmt::Write>(
     f: &mut fmt::Formatter<W>,
 ) -> fmt::Result
     ensures { WritesOnOk W.write_str_gives f.old result
-        (conjoined word.now (T.text first.now) (map T.text others.now)) f.new }
+        (list_text word.now (T.text first.now) (map T.text others.now)) f.new }
 {
     first.write_listed(f)?;
     let Some((last, between)) = others.split_last() else {

@@ -7,7 +7,7 @@ ghost use Rattle.std.specs.BTreeSet as tree;
 ghost use Rattle.std.specs.Ordering.{nat_cmp};
 ghost use Rattle.std.specs.Map.{lookup, keys_of};
 ghost use Rattle.std.specs.Cmp.Lexicographic.{slice_cmp};
-ghost use Rattle.cedar_syntax.specs.Kept.{rules_of, is_in, is_among, are_distinct, pair_texts, policy_rules, friendly_of, friendly_names, kept, without, shown_name, with_backquotes as backquoted, AreInOrder, SaysExpected};
+ghost use Rattle.cedar_syntax.specs.Kept.{rules_of, is_in, is_among, are_distinct, table_texts, policy_rules, friendly_of, friendly_names, kept_token_names, without, shown_name, with_backquotes as backquoted, AreInOrder, SaysExpected};
 
 use crate::err::conjunction::{Listed, write_list};
 use std::alloc::{AllocError, Global};
@@ -48,9 +48,9 @@ struct Alternatives<'a> {
 }
 
 impl fmt::Display for Alternatives<'_> {
-    ghost use Rattle.cedar_syntax.specs.Conjoined.{conjoined};
+    ghost use Rattle.cedar_syntax.specs.Conjoined.{list_text};
 
-    ghost output = { λ names. Some (conjoined (codes "or") (string_bytes names.first.now)
+    ghost output = { λ names. Some (list_text (codes "or") (string_bytes names.first.now)
         (map (λ text. string_bytes text) names.others.now)) };
 
     fn fmt<W: fmt::Write>(&self, f: &mut fmt::Formatter<W>) -> fmt::Result {
@@ -135,7 +135,7 @@ fn table_of(
 ) -> Result<HashMap<&'static str, &'static str>, AllocError>
     requires { are_distinct (keys_of pairs.now) ≡ true }
     ensures { IfOk result (λ table.
-        friendly_of table ≡ (λ name. lookup (bytes_eq name) (pair_texts pairs.now))) }
+        friendly_of table ≡ (λ name. lookup (bytes_eq name) (table_texts pairs.now))) }
 {
     pairs.iter().copied().collect(alloc)
 }
@@ -170,7 +170,7 @@ fn kept_names<'a>(
     config: &ExpectedTokenConfig,
 ) -> Result<Vec<&'a str>, AllocError>
     ensures { IfOk result (λ left. map (λ name. name.now) left.items
-        ≡ kept (rules_of config.now) (map (λ name. name.now) names.now)) }
+        ≡ kept_token_names (rules_of config.now) (map (λ name. name.now) names.now)) }
 {
     let possible = without(alloc, names, &config.impossible_tokens)?;
     if !possible.contains(&config.identifier_sentinel) {

@@ -3,7 +3,7 @@ ghost use Rattle.std.specs.Prelude.{◌≡◌, [], ◌∷◌, ◌++◌, length, 
 ghost use Rattle.std.specs.Option.{option_copied};
 ghost use Rattle.std.specs.Borrow.{sem};
 ghost use Rattle.std.proofs.Common.{Some};
-ghost use Rattle.cedar_syntax.specs.NonEmpty.{iter_left};
+ghost use Rattle.cedar_syntax.specs.NonEmpty.{remaining_items};
 
 use crate::err::non_empty::Iter;
 use crate::err::{NonEmpty, ToASTError, ToCSTError, non_empty};
@@ -156,7 +156,7 @@ impl ParseErrors {
 
     /// The faults in order, lent.
     pub fn iter(&self) -> Iter<'_, ParseError>
-        ensures { iter_left result ≡ faults_of self.now }
+        ensures { remaining_items result ≡ faults_of self.now }
     {
         self.faults.iter()
     }
@@ -224,13 +224,13 @@ pub struct IntoIter {
 
 impl Iterator for IntoIter {
     ghost use Rattle.std.specs.Iterator.{YieldsFirst, item_count};
-    ghost use Rattle.cedar_syntax.specs.ParseErrors.{faults_left};
+    ghost use Rattle.cedar_syntax.specs.ParseErrors.{remaining_faults};
 
     type Item = ParseError;
 
-    ghost next_gives = { YieldsFirst faults_left };
+    ghost next_gives = { YieldsFirst remaining_faults };
 
-    ghost remaining = { item_count faults_left };
+    ghost remaining = { item_count remaining_faults };
 
     fn next(&mut self) -> Option<ParseError> {
         self.faults.next()
@@ -238,13 +238,13 @@ impl Iterator for IntoIter {
 }
 
 impl IntoIterator for ParseErrors {
-    ghost use Rattle.cedar_syntax.specs.ParseErrors.{faults_of, faults_left};
+    ghost use Rattle.cedar_syntax.specs.ParseErrors.{faults_of, remaining_faults};
 
     type Item = ParseError;
 
     type IntoIter = IntoIter;
 
-    ghost into_iter_gives = { λ errors items. faults_left items ≡ faults_of errors };
+    ghost into_iter_gives = { λ errors items. remaining_faults items ≡ faults_of errors };
 
     fn into_iter(self) -> IntoIter {
         let ParseErrors { faults } = self;
@@ -261,7 +261,7 @@ impl<'a> IntoIterator for &'a ParseErrors {
 
     type IntoIter = Iter<'a, ParseError>;
 
-    ghost into_iter_gives = { λ errors items. iter_left items ≡ faults_of errors.now };
+    ghost into_iter_gives = { λ errors items. remaining_items items ≡ faults_of errors.now };
 
     fn into_iter(self) -> Iter<'a, ParseError> {
         self.iter()

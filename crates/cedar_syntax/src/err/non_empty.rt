@@ -2,7 +2,7 @@
 ghost use Rattle.std.specs.Prelude.{◌≡◌, [], ◌∷◌, ◌++◌, length, min, slice_get, OnOk, OnErr, IfOk};
 ghost use Rattle.std.specs.Option.{option_copied};
 ghost use Rattle.std.specs.Iterator.{YieldsFirst, YieldsFirstRef, item_count};
-ghost use Rattle.cedar_syntax.specs.NonEmpty.{list_of, iter_left, into_iter_left};
+ghost use Rattle.cedar_syntax.specs.NonEmpty.{list_of, remaining_items, remaining_elements};
 
 use cedar_expressions::{Items, TryClone};
 use std::alloc::{AllocError, Global};
@@ -52,7 +52,7 @@ impl<T> NonEmpty<T> {
 
     /// The elements in order, lent.
     pub fn iter(&self) -> Iter<'_, T>
-        ensures { iter_left result ≡ list_of self.now }
+        ensures { remaining_items result ≡ list_of self.now }
     {
         Iter {
             first: Some(self.first()),
@@ -136,9 +136,9 @@ pub struct Iter<'a, T> {
 impl<'a, T> Iterator for Iter<'a, T> {
     type Item = &'a T;
 
-    ghost next_gives = { YieldsFirstRef iter_left };
+    ghost next_gives = { YieldsFirstRef remaining_items };
 
-    ghost remaining = { item_count iter_left };
+    ghost remaining = { item_count remaining_items };
 
     fn next(&mut self) -> Option<&'a T> {
         if let Some(first) = self.first.take() {
@@ -160,9 +160,9 @@ pub struct IntoIter<T> {
 impl<T: Drop> Iterator for IntoIter<T> {
     type Item = T;
 
-    ghost next_gives = { YieldsFirst into_iter_left };
+    ghost next_gives = { YieldsFirst remaining_elements };
 
-    ghost remaining = { item_count into_iter_left };
+    ghost remaining = { item_count remaining_elements };
 
     fn next(&mut self) -> Option<T> {
         if let Some(first) = self.first.take() {
@@ -177,7 +177,7 @@ impl<T: Drop> IntoIterator for NonEmpty<T> {
 
     type IntoIter = IntoIter<T>;
 
-    ghost into_iter_gives = { λ list items. into_iter_left items ≡ list_of list };
+    ghost into_iter_gives = { λ list items. remaining_elements items ≡ list_of list };
 
     fn into_iter(self) -> IntoIter<T> {
         let NonEmpty { head, tail } = self;
@@ -193,7 +193,7 @@ impl<'a, T> IntoIterator for &'a NonEmpty<T> {
 
     type IntoIter = Iter<'a, T>;
 
-    ghost into_iter_gives = { λ list items. iter_left items ≡ list_of list.now };
+    ghost into_iter_gives = { λ list items. remaining_items items ≡ list_of list.now };
 
     fn into_iter(self) -> Iter<'a, T> {
         self.iter()

@@ -3,7 +3,7 @@ ghost use Rattle.std.specs.Prelude.{◌≡◌, IfOk, map, string_bytes};
 ghost use Rattle.std.specs.Option.{option_copied, option_map};
 ghost use Rattle.std.specs.Rc.{rc_str_bytes};
 ghost use Rattle.std.proofs.Common.{Some};
-ghost use Rattle.cedar_lexer.specs.Names.{name_of};
+ghost use Rattle.cedar_lexer.specs.Names.{kind_name};
 
 use crate::err::expected::{expected_to_string, policy_token_config};
 use crate::loc::{Loc, SourceSpan};
@@ -47,7 +47,7 @@ pub enum RawFault {
 }
 
 impl RawFault {
-    ghost use Rattle.cedar_syntax.specs.RawFault.{number_of, bytes_of, text_of, expected_of, place_of};
+    ghost use Rattle.cedar_syntax.specs.RawFault.{variant_number, byte_range, text_of, expected_of, own_words_place};
 
     /// A copy that equals its source, places included.
     pub fn try_clone(&self) -> Result<RawFault, AllocError>
@@ -99,7 +99,7 @@ impl RawFault {
 
     // Which of the five it is.
     fn number(&self) -> u8
-        ensures { result ≡ number_of self.now }
+        ensures { result ≡ variant_number self.now }
     {
         match self {
             RawFault::InvalidToken { .. } => 0,
@@ -112,7 +112,7 @@ impl RawFault {
 
     // From where to where, in bytes; 0 to 0 in the parser's own words.
     fn bytes(&self) -> (usize, usize)
-        ensures { result ≡ bytes_of self.now }
+        ensures { result ≡ byte_range self.now }
     {
         match self {
             RawFault::InvalidToken { location } => (*location, *location),
@@ -137,7 +137,7 @@ impl RawFault {
 
     // The place of the parser's own words.
     fn place(&self) -> Option<&Loc>
-        ensures { option_copied result ≡ place_of self.now }
+        ensures { option_copied result ≡ own_words_place self.now }
     {
         match self {
             RawFault::User { error } => error.loc.as_ref(),
@@ -148,7 +148,7 @@ impl RawFault {
 
 // The names under which these kinds are recorded.
 fn names_of(alloc: Global, kinds: &[TokenKind]) -> Result<Vec<&'static str>, AllocError>
-    ensures { IfOk result (λ names. map (λ name. name.now) names.items ≡ map name_of kinds.now) }
+    ensures { IfOk result (λ names. map (λ name. name.now) names.items ≡ map kind_name kinds.now) }
 {
     let mut names = Vec::with_capacity(alloc, kinds.len())?;
     for kind in kinds {
@@ -167,7 +167,7 @@ fn copied_kinds(kinds: &Items<TokenKind>) -> Result<Items<TokenKind>, AllocError
 
 /// Looks at the place of the parser's own words too, which a node leaves out.
 impl PartialEq for RawFault {
-    ghost use Rattle.cedar_syntax.specs.RawFault.{number_of, bytes_of, text_of, expected_of, place_of};
+    ghost use Rattle.cedar_syntax.specs.RawFault.{variant_number, byte_range, text_of, expected_of, own_words_place};
     ghost use Rattle.cedar_syntax.specs.contracts.loc.LocEq.TheImpl.Laws as place;
     ghost use Rattle.cedar_lexer.specs.contracts.token.TokenKindEq.TheImpl.Laws as kind;
     ghost use Rattle.std.specs.Prelude.{nat_eq};
@@ -175,19 +175,19 @@ impl PartialEq for RawFault {
     ghost use Rattle.std.specs.Cmp.{on_equiv, and_equiv, partial_equiv_from_equiv, nat_eq_equiv};
     ghost use Rattle.std.specs.Cmp.Lexicographic.{pointwise, lists_equiv, options_equiv, nat_list_eq_equiv};
 
-    ghost eq = { eq_of_both (on number_of nat_eq)
-        (eq_of_both (on (λ fault. (bytes_of fault).0) nat_eq)
-        (eq_of_both (on (λ fault. (bytes_of fault).1) nat_eq)
+    ghost eq = { eq_of_both (on variant_number nat_eq)
+        (eq_of_both (on (λ fault. (byte_range fault).0) nat_eq)
+        (eq_of_both (on (λ fault. (byte_range fault).1) nat_eq)
         (eq_of_both (on text_of (pointwise nat_eq))
         (eq_of_both (on expected_of (pointwise ⟦<TokenKind as PartialEq>⟧.eq))
-        (on place_of ⟦<Option<Loc> as PartialEq>⟧.eq))))) };
+        (on own_words_place ⟦<Option<Loc> as PartialEq>⟧.eq))))) };
 
-    ghost laws = { partial_equiv_from_equiv (and_equiv (on_equiv number_of nat_eq_equiv)
-        (and_equiv (on_equiv (λ fault. (bytes_of fault).0) nat_eq_equiv)
-        (and_equiv (on_equiv (λ fault. (bytes_of fault).1) nat_eq_equiv)
+    ghost laws = { partial_equiv_from_equiv (and_equiv (on_equiv variant_number nat_eq_equiv)
+        (and_equiv (on_equiv (λ fault. (byte_range fault).0) nat_eq_equiv)
+        (and_equiv (on_equiv (λ fault. (byte_range fault).1) nat_eq_equiv)
         (and_equiv (on_equiv text_of nat_list_eq_equiv)
         (and_equiv (on_equiv expected_of (lists_equiv kind.lawful.laws))
-        (on_equiv place_of (options_equiv place.lawful.laws))))))) };
+        (on_equiv own_words_place (options_equiv place.lawful.laws))))))) };
 
     fn eq(&self, other: &Self) -> bool {
         let (start, end) = self.bytes();
@@ -202,18 +202,18 @@ impl PartialEq for RawFault {
 }
 
 impl Eq for RawFault {
-    ghost use Rattle.cedar_syntax.specs.RawFault.{number_of, bytes_of, text_of, expected_of, place_of};
+    ghost use Rattle.cedar_syntax.specs.RawFault.{variant_number, byte_range, text_of, expected_of, own_words_place};
     ghost use Rattle.cedar_syntax.specs.contracts.loc.LocEq.TheImpl.Laws as place;
     ghost use Rattle.cedar_lexer.specs.contracts.token.TokenKindEq.TheImpl.Laws as kind;
     ghost use Rattle.std.specs.Cmp.{on_equiv, and_equiv, nat_eq_equiv};
     ghost use Rattle.std.specs.Cmp.Lexicographic.{lists_equiv, options_equiv, nat_list_eq_equiv};
 
-    ghost laws = { and_equiv (on_equiv number_of nat_eq_equiv)
-        (and_equiv (on_equiv (λ fault. (bytes_of fault).0) nat_eq_equiv)
-        (and_equiv (on_equiv (λ fault. (bytes_of fault).1) nat_eq_equiv)
+    ghost laws = { and_equiv (on_equiv variant_number nat_eq_equiv)
+        (and_equiv (on_equiv (λ fault. (byte_range fault).0) nat_eq_equiv)
+        (and_equiv (on_equiv (λ fault. (byte_range fault).1) nat_eq_equiv)
         (and_equiv (on_equiv text_of nat_list_eq_equiv)
         (and_equiv (on_equiv expected_of (lists_equiv kind.lawful.laws))
-        (on_equiv place_of (options_equiv place.lawful.laws)))))) };
+        (on_equiv own_words_place (options_equiv place.lawful.laws)))))) };
 }
 
 impl TryClone for RawFault {
@@ -294,7 +294,7 @@ impl ToCSTError {
     /// Only want of memory refuses it.
     pub fn label(&self, alloc: Global) -> Result<Option<String>, AllocError>
         ensures { IfOk result (λ label. SaysExpected policy_rules
-            (map name_of (expected_of self.now.raw))
+            (map kind_name (expected_of self.now.raw))
             (option_map (λ text. string_bytes text) label)) }
     {
         let names = names_of(alloc, self.expected_kinds())?;

@@ -5,7 +5,7 @@ ghost use Rattle.std.specs.Str.Parse.{IsNumeral};
 ghost use Rattle.cedar_syntax.specs.machines.Begins.{IsBeginningOf};
 ghost use Rattle.cedar_syntax.specs.WrittenTokens.{Written};
 ghost use Rattle.cedar_syntax.specs.machines.Classes.{class_of, number_class, operator_of};
-ghost use Rattle.cedar_syntax.specs.machines.Classes.{signed};
+ghost use Rattle.cedar_syntax.specs.machines.Classes.{with_sign};
 
 use crate::cst::{AddOp, MultOp, NegOp, RelOp, SIGN_LIMIT};
 use crate::reading::words::is_any;
@@ -187,7 +187,7 @@ pub fn as_operator(kind: TokenKind) -> Operator
 
 /// One sign more before an operand, or `None` where the other sign stands before it.
 pub fn signed(op: Option<NegOp>, sign: Sign) -> Option<NegOp>
-    ensures { result ≡ signed op sign }
+    ensures { result ≡ with_sign op sign }
 {
     match (op, sign) {
         (None, Sign::Bang) => Some(NegOp::Bang(1)),

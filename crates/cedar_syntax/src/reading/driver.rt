@@ -2,9 +2,9 @@
 ghost use Rattle.std.specs.Prelude.{◌≡◌, Some, None, IfOk, MatchResult};
 ghost use Rattle.cedar_lexer.specs.Token.{lexeme_of};
 ghost use Rattle.cedar_syntax.specs.WrittenTokens.{IsWritten};
-ghost use Rattle.cedar_syntax.specs.FirstFault.{unexpected_at, early_at, large_at};
+ghost use Rattle.cedar_syntax.specs.FirstFault.{unexpected_fault, early_at, large_at};
 ghost use Rattle.cedar_syntax.specs.machines.Door.{next};
-ghost use Rattle.cedar_syntax.specs.machines.Judged.{expected_by, Progress, IsRead, FailsWith, GivesToken, StopsBadly, StopsAtToken, StopsAtEnd, IsStop};
+ghost use Rattle.cedar_syntax.specs.machines.Judged.{wanted_kinds, Progress, IsRead, FailsWith, GivesToken, StopsBadly, StopsAtToken, StopsAtEnd, IsStop};
 
 use crate::err::{Failure, ParseErrors, RawFault, ToCSTError};
 use crate::node::Node;
@@ -23,7 +23,7 @@ pub trait Entry: Drop {
     ghost use Rattle.cedar_syntax.specs.declared.node.Node.{Node};
     ghost use Rattle.cedar_syntax.specs.WrittenTokens.{IsWritten};
     ghost use Rattle.cedar_syntax.specs.machines.Door.{Machine};
-    ghost use Rattle.cedar_syntax.specs.machines.Judged.{taken_as};
+    ghost use Rattle.cedar_syntax.specs.machines.Judged.{take_answer};
 
     /// What a text has by the rule.
     type Tree: Drop;
@@ -48,7 +48,7 @@ pub trait Entry: Drop {
         requires written { IsWritten (lexeme_of token) }
         requires is_allowed { IsTrue (allowed self.old (Some token.kind)) }
         ensures { IfOk result
-            (λ fits. taken_as fits self.new ≡ (machine source.now).step self.old
+            (λ fits. take_answer fits self.new ≡ (machine source.now).step self.old
             (lexeme_of token.entry)) };
 
     /// The tree, where one can end.
@@ -80,8 +80,8 @@ pub fn unexpected<E: Entry>(
     token: Token<'_>,
 ) -> Result<RawFault, AllocError>
     ensures { IfOk result
-        (λ raw. raw ≡ unexpected_at (lexeme_of token.entry)
-        (expected_by (E.allowed state.now) narrowing (Some token.entry.kind))) }
+        (λ raw. raw ≡ unexpected_fault (lexeme_of token.entry)
+        (wanted_kinds (E.allowed state.now) narrowing (Some token.entry.kind))) }
 {
     let expected = expected(alloc, state, narrowing, Some(token.kind))?;
     Ok(RawFault::UnrecognizedToken {
@@ -101,7 +101,7 @@ pub fn early<E: Entry>(
     end: usize,
 ) -> Result<RawFault, AllocError>
     ensures { IfOk result
-        (λ raw. raw ≡ early_at end (expected_by (E.allowed state.now) narrowing None)) }
+        (λ raw. raw ≡ early_at end (wanted_kinds (E.allowed state.now) narrowing None)) }
 {
     let expected = expected(alloc, state, narrowing, None)?;
     Ok(RawFault::UnrecognizedEof {

@@ -1,7 +1,7 @@
 //! The kinds of token that a refusal records as expected.
 ghost use Rattle.std.specs.Prelude.{◌≡◌, Some, IfOk};
 ghost use Rattle.cedar_syntax.specs.Expected.{is_closer, goes_behind, can_narrow};
-ghost use Rattle.cedar_syntax.specs.machines.Judged.{any_closer, is_narrowed, picked_from, expected_by};
+ghost use Rattle.cedar_syntax.specs.machines.Judged.{any_closer, is_narrowed, picked_kinds, wanted_kinds};
 
 use crate::reading::driver::Entry;
 use cedar_expressions::Items;
@@ -164,7 +164,7 @@ fn allowed_among<E: Entry>(
     kinds: &[TokenKind],
 ) -> Result<Items<TokenKind>, AllocError>
     ensures { IfOk result
-        (λ allowed. allowed ≡ picked_from narrowed (E.allowed state.now) kinds.now) }
+        (λ allowed. allowed ≡ picked_kinds narrowed (E.allowed state.now) kinds.now) }
 {
     let mut allowed = Items::new(alloc);
     for kind in kinds {
@@ -182,7 +182,7 @@ pub fn expected<E: Entry>(
     narrowing: Narrowing,
     refused: Option<TokenKind>,
 ) -> Result<Items<TokenKind>, AllocError>
-    ensures { IfOk result (λ kinds. kinds ≡ expected_by (E.allowed state.now) narrowing refused) }
+    ensures { IfOk result (λ kinds. kinds ≡ wanted_kinds (E.allowed state.now) narrowing refused) }
 {
     let narrowed = is_narrowed(state, narrowing, refused);
     allowed_among(alloc, state, narrowed, &KINDS_BY_NAME)

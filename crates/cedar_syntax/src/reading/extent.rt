@@ -1,6 +1,6 @@
 //! The bytes of what is begun.
 ghost use Rattle.std.specs.Prelude.{◌≡◌};
-ghost use Rattle.cedar_syntax.specs.Place.{join};
+ghost use Rattle.cedar_syntax.specs.Place.{joint_extent};
 
 /// From the first byte of some tokens to the end of their last.
 #[derive(Drop, Clone, Copy)]
@@ -11,7 +11,7 @@ pub struct Extent {
 
 /// From the start of the first to the end of the second.
 pub fn joined(first: Option<Extent>, second: Option<Extent>) -> Option<Extent>
-    ensures { result ≡ join first second }
+    ensures { result ≡ joint_extent first second }
 {
     match (first, second) {
         (None, second) => second,

@@ -1,13 +1,13 @@
 //! Reads a whole text by a rule in which reading goes on behind a fault, and tells all its faults.
 ghost use Rattle.std.specs.Prelude.{◌≡◌, ℕ, List, [], Some, None, cond, IfOk, MatchResult, MatchOption};
-ghost use Rattle.cedar_lexer.specs.LexerState.{Answers};
+ghost use Rattle.cedar_lexer.specs.LexerState.{LexerAnswers};
 ghost use Rattle.cedar_lexer.specs.Token.{lexeme_of};
 ghost use Rattle.cedar_syntax.specs.NonEmpty.{list_of};
 ghost use Rattle.cedar_syntax.specs.declared.reading.mending.Doing.TheVariants as doing;
-ghost use Rattle.cedar_syntax.specs.MendedFaults.{fault_of, listed};
+ghost use Rattle.cedar_syntax.specs.MendedFaults.{fault_of, faults_with_last};
 ghost use Rattle.cedar_syntax.specs.WrittenTokens.{IsWritten};
 ghost use Rattle.cedar_syntax.specs.machines.Judged.{IsRead};
-ghost use Rattle.cedar_syntax.specs.machines.Mending.{bad_fault, refused_fault, bad_or, recovers_of, stage_of, skipped_by, judged_by, recover_by, last_of, told_at, answer_as, RefusesWith, IsToldBy, IsTold};
+ghost use Rattle.cedar_syntax.specs.machines.Mending.{bad_fault, refused_fault, bad_or, recovers_of, stage_of, skip_step_by, judgment_by, recovery_step_by, last_of, met_faults, answer_as, RefusesWith, IsToldBy, IsTold};
 
 use crate::err::{Failure, NonEmpty, ParseError, ParseErrors, RawFault, ToCSTError};
 use crate::node::Node;
@@ -113,7 +113,7 @@ fn leave<E: Recovering, F: Telling>(
     token: Token<'_>,
 ) -> Result<(), AllocError>
     ensures { IfOk result
-        (λ _. stage_of run.new ≡ skipped_by E.closed E.over run.old.mended pending.way
+        (λ _. stage_of run.new ≡ skip_step_by E.closed E.over run.old.mended pending.way
         run.old.state pending.fault (lexeme_of token.entry)) }
 {
     match skip(alloc, &mut run.state, pending.way, as_mark(token.kind)) {
@@ -138,7 +138,7 @@ fn judge<E: Entry + Recovering, F: Telling>(
     requires written { IsWritten (lexeme_of token) }
     requires reading { run.old.doing ≡ doing.Reading }
     ensures { IfOk result
-        (λ _. stage_of run.new ≡ judged_by (E.allowed run.old.state (Some token.entry.kind))
+        (λ _. stage_of run.new ≡ judgment_by (E.allowed run.old.state (Some token.entry.kind))
         (recovers_of E.allowed E.left E.closed E.over F.told source.now) run.old.mended run.old.end
         run.old.state (lexeme_of token.entry)
         ((E.machine source.now).step run.old.state (lexeme_of token.entry))) }
@@ -167,7 +167,7 @@ fn step<E: Entry + Recovering, F: Telling>(
 ) -> Result<(), AllocError>
     requires { IsWritten (lexeme_of token) }
     ensures { IfOk result
-        (λ _. stage_of run.new ≡ recover_by (E.machine source.now) E.allowed
+        (λ _. stage_of run.new ≡ recovery_step_by (E.machine source.now) E.allowed
         (recovers_of E.allowed E.left E.closed E.over F.told source.now) (stage_of run.old)
         (lexeme_of token.entry)) }
 {
@@ -249,8 +249,8 @@ fn one_or_more<T: Drop>(items: Items<T>) -> Option<NonEmpty<T>>
 
 /// All faults, the one at which the parse stops first.
 fn all_faults<F: Drop>(last: Option<F>, mended: Items<F>) -> Option<NonEmpty<F>>
-    ensures { MatchOption result (listed last mended ≡ [])
-        (λ faults. list_of faults ≡ listed last mended) }
+    ensures { MatchOption result (faults_with_last last mended ≡ [])
+        (λ faults. list_of faults ≡ faults_with_last last mended) }
 {
     match last {
         Some(head) => Some(NonEmpty { head, tail: mended }),
@@ -267,9 +267,9 @@ fn conclude<E: Entry + Recovering, F: Telling>(
 ) -> Result<Node<Option<E::Tree>>, Refusal<F>>
     ensures tree { IfOk result (λ x. (E.machine source.now).finish run.state ≡ Some x) }
     ensures faults { MatchResult result
-        (λ _. told_at E.allowed (recovers_of E.allowed E.left E.closed E.over F.told source.now)
+        (λ _. met_faults E.allowed (recovers_of E.allowed E.left E.closed E.over F.told source.now)
         (bad_fault F.told source.now) (stage_of run) bad ≡ [])
-        (λ f. RefusesWith (told_at E.allowed
+        (λ f. RefusesWith (met_faults E.allowed
         (recovers_of E.allowed E.left E.closed E.over F.told source.now)
         (bad_fault F.told source.now) (stage_of run) bad) f) }
 {
@@ -283,7 +283,7 @@ fn conclude<E: Entry + Recovering, F: Telling>(
 
 /// The next token of the text, or none, at its end or at a bad place.
 fn next_token<'a>(lexer: &mut Lexer<'a>, bad: &mut Option<usize>) -> Option<Token<'a>>
-    ensures { Answers lexer.old (answer_as result bad.new) lexer.new }
+    ensures { LexerAnswers lexer.old (answer_as result bad.new) lexer.new }
 {
     *bad = None;
     match lexer.next() {

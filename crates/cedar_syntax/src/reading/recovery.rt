@@ -1,6 +1,6 @@
 //! Recovery: how a fault in a policy is left.
 ghost use Rattle.std.specs.Prelude.{◌≡◌};
-ghost use Rattle.cedar_syntax.specs.machines.Skipping.{skip, skipped_as};
+ghost use Rattle.cedar_syntax.specs.machines.Skipping.{skip, skip_answer};
 
 use crate::reading::mark::Mark;
 use std::alloc::Global;
@@ -55,7 +55,7 @@ pub enum Skipping {
 
 /// Skips a token, the refused one or one behind it.
 pub fn skip<S: Recovering>(alloc: Global, state: &mut S, way: Way, mark: Mark) -> Skipping
-    ensures { skipped_as result state.new ≡ skip S.closed S.over way state.old mark }
+    ensures { skip_answer result state.new ≡ skip S.closed S.over way state.old mark }
 {
     match way {
         Way::Stop => Skipping::Stop,

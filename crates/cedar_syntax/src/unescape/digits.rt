@@ -14,7 +14,7 @@ pub struct Digits {
 }
 
 impl Digits {
-    ghost use Rattle.cedar_syntax.specs.PieceAhead.{tally_of, tally, with_digit, closed};
+    ghost use Rattle.cedar_syntax.specs.PieceAhead.{tally_of, tally, with_digit, brace_outcome};
 
     /// The first digit.
     pub fn new(digit: u32) -> Digits
@@ -40,7 +40,7 @@ impl Digits {
 
     /// What the digits stand for, once the brace is closed.
     pub fn closed(self) -> PieceValue
-        ensures { result ≡ closed (tally_of self) }
+        ensures { result ≡ brace_outcome (tally_of self) }
     {
         if self.count > 6 {
             return PieceValue::Fault(EscapeError::OverlongUnicodeEscape);

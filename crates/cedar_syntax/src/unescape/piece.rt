@@ -2,7 +2,7 @@
 ghost use Rattle.std.specs.Prelude.{◌≡◌, ◌<◌, ◌≤◌, Some, None, MatchOption, [], length};
 ghost use Rattle.std.specs.Str.{chars};
 ghost use Rattle.cedar_syntax.specs.Piece.{short_escape};
-ghost use Rattle.cedar_syntax.specs.PieceAhead.{piece_ahead_of, first_of, hex_digit, hex_escape, unicode_escape, behind_brace, inside_braces, tally_of, unskipped, escape, first_piece, begins_escaped_star};
+ghost use Rattle.cedar_syntax.specs.PieceAhead.{piece_ahead_of, first_of, hex_digit, hex_escape, unicode_escape, behind_brace, inside_braces, tally_of, unskipped_text, escape, first_piece, begins_escaped_star};
 
 use crate::err::EscapeError;
 use crate::unescape::digits::Digits;
@@ -129,7 +129,7 @@ fn unicode_escape(text: &str) -> Step<'_>
 
 // Behind a backslash and a line feed: what stands behind all blanks.
 fn behind_blanks(text: &str) -> &str
-    ensures { chars result.now ≡ unskipped (chars text.now) }
+    ensures { chars result.now ≡ unskipped_text (chars text.now) }
 {
     let mut rest = text;
     while let Some((' ' | '\t' | '\n' | '\r', after)) = first_char(rest) {

@@ -4,14 +4,14 @@ use Rattle.std.proofs.Common.{◌≡◌, ℕ, List, [], ◌∷◌, Option, Some,
 use Rattle.cedar_syntax.specs.Place.{extent_of, extent}
 use Rattle.cedar_syntax.specs.Tokens.{fits, number_of, any_of}
 use Rattle.cedar_syntax.specs.Trees.{Cell}
-use Rattle.cedar_text.specs.machines.Closing.{ranged, node_of, fresh, no_signs, operand_of, if_operand}
+use Rattle.cedar_text.specs.machines.Closing.{ranged_tree, node_of, fresh, no_signs, operand_of, if_operand}
 use Rattle.cedar_syntax.specs.machines.Door.{Machine, Answer, next, ended, refused, too_large, AnswersRightly}
 use Rattle.cedar_syntax.specs.machines.Classes.{number_class, class_of, operator_of}
 use Rattle.cedar_text.specs.machines.ExpressionStates.{reach_of}
-use Rattle.cedar_syntax.specs.machines.Classes.{signed}
-use Rattle.cedar_text.specs.machines.Wanting.{literal_at, after_signs, sign_read, list_ended, set_ends, call_ends, record_ends, word_begun, wanted_as, wanting}
-use Rattle.cedar_text.specs.machines.Having.{is_within, compared, sided, field_read, ended_by, had}
-use Rattle.cedar_text.specs.machines.Expressions.{alone_of, name_at, if_key_read, key_or_guard, if_alone, alone_read, named_read, word_read, stepped, step_of, expr_at_end, sum_at_end, primary_at_end, answered, expressions, sums, primaries}
+use Rattle.cedar_syntax.specs.machines.Classes.{with_sign}
+use Rattle.cedar_text.specs.machines.Wanting.{literal_at, after_signs, sign_reading, list_ending, set_ends, call_ends, record_ends, word_beginning, wanted_token, wanting}
+use Rattle.cedar_text.specs.machines.Having.{is_within, comparison_beginning, side_beginning, field_reading, frame_ending, had}
+use Rattle.cedar_text.specs.machines.Expressions.{alone_of, name_at, if_key_reading, key_or_guard, if_alone, alone_reading, name_reading, word_reading, mode_step, step_of, expr_at_end, sum_at_end, primary_at_end, advance_answer, expressions, sums, primaries}
 use Rattle.cedar_lexer.specs.Token.{Lexeme}
 use Rattle.cedar_lexer.specs.declared.token.TokenKind.{TokenKind}
 use Rattle.cedar_lexer.specs.declared.token.TokenKind.TheVariants as kind
@@ -36,7 +36,7 @@ use Rattle.cedar_syntax.specs.declared.reading.class.Access.{Access}
 use Rattle.cedar_syntax.specs.declared.reading.class.Side.{Side}
 use Rattle.cedar_syntax.specs.declared.reading.class.Operator.{Operator}
 use Rattle.cedar_syntax.specs.declared.reading.class.Operator.TheVariants as operator
-use Rattle.cedar_text.specs.machines.Named.{Named}
+use Rattle.cedar_text.specs.machines.Named.{NameOrEntity}
 use Rattle.cedar_text.specs.machines.Named as words_read
 use Rattle.cedar_text.specs.declared.text_to_cst.state.WordsState.{WordsState}
 use Rattle.cedar_text.specs.declared.text_to_cst.expression.state.Ranged.{Ranged}
@@ -70,7 +70,7 @@ use Rattle.cedar_text.specs.machines.Advance as advance
 use Rattle.cedar_syntax.specs.declared.reading.extent.Extent.{Extent}
 
 abbrev pub Names : Type 0
-Names = Machine Lexeme WordsState Named
+Names = Machine Lexeme WordsState NameOrEntity
 
 -- what a step says of the number that a token is
 abbrev pub Judges : Lexeme → Advance → Type 0
@@ -96,7 +96,7 @@ no_number t (advance.next s) e h = λ f. absurd (false_is_true (sym e ∙ ap is_
 no_number t advance.not_taken e h = tt
 no_number t advance.too_large e h = absurd h
 
-ended_small : (src : List ℕ) (st : List Frame) (x : Ranged Expr) (c : Closing) (e : Extent) → IsNotLarge (ended_by src st x c e)
+ended_small : (src : List ℕ) (st : List Frame) (x : Ranged Expr) (c : Closing) (e : Extent) → IsNotLarge (frame_ending src st x c e)
 ended_small src [] x c e = tt
 ended_small src (frame.Paren f ∷ st) x closing.Paren e = tt
 ended_small src (frame.Paren f ∷ st) x _ e = tt
@@ -122,7 +122,7 @@ within_small : (src : List ℕ) (st : List Frame) (lv : Levels) (y : Ranged (Cel
 within_small src st lv y x rel.In e = tt
 within_small src st lv y x _ e = tt
 
-compared_small : (src : List ℕ) (st : List Frame) (lv : Levels) (l : Option Left) (x : Ranged Add) (o : RelOp) (e : Extent) → IsNotLarge (compared src st lv l x o e)
+compared_small : (src : List ℕ) (st : List Frame) (lv : Levels) (l : Option Left) (x : Ranged Add) (o : RelOp) (e : Extent) → IsNotLarge (comparison_beginning src st lv l x o e)
 compared_small src st lv None x o e = tt
 compared_small src st lv (Some (left.Common p)) x o e = tt
 compared_small src st lv (Some (left.Is y)) x o e = within_small src st lv y x o e
@@ -130,7 +130,7 @@ compared_small src st lv (Some (left.Has y)) x o e = tt
 compared_small src st lv (Some (left.Like y)) x o e = tt
 compared_small src st lv (Some (left.IsIn y z l)) x o e = tt
 
-sided_small : (src : List ℕ) (st : List Frame) (lv : Levels) (l : Option Left) (x : Ranged Add) (s : Side) (e : Extent) → IsNotLarge (sided src st lv l x s e)
+sided_small : (src : List ℕ) (st : List Frame) (lv : Levels) (l : Option Left) (x : Ranged Add) (s : Side) (e : Extent) → IsNotLarge (side_beginning src st lv l x s e)
 sided_small src st lv None x s e = tt
 sided_small src st lv (Some l) x s e = tt
 
@@ -178,13 +178,13 @@ signs_small : (st : List Frame) (lv : Levels) (l : Option Extent) (o : Option Ne
 signs_small st lv l None e = tt
 signs_small st lv l (Some o) e = tt
 
-sign_small : (st : List Frame) (lv : Levels) (p : Place) (sg : Signs) (s : Sign) (e : Extent) → IsNotLarge (sign_read st lv p sg s e)
+sign_small : (st : List Frame) (lv : Levels) (p : Place) (sg : Signs) (s : Sign) (e : Extent) → IsNotLarge (sign_reading st lv p sg s e)
 sign_small st lv place.Primary sg s e = tt
-sign_small st lv place.Expr sg s e = signs_small st lv sg.extent (signed sg.op s) e
-sign_small st lv place.Item sg s e = signs_small st lv sg.extent (signed sg.op s) e
-sign_small st lv place.Key sg s e = signs_small st lv sg.extent (signed sg.op s) e
-sign_small st lv place.Has sg s e = signs_small st lv sg.extent (signed sg.op s) e
-sign_small st lv place.Operand sg s e = signs_small st lv sg.extent (signed sg.op s) e
+sign_small st lv place.Expr sg s e = signs_small st lv sg.extent (with_sign sg.op s) e
+sign_small st lv place.Item sg s e = signs_small st lv sg.extent (with_sign sg.op s) e
+sign_small st lv place.Key sg s e = signs_small st lv sg.extent (with_sign sg.op s) e
+sign_small st lv place.Has sg s e = signs_small st lv sg.extent (with_sign sg.op s) e
+sign_small st lv place.Operand sg s e = signs_small st lv sg.extent (with_sign sg.op s) e
 
 set_small : (src : List ℕ) (st : List Frame) (e : Extent) → IsNotLarge (set_ends src st e)
 set_small src [] e = tt
@@ -201,7 +201,7 @@ record_small src [] e = tt
 record_small src (frame.Key f ∷ st) e = tt
 record_small src (_ ∷ st) e = tt
 
-list_small : (src : List ℕ) (st : List Frame) (p : Place) (c : Closing) (e : Extent) → IsNotLarge (list_ended src st p c e)
+list_small : (src : List ℕ) (st : List Frame) (p : Place) (c : Closing) (e : Extent) → IsNotLarge (list_ending src st p c e)
 list_small src st place.Item closing.Bracket e = set_small src st e
 list_small src st place.Item closing.Paren e = call_small src st e
 list_small src st place.Item _ e = tt
@@ -212,20 +212,20 @@ list_small src st place.Has c e = tt
 list_small src st place.Operand c e = tt
 list_small src st place.Primary c e = tt
 
-word_judges : (st : List Frame) (lv : Levels) (p : Place) (sg : Signs) (t : Lexeme) (a : Answer WordsState Named) (o : Option Named) → AnswersRightly t a o → Judges t (word_begun st lv p sg a)
+word_judges : (st : List Frame) (lv : Levels) (p : Place) (sg : Signs) (t : Lexeme) (a : Answer WordsState NameOrEntity) (o : Option NameOrEntity) → AnswersRightly t a o → Judges t (word_beginning st lv p sg a)
 word_judges st lv p sg t (next s) o h = h
 word_judges st lv p sg t (ended x) o h = tt
 word_judges st lv p sg t refused o h = tt
 word_judges st lv p sg t too_large o h = h
 
-number_judges : (src : List ℕ) (st : List Frame) (lv : Levels) (p : Place) (sg : Signs) (a : Answer WordsState Named) (t : Lexeme) → t.kind ≡ kind.Number → Judges t (wanted_as src st lv p sg (number_class t.text) a (extent_of t) t.text)
+number_judges : (src : List ℕ) (st : List Frame) (lv : Levels) (p : Place) (sg : Signs) (a : Answer WordsState NameOrEntity) (t : Lexeme) → t.kind ≡ kind.Number → Judges t (wanted_token src st lv p sg (number_class t.text) a (extent_of t) t.text)
 number_judges src st lv p sg a t k = go (fits t.text) refl
   where
-    go : (b : Bool) → fits t.text ≡ b → Judges t (wanted_as src st lv p sg (cond b (beginning.Number (number_of t.text)) beginning.TooLarge) a (extent_of t) t.text)
+    go : (b : Bool) → fits t.text ≡ b → Judges t (wanted_token src st lv p sg (cond b (beginning.Number (number_of t.text)) beginning.TooLarge) a (extent_of t) t.text)
     go true e = λ f. e
     go false e = (k, e)
 
-wanted_judges : (src : List ℕ) (st : List Frame) (lv : Levels) (p : Place) (sg : Signs) (a : Answer WordsState Named) (o : Option Named) (k : TokenKind) (t : Lexeme) → t.kind ≡ k → AnswersRightly t a o → Judges t (wanted_as src st lv p sg (class_of k t.text) a (extent_of t) t.text)
+wanted_judges : (src : List ℕ) (st : List Frame) (lv : Levels) (p : Place) (sg : Signs) (a : Answer WordsState NameOrEntity) (o : Option NameOrEntity) (k : TokenKind) (t : Lexeme) → t.kind ≡ k → AnswersRightly t a o → Judges t (wanted_token src st lv p sg (class_of k t.text) a (extent_of t) t.text)
 wanted_judges src st lv p sg a o kind.True t e h = word_judges st lv p sg t a o h
 wanted_judges src st lv p sg a o kind.False t e h = word_judges st lv p sg t a o h
 wanted_judges src st lv p sg a o kind.If t e h = word_judges st lv p sg t a o h
@@ -245,18 +245,18 @@ wanted_judges src st lv p sg a o kind.Resource t e h = word_judges st lv p sg t 
 wanted_judges src st lv p sg a o kind.Context t e h = word_judges st lv p sg t a o h
 wanted_judges src st lv p sg a o kind.Identifier t e h = word_judges st lv p sg t a o h
 wanted_judges src st lv p sg a o kind.Number t e h = number_judges src st lv p sg a t e
-wanted_judges src st lv p sg a o kind.StringLit t e h = no_number t (wanted_as src st lv p sg beginning.String a (extent_of t) t.text) (ap is_number e) tt
-wanted_judges src st lv p sg a o kind.PrincipalSlot t e h = no_number t (wanted_as src st lv p sg (class_of kind.PrincipalSlot t.text) a (extent_of t) t.text) (ap is_number e) tt
-wanted_judges src st lv p sg a o kind.ResourceSlot t e h = no_number t (wanted_as src st lv p sg (class_of kind.ResourceSlot t.text) a (extent_of t) t.text) (ap is_number e) tt
-wanted_judges src st lv p sg a o kind.OtherSlot t e h = no_number t (wanted_as src st lv p sg (class_of kind.OtherSlot t.text) a (extent_of t) t.text) (ap is_number e) tt
-wanted_judges src st lv p sg a o kind.Bang t e h = no_number t (sign_read st lv p sg sign.Bang (extent_of t)) (ap is_number e) (sign_small st lv p sg sign.Bang (extent_of t))
-wanted_judges src st lv p sg a o kind.Minus t e h = no_number t (sign_read st lv p sg sign.Dash (extent_of t)) (ap is_number e) (sign_small st lv p sg sign.Dash (extent_of t))
-wanted_judges src st lv p sg a o kind.OpenParen t e h = no_number t (wanted_as src st lv p sg beginning.Paren a (extent_of t) t.text) (ap is_number e) tt
-wanted_judges src st lv p sg a o kind.OpenBracket t e h = no_number t (wanted_as src st lv p sg beginning.Bracket a (extent_of t) t.text) (ap is_number e) tt
-wanted_judges src st lv p sg a o kind.OpenBrace t e h = no_number t (wanted_as src st lv p sg beginning.Brace a (extent_of t) t.text) (ap is_number e) tt
-wanted_judges src st lv p sg a o kind.CloseParen t e h = no_number t (list_ended src st p closing.Paren (extent_of t)) (ap is_number e) (list_small src st p closing.Paren (extent_of t))
-wanted_judges src st lv p sg a o kind.CloseBracket t e h = no_number t (list_ended src st p closing.Bracket (extent_of t)) (ap is_number e) (list_small src st p closing.Bracket (extent_of t))
-wanted_judges src st lv p sg a o kind.CloseBrace t e h = no_number t (list_ended src st p closing.Brace (extent_of t)) (ap is_number e) (list_small src st p closing.Brace (extent_of t))
+wanted_judges src st lv p sg a o kind.StringLit t e h = no_number t (wanted_token src st lv p sg beginning.String a (extent_of t) t.text) (ap is_number e) tt
+wanted_judges src st lv p sg a o kind.PrincipalSlot t e h = no_number t (wanted_token src st lv p sg (class_of kind.PrincipalSlot t.text) a (extent_of t) t.text) (ap is_number e) tt
+wanted_judges src st lv p sg a o kind.ResourceSlot t e h = no_number t (wanted_token src st lv p sg (class_of kind.ResourceSlot t.text) a (extent_of t) t.text) (ap is_number e) tt
+wanted_judges src st lv p sg a o kind.OtherSlot t e h = no_number t (wanted_token src st lv p sg (class_of kind.OtherSlot t.text) a (extent_of t) t.text) (ap is_number e) tt
+wanted_judges src st lv p sg a o kind.Bang t e h = no_number t (sign_reading st lv p sg sign.Bang (extent_of t)) (ap is_number e) (sign_small st lv p sg sign.Bang (extent_of t))
+wanted_judges src st lv p sg a o kind.Minus t e h = no_number t (sign_reading st lv p sg sign.Dash (extent_of t)) (ap is_number e) (sign_small st lv p sg sign.Dash (extent_of t))
+wanted_judges src st lv p sg a o kind.OpenParen t e h = no_number t (wanted_token src st lv p sg beginning.Paren a (extent_of t) t.text) (ap is_number e) tt
+wanted_judges src st lv p sg a o kind.OpenBracket t e h = no_number t (wanted_token src st lv p sg beginning.Bracket a (extent_of t) t.text) (ap is_number e) tt
+wanted_judges src st lv p sg a o kind.OpenBrace t e h = no_number t (wanted_token src st lv p sg beginning.Brace a (extent_of t) t.text) (ap is_number e) tt
+wanted_judges src st lv p sg a o kind.CloseParen t e h = no_number t (list_ending src st p closing.Paren (extent_of t)) (ap is_number e) (list_small src st p closing.Paren (extent_of t))
+wanted_judges src st lv p sg a o kind.CloseBracket t e h = no_number t (list_ending src st p closing.Bracket (extent_of t)) (ap is_number e) (list_small src st p closing.Bracket (extent_of t))
+wanted_judges src st lv p sg a o kind.CloseBrace t e h = no_number t (list_ending src st p closing.Brace (extent_of t)) (ap is_number e) (list_small src st p closing.Brace (extent_of t))
 wanted_judges src st lv p sg a o _ t e h = tt
 
 -- what words answer rightly
@@ -268,13 +268,13 @@ wanting_judges src names h st lv p sg t = wanted_judges src st lv p sg (names.st
 
 -- behind words
 
-key_judges : (src : List ℕ) (st : List Frame) (l : Option Extent) (e : Extent) → IsNotLarge (if_key_read src st l e)
+key_judges : (src : List ℕ) (st : List Frame) (l : Option Extent) (e : Extent) → IsNotLarge (if_key_reading src st l e)
 key_judges src [] l e = tt
 key_judges src (frame.Key f ∷ st) l e = tt
 key_judges src (_ ∷ st) l e = tt
 
 key_or_guard_judges : (src : List ℕ) (names : Names) → Rightly names → (st : List Frame) (lv : Levels) (l : Option Extent) (k : TokenKind) (t : Lexeme) → t.kind ≡ k → Judges t (key_or_guard src names st lv l t (operator_of k))
-key_or_guard_judges src names h st lv l kind.Colon t e = no_number t (if_key_read src st l (extent_of t)) (ap is_number e) (key_judges src st l (extent_of t))
+key_or_guard_judges src names h st lv l kind.Colon t e = no_number t (if_key_reading src st l (extent_of t)) (ap is_number e) (key_judges src st l (extent_of t))
 key_or_guard_judges src names h st lv l _ t e = wanting_judges src names h _ (fresh []) place.Expr no_signs t
 
 if_judges : (v : Wanted) (src : List ℕ) (names : Names) → Rightly names → (st : List Frame) (lv : Levels) (p : Place) (l : Option Extent) (t : Lexeme) → Judges t (if_alone v src names st lv p l t)
@@ -285,50 +285,50 @@ if_judges v src names h st lv place.Has l t = having_judges v src st lv (if_oper
 if_judges v src names h st lv place.Operand l t = tt
 if_judges v src names h st lv place.Primary l t = tt
 
-alone_judges : (v : Wanted) (src : List ℕ) (names : Names) → Rightly names → (st : List Frame) (lv : Levels) (p : Place) (sg : Signs) (x : Ranged Name) (a : Alone) (t : Lexeme) → Judges t (alone_read v src names st lv p sg x a t)
+alone_judges : (v : Wanted) (src : List ℕ) (names : Names) → Rightly names → (st : List Frame) (lv : Levels) (p : Place) (sg : Signs) (x : Ranged Name) (a : Alone) (t : Lexeme) → Judges t (alone_reading v src names st lv p sg x a t)
 alone_judges v src names h st lv p sg x alone.True t = having_judges v src st lv (operand_of src sg (literal_at src x.extent literal.True)) t.kind t refl
 alone_judges v src names h st lv p sg x alone.False t = having_judges v src st lv (operand_of src sg (literal_at src x.extent literal.False)) t.kind t refl
 alone_judges v src names h st lv p sg x alone.If t = if_judges v src names h st lv p x.extent t
 alone_judges v src names h st lv p sg x alone.Name t = having_judges v src st lv (operand_of src sg (name_at src x)) t.kind t refl
 
-named_judges : (v : Wanted) (src : List ℕ) (names : Names) → Rightly names → (st : List Frame) (lv : Levels) (p : Place) (sg : Signs) (x : Named) (t : Lexeme) → Judges t (named_read v src names st lv p sg x t)
+named_judges : (v : Wanted) (src : List ℕ) (names : Names) → Rightly names → (st : List Frame) (lv : Levels) (p : Place) (sg : Signs) (x : NameOrEntity) (t : Lexeme) → Judges t (name_reading v src names st lv p sg x t)
 named_judges v src names h st lv p sg (words_read.path x) t = alone_judges v src names h st lv p sg x (alone_of x.tree.path x.tree.name) t
-named_judges v src names h st lv p sg (words_read.entity x) t = having_judges v src st lv (operand_of src sg (ranged x.extent (primary.Ref x.tree))) t.kind t refl
+named_judges v src names h st lv p sg (words_read.entity x) t = having_judges v src st lv (operand_of src sg (ranged_tree x.extent (primary.Ref x.tree))) t.kind t refl
 
-word_read_judges : (v : Wanted) (src : List ℕ) (names : Names) → Rightly names → (st : List Frame) (lv : Levels) (p : Place) (sg : Signs) (a : Answer WordsState Named) (o : Option Named) (t : Lexeme) → AnswersRightly t a o → Judges t (word_read v src names st lv p sg a t)
+word_read_judges : (v : Wanted) (src : List ℕ) (names : Names) → Rightly names → (st : List Frame) (lv : Levels) (p : Place) (sg : Signs) (a : Answer WordsState NameOrEntity) (o : Option NameOrEntity) (t : Lexeme) → AnswersRightly t a o → Judges t (word_reading v src names st lv p sg a t)
 word_read_judges v src names h st lv p sg (next s) o t i = i
 word_read_judges v src names h st lv p sg (ended x) o t i = named_judges v src names h st lv p sg x t
 word_read_judges v src names h st lv p sg refused o t i = tt
 word_read_judges v src names h st lv p sg too_large o t i = i
 
-field_judges : (src : List ℕ) (st : List Frame) (lv : Levels) (m : Operand) (d : Extent) (k : TokenKind) (t : Lexeme) → t.kind ≡ k → Judges t (field_read src st lv m d (any_of k t.text) (extent_of t))
-field_judges src st lv m d kind.True t e = no_number t (field_read src st lv m d (any_of kind.True t.text) (extent_of t)) (ap is_number e) tt
-field_judges src st lv m d kind.False t e = no_number t (field_read src st lv m d (any_of kind.False t.text) (extent_of t)) (ap is_number e) tt
-field_judges src st lv m d kind.If t e = no_number t (field_read src st lv m d (any_of kind.If t.text) (extent_of t)) (ap is_number e) tt
-field_judges src st lv m d kind.Permit t e = no_number t (field_read src st lv m d (any_of kind.Permit t.text) (extent_of t)) (ap is_number e) tt
-field_judges src st lv m d kind.Forbid t e = no_number t (field_read src st lv m d (any_of kind.Forbid t.text) (extent_of t)) (ap is_number e) tt
-field_judges src st lv m d kind.When t e = no_number t (field_read src st lv m d (any_of kind.When t.text) (extent_of t)) (ap is_number e) tt
-field_judges src st lv m d kind.Unless t e = no_number t (field_read src st lv m d (any_of kind.Unless t.text) (extent_of t)) (ap is_number e) tt
-field_judges src st lv m d kind.In t e = no_number t (field_read src st lv m d (any_of kind.In t.text) (extent_of t)) (ap is_number e) tt
-field_judges src st lv m d kind.Has t e = no_number t (field_read src st lv m d (any_of kind.Has t.text) (extent_of t)) (ap is_number e) tt
-field_judges src st lv m d kind.Like t e = no_number t (field_read src st lv m d (any_of kind.Like t.text) (extent_of t)) (ap is_number e) tt
-field_judges src st lv m d kind.Is t e = no_number t (field_read src st lv m d (any_of kind.Is t.text) (extent_of t)) (ap is_number e) tt
-field_judges src st lv m d kind.Then t e = no_number t (field_read src st lv m d (any_of kind.Then t.text) (extent_of t)) (ap is_number e) tt
-field_judges src st lv m d kind.Else t e = no_number t (field_read src st lv m d (any_of kind.Else t.text) (extent_of t)) (ap is_number e) tt
-field_judges src st lv m d kind.Principal t e = no_number t (field_read src st lv m d (any_of kind.Principal t.text) (extent_of t)) (ap is_number e) tt
-field_judges src st lv m d kind.Action t e = no_number t (field_read src st lv m d (any_of kind.Action t.text) (extent_of t)) (ap is_number e) tt
-field_judges src st lv m d kind.Resource t e = no_number t (field_read src st lv m d (any_of kind.Resource t.text) (extent_of t)) (ap is_number e) tt
-field_judges src st lv m d kind.Context t e = no_number t (field_read src st lv m d (any_of kind.Context t.text) (extent_of t)) (ap is_number e) tt
-field_judges src st lv m d kind.Identifier t e = no_number t (field_read src st lv m d (any_of kind.Identifier t.text) (extent_of t)) (ap is_number e) tt
+field_judges : (src : List ℕ) (st : List Frame) (lv : Levels) (m : Operand) (d : Extent) (k : TokenKind) (t : Lexeme) → t.kind ≡ k → Judges t (field_reading src st lv m d (any_of k t.text) (extent_of t))
+field_judges src st lv m d kind.True t e = no_number t (field_reading src st lv m d (any_of kind.True t.text) (extent_of t)) (ap is_number e) tt
+field_judges src st lv m d kind.False t e = no_number t (field_reading src st lv m d (any_of kind.False t.text) (extent_of t)) (ap is_number e) tt
+field_judges src st lv m d kind.If t e = no_number t (field_reading src st lv m d (any_of kind.If t.text) (extent_of t)) (ap is_number e) tt
+field_judges src st lv m d kind.Permit t e = no_number t (field_reading src st lv m d (any_of kind.Permit t.text) (extent_of t)) (ap is_number e) tt
+field_judges src st lv m d kind.Forbid t e = no_number t (field_reading src st lv m d (any_of kind.Forbid t.text) (extent_of t)) (ap is_number e) tt
+field_judges src st lv m d kind.When t e = no_number t (field_reading src st lv m d (any_of kind.When t.text) (extent_of t)) (ap is_number e) tt
+field_judges src st lv m d kind.Unless t e = no_number t (field_reading src st lv m d (any_of kind.Unless t.text) (extent_of t)) (ap is_number e) tt
+field_judges src st lv m d kind.In t e = no_number t (field_reading src st lv m d (any_of kind.In t.text) (extent_of t)) (ap is_number e) tt
+field_judges src st lv m d kind.Has t e = no_number t (field_reading src st lv m d (any_of kind.Has t.text) (extent_of t)) (ap is_number e) tt
+field_judges src st lv m d kind.Like t e = no_number t (field_reading src st lv m d (any_of kind.Like t.text) (extent_of t)) (ap is_number e) tt
+field_judges src st lv m d kind.Is t e = no_number t (field_reading src st lv m d (any_of kind.Is t.text) (extent_of t)) (ap is_number e) tt
+field_judges src st lv m d kind.Then t e = no_number t (field_reading src st lv m d (any_of kind.Then t.text) (extent_of t)) (ap is_number e) tt
+field_judges src st lv m d kind.Else t e = no_number t (field_reading src st lv m d (any_of kind.Else t.text) (extent_of t)) (ap is_number e) tt
+field_judges src st lv m d kind.Principal t e = no_number t (field_reading src st lv m d (any_of kind.Principal t.text) (extent_of t)) (ap is_number e) tt
+field_judges src st lv m d kind.Action t e = no_number t (field_reading src st lv m d (any_of kind.Action t.text) (extent_of t)) (ap is_number e) tt
+field_judges src st lv m d kind.Resource t e = no_number t (field_reading src st lv m d (any_of kind.Resource t.text) (extent_of t)) (ap is_number e) tt
+field_judges src st lv m d kind.Context t e = no_number t (field_reading src st lv m d (any_of kind.Context t.text) (extent_of t)) (ap is_number e) tt
+field_judges src st lv m d kind.Identifier t e = no_number t (field_reading src st lv m d (any_of kind.Identifier t.text) (extent_of t)) (ap is_number e) tt
 field_judges src st lv m d _ t e = tt
 
-step_judges : (v : Wanted) (src : List ℕ) (names : Names) → Rightly names → (st : List Frame) (lv : Levels) (m : Mode) (t : Lexeme) → Judges t (stepped v src names st lv m t)
+step_judges : (v : Wanted) (src : List ℕ) (names : Names) → Rightly names → (st : List Frame) (lv : Levels) (m : Mode) (t : Lexeme) → Judges t (mode_step v src names st lv m t)
 step_judges v src names h st lv (mode.Want p sg) t = wanting_judges src names h st lv p sg t
 step_judges v src names h st lv (mode.Word p sg s) t = word_read_judges v src names h st lv p sg (names.step s t) (names.finish s) t (h s t)
 step_judges v src names h st lv (mode.Field m d) t = field_judges src st lv m d t.kind t refl
 step_judges v src names h st lv (mode.Have m) t = having_judges v src st lv m t.kind t refl
 
-answers_by : {T : Type 0} (t : Lexeme) (o : Option T) (a : Advance) → Judges t a → AnswersRightly t (answered o a) o
+answers_by : {T : Type 0} (t : Lexeme) (o : Option T) (a : Advance) → Judges t a → AnswersRightly t (advance_answer o a) o
 answers_by t o (advance.next s) h = h
 answers_by t None advance.not_taken h = refl
 answers_by t (Some x) advance.not_taken h = refl

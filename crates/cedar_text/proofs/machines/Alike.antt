@@ -11,7 +11,7 @@ use Rattle.cedar_syntax.specs.Tokens.{fits}
 use Rattle.cedar_syntax.specs.machines.Door.{Machine, Answer, next, ended, refused, too_large, AnswersRightly, Door, is_some, is_taken, Shapes}
 use Rattle.cedar_syntax.specs.machines.Marks.{mark_of}
 use Rattle.cedar_text.specs.machines.WordShapes.{no_tree}
-use Rattle.cedar_syntax.specs.machines.Recovery.{Recovers, Recovery, reading, skipping, stopped, skipped, judged, recover, recover_all, Told, told, told_reading, told_end, told_all}
+use Rattle.cedar_syntax.specs.machines.Recovery.{Recovers, Recovery, reading, skipping, stopped, skip_step, judgment, recovery_step, recovery_of_all, RunFaults, run_faults, told_reading, told_end, told_all}
 use Rattle.cedar_syntax.proofs.machines.Laws.{false_true, ends_alike}
 use Rattle.cedar_text.proofs.machines.SequenceShapes.{IsShapeBy}
 
@@ -27,7 +27,7 @@ data Alike {S F V : Type 0} (f : S → V) : Recovery S F → Recovery S F → Ty
   skips : {xs : List F} {w : Way} {x : F} {s q : S} → f s ≡ f q → Alike f (skipping xs w s x) (skipping xs w q x)
   stops : {xs : List F} {x : F} → Alike f (stopped xs x) (stopped xs x)
 
-skipped_alike : {S F V : Type 0} (r : Recovers S F) (f : S → V) → IsByShape r f → (xs : List F) (w : Way) (s q : S) (x : F) (t : Lexeme) (c : Mark) → f s ≡ f q → Alike f (skipped r xs w s x t c) (skipped r xs w q x t c)
+skipped_alike : {S F V : Type 0} (r : Recovers S F) (f : S → V) → IsByShape r f → (xs : List F) (w : Way) (s q : S) (x : F) (t : Lexeme) (c : Mark) → f s ≡ f q → Alike f (skip_step r xs w s x t c) (skip_step r xs w q x t c)
 skipped_alike r f h xs way.ToBrace s q x t mark.CloseBrace e = reads (h.closes s q e)
 skipped_alike r f h xs way.ToBrace s q x t mark.Semicolon e = reads (h.ends s q e)
 skipped_alike r f h xs way.ToBrace s q x t _ e = skips e
@@ -37,17 +37,17 @@ skipped_alike r f h xs way.Stop s q x t c e = stops
 
 -- two refusals
 refused_alike : {S F V : Type 0} (r : Recovers S F) (f : S → V) → IsByShape r f → (xs : List F) (l : ℕ) (s q : S) (t : Lexeme) → f s ≡ f q →
-    Alike f (skipped r xs (r.way s) s (r.tell s l (Some t)) t (mark_of t.kind)) (skipped r xs (r.way q) q (r.tell q l (Some t)) t (mark_of t.kind))
+    Alike f (skip_step r xs (r.way s) s (r.tell s l (Some t)) t (mark_of t.kind)) (skip_step r xs (r.way q) q (r.tell q l (Some t)) t (mark_of t.kind))
 refused_alike r f h xs l s q t e =
-    subst (λ w. Alike f (skipped r xs (r.way s) s (r.tell s l (Some t)) t (mark_of t.kind)) (skipped r xs w q (r.tell q l (Some t)) t (mark_of t.kind))) (h.ways s q e)
-    (subst (λ x. Alike f (skipped r xs (r.way s) s (r.tell s l (Some t)) t (mark_of t.kind)) (skipped r xs (r.way s) q x t (mark_of t.kind))) (h.tells s q l (Some t) e)
+    subst (λ w. Alike f (skip_step r xs (r.way s) s (r.tell s l (Some t)) t (mark_of t.kind)) (skip_step r xs w q (r.tell q l (Some t)) t (mark_of t.kind))) (h.ways s q e)
+    (subst (λ x. Alike f (skip_step r xs (r.way s) s (r.tell s l (Some t)) t (mark_of t.kind)) (skip_step r xs (r.way s) q x t (mark_of t.kind))) (h.tells s q l (Some t) e)
     (skipped_alike r f h xs (r.way s) s q (r.tell s l (Some t)) t (mark_of t.kind) e))
 
 next_is : {V : Type 0} {c : Answer V (Unit {0})} {u v : V} → c ≡ next u → c ≡ next v → u ≡ v
 next_is e f = cc
 
 judged_alike : {S T F V : Type 0} (r : Recovers S F) (f : S → V) → IsByShape r f → (xs : List F) (l : ℕ) (s q : S) (t : Lexeme) (a b : Answer S T) (c : Answer V (Unit {0})) (o p : Option T) → f s ≡ f q → IsShapeBy f a c → IsShapeBy f b c →
-    AnswersRightly t a o → AnswersRightly t b p → Alike f (judged r xs l s t a) (judged r xs l q t b)
+    AnswersRightly t a o → AnswersRightly t b p → Alike f (judgment r xs l s t a) (judgment r xs l q t b)
 judged_alike r f h xs l s q t (next u) (next v) c o p e i j a b = reads (next_is i j)
 judged_alike r f h xs l s q t (next u) (ended x) c o p e i j a b = absurd (cc)
 judged_alike r f h xs l s q t (next u) refused c o p e i j a b = absurd (cc)
@@ -66,14 +66,14 @@ judged_alike r f h xs l s q t too_large refused c o p e i j a b = absurd (false_
 judged_alike r f h xs l s q t too_large too_large c o p e i j a b = stops
 
 recover_alike : {S T F V : Type 0} {m : Machine Lexeme S T} {n : Machine TokenKind V (Unit {0})} {R : List Lexeme → T → Type 0} (r : Recovers S F) (f : S → V) → IsByShape r f → Door m R → Shapes m n f no_tree → {a b : Recovery S F} (t : Lexeme) → Alike f a b →
-    Alike f (recover m r a t) (recover m r b t)
+    Alike f (recovery_step m r a t) (recovery_step m r b t)
 recover_alike {m = m} {n = n} r f h d i t (reads {xs = xs} {l = l} {s = s} {q = q} e) =
     judged_alike r f h xs l s q t (m.step s t) (m.step q t) (n.step (f s) t.kind) (m.finish s) (m.finish q) e (i.steps s t) (subst (λ u. IsShapeBy f (m.step q t) (n.step u t.kind)) (sym e) (i.steps q t)) (d.answers s t) (d.answers q t)
 recover_alike r f h d i t (skips {xs = xs} {w = w} {x = x} {s = s} {q = q} e) = skipped_alike r f h xs w s q x t (mark_of t.kind) e
 recover_alike r f h d i t stops = stops
 
 end_alike : {T F : Type 0} (xs : List F) (x y : F) (o p : Option T) → x ≡ y → is_some o ≡ is_some p → told_reading xs x o ≡ told_reading xs y p
-end_alike xs x y None None e h = ap (λ x. told xs (Some x)) e
+end_alike xs x y None None e h = ap (λ x. run_faults xs (Some x)) e
 end_alike xs x y (Some u) (Some v) e h = refl
 end_alike xs x y None (Some v) e h = absurd (cc)
 end_alike xs x y (Some u) None e h = absurd (cc)

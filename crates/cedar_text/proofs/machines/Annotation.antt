@@ -15,10 +15,10 @@ use Rattle.cedar_syntax.specs.Place.{placed}
 use Rattle.cedar_syntax.specs.Trees.{Cell, annotation_of}
 use Rattle.cedar_syntax.specs.LooseWords.{ReadsAny, any}
 use Rattle.cedar_syntax.specs.LoosePolicies.{ReadsAnnotation, key_alone, with_value}
-use Rattle.cedar_syntax.specs.machines.Door.{Machine, Answer, next, ended, refused, too_large, taken, steps, Comes, RunsTo, Completed, AnswersRightly, Door, is_taken}
+use Rattle.cedar_syntax.specs.machines.Door.{Machine, Answer, next, ended, refused, too_large, answer_state, steps, Comes, RunsTo, Completed, AnswersRightly, Door, is_taken}
 use Rattle.cedar_syntax.specs.machines.Marks.{mark_of}
 use Rattle.cedar_text.specs.machines.Words.{string_node}
-use Rattle.cedar_text.specs.machines.Annotation.{at_start, at_key, behind_key, at_value, behind_value, annotation_step, annotation_end, annotations}
+use Rattle.cedar_text.specs.machines.Annotation.{at_start, at_key, behind_annotation_key, at_annotation_value, behind_value, annotation_step, annotation_end, annotations}
 use Rattle.cedar_syntax.proofs.machines.Laws.{some_is, some_token}
 use Rattle.cedar_syntax.proofs.machines.Holding.{kept}
 use Rattle.cedar_text.proofs.machines.Ending.{EndsAt, Refuses, Begins, IsWord, spot_of}
@@ -27,12 +27,12 @@ use Rattle.cedar_syntax.proofs.machines.Marked.{IsMarked, at, open_paren, close_
 annotation_complete : (src : List ℕ) {ts : List Lexeme} {x : Annotation} → ReadsAnnotation src ts x → RunsTo (annotations src) ts x
 annotation_complete src (key_alone p (any {k = k} {i = i} q e)) = record {
   last = annotation.Key (placed src (one k q) i);
-  goes = ap (λ o. taken (at_key src record { kind = k; start = q.start; end = q.end; text = q.text } o)) e;
+  goes = ap (λ o. answer_state (at_key src record { kind = k; start = q.start; end = q.end; text = q.text } o)) e;
   ends = refl;
 }
 annotation_complete src (with_value p l q m (any {k = k} {i = i} r e)) = record {
   last = annotation.Closed (placed src (one k r) i) (string_node src record { kind = kind.StringLit; start = q.start; end = q.end; text = q.text });
-  goes = ap (λ o. steps (annotations src) (taken (at_key src record { kind = k; start = r.start; end = r.end; text = r.text } o)) (one kind.OpenParen l ++ one kind.StringLit q ++ one kind.CloseParen m)) e;
+  goes = ap (λ o. steps (annotations src) (answer_state (at_key src record { kind = k; start = r.start; end = r.end; text = r.text } o)) (one kind.OpenParen l ++ one kind.StringLit q ++ one kind.CloseParen m)) e;
   ends = refl;
 }
 
@@ -49,7 +49,7 @@ data AnnotationRead (src : List ℕ) : List Lexeme → AnnotationState → Type 
       (annotation.Closed (placed src ts i) (string_node src record { kind = kind.StringLit; start = q.start; end = q.end; text = q.text }))
 
 abbrev After : List ℕ → List Lexeme → Answer AnnotationState Annotation → Type 0
-After src ts a = IfSome (taken a) (λ s. AnnotationRead src ts s)
+After src ts a = IfSome (answer_state a) (λ s. AnnotationRead src ts s)
 
 start_read : (src : List ℕ) (c : Mark) (k : TokenKind) (p : Spot) → IsMarked c k → After src (one k p) (at_start c)
 start_read src mark.At k p at = is_at p
@@ -59,12 +59,12 @@ key_read : (src : List ℕ) (p : Spot) (t : Lexeme) (o : Option Ident) → any_o
 key_read src p t None e = tt
 key_read src p t (Some i) e = is_key p (any (spot_of t) e)
 
-open_read : (src : List ℕ) {ts : List Lexeme} {i : Ident} (p : Spot) → ReadsAny ts i → (c : Mark) (k : TokenKind) (q : Spot) → IsMarked c k → After src (one kind.At p ++ ts ++ one k q) (behind_key (placed src ts i) c)
+open_read : (src : List ℕ) {ts : List Lexeme} {i : Ident} (p : Spot) → ReadsAny ts i → (c : Mark) (k : TokenKind) (q : Spot) → IsMarked c k → After src (one kind.At p ++ ts ++ one k q) (behind_annotation_key (placed src ts i) c)
 open_read src p r mark.OpenParen k q open_paren = is_open p q r
 open_read src p r _ k q h = tt
 
 value_read : (src : List ℕ) {ts : List Lexeme} {i : Ident} (p l : Spot) → ReadsAny ts i → (c : Mark) (k : TokenKind) (q : Spot) → IsMarked c k →
-    After src (one kind.At p ++ ts ++ one kind.OpenParen l ++ one k q) (at_value src (placed src ts i) record { kind = k; start = q.start; end = q.end; text = q.text } c)
+    After src (one kind.At p ++ ts ++ one kind.OpenParen l ++ one k q) (at_annotation_value src (placed src ts i) record { kind = k; start = q.start; end = q.end; text = q.text } c)
 value_read src p l r mark.String k q a_string = is_value p l q r
 value_read src p l r _ k q h = tt
 
@@ -106,11 +106,11 @@ key_answers : (src : List ℕ) (t : Lexeme) (o : Option Ident) → any_of t.kind
 key_answers src t None e = refl
 key_answers src t (Some i) e = word_fits t i e
 
-open_answers : (t : Lexeme) (i : Cell Ident) (c : Mark) → mark_of t.kind ≡ c → AnswersRightly t (behind_key i c) (Some (annotation_of i None))
+open_answers : (t : Lexeme) (i : Cell Ident) (c : Mark) → mark_of t.kind ≡ c → AnswersRightly t (behind_annotation_key i c) (Some (annotation_of i None))
 open_answers t i mark.OpenParen h = marked_fits t mark.OpenParen h refl
 open_answers t i _ h = refl
 
-value_answers : (src : List ℕ) (t : Lexeme) (i : Cell Ident) (c : Mark) → mark_of t.kind ≡ c → AnswersRightly t (at_value src i t c) None
+value_answers : (src : List ℕ) (t : Lexeme) (i : Cell Ident) (c : Mark) → mark_of t.kind ≡ c → AnswersRightly t (at_annotation_value src i t c) None
 value_answers src t i mark.String h = marked_fits t mark.String h refl
 value_answers src t i _ h = refl
 
@@ -136,7 +136,7 @@ annotation_door src = record {
 
 -- where one ends
 
-key_ended : (i : Cell Ident) (c : Mark) → is_taken (at_start c) ≡ true → behind_key i c ≡ ended (annotation_of i None)
+key_ended : (i : Cell Ident) (c : Mark) → is_taken (at_start c) ≡ true → behind_annotation_key i c ≡ ended (annotation_of i None)
 key_ended i mark.At h = refl
 key_ended i mark.OpenParen h = absurd (cc)
 key_ended i _ h = refl
@@ -150,7 +150,7 @@ annotation_ends_itself src (annotation.Value i y) x t p e = absurd (cc)
 annotation_ends_itself src (annotation.Closed i y) x t p e = ap (λ x. ended x) (some_is e)
 
 -- a word's mark is `is` or none
-key_ended_by : (i : Cell Ident) (c : Mark) → is_word_mark c ≡ true → behind_key i c ≡ ended (annotation_of i None)
+key_ended_by : (i : Cell Ident) (c : Mark) → is_word_mark c ≡ true → behind_annotation_key i c ≡ ended (annotation_of i None)
 key_ended_by i mark.OpenParen h = absurd (cc)
 key_ended_by i _ h = refl
 

@@ -18,7 +18,7 @@ use Rattle.cedar_syntax.specs.Trees.{Cell, cond_of}
 use Rattle.cedar_syntax.specs.LooseWords.{ReadsAny, any}
 use Rattle.cedar_syntax.specs.LooseExpressions.{ReadsExpr}
 use Rattle.cedar_syntax.specs.LoosePolicies.{ReadsBody, no_body, body, ReadsCond, cond}
-use Rattle.cedar_syntax.specs.machines.Door.{Machine, Answer, next, ended, refused, too_large, taken, steps, Comes, RunsTo, Completed, AnswersRightly, Door, IsOutside}
+use Rattle.cedar_syntax.specs.machines.Door.{Machine, Answer, next, ended, refused, too_large, answer_state, steps, Comes, RunsTo, Completed, AnswersRightly, Door, IsOutside}
 use Rattle.cedar_syntax.specs.machines.Marks.{mark_of}
 use Rattle.cedar_text.specs.machines.Placing.{AsNode, as_node}
 use Rattle.cedar_text.specs.machines.Words.{token_node}
@@ -58,7 +58,7 @@ body_runs {src = src} d o i (body {ts = us} {x = x} r) = some_body src o i us (p
 
 -- behind a word and `{`
 pub opened : {E : Type 0} (src : List ℕ) (m : Machine Lexeme E (Cell Expr)) {ts : List Lexeme} {i : Ident} (l : Spot) → ReadsAny ts i → Comes (conditions src m) (ts ++ one kind.OpenBrace l) (condition.Opened (placed src ts i))
-opened src m l (any {k = k} {i = i} q e) = ap (λ o. steps (conditions src m) (taken (at_word src (token_at k q) o)) (one kind.OpenBrace l)) e
+opened src m l (any {k = k} {i = i} q e) = ap (λ o. steps (conditions src m) (answer_state (at_word src (token_at k q) o)) (one kind.OpenBrace l)) e
 
 condition_complete : {E : Type 0} {src : List ℕ} {m : Machine Lexeme E (Cell Expr)} → Door m (AsNode src (ReadsExpr src)) → IsOutside m kind.CloseBrace → {ts : List Lexeme} {c : Cond} → ReadsCond src ts c → RunsTo (conditions src m) ts c
 condition_complete {src = src} {m = m} d o (cond {ts = ts} {us = us} {i = i} {x = x} l e w r) =
@@ -66,7 +66,7 @@ condition_complete {src = src} {m = m} d o (cond {ts = ts} {us = us} {i = i} {x 
     record {
       last = condition.Closed (placed src ts i) x;
       goes = then_steps (conditions src m) (Some condition.Start) (Some h.last) _ (ts ++ one kind.OpenBrace l ++ us) (one kind.CloseBrace e)
-          (then_steps (conditions src m) (Some condition.Start) _ _ (ts ++ one kind.OpenBrace l) us (opened src m l w) h.goes) (ap (λ a. taken a) (h.closes e));
+          (then_steps (conditions src m) (Some condition.Start) _ _ (ts ++ one kind.OpenBrace l) us (opened src m l w) h.goes) (ap (λ a. answer_state a) (h.closes e));
       ends = refl;
     }
 
@@ -81,7 +81,7 @@ pub data ConditionRead {E : Type 0} (src : List ℕ) (m : Machine Lexeme E (Cell
       ConditionRead src m (ts ++ one kind.OpenBrace l ++ us ++ one kind.CloseBrace e) (condition.Closed (placed src ts i) x)
 
 abbrev After : {E : Type 0} → List ℕ → Machine Lexeme E (Cell Expr) → List Lexeme → Answer (ConditionState E) Cond → Type 0
-After src m ts a = IfSome (taken a) (λ s. ConditionRead src m ts s)
+After src m ts a = IfSome (answer_state a) (λ s. ConditionRead src m ts s)
 
 word_read : {E : Type 0} (src : List ℕ) (m : Machine Lexeme E (Cell Expr)) (t : Lexeme) (o : Option Ident) → any_of t.kind t.text ≡ o → After src m (t ∷ []) (at_word src t o)
 word_read src m t None e = tt
@@ -106,7 +106,7 @@ body_of (as_node r) = body r
 
 at_body_read : {E : Type 0} {src : List ℕ} {m : Machine Lexeme E (Cell Expr)} → Door m (AsNode src (ReadsExpr src)) → {ts : List Lexeme} {i : Ident} (l : Spot) → ReadsAny ts i → (t : Lexeme) (a : Answer E (Cell Expr)) → m.step m.start t ≡ a → AnswersRightly t a (m.finish m.start) →
     After src m (ts ++ one kind.OpenBrace l ++ t ∷ []) (at_body (placed src ts i) (mark_of t.kind) a)
-at_body_read d l w t (next s) e h = is_body l (t ∷ []) w (ap (λ a. taken a) e)
+at_body_read d l w t (next s) e h = is_body l (t ∷ []) w (ap (λ a. answer_state a) e)
 at_body_read {src = src} {m = m} d l w t (ended x) e h = empty_read src m l w (body_of (d.sound [] m.start x refl h)) (mark_of t.kind) t.kind (spot_of t) (marked t.kind)
 at_body_read {src = src} {m = m} d l w t refused e h = empty_read src m l w no_body (mark_of t.kind) t.kind (spot_of t) (marked t.kind)
 at_body_read d l w t too_large e h = tt
@@ -148,7 +148,7 @@ body_completed {src = src} {m = m} d o i s =
       last = condition.Closed i (Some c.tree);
       tree = cond_of i (Some c.tree);
       goes = then_steps (conditions src m) (Some (condition.Body i s)) (Some (condition.Body i c.last)) _ c.more (some_token kind.CloseBrace ∷ []) (held m (conditions src m) (λ q. condition.Body i q) (holds_body src m i) c.more s c.last c.goes)
-          (ap (λ a. taken (in_body i mark.CloseBrace a)) (o.behind c.last c.tree (some_token kind.CloseBrace) refl c.ends));
+          (ap (λ a. answer_state (in_body i mark.CloseBrace a)) (o.behind c.last c.tree (some_token kind.CloseBrace) refl c.ends));
       ends = refl;
     }
 
@@ -156,9 +156,9 @@ abbrev a_word : List ℕ → Cell Ident
 a_word src = token_node src (some_token kind.Identifier) (ident.Ident [])
 
 condition_viable : {E : Type 0} {src : List ℕ} {m : Machine Lexeme E (Cell Expr)} → Door m (AsNode src (ReadsExpr src)) → IsOutside m kind.CloseBrace → (s : ConditionState E) → Completed (conditions src m) s
-condition_viable {src = src} d o condition.Start = record { more = some_token kind.Identifier ∷ some_token kind.OpenBrace ∷ some_token kind.CloseBrace ∷ []; last = condition.Closed (a_word src) None; tree = cond_of (a_word src) None; goes = ap (λ a. taken (at_body (a_word src) mark.CloseBrace a)) (o.before (some_token kind.CloseBrace) refl); ends = refl }
-condition_viable d o (condition.Word i) = record { more = some_token kind.OpenBrace ∷ some_token kind.CloseBrace ∷ []; last = condition.Closed i None; tree = cond_of i None; goes = ap (λ a. taken (at_body i mark.CloseBrace a)) (o.before (some_token kind.CloseBrace) refl); ends = refl }
-condition_viable d o (condition.Opened i) = record { more = some_token kind.CloseBrace ∷ []; last = condition.Closed i None; tree = cond_of i None; goes = ap (λ a. taken (at_body i mark.CloseBrace a)) (o.before (some_token kind.CloseBrace) refl); ends = refl }
+condition_viable {src = src} d o condition.Start = record { more = some_token kind.Identifier ∷ some_token kind.OpenBrace ∷ some_token kind.CloseBrace ∷ []; last = condition.Closed (a_word src) None; tree = cond_of (a_word src) None; goes = ap (λ a. answer_state (at_body (a_word src) mark.CloseBrace a)) (o.before (some_token kind.CloseBrace) refl); ends = refl }
+condition_viable d o (condition.Word i) = record { more = some_token kind.OpenBrace ∷ some_token kind.CloseBrace ∷ []; last = condition.Closed i None; tree = cond_of i None; goes = ap (λ a. answer_state (at_body i mark.CloseBrace a)) (o.before (some_token kind.CloseBrace) refl); ends = refl }
+condition_viable d o (condition.Opened i) = record { more = some_token kind.CloseBrace ∷ []; last = condition.Closed i None; tree = cond_of i None; goes = ap (λ a. answer_state (at_body i mark.CloseBrace a)) (o.before (some_token kind.CloseBrace) refl); ends = refl }
 condition_viable d o (condition.Body i s) = body_completed d o i s
 condition_viable d o (condition.Closed i x) = record { more = []; last = condition.Closed i x; tree = cond_of i x; goes = refl; ends = refl }
 

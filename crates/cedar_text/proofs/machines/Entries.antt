@@ -9,7 +9,7 @@ use Rattle.cedar_syntax.specs.machines.Door.{Answer, next, ended, refused, too_l
 use Rattle.cedar_syntax.specs.declared.reading.taken.Taken.{Taken}
 use Rattle.cedar_syntax.specs.declared.reading.taken.Taken.TheVariants as taking
 use Rattle.cedar_syntax.specs.machines.Judged.{answer_of, may_take, ReadsBy}
-use Rattle.cedar_text.specs.machines.Words.{ended_with, kept, names, refs, idents}
+use Rattle.cedar_text.specs.machines.Words.{end_or_refusal, kept_answer, names, refs, idents}
 use Rattle.cedar_text.specs.machines.WordShapes.{no_tree, path_shape, words_shape, name_shapes, ref_shapes, ident_shapes, ident_shape}
 use Rattle.cedar_syntax.proofs.machines.Laws.{exactly, ends_alike}
 use Rattle.cedar_text.proofs.machines.Names.{names_door, refs_door, idents_door}
@@ -41,11 +41,11 @@ idents_read src = reads_by ident_shape no_tree (idents_door src) (idents_shaped 
 
 -- a token that is allowed doesn't end a tree, and is not refused
 
-ended_not_taken : (S : Type 0) {U : Type 0} (o : Option U) → may_take (ended_with {S = S} o) ≡ true → ⊥
+ended_not_taken : (S : Type 0) {U : Type 0} (o : Option U) → may_take (end_or_refusal {S = S} o) ≡ true → ⊥
 ended_not_taken S (Some y) e = cc
 ended_not_taken S None e = cc
 
-kept_not_taken : {S T U : Type 0} (h : T → Option U) (f : Taken T) (s : S) → ((x : T) × (f ≡ taking.Ended x)) ⊎ (f ≡ taking.Refused) → may_take (kept h (answer_of f s)) ≡ true → ⊥
+kept_not_taken : {S T U : Type 0} (h : T → Option U) (f : Taken T) (s : S) → ((x : T) × (f ≡ taking.Ended x)) ⊎ (f ≡ taking.Refused) → may_take (kept_answer h (answer_of f s)) ≡ true → ⊥
 kept_not_taken h taking.Next s (inl e) t = next_not_ended e.0 e.1
   where
     next_not_ended : {T : Type 0} (x : T) → taking.Next ≡ taking.Ended x → ⊥
@@ -59,5 +59,5 @@ kept_not_taken h taking.TooLarge s (inl e) t = large_not_ended e.0 e.1
     large_not_ended x e = cc
 kept_not_taken h taking.TooLarge s (inr e) t = cc
 
-pub is_taken_there : {S T U : Type 0} (h : T → Option U) (f : Taken T) (s : S) (a : Answer S T) (b : Bool) → answer_of f s ≡ a → may_take (kept h a) ≡ b → b ≡ true → ((x : T) × (f ≡ taking.Ended x)) ⊎ (f ≡ taking.Refused) → ⊥
-is_taken_there h f s a b e g i w = kept_not_taken h f s w (ap (λ a. may_take (kept h a)) e ∙ g ∙ i)
+pub is_taken_there : {S T U : Type 0} (h : T → Option U) (f : Taken T) (s : S) (a : Answer S T) (b : Bool) → answer_of f s ≡ a → may_take (kept_answer h a) ≡ b → b ≡ true → ((x : T) × (f ≡ taking.Ended x)) ⊎ (f ≡ taking.Refused) → ⊥
+is_taken_there h f s a b e g i w = kept_not_taken h f s w (ap (λ a. may_take (kept_answer h a)) e ∙ g ∙ i)

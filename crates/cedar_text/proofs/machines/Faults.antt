@@ -10,11 +10,11 @@ use Rattle.cedar_syntax.specs.declared.reading.recovery.Way.TheVariants as way
 use Rattle.cedar_syntax.specs.Tokens.{fits}
 use Rattle.cedar_syntax.specs.Sentences.{kinds, HasTree, Starts, Allowed, IsFirstRefused, first}
 use Rattle.cedar_syntax.specs.Mended.{is_stop, Skips, Mended, head, Faults, no_fault, too_large, last_fault, more_faults}
-use Rattle.cedar_syntax.specs.machines.Door.{Machine, Answer, next, ended, refused, taken, steps, Comes, AnswersRightly, Door, is_taken, is_some, allows, Shapes}
+use Rattle.cedar_syntax.specs.machines.Door.{Machine, Answer, next, ended, refused, answer_state, steps, Comes, AnswersRightly, Door, is_taken, is_some, allows, Shapes}
 use Rattle.cedar_syntax.specs.machines.Door as door
 use Rattle.cedar_syntax.specs.machines.Marks.{mark_of}
 use Rattle.cedar_text.specs.machines.WordShapes.{no_tree}
-use Rattle.cedar_syntax.specs.machines.Recovery.{Recovers, Recovery, reading, skipping, stopped, skipped, judged, recover_all, Told, told, told_reading, told_all}
+use Rattle.cedar_syntax.specs.machines.Recovery.{Recovers, Recovery, reading, skipping, stopped, skip_step, judgment, recovery_of_all, RunFaults, run_faults, told_reading, told_all}
 use Rattle.cedar_syntax.proofs.machines.Laws.{some_is, none_some, false_true, starts_from, comes, exactly, stops_at, ends_alike}
 use Rattle.cedar_syntax.proofs.machines.Holding.{snoc_assoc, one_more}
 use Rattle.cedar_text.proofs.machines.Alike.{states_alike}
@@ -33,7 +33,7 @@ stops_there {n = n} f d i ts s o c h = not_true (allows n (f s) o) (λ e. h ((ex
 
 -- a number that doesn't fit, where one may stand
 large_told : {S T F V : Type 0} (r : Recovers S F) (f : S → V) (xs : List F) (l : ℕ) (s : S) (t : Lexeme) (a : Answer S T) (c : Answer V (Unit {0})) (o : Option T) → IsShapeBy f a c → is_taken c ≡ true → AnswersRightly t a o → t.kind ≡ kind.Number → fits t.text ≡ false →
-    judged r xs l s t a ≡ stopped xs (r.large t)
+    judgment r xs l s t a ≡ stopped xs (r.large t)
 large_told r f xs l s t (next q) c o i e h k g = absurd (false_true g (h k))
 large_told r f xs l s t (ended x) c o i e h k g = absurd (false_true (ap (λ c. is_taken c) i) e)
 large_told r f xs l s t refused c o i e h k g = absurd (false_true (ap (λ c. is_taken c) i) e)
@@ -41,14 +41,14 @@ large_told r f xs l s t door.too_large c o i e h k g = refl
 
 skipped_last : {S T F V : Type 0} {src : List ℕ} {m : Machine Lexeme S T} {R : List Lexeme → T → Type 0} {W : List Lexeme → Type 0} {U : List Lexeme → Option Lexeme → F → Type 0} {L : Lexeme → F → Type 0} {r : Recovers S F} {n : Machine TokenKind V (Unit {0})} {f : S → V} →
     Recoverable src m R W U L r n f → (before : List Lexeme) (s : S) (xs : List F) (x : F) (w : Way) (b : Bool) → r.way s ≡ w → skips_on w ≡ b → Comes m before s → {us : List Lexeme} → Search (braced w) us → ((vs : List Lexeme) → ¬ (Mended src R W before us vs)) →
-    told_all m r (skipping xs w s x) us ≡ told xs (Some x)
+    told_all m r (skipping xs w s x) us ≡ run_faults xs (Some x)
 skipped_last {m = m} {r = r} d before s xs x w true h i c (found_none {ts = us} k) none = skips_out m r xs w s x us i k
 skipped_last {src = src} {R = R} {W = W} {r = r} d before s xs x w true h i c (found vs t ws k j) none =
     let g = stop_at d before s vs ws t c (ap (λ w. skips_on w) h ∙ i) (subst (λ w. Skips (braced w) vs) (sym h) k) (ap (λ w. is_stop (braced w) t.kind) h ∙ j) in
     absurd (none (g.front ++ ws) g.mended)
 skipped_last {m = m} {r = r} d before s xs x w false h i c {us = us} k none = never w i us
   where
-    never : (w : Way) → skips_on w ≡ false → (us : List Lexeme) → told_all m r (skipping xs w s x) us ≡ told xs (Some x)
+    never : (w : Way) → skips_on w ≡ false → (us : List Lexeme) → told_all m r (skipping xs w s x) us ≡ run_faults xs (Some x)
     never way.ToBrace e us = absurd (cc)
     never way.ToEnd e us = absurd (cc)
     never way.Stop e [] = refl
@@ -68,26 +68,26 @@ again {m = m} {r = r} {s = s} xs x g =
     ap (λ w. told_all m r (skipping xs (r.way s) s x) w) g.parts ∙ skips m r xs (r.way s) s x g.skips (g.stop ∷ g.after) g.goes_on g.skipping ∙ ap (λ q. told_all m r q g.after) (g.resumes xs x)
 
 in_place : {S T F V : Type 0} {src : List ℕ} {m : Machine Lexeme S T} {R : List Lexeme → T → Type 0} {W : List Lexeme → Type 0} {U : List Lexeme → Option Lexeme → F → Type 0} {L : Lexeme → F → Type 0} {r : Recovers S F} {n : Machine TokenKind V (Unit {0})} {f : S → V} →
-    Recoverable src m R W U L r n f → {ts : List Lexeme} {ys : List F} {y : Option F} → Faults src R W U L ts ys y → (xs : List F) → told_all m r (reading xs 0 m.start) ts ≡ told (xs ++ ys) y
+    Recoverable src m R W U L r n f → {ts : List Lexeme} {ys : List F} {y : Option F} → Faults src R W U L ts ys y → (xs : List F) → told_all m r (reading xs 0 m.start) ts ≡ run_faults (xs ++ ys) y
 in_place {m = m} {r = r} d (no_fault {ts = ts} h) xs =
     let c = d.door.complete ts h.0 h.1 in
-    ap (λ w. told_all m r (reading xs 0 m.start) w) (sym (append-nil ts)) ∙ reads m r xs 0 m.start c.last ts [] c.goes ∙ ap (λ o. told_reading xs (r.tell c.last (end_from 0 ts) None) o) c.ends ∙ ap (λ xs. told xs None) (sym (append-nil xs))
+    ap (λ w. told_all m r (reading xs 0 m.start) w) (sym (append-nil ts)) ∙ reads m r xs 0 m.start c.last ts [] c.goes ∙ ap (λ o. told_reading xs (r.tell c.last (end_from 0 ts) None) o) c.ends ∙ ap (λ xs. run_faults xs None) (sym (append-nil xs))
 in_place {m = m} {r = r} {n = n} {f = f} d (too_large ts us {t = t} {x = x} h a k e l) xs =
     let c = comes d.door ts h in
     let i : is_taken (n.step (f c.0) t.kind) ≡ true = ap (λ k. is_taken (n.step (f c.0) k)) k ∙ (exactly f no_tree d.door d.shaped ts c.0 (Some kind.Number) c.1).1 a in
     reads m r xs 0 m.start c.0 ts (t ∷ us) c.1
     ∙ ap (λ q. told_all m r q us) (large_told r f xs (end_from 0 ts) c.0 t (m.step c.0 t) (n.step (f c.0) t.kind) (m.finish c.0) (d.shaped.steps c.0 t) i (d.door.answers c.0 t) k e)
-    ∙ stays m r xs (r.large t) us ∙ ap (λ x. told xs (Some x)) ((d.larges t x).0 l) ∙ ap (λ xs. told xs (Some x)) (sym (append-nil xs))
+    ∙ stays m r xs (r.large t) us ∙ ap (λ x. run_faults xs (Some x)) ((d.larges t x).0 l) ∙ ap (λ xs. run_faults xs (Some x)) (sym (append-nil xs))
 in_place {r = r} d (last_fault ts us {x = x} h u none) xs =
     let c = comes d.door ts h.starts in
-    at_fault d xs ts us c.0 x c.1 h.refuses u ∙ skipped_last d ts c.0 xs x (r.way c.0) (skips_on (r.way c.0)) refl refl c.1 (search (braced (r.way c.0)) us) none ∙ ap (λ xs. told xs (Some x)) (sym (append-nil xs))
+    at_fault d xs ts us c.0 x c.1 h.refuses u ∙ skipped_last d ts c.0 xs x (r.way c.0) (skips_on (r.way c.0)) refl refl c.1 (search (braced (r.way c.0)) us) none ∙ ap (λ xs. run_faults xs (Some x)) (sym (append-nil xs))
 in_place {m = m} {r = r} {f = f} d (more_faults ts us {vs = vs} {x = x} {xs = ys} {y = y} h u e w) xs =
     let c = comes d.door ts h.starts in
     let g = resumed d c.0 e c.1 in
     let zs = xs ++ x ∷ [] in
     at_fault d xs ts us c.0 x c.1 h.refuses u ∙ again xs x g ∙ states_alike r f d.by_shape d.door d.shaped zs g.stop.end g.to g.state g.after g.alike
     ∙ ap (λ l. told_all m r (reading zs l g.state) g.after) (sym g.last) ∙ sym (reads m r zs 0 m.start g.state g.front g.after g.comes)
-    ∙ ap (λ ts. told_all m r (reading zs 0 m.start) ts) (sym g.mends) ∙ in_place d w zs ∙ ap (λ xs. told xs y) (snoc_assoc xs x ys)
+    ∙ ap (λ ts. told_all m r (reading zs 0 m.start) ts) (sym g.mends) ∙ in_place d w zs ∙ ap (λ xs. run_faults xs y) (snoc_assoc xs x ys)
 
 -- each list of tokens has faults, or a tree: the list of mended tokens comes to an end
 
@@ -169,11 +169,11 @@ has_faults {src = src} {m = m} {R = R} {W = W} {U = U} {L = L} d ts = (with_belo
 
 -- both ways
 
-mended_is : {F : Type 0} {a b : Told F} → a ≡ b → a.mended ≡ b.mended
+mended_is : {F : Type 0} {a b : RunFaults F} → a ≡ b → a.mended ≡ b.mended
 mended_is e = ap (λ a. a.mended) e
 
 pub faults_exactly : {S T F V : Type 0} {src : List ℕ} {m : Machine Lexeme S T} {R : List Lexeme → T → Type 0} {W : List Lexeme → Type 0} {U : List Lexeme → Option Lexeme → F → Type 0} {L : Lexeme → F → Type 0} {r : Recovers S F} {n : Machine TokenKind V (Unit {0})} {f : S → V} →
-    Recoverable src m R W U L r n f → (ts : List Lexeme) (ys : List F) (y : Option F) → Faults src R W U L ts ys y ↔ (told_all m r (reading [] 0 m.start) ts ≡ told ys y)
+    Recoverable src m R W U L r n f → (ts : List Lexeme) (ys : List F) (y : Option F) → Faults src R W U L ts ys y ↔ (told_all m r (reading [] 0 m.start) ts ≡ run_faults ys y)
 faults_exactly {src = src} {R = R} {W = W} {U = U} {L = L} d ts ys y = (
   λ h. in_place d h [],
   λ e. let a = has_faults d ts in

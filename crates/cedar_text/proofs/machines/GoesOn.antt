@@ -13,7 +13,7 @@ use Rattle.cedar_syntax.specs.Grammar.{Rule, IsNodeOf}
 use Rattle.cedar_syntax.specs.Place.{placed_or_start}
 use Rattle.cedar_syntax.specs.Sentences.{kinds, Starts}
 use Rattle.cedar_syntax.specs.Trees.{Cell}
-use Rattle.cedar_syntax.specs.machines.Door.{Answer, next, ended, refused, too_large, Machine, taken, steps, AnswersRightly, Door, Shapes}
+use Rattle.cedar_syntax.specs.machines.Door.{Answer, next, ended, refused, too_large, Machine, answer_state, steps, AnswersRightly, Door, Shapes}
 use Rattle.cedar_syntax.proofs.machines.Laws.{none_some, steps-none, kinds-append, comes}
 use Rattle.cedar_text.specs.GoesOn.{GoesOnInText}
 use Rattle.cedar_text.proofs.Joints.{laid_bytes, laid_end, laid_stands, laid_stays}
@@ -50,7 +50,7 @@ behind_utf8 text ts place ks u l =
 -- ---- its tree
 
 one_fits : {S T : Type 0} (m : Machine Lexeme S T) (t : Lexeme) (ts : List Lexeme) (r : S) (a : Answer S T) (o : Option T) → AnswersRightly t a o → ((s : S) → steps m (Some s) ts ≡ Some r → NumbersFit ts) →
-    steps m (taken a) ts ≡ Some r → NumbersFit (t ∷ ts)
+    steps m (answer_state a) ts ≡ Some r → NumbersFit (t ∷ ts)
 one_fits m t ts r (next s) o v more e = (v, more s e)
 one_fits m t ts r (ended x) o v more e = absurd (none_some (steps-none m ts) e)
 one_fits m t ts r refused o v more e = absurd (none_some (steps-none m ts) e)

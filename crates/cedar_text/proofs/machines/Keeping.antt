@@ -1,8 +1,8 @@
 -- A machine whose trees are some of another's, from the other's door.
 use Rattle.std.proofs.Common.{◌≡◌, List, [], ◌∷◌, Option, Some, None, refl, sym, ◌∙◌, ap}
 use Rattle.cedar_lexer.specs.Token.{Lexeme}
-use Rattle.cedar_syntax.specs.machines.Door.{Answer, next, ended, refused, too_large, Machine, taken, step_from, steps, Completed, AnswersRightly, Door}
-use Rattle.cedar_text.specs.machines.Words.{ended_with, kept, kept_end, keeping}
+use Rattle.cedar_syntax.specs.machines.Door.{Answer, next, ended, refused, too_large, Machine, answer_state, step_from, steps, Completed, AnswersRightly, Door}
+use Rattle.cedar_text.specs.machines.Words.{end_or_refusal, kept_answer, kept_end, keeping}
 use Rattle.cedar_syntax.proofs.machines.Laws.{none_some}
 
 -- tokens that have a tree which is one of these
@@ -11,11 +11,11 @@ pub record Kept {T U : Type 0} (R : List Lexeme → T → Type 0) (h : T → Opt
   pub reads : R ts tree
   pub is : h tree ≡ Some y
 
-taken_alike : {S T U : Type 0} (h : T → Option U) (a : Answer S T) → taken (kept h a) ≡ taken a
+taken_alike : {S T U : Type 0} (h : T → Option U) (a : Answer S T) → answer_state (kept_answer h a) ≡ answer_state a
 taken_alike h (next s) = refl
 taken_alike h (ended x) = taken_ended (h x)
   where
-    taken_ended : {S U : Type 0} (o : Option U) → taken (ended_with {S = S} o) ≡ None
+    taken_ended : {S U : Type 0} (o : Option U) → answer_state (end_or_refusal {S = S} o) ≡ None
     taken_ended (Some x) = refl
     taken_ended None = refl
 taken_alike h refused = refl
@@ -33,11 +33,11 @@ kept_ended : {T U : Type 0} (h : T → Option U) (o : Option T) (y : U) → kept
 kept_ended h (Some x) y e = (x, refl, e)
 kept_ended h None y e = absurd (none_some refl e)
 
-ended_rightly : (S : Type 0) {T U : Type 0} (h : T → Option U) (t : Lexeme) (x : T) (w : Option U) (o : Option T) → h x ≡ w → o ≡ Some x → AnswersRightly t (ended_with {S = S} w) (kept_end h o)
+ended_rightly : (S : Type 0) {T U : Type 0} (h : T → Option U) (t : Lexeme) (x : T) (w : Option U) (o : Option T) → h x ≡ w → o ≡ Some x → AnswersRightly t (end_or_refusal {S = S} w) (kept_end h o)
 ended_rightly S h t x (Some y) o e f = ap (λ o. kept_end h o) f ∙ e
 ended_rightly S h t x None o e f = ap (λ o. kept_end h o) f ∙ e
 
-answers_alike : {S T U : Type 0} (h : T → Option U) (t : Lexeme) (a : Answer S T) (o : Option T) → AnswersRightly t a o → AnswersRightly t (kept h a) (kept_end h o)
+answers_alike : {S T U : Type 0} (h : T → Option U) (t : Lexeme) (a : Answer S T) (o : Option T) → AnswersRightly t a o → AnswersRightly t (kept_answer h a) (kept_end h o)
 answers_alike h t (next s) o e = e
 answers_alike {S = S} h t (ended x) o e = ended_rightly S h t x (h x) o refl e
 answers_alike h t refused o e = ap (λ o. kept_end h o) e

@@ -19,11 +19,11 @@ use Rattle.cedar_syntax.specs.declared.err.to_cst.RawFault.{RawFault}
 use Rattle.cedar_syntax.specs.declared.reading.expected.Narrowing.{Narrowing}
 use Rattle.cedar_syntax.specs.declared.reading.expected.Narrowing.TheVariants as narrowing
 use Rattle.cedar_syntax.specs.Expected.{is_closer, IsNarrowed, Picks, no_kind, picked, passed, IsExpected, all_allowed, closers}
-use Rattle.cedar_syntax.specs.FirstFault.{end_of, FirstFault, unexpected, early_end, large_number, bad_place, IsFaultIn}
+use Rattle.cedar_syntax.specs.FirstFault.{tokens_end, FirstFault, unexpected, early_end, large_number, bad_place, IsFaultIn}
 use Rattle.cedar_syntax.specs.Grammar.{Rule, IsNodeOf}
 use Rattle.cedar_syntax.specs.Leftmost.{IsFitting, NumbersFit, start_of, IsBefore, StartsBefore, StandsLeftmost, HasLeftmost}
-use Rattle.cedar_syntax.specs.Mended.{Mended, to_brace, to_end, Faults, no_fault, too_large, last_fault, more_faults, put, head}
-use Rattle.cedar_syntax.specs.MendedFaults.{fault_of, Unallowed, a_token, the_end, IsLarge, listed, FaultsOf, IsListed, IsFaultList, IsMendedRefusal}
+use Rattle.cedar_syntax.specs.Mended.{Mended, to_brace, to_end, Faults, no_fault, too_large, last_fault, more_faults, stub_token, head}
+use Rattle.cedar_syntax.specs.MendedFaults.{fault_of, Unallowed, a_token, the_end, IsLarge, faults_with_last, FaultsOf, IsListed, IsFaultList, IsMendedRefusal}
 use Rattle.cedar_syntax.specs.Sentences.{kinds, HasTree, Starts, Allowed, IsFirstRefused, first}
 use Rattle.cedar_syntax.specs.Tokens.{Spot, one, fits}
 use Rattle.cedar_syntax.proofs.machines.Laws.{some_is, false_true, kinds-append}
@@ -103,11 +103,11 @@ fit_mended (to_brace ts us vs ws e b k) h =
     (fit_right (vs ++ one kind.CloseBrace e) ws g)
 fit_mended (to_end ts us vs ws e w b i k) h =
     let g : NumbersFit (vs ++ one kind.Semicolon e ++ ws) = fit_right (ts ++ us) (vs ++ one kind.Semicolon e ++ ws) h in
-    let a : NumbersFit (ts ++ put kind.Identifier) = fit_both ts (put kind.Identifier) (fit_left ts us (fit_left (ts ++ us) (vs ++ one kind.Semicolon e ++ ws) h)) (λ e. absurd (identifier_fits e), tt) in
-    let b : NumbersFit (ts ++ put kind.Identifier ++ put kind.OpenParen) = fit_both (ts ++ put kind.Identifier) (put kind.OpenParen) a (λ e. absurd (open_fits e), tt) in
-    let c : NumbersFit (ts ++ put kind.Identifier ++ put kind.OpenParen ++ put kind.CloseParen) = fit_both (ts ++ put kind.Identifier ++ put kind.OpenParen) (put kind.CloseParen) b (λ e. absurd (close_fits e), tt) in
-    fit_both (ts ++ put kind.Identifier ++ put kind.OpenParen ++ put kind.CloseParen ++ one kind.Semicolon e) ws
-    (fit_both (ts ++ put kind.Identifier ++ put kind.OpenParen ++ put kind.CloseParen) (one kind.Semicolon e) c (fit_right vs (one kind.Semicolon e) (fit_left (vs ++ one kind.Semicolon e) ws g)))
+    let a : NumbersFit (ts ++ stub_token kind.Identifier) = fit_both ts (stub_token kind.Identifier) (fit_left ts us (fit_left (ts ++ us) (vs ++ one kind.Semicolon e ++ ws) h)) (λ e. absurd (identifier_fits e), tt) in
+    let b : NumbersFit (ts ++ stub_token kind.Identifier ++ stub_token kind.OpenParen) = fit_both (ts ++ stub_token kind.Identifier) (stub_token kind.OpenParen) a (λ e. absurd (open_fits e), tt) in
+    let c : NumbersFit (ts ++ stub_token kind.Identifier ++ stub_token kind.OpenParen ++ stub_token kind.CloseParen) = fit_both (ts ++ stub_token kind.Identifier ++ stub_token kind.OpenParen) (stub_token kind.CloseParen) b (λ e. absurd (close_fits e), tt) in
+    fit_both (ts ++ stub_token kind.Identifier ++ stub_token kind.OpenParen ++ stub_token kind.CloseParen ++ one kind.Semicolon e) ws
+    (fit_both (ts ++ stub_token kind.Identifier ++ stub_token kind.OpenParen ++ stub_token kind.CloseParen) (one kind.Semicolon e) c (fit_right vs (one kind.Semicolon e) (fit_left (vs ++ one kind.Semicolon e) ws g)))
     (fit_right (vs ++ one kind.Semicolon e) ws g)
 
 -- ---- tokens in order
@@ -169,7 +169,7 @@ last_less n m (Some x) l h = from_less n m (start_of x) l h
 starts_from_place : {T : Type 0} {R : List Lexeme → T → Type 0} {src : List ℕ} (n : ℕ) (front ts us : List Lexeme) → end_from 0 front ≡ n → Ordered n (ts ++ us) → {before : List Lexeme} {x : ParseError} → before ≡ front ++ ts →
     Unallowed R narrowing.Tokens src before (head us) x → StartsFrom n x
 starts_from_place n front ts [] w o {before = before} e (the_end h) =
-    let i : end_of before ≡ end_from n ts = end_is before ∙ ap (λ ts. end_from 0 ts) e ∙ end_from-append 0 front ts ∙ ap (λ n. end_from n ts) w in
+    let i : tokens_end before ≡ end_from n ts = end_is before ∙ ap (λ ts. end_from 0 ts) e ∙ end_from-append 0 front ts ∙ ap (λ n. end_from n ts) w in
     let g = ordered_rest n ts [] o in
     omega (arith, i, g.0)
 starts_from_place n front ts (t ∷ us) w o e (a_token h) = let g = ordered_rest n ts (t ∷ us) o in omega (arith, g.0, g.1.0)
@@ -265,7 +265,7 @@ before_all : (n : ℕ) (x : ParseError) (xs : List ParseError) → Started n x �
 before_all n x [] s h = tt
 before_all n x (y ∷ xs) s h = (before_from (start_of x) (start_of y) s.start n s.is s.before h.0, before_all n x xs s h.1)
 
-leftmost_of : (n : ℕ) (x : ParseError) (xs : List ParseError) (y : Option ParseError) → Started n x → Later n xs y → StandsLeftmost x (listed y (x ∷ xs))
+leftmost_of : (n : ℕ) (x : ParseError) (xs : List ParseError) (y : Option ParseError) → Started n x → Later n xs y → StandsLeftmost x (faults_with_last y (x ∷ xs))
 leftmost_of n x xs None s d = record { earlier = []; later = xs; is = refl; before_others = before_all n x xs s d.mended }
 leftmost_of n x xs (Some y) s d = record { earlier = y ∷ []; later = xs; is = refl; before_others = (before_from (start_of x) (start_of y) s.start n s.is s.before d.last, before_all n x xs s d.mended) }
 
@@ -275,7 +275,7 @@ data Leading {T : Type 0} (R : List Lexeme → T → Type 0) (src : List ℕ) (t
   leads : (raw : RawFault) → IsFaultIn R narrowing.Tokens src ts None raw → StandsLeftmost (fault_of src raw) xs → Leading R src ts xs
 
 leading : {T : Type 0} {src : List ℕ} {R : List Lexeme → T → Type 0} {W : List Lexeme → Type 0} → Resumes src R W → {ts : List Lexeme} {xs : List ParseError} {y : Option ParseError} → Faults src R W (Unallowed R narrowing.Tokens src) (IsLarge src) ts xs y →
-    NumbersFit ts → Ordered 0 ts → Leading R src ts (listed y xs)
+    NumbersFit ts → Ordered 0 ts → Leading R src ts (faults_with_last y xs)
 leading m (no_fault h) f o = leads_none refl
 leading m (too_large ts us {t = t} h a k i l) f o = absurd (false_true i ((fit_right ts (t ∷ us) f).0 k))
 leading m (last_fault ts us u v none) f o =
@@ -288,7 +288,7 @@ leading m (more_faults ts us {vs = vs} {x = x} {xs = xs} {y = y} u v q more) f o
     let a = at_stop (end_from 0 ts) r.skips r.stop r.after (subst (λ us. Ordered (end_from 0 ts) us) r.parts i) in
     let d = later m more r.stop.end r.front r.after r.mends r.starts r.last (fit_mended q f) a.goes in
     let s = started (end_from 0 ts) us r.skips r.stop r.after i r.parts v in
-    leads g.raw record { before = ts; rest = us; is = refl; stands = g.stands } (subst (λ z. StandsLeftmost z (listed y (x ∷ xs))) g.is (leftmost_of r.stop.end x xs y s d))
+    leads g.raw record { before = ts; rest = us; is = refl; stands = g.stands } (subst (λ z. StandsLeftmost z (faults_with_last y (x ∷ xs))) g.is (leftmost_of r.stop.end x xs y s d))
 
 -- ---- the rule's relation, and the one of nodes
 
@@ -331,7 +331,7 @@ leftmost_list : {T : Type 0} {R : Rule T} (W : List ℕ → List Lexeme → Type
 leftmost_list W text m u ts c f x xs h (Some place) k i = absurd (not_both text ts h.tokens place c k)
 leftmost_list {R = R} W text m u ts c f x xs h None k i =
     let same : h.tokens ≡ ts = (one_end k (nothing_at_end text) c (nothing_at_end text)).0 in
-    has_leftmost xs (listed h.last h.mended) x i (leading m (subst (λ ts. FaultsOf R W text ts h.mended h.last) same h.stands) f (ordered_of text 0 ts (stand_in_order text ts _ u c).0))
+    has_leftmost xs (faults_with_last h.last h.mended) x i (leading m (subst (λ ts. FaultsOf R W text ts h.mended h.last) same h.stands) f (ordered_of text 0 ts (stand_in_order text ts _ u c).0))
 
 -- the leftmost fault of a refusal
 pub leftmost : {T : Type 0} {R : Rule T} (W : List ℕ → List Lexeme → Type 0) (text : List ℕ) → Resumes text (IsNodeOf R text) (W text) → IsUtf8 text → (ts : List Lexeme) → Cuts text ts → NumbersFit ts → (e : Failure) → IsMendedRefusal R W text e → HasLeftmost R text ts e

@@ -9,11 +9,11 @@ use Rattle.cedar_text.specs.declared.text_to_cst.sequence.Spanned.{Spanned}
 use Rattle.cedar_syntax.specs.Grammar.{IsNodeOf}
 use Rattle.cedar_syntax.specs.LoosePolicies.{ReadsMany, ReadsPolicy, ReadsPolicies}
 use Rattle.cedar_syntax.specs.LoosePolicies as loose
-use Rattle.cedar_syntax.specs.Place.{join, extent_of, extent, loc_at, node_at, placed, placed_or_start}
+use Rattle.cedar_syntax.specs.Place.{joint_extent, extent_of, extent, loc_at, node_at, placed, placed_or_start}
 use Rattle.cedar_syntax.specs.Trees.{Cell, policies_of}
-use Rattle.cedar_syntax.specs.machines.Door.{Machine, Answer, next, ended, refused, too_large, taken, step_from, steps, Comes, RunsTo, AnswersRightly, Door, IsShape, option_image, Shapes}
-use Rattle.cedar_syntax.specs.machines.Mapping.{mapped_answer, mapped, loc_or_start, policies_node}
-use Rattle.cedar_text.specs.machines.Placing.{AsNode, as_node, spanned, placing}
+use Rattle.cedar_syntax.specs.machines.Door.{Machine, Answer, next, ended, refused, too_large, answer_state, step_from, steps, Comes, RunsTo, AnswersRightly, Door, IsShape, option_image, Shapes}
+use Rattle.cedar_syntax.specs.machines.Mapping.{mapped_answer, mapped_machine, loc_or_start, policies_node}
+use Rattle.cedar_text.specs.machines.Placing.{AsNode, as_node, spanned_state, placing}
 use Rattle.cedar_text.specs.machines.WordShapes.{no_tree}
 use Rattle.cedar_syntax.proofs.machines.Laws.{some_is}
 use Rattle.cedar_text.proofs.machines.Lifted.{Holds}
@@ -21,19 +21,19 @@ use Rattle.cedar_text.proofs.machines.Placing.{forth, back}
 
 -- runs
 
-taken_same : {S T Z : Type 0} (g : T → Z) (a : Answer S T) → taken (mapped_answer g a) ≡ taken a
+taken_same : {S T Z : Type 0} (g : T → Z) (a : Answer S T) → answer_state (mapped_answer g a) ≡ answer_state a
 taken_same g (next s) = refl
 taken_same g (ended x) = refl
 taken_same g refused = refl
 taken_same g too_large = refl
 
-from_same : {K S T Z : Type 0} (g : T → Z) (m : Machine K S T) (s : Option S) (t : K) → step_from (mapped g m) s t ≡ step_from m s t
+from_same : {K S T Z : Type 0} (g : T → Z) (m : Machine K S T) (s : Option S) (t : K) → step_from (mapped_machine g m) s t ≡ step_from m s t
 from_same g m None t = refl
 from_same g m (Some s) t = taken_same g (m.step s t)
 
-steps_same : {K S T Z : Type 0} (g : T → Z) (m : Machine K S T) (s : Option S) (ts : List K) → steps (mapped g m) s ts ≡ steps m s ts
+steps_same : {K S T Z : Type 0} (g : T → Z) (m : Machine K S T) (s : Option S) (ts : List K) → steps (mapped_machine g m) s ts ≡ steps m s ts
 steps_same g m s [] = refl
-steps_same g m s (t ∷ ts) = ap (λ s. steps (mapped g m) s ts) (from_same g m s t) ∙ steps_same g m (step_from m s t) ts
+steps_same g m s (t ∷ ts) = ap (λ s. steps (mapped_machine g m) s ts) (from_same g m s t) ∙ steps_same g m (step_from m s t) ts
 
 -- the door
 
@@ -48,7 +48,7 @@ mapped_sound g R Q z None h k e = absurd (cc)
 mapped_sound g R Q z (Some x) h k e = subst Q (some_is e) (k x (h x refl))
 
 pub mapped_door : {S T Z : Type 0} (g : T → Z) (m : Machine Lexeme S T) (R : List Lexeme → T → Type 0) (Q : List Lexeme → Z → Type 0) → Door m R → ((ts : List Lexeme) (x : T) → R ts x → Q ts (g x)) → ((ts : List Lexeme) (z : Z) → Q ts z → (x : T) × R ts x × (g x ≡ z)) →
-    Door (mapped g m) Q
+    Door (mapped_machine g m) Q
 mapped_door g m R Q d to of = record {
   complete = λ ts z q. let w = of ts z q in let h = d.complete ts w.0 w.1 in
       record { last = h.last; goes = steps_same g m (Some m.start) ts ∙ h.goes; ends = ap (λ o. option_image g o) h.ends ∙ ap (λ z. Some z) w.2 };
@@ -70,7 +70,7 @@ image_mapped : {T Z : Type 0} (g : T → Z) (o : Option T) → option_image no_t
 image_mapped g None = refl
 image_mapped g (Some x) = refl
 
-pub mapped_shaped : {S T Z U : Type 0} (g : T → Z) (m : Machine Lexeme S T) (n : Machine TokenKind U (Unit {0})) (f : S → U) → Shapes m n f no_tree → Shapes (mapped g m) n f no_tree
+pub mapped_shaped : {S T Z U : Type 0} (g : T → Z) (m : Machine Lexeme S T) (n : Machine TokenKind U (Unit {0})) (f : S → U) → Shapes m n f no_tree → Shapes (mapped_machine g m) n f no_tree
 mapped_shaped g m n f i = record {
   starts = i.starts;
   steps = λ s t. shape_mapped f g (m.step s t) (n.step (f s) t.kind) (i.steps s t);
@@ -78,10 +78,10 @@ mapped_shaped g m n f i = record {
 }
 
 -- what a machine holds whose tree is put as a node
-pub placed_holds : {S T Z : Type 0} (src : List ℕ) (g : Cell T → Z) (m : Machine Lexeme S T) → Holds m (mapped g (placing src m)) (λ q. q.state)
+pub placed_holds : {S T Z : Type 0} (src : List ℕ) (g : Cell T → Z) (m : Machine Lexeme S T) → Holds m (mapped_machine g (placing src m)) (λ q. q.state)
 placed_holds src g m = record {
   down = λ ts q c. (back src m None m.start ts q (sym (steps_same g (placing src m) (Some (placing src m).start) ts) ∙ c)).goes;
-  up = λ ts s c. (spanned (extent ts) s, steps_same g (placing src m) (Some (placing src m).start) ts ∙ forth src m None m.start s ts c, refl);
+  up = λ ts s c. (spanned_state (extent ts) s, steps_same g (placing src m) (Some (placing src m).start) ts ∙ forth src m None m.start s ts c, refl);
 }
 
 -- policies
@@ -90,7 +90,7 @@ policies_placed : (src : List ℕ) (ts : List Lexeme) (xs : List (Cell Policy)) 
 policies_placed src [] xs = refl
 policies_placed src (t ∷ ts) xs = ap (λ l. record { node = Some (policies_of xs); loc = l }) (some_loc (extent ts))
   where
-    some_loc : (o : Option Extent) → loc_or_start src (loc_at src (join (Some (extent_of t)) o)) ≡ loc_at src (join (Some (extent_of t)) o)
+    some_loc : (o : Option Extent) → loc_or_start src (loc_at src (joint_extent (Some (extent_of t)) o)) ≡ loc_at src (joint_extent (Some (extent_of t)) o)
     some_loc None = refl
     some_loc (Some e) = refl
 

@@ -17,13 +17,13 @@ use Rattle.cedar_syntax.specs.FirstFault.{IsMemory}
 use Rattle.cedar_syntax.specs.Grammar.{Rule, IsNodeOf, IsTreeOf}
 use Rattle.cedar_syntax.specs.Leftmost.{NumbersFit, HasLeftmost}
 use Rattle.cedar_syntax.specs.Mended.{no_fault}
-use Rattle.cedar_syntax.specs.MendedFaults.{Unallowed, IsLarge, FaultsOf, listed, IsListed, IsFaultList, IsMendedRefusal}
+use Rattle.cedar_syntax.specs.MendedFaults.{Unallowed, IsLarge, FaultsOf, faults_with_last, IsListed, IsFaultList, IsMendedRefusal}
 use Rattle.cedar_syntax.specs.Sentences.{HasTree}
 use Rattle.cedar_syntax.specs.Trees.{Cell}
 use Rattle.cedar_syntax.specs.machines.Door.{Machine, allows}
 use Rattle.cedar_syntax.specs.machines.Judged.{IsRead}
 use Rattle.cedar_syntax.specs.machines.Mending.{IsTold}
-use Rattle.cedar_syntax.specs.machines.Recovery.{Recovers, reading, told, told_all}
+use Rattle.cedar_syntax.specs.machines.Recovery.{Recovers, reading, run_faults, told_all}
 use Rattle.cedar_text.proofs.machines.Faults.{has_faults, faults_exactly}
 use Rattle.cedar_syntax.proofs.machines.Laws.{at_most_one, comes, starts_from}
 use Rattle.cedar_text.proofs.machines.Leftmost.{Resumes, leftmost}
@@ -53,9 +53,9 @@ no_list : {S T V : Type 0} {R : Rule T} {text : List ℕ} {m : Machine Lexeme S 
 no_list {text = text} W d y g x xs h (Some place) c i = not_both text g.tokens h.tokens place g.cut c
 no_list {R = R} {text = text} {m = m} {r = r} W d y g x xs h None c i =
     let same : g.tokens ≡ h.tokens = one_cut text g.tokens h.tokens g.cut c in
-    let e : told_all m r (reading [] 0 m.start) h.tokens ≡ told h.mended h.last = (faults_exactly d h.tokens h.mended h.last).0 h.stands in
-    let w : told_all m r (reading [] 0 m.start) h.tokens ≡ told [] None = (faults_exactly d h.tokens [] None).0 (no_fault (subst (λ ts. HasTree (IsNodeOf R text) ts) same (y, g.stands))) in
-    none_listed x xs (i ∙ ap (λ a. listed a.last a.mended) (sym e ∙ w))
+    let e : told_all m r (reading [] 0 m.start) h.tokens ≡ run_faults h.mended h.last = (faults_exactly d h.tokens h.mended h.last).0 h.stands in
+    let w : told_all m r (reading [] 0 m.start) h.tokens ≡ run_faults [] None = (faults_exactly d h.tokens [] None).0 (no_fault (subst (λ ts. HasTree (IsNodeOf R text) ts) same (y, g.stands))) in
+    none_listed x xs (i ∙ ap (λ a. faults_with_last a.last a.mended) (sym e ∙ w))
 
 pub found_clause : {S T V : Type 0} {R : Rule T} {text : List ℕ} {m : Machine Lexeme S (Cell T)} {r : Recovers S ParseError} {n : Machine TokenKind V (Unit {0})} {f : S → V} (W : List ℕ → List Lexeme → Type 0) → Mends R W text m r n f → (o : Result (Cell T) Failure) →
     MatchResult o (λ x. IsRead m text x) (λ e. IsTold m (λ s after. allows n (f s) after) r text e) → IfOk o (λ x. IsTreeOf R text x)
@@ -95,7 +95,7 @@ pub has_list : {S T V : Type 0} {R : Rule T} {src : List ℕ} {m : Machine Lexem
     (ys : List ParseError) × (y : Option ParseError) × FaultsOf R W src ts ys y
 has_list W d ts = let a = has_faults d ts in (a.mended, a.last, a.stands)
 
-told_alike : {F : Type 0} {xs ys : List F} {x y : Option F} → told xs x ≡ told ys y → (xs ≡ ys) × (x ≡ y)
+told_alike : {F : Type 0} {xs ys : List F} {x y : Option F} → run_faults xs x ≡ run_faults ys y → (xs ≡ ys) × (x ≡ y)
 told_alike e = (ap (λ a. a.mended) e, ap (λ a. a.last) e)
 
 pub one_fault_list : {S T V : Type 0} {R : Rule T} {src : List ℕ} {m : Machine Lexeme S (Cell T)} {r : Recovers S ParseError} {n : Machine TokenKind V (Unit {0})} {f : S → V} (W : List ℕ → List Lexeme → Type 0) → Mends R W src m r n f →

@@ -22,13 +22,13 @@ use Rattle.cedar_syntax.specs.LooseWords.{ReadsRef}
 use Rattle.cedar_syntax.specs.Place.{extent, node_at, placed}
 use Rattle.cedar_syntax.specs.Tokens.{Spot, one}
 use Rattle.cedar_syntax.specs.Trees.{Cell, name_of}
-use Rattle.cedar_text.specs.machines.Closing.{ranged}
+use Rattle.cedar_text.specs.machines.Closing.{ranged_tree}
 use Rattle.cedar_syntax.specs.machines.Door.{Answer, next, ended, Door}
 use Rattle.cedar_text.specs.machines.Expressions.{alone_of}
-use Rattle.cedar_text.specs.machines.Named.{Named, ReadsNamed, named_of, named_words, joins_words, IsLonger, IsWords}
+use Rattle.cedar_text.specs.machines.Named.{NameOrEntity, ReadsNamed, words_tree, named_words, joins_words, IsLonger, IsWords}
 use Rattle.cedar_text.specs.machines.Named as named
 use Rattle.cedar_text.specs.machines.NamedShapes.{is_if_alone, named_shapes}
-use Rattle.cedar_text.specs.machines.Words.{word_of, word_node, with_word, path_extent, path_had, entity_of, as_words, kept, words_machine, words_step, words_end}
+use Rattle.cedar_text.specs.machines.Words.{word_of, word_node, with_word, path_extent, path_had, entity_with_extent, as_words, kept_answer, words_machine, words_step, words_end}
 use Rattle.cedar_text.specs.machines.WordsRead.{ReadsWholePath, ReadsWords, a_path, an_entity}
 use Rattle.cedar_text.specs.machines.WordShapes.{PathKind, truth, condition, a_name, ident_kind, kind_among, WordsShape, WordsKind, words_shape, words_kind, path_kind}
 use Rattle.cedar_text.specs.machines.WordShapes as shaped
@@ -43,49 +43,49 @@ use Rattle.cedar_text.proofs.expressions.shapes.Shaped.{lone_if, is_lone_if, Wor
 
 -- ---- the door
 
-abbrev Image : List ℕ → List Lexeme → Named → Type 0
-Image src ts y = Kept (ReadsWords src) (λ x. Some (named_of src x)) ts y
+abbrev Image : List ℕ → List Lexeme → NameOrEntity → Type 0
+Image src ts y = Kept (ReadsWords src) (λ x. Some (words_tree src x)) ts y
 
-named_path : (src : List ℕ) (o q : Option Extent) (xs ys : List (Cell Ident)) (x y : Cell Ident) → q ≡ o → xs ≡ ys → x ≡ y → Some (named.path (ranged o (name_of xs x))) ≡ Some (named.path (ranged q (name_of ys y)))
-named_path src o q xs ys x y e f g = ap (λ q. Some (named.path (ranged q (name_of xs x)))) (sym e) ∙ ap (λ v. Some (named.path (ranged q (name_of v x)))) f ∙ ap (λ v. Some (named.path (ranged q (name_of ys v)))) g
+named_path : (src : List ℕ) (o q : Option Extent) (xs ys : List (Cell Ident)) (x y : Cell Ident) → q ≡ o → xs ≡ ys → x ≡ y → Some (named.path (ranged_tree o (name_of xs x))) ≡ Some (named.path (ranged_tree q (name_of ys y)))
+named_path src o q xs ys x y e f g = ap (λ q. Some (named.path (ranged_tree q (name_of xs x)))) (sym e) ∙ ap (λ v. Some (named.path (ranged_tree q (name_of v x)))) f ∙ ap (λ v. Some (named.path (ranged_tree q (name_of ys v)))) g
 
-path_image : (src : List ℕ) (ts : List Lexeme) (xs : List (Cell Ident)) (x : Cell Ident) → PathAs src ts xs x → Image src ts (named.path (ranged (extent ts) (name_of xs x)))
+path_image : (src : List ℕ) (ts : List Lexeme) (xs : List (Cell Ident)) (x : Cell Ident) → PathAs src ts xs x → Image src ts (named.path (ranged_tree (extent ts) (name_of xs x)))
 path_image src ts xs x h = record {
   tree = words.Path h.path;
   reads = a_path h.reads;
   is = named_path src (Some (path_extent h.path)) (extent ts) h.path.before xs (word_node src h.path.last) x (spanned h.reads) h.before h.last;
 }
 
-named_entity : (src : List ℕ) (ts : List Lexeme) (e : Extent) (x : Ref) → extent ts ≡ Some e → named_of src (words.Entity (entity_of src x e)) ≡ named.entity (ranged (extent ts) (placed src ts x))
-named_entity src ts e x h = ap (λ o. named.entity (ranged o (node_at src o x))) (sym h)
+named_entity : (src : List ℕ) (ts : List Lexeme) (e : Extent) (x : Ref) → extent ts ≡ Some e → words_tree src (words.Entity (entity_with_extent src x e)) ≡ named.entity (ranged_tree (extent ts) (placed src ts x))
+named_entity src ts e x h = ap (λ o. named.entity (ranged_tree o (node_at src o x))) (sym h)
 
-entity_image : (src : List ℕ) (ts : List Lexeme) (x : Ref) → ReadsRef src ts x → Image src ts (named.entity (ranged (extent ts) (placed src ts x)))
+entity_image : (src : List ℕ) (ts : List Lexeme) (x : Ref) → ReadsRef src ts x → Image src ts (named.entity (ranged_tree (extent ts) (placed src ts x)))
 entity_image src ts x r =
     let h = entity_runs r in
-    record { tree = words.Entity (entity_of src x h.extent_is); reads = an_entity h.extent_is h.spans_it r; is = ap (λ y. Some y) (named_entity src ts h.extent_is x h.spans_it) }
+    record { tree = words.Entity (entity_with_extent src x h.extent_is); reads = an_entity h.extent_is h.spans_it r; is = ap (λ y. Some y) (named_entity src ts h.extent_is x h.spans_it) }
 
-image_of : {src : List ℕ} {ts : List Lexeme} {y : Named} → ReadsNamed src ts y → Image src ts y
+image_of : {src : List ℕ} {ts : List Lexeme} {y : NameOrEntity} → ReadsNamed src ts y → Image src ts y
 image_of {src = src} (named.a_path {ts = ts} {xs = xs} {x = x} r) = path_image src ts xs x (path_as r)
 image_of {src = src} (named.a_ref {ts = ts} {x = x} r) = entity_image src ts x r
 
-as_named : {src : List ℕ} {ts : List Lexeme} {x : Words} (y : Named) → ReadsWords src ts x → named_of src x ≡ y → ReadsNamed src ts y
+as_named : {src : List ℕ} {ts : List Lexeme} {x : Words} (y : NameOrEntity) → ReadsWords src ts x → words_tree src x ≡ y → ReadsNamed src ts y
 as_named {src = src} {ts = ts} y (a_path {q = q} r) e =
     subst (λ y. ReadsNamed src ts y) (some_is (named_path src (extent ts) (Some (path_extent q)) q.before q.before (word_node src q.last) (word_node src q.last) (sym (spanned r)) refl refl) ∙ e) (named.a_path (as_path r))
 as_named {src = src} {ts = ts} y (an_entity {x = x} e f r) g = subst (λ y. ReadsNamed src ts y) (sym (named_entity src ts e x f) ∙ g) (named.a_ref r)
 
 pub named_door : (src : List ℕ) → Door (named_words src) (ReadsNamed src)
-named_door src = door_as (λ ts y r. image_of r) (λ ts y k. as_named y k.reads (some_is k.is)) (image_door (words_machine src) (ReadsWords src) (λ x. named_of src x) (words_door src))
+named_door src = door_as (λ ts y r. image_of r) (λ ts y k. as_named y k.reads (some_is k.is)) (image_door (words_machine src) (ReadsWords src) (λ x. words_tree src x) (words_door src))
 
 -- ---- how words end, and how they go on
 
-had_ends : (src : List ℕ) (p : Path) (k : TokenKind) → joins_words k ≡ false → kept (λ x. Some (named_of src x)) (as_words (path_had p k)) ≡ ended (named_of src (words.Path p))
+had_ends : (src : List ℕ) (p : Path) (k : TokenKind) → joins_words k ≡ false → kept_answer (λ x. Some (words_tree src x)) (as_words (path_had p k)) ≡ ended (words_tree src (words.Path p))
 had_ends src p kind.ColonColon e = absurd (true_false e)
   where
     true_false : true ≡ false → ⊥
     true_false e = cc
 had_ends src p _ e = refl
 
-words_ended : (src : List ℕ) (s : WordsState) (x : Named) (t : Lexeme) → joins_words t.kind ≡ false → (named_words src).finish s ≡ Some x → (named_words src).step s t ≡ ended x
+words_ended : (src : List ℕ) (s : WordsState) (x : NameOrEntity) (t : Lexeme) → joins_words t.kind ≡ false → (named_words src).finish s ≡ Some x → (named_words src).step s t ≡ ended x
 words_ended src (state.Path path.Start) x t e f = absurd (none_some refl f)
 words_ended src (state.Path (path.Have p)) x t e f = had_ends src p t.kind e ∙ ap (λ y. ended y) (some_is f)
 words_ended src (state.Path (path.Behind p)) x t e f = absurd (none_some refl f)
@@ -102,7 +102,7 @@ words_longer : (src : List ℕ) (s : WordsState) (x : Ranged Name) (p q : Spot) 
 words_longer src (state.Path path.Start) x p q e = absurd (none_some refl e)
 words_longer src (state.Path (path.Have w)) x p q e = record {
   last = state.Path (path.Have (longer_by src w q));
-  longer = ranged (Some (path_extent (longer_by src w q))) (name_of (longer_by src w q).before (word_node src (longer_by src w q).last));
+  longer = ranged_tree (Some (path_extent (longer_by src w q))) (name_of (longer_by src w q).before (word_node src (longer_by src w q).last));
   before = w.before;
   word = word_node src w.last;
   goes = refl;
@@ -111,7 +111,7 @@ words_longer src (state.Path (path.Have w)) x p q e = record {
 }
 words_longer src (state.Path (path.Behind w)) x p q e = absurd (none_some refl e)
 words_longer src (state.Inits s) x p q e = absurd (none_some refl e)
-words_longer src (state.Entity w) x p q e = absurd (no_path (ranged (Some w.extent) w.node) x e)
+words_longer src (state.Entity w) x p q e = absurd (no_path (ranged_tree (Some w.extent) w.node) x e)
 
 pub named_are_words : (src : List ℕ) → IsWords (named_words src)
 named_are_words src = record { ends = λ s x t e f. words_ended src s x t e f; longer = λ s x p q e. words_longer src s x p q e }
@@ -124,7 +124,7 @@ alone_kind alone.False = truth
 alone_kind alone.If = condition
 alone_kind alone.Name = a_name
 
-abbrev pub named_kind : Named → WordsKind
+abbrev pub named_kind : NameOrEntity → WordsKind
 named_kind (named.path x) = shaped.a_path (alone_kind (alone_of x.tree.path x.tree.name))
 named_kind (named.entity x) = shaped.an_entity
 
@@ -135,7 +135,7 @@ alone_alike src e [] ident.False = refl
 alone_alike src e [] ident.If = refl
 alone_alike src e [] _ = refl
 
-kinds_alike : (src : List ℕ) (x : Words) → named_kind (named_of src x) ≡ words_kind x
+kinds_alike : (src : List ℕ) (x : Words) → named_kind (words_tree src x) ≡ words_kind x
 kinds_alike src (words.Path p) = ap (λ c. shaped.a_path c) (alone_alike src p.last.extent p.before p.last.ident)
 kinds_alike src (words.Entity e) = refl
 
@@ -145,9 +145,9 @@ ifs_alike alone.False = refl
 ifs_alike alone.If = refl
 ifs_alike alone.Name = refl
 
-named_ifs : (x : Named) → is_if_alone (named_kind x) ≡ is_lone_if x
+named_ifs : (x : NameOrEntity) → is_if_alone (named_kind x) ≡ is_lone_if x
 named_ifs (named.path x) = ifs_alike (alone_of x.tree.path x.tree.name)
 named_ifs (named.entity x) = refl
 
 pub named_alike : (src : List ℕ) → WordsAlike (named_words src) named_shapes words_shape named_kind
-named_alike src = record { shapes = image_shapes words_shape words_kind (λ x. named_of src x) named_kind (λ x. kinds_alike src x) (words_shaped src); ifs = named_ifs }
+named_alike src = record { shapes = image_shapes words_shape words_kind (λ x. words_tree src x) named_kind (λ x. kinds_alike src x) (words_shaped src); ifs = named_ifs }

@@ -24,8 +24,8 @@ use Rattle.cedar_syntax.specs.Place.{extent, extent_of, node_at, placed, placed_
 use Rattle.cedar_syntax.specs.Tokens.{Spot, one, any_of}
 use Rattle.cedar_syntax.specs.Trees.{Cell, name_of}
 use Rattle.cedar_syntax.specs.LooseWords.{ReadsAny, any, is_common, ReadsName, common, qualified, ReadsRef, ReadsIdent}
-use Rattle.cedar_syntax.specs.machines.Door.{taken, steps, Comes, RunsTo, Completed, AnswersRightly, Door}
-use Rattle.cedar_text.specs.machines.Words.{word_node, first_word, with_word, path_extent, paths, named, entity_of, inits_of, words_machine, name_alone, name_among, name_in, ref_in, names, refs, ident_begun, ident_step, ident_end, idents}
+use Rattle.cedar_syntax.specs.machines.Door.{answer_state, steps, Comes, RunsTo, Completed, AnswersRightly, Door}
+use Rattle.cedar_text.specs.machines.Words.{word_node, one_word_path, with_word, path_extent, paths, path_node, entity_with_extent, inits_of, words_machine, name_alone, name_among, path_as_name, words_as_ref, names, refs, identifier_beginning, ident_step, ident_end, idents}
 use Rattle.cedar_text.specs.machines.WordsRead.{word_at, ReadsWholePath, first, further, ReadsWords, a_path, an_entity}
 use Rattle.cedar_syntax.proofs.machines.Laws.{some_is, none_some, some_token, steps-none}
 use Rattle.cedar_syntax.proofs.machines.Extents.{at}
@@ -41,18 +41,18 @@ at_their_place src (t ∷ ts) e x h = ap (λ o. node_at src o x) (sym h)
 -- ---- names
 
 -- a path that is a name
-name_more : (src : List ℕ) (p : Path) (xs : List (Cell Ident)) (x : Cell Ident) → name_among src p (xs ++ x ∷ []) ≡ Some (named src p)
+name_more : (src : List ℕ) (p : Path) (xs : List (Cell Ident)) (x : Cell Ident) → name_among src p (xs ++ x ∷ []) ≡ Some (path_node src p)
 name_more src p [] x = refl
 name_more src p (y ∷ xs) x = refl
 
-alone_is : (src : List ℕ) (p : Path) (b : Bool) (y : Cell Name) → name_alone src p b ≡ Some y → (IsTrue b) × (named src p ≡ y)
+alone_is : (src : List ℕ) (p : Path) (b : Bool) (y : Cell Name) → name_alone src p b ≡ Some y → (IsTrue b) × (path_node src p ≡ y)
 alone_is src p true y e = (refl, some_is e)
 alone_is src p false y e = absurd (none_some refl e)
 
 -- a name of the grammar, as a path that has been read
-pub as_name : {src : List ℕ} {ts : List Lexeme} {q : Path} {y : Cell Name} → ReadsWholePath src ts q → name_in src q ≡ Some y → IsNodeOf ReadsName src ts y
+pub as_name : {src : List ℕ} {ts : List Lexeme} {q : Path} {y : Cell Name} → ReadsWholePath src ts q → path_as_name src q ≡ Some y → IsNodeOf ReadsName src ts y
 as_name {src = src} (first {i = i} p e) h =
-    let a = alone_is src (first_word (word_at i p)) (is_common i) _ h in
+    let a = alone_is src (one_word_path (word_at i p)) (is_common i) _ h in
     record { tree = name_of [] (word_node src (word_at i p)); reads = common (any p e) a.0; is = sym a.1 }
 as_name {src = src} (further {ts = ts} {q = q} {i = i} k p r s e) h =
     let w : Path = with_word src q (word_at i r) in record {
@@ -66,10 +66,10 @@ as_name {src = src} (further {ts = ts} {q = q} {i = i} k p r s e) h =
 pub record NameAs (src : List ℕ) (ts : List Lexeme) (x : Name) : Type 0 where
   pub path : Path
   pub reads : ReadsWholePath src ts path
-  pub is : name_in src path ≡ Some (placed_or_start src ts x)
+  pub is : path_as_name src path ≡ Some (placed_or_start src ts x)
 
 alone_as : (src : List ℕ) (k : TokenKind) (p : Spot) (i : Ident) → any_of k p.text ≡ Some i → IsTrue (is_common i) → NameAs src (one k p) (name_of [] (placed src (one k p) i))
-alone_as src k p i e c = record { path = first_word (word_at i p); reads = first p e; is = ap (λ b. name_alone src (first_word (word_at i p)) b) c }
+alone_as src k p i e c = record { path = one_word_path (word_at i p); reads = first p e; is = ap (λ b. name_alone src (one_word_path (word_at i p)) b) c }
 
 qualified_as : (src : List ℕ) (ts : List Lexeme) (xs : List (Cell Ident)) (x : Cell Ident) (k : TokenKind) (i : Ident) (p r : Spot) → any_of k r.text ≡ Some i → PathAs src ts xs x →
     NameAs src (ts ++ one kind.ColonColon p ++ one k r) (name_of (xs ++ x ∷ []) (placed src (one k r) i))
@@ -86,35 +86,35 @@ pub name_as : {src : List ℕ} {ts : List Lexeme} {x : Name} → ReadsName src t
 name_as {src = src} (common (any {k = k} {i = i} p e) c) = alone_as src k p i e c
 name_as {src = src} (qualified {ts = ts} {xs = xs} {x = x} p r (any {k = k} {i = i} q e)) = qualified_as src ts xs x k i p q e (path_as r)
 
-name_completed : (src : List ℕ) (q : Path) (o : Option (Cell Name)) → name_in src q ≡ o → Completed (names src) (path.Have q)
+name_completed : (src : List ℕ) (q : Path) (o : Option (Cell Name)) → path_as_name src q ≡ o → Completed (names src) (path.Have q)
 name_completed src q (Some y) e = record { more = []; last = path.Have q; tree = y; goes = refl; ends = e }
 name_completed src q None e =
     let w : Path = with_word src q nameless in
-    record { more = some_token kind.ColonColon ∷ some_token kind.Identifier ∷ []; last = path.Have w; tree = named src w; goes = refl; ends = name_more src w q.before (word_node src q.last) }
+    record { more = some_token kind.ColonColon ∷ some_token kind.Identifier ∷ []; last = path.Have w; tree = path_node src w; goes = refl; ends = name_more src w q.before (word_node src q.last) }
 
 names_completed : (src : List ℕ) (s : PathState) → Completed (names src) s
-names_completed src path.Start = record { more = some_token kind.Identifier ∷ []; last = path.Have (first_word nameless); tree = named src (first_word nameless); goes = refl; ends = refl }
-names_completed src (path.Have q) = name_completed src q (name_in src q) refl
+names_completed src path.Start = record { more = some_token kind.Identifier ∷ []; last = path.Have (one_word_path nameless); tree = path_node src (one_word_path nameless); goes = refl; ends = refl }
+names_completed src (path.Have q) = name_completed src q (path_as_name src q) refl
 names_completed src (path.Behind q) =
     let w : Path = with_word src q nameless in
-    record { more = some_token kind.Identifier ∷ []; last = path.Have w; tree = named src w; goes = refl; ends = name_more src w q.before (word_node src q.last) }
+    record { more = some_token kind.Identifier ∷ []; last = path.Have w; tree = path_node src w; goes = refl; ends = name_more src w q.before (word_node src q.last) }
 
 pub names_door : (src : List ℕ) → Door (names src) (IsNodeOf ReadsName src)
 names_door src =
     door_as (λ ts y h. let n = name_as h.reads in record { tree = n.path; reads = n.reads; is = n.is ∙ ap (λ w. Some w) (sym h.is) }) (λ ts y k. as_name k.reads k.is)
-    (kept_door (paths src) (ReadsWholePath src) (λ p. name_in src p) (paths_door src) (λ s. names_completed src s))
+    (kept_door (paths src) (ReadsWholePath src) (λ p. path_as_name src p) (paths_door src) (λ s. names_completed src s))
 
 -- ---- entity literals
 
-as_ref : (src : List ℕ) (ts : List Lexeme) (x : Words) (y : Cell Ref) → ReadsWords src ts x → ref_in src x ≡ Some y → IsNodeOf ReadsRef src ts y
+as_ref : (src : List ℕ) (ts : List Lexeme) (x : Words) (y : Cell Ref) → ReadsWords src ts x → words_as_ref src x ≡ Some y → IsNodeOf ReadsRef src ts y
 as_ref src ts _ y (a_path r) h = absurd (none_some refl h)
 as_ref src ts _ y (an_entity {x = x} e f r) h = record { tree = x; reads = r; is = sym (some_is h) ∙ at_their_place src ts e x f }
 
-kept_ref : (src : List ℕ) (ts : List Lexeme) (y : Cell Ref) → IsNodeOf ReadsRef src ts y → Kept (ReadsWords src) (λ x. ref_in src x) ts y
+kept_ref : (src : List ℕ) (ts : List Lexeme) (y : Cell Ref) → IsNodeOf ReadsRef src ts y → Kept (ReadsWords src) (λ x. words_as_ref src x) ts y
 kept_ref src ts y h =
     let r = entity_runs h.reads in
     let e : Extent = r.extent_is in
-    record { tree = words.Entity (entity_of src h.tree e); reads = an_entity e r.spans_it h.reads; is = ap (λ w. Some w) (at_their_place src ts e h.tree r.spans_it ∙ sym h.is) }
+    record { tree = words.Entity (entity_with_extent src h.tree e); reads = an_entity e r.spans_it h.reads; is = ap (λ w. Some w) (at_their_place src ts e h.tree r.spans_it ∙ sym h.is) }
 
 ref_inits_completed : (src : List ℕ) (x : Cell Name) (n : ℕ) (ys : List (Cell RefInit)) (h : InitPlace) → Completed (refs src) (state.Inits (inits_of x n ys h))
 ref_inits_completed src x n ys place.Item = record { more = some_token kind.CloseBrace ∷ []; last = _; tree = _; goes = refl; ends = refl }
@@ -131,12 +131,12 @@ refs_completed src (state.Entity e) = record { more = []; last = state.Entity e;
 
 pub refs_door : (src : List ℕ) → Door (refs src) (IsNodeOf ReadsRef src)
 refs_door src =
-    door_as (λ ts y h. kept_ref src ts y h) (λ ts y k. as_ref src ts k.tree y k.reads k.is) (kept_door (words_machine src) (ReadsWords src) (λ x. ref_in src x) (words_door src) (λ s. refs_completed src s))
+    door_as (λ ts y h. kept_ref src ts y h) (λ ts y k. as_ref src ts k.tree y k.reads k.is) (kept_door (words_machine src) (ReadsWords src) (λ x. words_as_ref src x) (words_door src) (λ s. refs_completed src s))
 
 -- ---- identifiers
 
 ident_runs : (src : List ℕ) (k : TokenKind) (p : Spot) (i : Ident) → any_of k p.text ≡ Some i → Comes (idents src) (one k p) (one_ident.Have (word_at i p))
-ident_runs src k p i e = ap (λ o. taken (ident_begun o (at p))) e
+ident_runs src k p i e = ap (λ o. answer_state (identifier_beginning o (at p))) e
 
 ident_complete : (src : List ℕ) (ts : List Lexeme) (i : Ident) (y : Cell Ident) → ReadsAny ts i → y ≡ placed_or_start src ts i → RunsTo (idents src) ts y
 ident_complete src ts i y (any {k = k} p e) h = record { last = one_ident.Have (word_at i p); goes = ident_runs src k p i e; ends = ap (λ w. Some w) (sym h) }
@@ -144,11 +144,11 @@ ident_complete src ts i y (any {k = k} p e) h = record { last = one_ident.Have (
 ident_ended : (src : List ℕ) (s r : IdentState) (y : Cell Ident) → Some s ≡ Some r → ident_end src r ≡ Some y → ident_end src s ≡ Some y
 ident_ended src s r y e f = ap (λ s. ident_end src s) (some_is e) ∙ f
 
-one_sound : (src : List ℕ) (k : TokenKind) (p : Spot) (o : Option Ident) (s : IdentState) (y : Cell Ident) → any_of k p.text ≡ o → taken (ident_begun o (at p)) ≡ Some s → ident_end src s ≡ Some y → IsNodeOf ReadsIdent src (one k p) y
+one_sound : (src : List ℕ) (k : TokenKind) (p : Spot) (o : Option Ident) (s : IdentState) (y : Cell Ident) → any_of k p.text ≡ o → answer_state (identifier_beginning o (at p)) ≡ Some s → ident_end src s ≡ Some y → IsNodeOf ReadsIdent src (one k p) y
 one_sound src k p (Some i) s y e f h = record { tree = i; reads = any p e; is = sym (some_is (ident_ended src (one_ident.Have (word_at i p)) s y f h)) }
 one_sound src k p None s y e f h = absurd (none_some refl f)
 
-no_second : (src : List ℕ) (o : Option Ident) (e : Extent) (t : Lexeme) (ts : List Lexeme) (s : IdentState) → steps (idents src) (taken (ident_begun o e)) (t ∷ ts) ≡ Some s → ⊥
+no_second : (src : List ℕ) (o : Option Ident) (e : Extent) (t : Lexeme) (ts : List Lexeme) (s : IdentState) → steps (idents src) (answer_state (identifier_beginning o e)) (t ∷ ts) ≡ Some s → ⊥
 no_second src (Some i) e t ts s f = none_some (steps-none (idents src) ts) f
 no_second src None e t ts s f = none_some (steps-none (idents src) ts) f
 
@@ -161,7 +161,7 @@ ident_completed : (src : List ℕ) (s : IdentState) → Completed (idents src) s
 ident_completed src one_ident.Start = record { more = some_token kind.Identifier ∷ []; last = one_ident.Have nameless; tree = word_node src nameless; goes = refl; ends = refl }
 ident_completed src (one_ident.Have w) = record { more = []; last = one_ident.Have w; tree = word_node src w; goes = refl; ends = refl }
 
-ident_begun_answers : (k : TokenKind) (p : Spot) (o : Option Ident) → any_of k p.text ≡ o → AnswersRightly record { kind = k; start = p.start; end = p.end; text = p.text } (ident_begun o (at p)) None
+ident_begun_answers : (k : TokenKind) (p : Spot) (o : Option Ident) → any_of k p.text ≡ o → AnswersRightly record { kind = k; start = p.start; end = p.end; text = p.text } (identifier_beginning o (at p)) None
 ident_begun_answers k p None e = refl
 ident_begun_answers k p (Some i) e = λ h. absurd (no_number k p.text i e h)
 

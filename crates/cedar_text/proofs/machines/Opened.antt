@@ -20,18 +20,18 @@ use Rattle.cedar_syntax.specs.declared.reading.recovery.Way.TheVariants as way
 use Rattle.cedar_text.specs.declared.text_to_cst.sequence.Spanned.{Spanned}
 use Rattle.cedar_text.specs.declared.text_to_cst.sequence.Sequence.{Sequence}
 use Rattle.cedar_syntax.specs.Tokens.{Spot, one}
-use Rattle.cedar_syntax.specs.Place.{join, extent, placed}
+use Rattle.cedar_syntax.specs.Place.{joint_extent, extent, placed}
 use Rattle.cedar_syntax.specs.Trees.{Cell, policy_of}
 use Rattle.cedar_syntax.specs.LooseWords.{ReadsAny, any, ReadsList}
 use Rattle.cedar_syntax.specs.LooseExpressions.{ReadsExpr}
 use Rattle.cedar_syntax.specs.LoosePolicies.{ReadsMany, ReadsAnnotation, ReadsVariableDef, ReadsBody, no_body, body, ReadsCond, ReadsPolicy}
 use Rattle.cedar_syntax.specs.LoosePolicies as loose
 use Rattle.cedar_syntax.specs.Sentences.{HasTree, Starts}
-use Rattle.cedar_syntax.specs.machines.Door.{Machine, Answer, next, taken, steps, Comes, Door, IsOutside}
+use Rattle.cedar_syntax.specs.machines.Door.{Machine, Answer, next, answer_state, steps, Comes, Door, IsOutside}
 use Rattle.cedar_syntax.specs.machines.Marks.{mark_of}
-use Rattle.cedar_text.specs.machines.Placing.{AsNode, as_node, spanned, placing}
+use Rattle.cedar_text.specs.machines.Placing.{AsNode, as_node, spanned_state, placing}
 use Rattle.cedar_text.specs.machines.Sequences.{sequence_end, many}
-use Rattle.cedar_text.specs.machines.Scope.{Parts}
+use Rattle.cedar_text.specs.machines.Scope.{PartMachines}
 use Rattle.cedar_text.specs.machines.Condition.{at_body, conditions}
 use Rattle.cedar_text.specs.machines.Policy.{policies}
 use Rattle.cedar_text.specs.machines.Policies.{ConditionsState, OnePolicy, sections, policy_machine, condition_way, begun_condition_way, policy_way}
@@ -71,7 +71,7 @@ one_condition src m = placing src (conditions src m)
 -- in braces: where a condition may stand, its word and brace have been read
 record Braces {E : Type 0} (src : List ℕ) (m : Machine Lexeme E (Cell Expr)) (last : ConditionsState E) (zs : List (Cell Cond)) (ws : List Lexeme) (l : Spot) (i : Cell Ident) : Type 0 where
   span : Option Extent
-  goes : steps (many (one_condition src m)) (Some last) (ws ++ one kind.OpenBrace l) ≡ Some (item_at zs (spanned span (condition.Opened i)))
+  goes : steps (many (one_condition src m)) (Some last) (ws ++ one kind.OpenBrace l) ≡ Some (item_at zs (spanned_state span (condition.Opened i)))
 
 braces_run : {E : Type 0} (src : List ℕ) (m : Machine Lexeme E (Cell Expr)) (last : ConditionsState E) (zs : List (Cell Cond)) → sequence_end (one_condition src m).finish last.done last.begun ≡ Some zs → {ws : List Lexeme} {i : Ident} (l : Spot) → ReadsAny ws i →
     Braces src m last zs ws l (placed src ws i)
@@ -82,7 +82,7 @@ braces_run src m last zs e l (any {k = k} {i = i} q w) =
       span = extent (one k q ++ one kind.OpenBrace l);
       goes = entered n (many n) (λ s. item_at zs s) (many_holds n zs) last t
           (λ s h. many_next n (placed_ends src (conditions src m) (Begins n) (condition_ends src m (Begins n))) last.done last.begun zs e t s h)
-          (one kind.OpenBrace l) (spanned (extent (one k q ++ one kind.OpenBrace l)) (condition.Opened (placed src (one k q) i)))
+          (one kind.OpenBrace l) (spanned_state (extent (one k q ++ one kind.OpenBrace l)) (condition.Opened (placed src (one k q) i)))
           (forth src (conditions src m) None condition.Start (condition.Opened (placed src (one k q) i)) (one k q ++ one kind.OpenBrace l) (opened src m l (any q w)));
     }
 
@@ -109,10 +109,10 @@ body_begun {src = src} {m = m} d i (t ∷ ts) h =
 
 -- a state of one policy that holds the state of a condition
 abbrev pub with_condition : {N S E : Type 0} → List (Cell Annotation) → Cell Ident → List (Cell VariableDef) → List (Cell Cond) → Option Extent → ConditionState E → OnePolicy N S E
-with_condition xs i ys zs e c = policy.Conditions xs i ys (item_at zs (spanned e c))
+with_condition xs i ys zs e c = policy.Conditions xs i ys (item_at zs (spanned_state e c))
 
 -- behind an open policy, a word and a brace
-record PolicyBraces {N S E : Type 0} (src : List ℕ) (m : Parts N S E) (ts : List Lexeme) (w : Cell Ident) : Type 0 where
+record PolicyBraces {N S E : Type 0} (src : List ℕ) (m : PartMachines N S E) (ts : List Lexeme) (w : Cell Ident) : Type 0 where
   xs : List (Cell Annotation)
   effect : Cell Ident
   ys : List (Cell VariableDef)
@@ -120,7 +120,7 @@ record PolicyBraces {N S E : Type 0} (src : List ℕ) (m : Parts N S E) (ts : Li
   span : Option Extent
   goes : Comes (policies src (sections src m)) ts (with_condition xs effect ys zs span (condition.Opened w))
 
-policy_braces : {N S E : Type 0} {src : List ℕ} {m : Parts N S E} → Grounds src m → {ts us : List Lexeme} {i : Ident} (l : Spot) → OpenPolicy src ts → ReadsAny us i → PolicyBraces src m (ts ++ us ++ one kind.OpenBrace l) (placed src us i)
+policy_braces : {N S E : Type 0} {src : List ℕ} {m : PartMachines N S E} → Grounds src m → {ts us : List Lexeme} {i : Ident} (l : Spot) → OpenPolicy src ts → ReadsAny us i → PolicyBraces src m (ts ++ us ++ one kind.OpenBrace l) (placed src us i)
 policy_braces {src = src} {m = m} g {us = es} {i = j} l (open_policy {ts = ts} {us = us} {vs = vs} {ws = ws} {xs = xs} {i = i} {ys = ys} {zs = zs} p q r w v c) a =
     let d = section_doors g in
     let n = policies src (sections src m) in
@@ -137,37 +137,37 @@ policy_braces {src = src} {m = m} g {us = es} {i = j} l (open_policy {ts = ts} {
           (then_steps n (Some n.start) (Some (policy.Conditions xs (placed src us i) ys h.last)) _ (before ++ ws) (es ++ one kind.OpenBrace l)
           (then_steps n (Some n.start) _ _ before ws (head_runs d p q r w v)
           (held (sections src m).conditions n (λ q. policy.Conditions xs (placed src us i) ys q) (holds_conditions src (sections src m) xs (placed src us i) ys) ws (sections src m).conditions.start h.last h.goes))
-          (held (sections src m).conditions n (λ q. policy.Conditions xs (placed src us i) ys q) (holds_conditions src (sections src m) xs (placed src us i) ys) (es ++ one kind.OpenBrace l) h.last (item_at zs (spanned b.span (condition.Opened (placed src es j)))) b.goes));
+          (held (sections src m).conditions n (λ q. policy.Conditions xs (placed src us i) ys q) (holds_conditions src (sections src m) xs (placed src us i) ys) (es ++ one kind.OpenBrace l) h.last (item_at zs (spanned_state b.span (condition.Opened (placed src es j)))) b.goes));
     }
   where
     assoc : (ts us vs : List Lexeme) → ts ++ (us ++ vs) ≡ ts ++ us ++ vs
     assoc ts us vs = sym (append_assoc ts us vs)
 
 -- what the condition takes there, the policy takes
-lifted : {N S E : Type 0} (src : List ℕ) (m : Parts N S E) (xs : List (Cell Annotation)) (i : Cell Ident) (ys : List (Cell VariableDef)) (zs : List (Cell Cond)) (e : Option Extent) (ts : List Lexeme) (s q : ConditionState E) →
-    steps (conditions src m.expression) (Some s) ts ≡ Some q → steps (policies src (sections src m)) (Some (with_condition xs i ys zs e s)) ts ≡ Some (with_condition xs i ys zs (join e (extent ts)) q)
+lifted : {N S E : Type 0} (src : List ℕ) (m : PartMachines N S E) (xs : List (Cell Annotation)) (i : Cell Ident) (ys : List (Cell VariableDef)) (zs : List (Cell Cond)) (e : Option Extent) (ts : List Lexeme) (s q : ConditionState E) →
+    steps (conditions src m.expression) (Some s) ts ≡ Some q → steps (policies src (sections src m)) (Some (with_condition xs i ys zs e s)) ts ≡ Some (with_condition xs i ys zs (joint_extent e (extent ts)) q)
 lifted src m xs i ys zs e ts s q h =
     let n = one_condition src m.expression in
-    held (sections src m).conditions (policies src (sections src m)) (λ q. policy.Conditions xs i ys q) (holds_conditions src (sections src m) xs i ys) ts (item_at zs (spanned e s)) (item_at zs (spanned (join e (extent ts)) q))
-    (held n (many n) (λ s. item_at zs s) (many_holds n zs) ts (spanned e s) (spanned (join e (extent ts)) q) (forth src (conditions src m.expression) e s q ts h))
+    held (sections src m).conditions (policies src (sections src m)) (λ q. policy.Conditions xs i ys q) (holds_conditions src (sections src m) xs i ys) ts (item_at zs (spanned_state e s)) (item_at zs (spanned_state (joint_extent e (extent ts)) q))
+    (held n (many n) (λ s. item_at zs s) (many_holds n zs) ts (spanned_state e s) (spanned_state (joint_extent e (extent ts)) q) (forth src (conditions src m.expression) e s q ts h))
 
 -- the state of one policy, as a node
-pub record At {N S E : Type 0} (src : List ℕ) (m : Parts N S E) (ts : List Lexeme) (P : OnePolicy N S E → Type 0) : Type 0 where
+pub record At {N S E : Type 0} (src : List ℕ) (m : PartMachines N S E) (ts : List Lexeme) (P : OnePolicy N S E → Type 0) : Type 0 where
   pub state : Spanned (OnePolicy N S E)
   pub comes : Comes (policy_machine src m) ts state
   pub is : P state.state
 
-placed_at : {N S E : Type 0} (src : List ℕ) (m : Parts N S E) (ts : List Lexeme) (s : OnePolicy N S E) (P : OnePolicy N S E → Type 0) → Comes (policies src (sections src m)) ts s → P s → At src m ts P
-placed_at src m ts s P c p = record { state = spanned (extent ts) s; comes = forth src (policies src (sections src m)) None (policies src (sections src m)).start s ts c; is = p }
+placed_at : {N S E : Type 0} (src : List ℕ) (m : PartMachines N S E) (ts : List Lexeme) (s : OnePolicy N S E) (P : OnePolicy N S E → Type 0) → Comes (policies src (sections src m)) ts s → P s → At src m ts P
+placed_at src m ts s P c p = record { state = spanned_state (extent ts) s; comes = forth src (policies src (sections src m)) None (policies src (sections src m)).start s ts c; is = p }
 
 -- with a beginning of a body in braces
-pub in_body : {N S E : Type 0} {src : List ℕ} {m : Parts N S E} → Grounds src m → {ts us : List Lexeme} {i : Ident} (vs : List Lexeme) (l : Spot) → OpenPolicy src ts → ReadsAny us i → Starts (ReadsBody src) vs →
+pub in_body : {N S E : Type 0} {src : List ℕ} {m : PartMachines N S E} → Grounds src m → {ts us : List Lexeme} {i : Ident} (vs : List Lexeme) (l : Spot) → OpenPolicy src ts → ReadsAny us i → Starts (ReadsBody src) vs →
     At src m (ts ++ us ++ one kind.OpenBrace l ++ vs) (λ s. (w : Way) → policy_way w s ≡ way.ToBrace)
 in_body {src = src} {m = m} g {ts = ts} {us = us} {i = i} vs l o a h =
     let b = policy_braces g l o a in
     let c = body_begun g.parts.expression (placed src us i) vs h in
     let n = policies src (sections src m) in
-    placed_at src m (ts ++ us ++ one kind.OpenBrace l ++ vs) (with_condition b.xs b.effect b.ys b.zs (join b.span (extent vs)) c.state) (λ s. (w : Way) → policy_way w s ≡ way.ToBrace)
+    placed_at src m (ts ++ us ++ one kind.OpenBrace l ++ vs) (with_condition b.xs b.effect b.ys b.zs (joint_extent b.span (extent vs)) c.state) (λ s. (w : Way) → policy_way w s ≡ way.ToBrace)
     (then_steps n (Some n.start) _ _ (ts ++ us ++ one kind.OpenBrace l) vs b.goes (lifted src m b.xs b.effect b.ys b.zs b.span vs (condition.Opened (placed src us i)) c.state c.goes)) (λ w. c.is)
 
 -- what follows the closing brace
@@ -175,16 +175,16 @@ pub data IsClosed {N S E : Type 0} : OnePolicy N S E → Type 0 where
   closed : (xs : List (Cell Annotation)) (i : Cell Ident) (ys : List (Cell VariableDef)) (zs : List (Cell Cond)) (e : Option Extent) (w : Cell Ident) (x : Option (Cell Expr)) → IsClosed (with_condition xs i ys zs e (condition.Closed w x))
 
 -- with an empty body
-pub behind_brace : {N S E : Type 0} {src : List ℕ} {m : Parts N S E} → Grounds src m → {ts us : List Lexeme} {i : Ident} (l e : Spot) → OpenPolicy src ts → ReadsAny us i → At src m (ts ++ us ++ one kind.OpenBrace l ++ one kind.CloseBrace e) (λ s. IsClosed s)
+pub behind_brace : {N S E : Type 0} {src : List ℕ} {m : PartMachines N S E} → Grounds src m → {ts us : List Lexeme} {i : Ident} (l e : Spot) → OpenPolicy src ts → ReadsAny us i → At src m (ts ++ us ++ one kind.OpenBrace l ++ one kind.CloseBrace e) (λ s. IsClosed s)
 behind_brace {src = src} {m = m} g {ts = ts} {us = us} {i = i} l e o a =
     let b = policy_braces g l o a in
     let c = body_runs g.parts.expression g.behind_body (placed src us i) no_body in
     let n = policies src (sections src m) in
     let vs = one kind.CloseBrace e in
-    placed_at src m (ts ++ us ++ one kind.OpenBrace l ++ vs) (with_condition b.xs b.effect b.ys b.zs (join b.span (extent vs)) (condition.Closed (placed src us i) None)) (λ s. IsClosed s)
+    placed_at src m (ts ++ us ++ one kind.OpenBrace l ++ vs) (with_condition b.xs b.effect b.ys b.zs (joint_extent b.span (extent vs)) (condition.Closed (placed src us i) None)) (λ s. IsClosed s)
     (then_steps n (Some n.start) _ _ (ts ++ us ++ one kind.OpenBrace l) vs b.goes
-    (lifted src m b.xs b.effect b.ys b.zs b.span vs (condition.Opened (placed src us i)) (condition.Closed (placed src us i) None) (then_steps (conditions src m.expression) (Some (condition.Opened (placed src us i))) _ _ [] vs c.goes (ap (λ a. taken a) (c.closes e)))))
-    (closed b.xs b.effect b.ys b.zs (join b.span (extent vs)) (placed src us i) None)
+    (lifted src m b.xs b.effect b.ys b.zs b.span vs (condition.Opened (placed src us i)) (condition.Closed (placed src us i) None) (then_steps (conditions src m.expression) (Some (condition.Opened (placed src us i))) _ _ [] vs c.goes (ap (λ a. answer_state a) (c.closes e)))))
+    (closed b.xs b.effect b.ys b.zs (joint_extent b.span (extent vs)) (placed src us i) None)
 
 -- and back: the tokens that end in braces
 
@@ -222,7 +222,7 @@ condition_open {src = src} d (is_opened {ts = ts} {i = i} l a) e = record { word
 condition_open d (is_body {ts = ts} {i = i} {s = s} l us a c) e = record { word = ts; ident = i; brace = l; body = us; reads = a; starts = body_of d us s c; is = refl }
 condition_open d (is_closed l m us a r) e = absurd (cc)
 
-open_tokens : {N S E : Type 0} {src : List ℕ} {m : Parts N S E} → Grounds src m → (w : Way) → (w ≡ way.ToBrace → ⊥) → {ts : List Lexeme} {s : OnePolicy N S E} → PolicyRead src (sections src m) ts s → policy_way w s ≡ way.ToBrace → OpenTokens src ts
+open_tokens : {N S E : Type 0} {src : List ℕ} {m : PartMachines N S E} → Grounds src m → (w : Way) → (w ≡ way.ToBrace → ⊥) → {ts : List Lexeme} {s : OnePolicy N S E} → PolicyRead src (sections src m) ts s → policy_way w s ≡ way.ToBrace → OpenTokens src ts
 open_tokens g w h (is_annotated c) e = absurd (cc)
 open_tokens g w h (is_effect r a) e = absurd (cc)
 open_tokens g w h (is_scope l vs r a c) e = absurd (cc)
@@ -253,7 +253,7 @@ open_tokens {E = E} {src = src} {m = m} g w h (is_conditions {ts = ts} {us = us}
         }
 open_tokens g w h (read.is_closed r) e = absurd (h e)
 
-pub opened_by : {N S E : Type 0} {src : List ℕ} {m : Parts N S E} → Grounds src m → (w : Way) → (w ≡ way.ToBrace → ⊥) → (ts : List Lexeme) (s : Spanned (OnePolicy N S E)) → Comes (policy_machine src m) ts s → policy_way w s.state ≡ way.ToBrace → OpenTokens src ts
+pub opened_by : {N S E : Type 0} {src : List ℕ} {m : PartMachines N S E} → Grounds src m → (w : Way) → (w ≡ way.ToBrace → ⊥) → (ts : List Lexeme) (s : Spanned (OnePolicy N S E)) → Comes (policy_machine src m) ts s → policy_way w s.state ≡ way.ToBrace → OpenTokens src ts
 opened_by {src = src} {m = m} g w h ts s c e =
     let b = back src (policies src (sections src m)) None (policies src (sections src m)).start ts s c in
     open_tokens g w h (policy_read (section_doors g) ts s.state b.goes) e

@@ -11,7 +11,7 @@ use Rattle.cedar_text.specs.machines.Placing.{AsNode, placing}
 use Rattle.cedar_text.specs.machines.Sequences.{behind_item}
 use Rattle.cedar_syntax.specs.machines.Following.{IsParting, comma, close_paren}
 use Rattle.cedar_text.specs.machines.Annotation.{annotations}
-use Rattle.cedar_text.specs.machines.Scope.{Parts, elements}
+use Rattle.cedar_text.specs.machines.Scope.{PartMachines, elements}
 use Rattle.cedar_text.specs.machines.Condition.{conditions}
 use Rattle.cedar_text.specs.machines.Policy.{policies}
 use Rattle.cedar_text.specs.machines.SequenceShapes.{spanned_shape, sequence_shape}
@@ -29,7 +29,7 @@ use Rattle.cedar_text.proofs.machines.SequenceShapes.{nodes_shaped, many_shaped,
 use Rattle.cedar_text.proofs.machines.PolicyShapes.{annotations_shaped, PartsShaped, elements_shaped, conditions_shaped, SectionsShaped, policies_shaped}
 
 -- what the parts show of themselves
-pub record Grounds {N S E : Type 0} (src : List ℕ) (m : Parts N S E) : Type 0 where
+pub record Grounds {N S E : Type 0} (src : List ℕ) (m : PartMachines N S E) : Type 0 where
   pub parts : PartDoors src m
   pub behind_body : IsOutside m.expression kind.CloseBrace
 
@@ -37,7 +37,7 @@ pub record Grounds {N S E : Type 0} (src : List ℕ) (m : Parts N S E) : Type 0 
 paren_ends : {S T : Type 0} (xs : List T) (k : TokenKind) → k ≡ kind.CloseParen → behind_item {S = S} xs (mark_of k) ≡ ended xs
 paren_ends {S = S} xs k e = ap (λ k. behind_item {S = S} xs (mark_of k)) e
 
-pub section_doors : {N S E : Type 0} {src : List ℕ} {m : Parts N S E} → Grounds src m → SectionDoors src (sections src m)
+pub section_doors : {N S E : Type 0} {src : List ℕ} {m : PartMachines N S E} → Grounds src m → SectionDoors src (sections src m)
 section_doors {src = src} {m = m} g = record {
   annotations = many_door src (placing src (annotations src)) (ReadsAnnotation src) (node_door src (annotations src) (ReadsAnnotation src) (annotation_door src)) (placed_not_empty src (annotations src) refl) (placed_ends_itself src (annotations src) (annotation_ends_itself src));
   scope = listed_door src (placing src (elements src m)) (ReadsVariableDef src) (node_door src (elements src m) (ReadsVariableDef src) (element_door src m g.parts)) (placed_not_empty src (elements src m) refl)
@@ -53,17 +53,17 @@ section_doors {src = src} {m = m} g = record {
       (placed_refuses src (conditions src m.expression) (IsKind kind.Semicolon) (condition_refuses src m.expression));
 }
 
-pub one_policy_door : {N S E : Type 0} {src : List ℕ} {m : Parts N S E} → Grounds src m → Door (policy_machine src m) (AsNode src (ReadsPolicy src))
+pub one_policy_door : {N S E : Type 0} {src : List ℕ} {m : PartMachines N S E} → Grounds src m → Door (policy_machine src m) (AsNode src (ReadsPolicy src))
 one_policy_door {src = src} {m = m} g = node_door src (policies src (sections src m)) (ReadsPolicy src) (policy_door src (sections src m) (section_doors g))
 
-pub all_policies_door : {N S E : Type 0} {src : List ℕ} {m : Parts N S E} → Grounds src m → Door (policies_machine src m) (ReadsMany src (ReadsPolicy src))
+pub all_policies_door : {N S E : Type 0} {src : List ℕ} {m : PartMachines N S E} → Grounds src m → Door (policies_machine src m) (ReadsMany src (ReadsPolicy src))
 all_policies_door {src = src} {m = m} g =
     let p = policies src (sections src m) in
     many_door src (policy_machine src m) (ReadsPolicy src) (one_policy_door g) (placed_not_empty src p refl) (placed_ends src p (Begins (placing src p)) (policy_ends src (sections src m) (Begins (placing src p))))
 
 -- shapes
 
-pub one_policy_shaped : {N S E L M F : Type 0} (src : List ℕ) (m : Parts N S E) (n : PartShapes L M F) (f : N → L) (g : S → M) (h : E → F) → PartsShaped m n f g h → Shapes (policy_machine src m) (one_policy_shapes n) (one_policy_shape f g h) no_tree
+pub one_policy_shaped : {N S E L M F : Type 0} (src : List ℕ) (m : PartMachines N S E) (n : PartShapes L M F) (f : N → L) (g : S → M) (h : E → F) → PartsShaped m n f g h → Shapes (policy_machine src m) (one_policy_shapes n) (one_policy_shape f g h) no_tree
 one_policy_shaped src m n f g h i =
     nodes_shaped src (policies src (sections src m)) (one_policy_shapes n) _
     (policies_shaped src (sections src m) (section_shapes n) (sequence_shape (spanned_shape annotation_shape)) (sequence_shape (spanned_shape (element_shape f g h))) (sequence_shape (spanned_shape (condition_shape h))) record {
@@ -72,5 +72,5 @@ one_policy_shaped src m n f g h i =
       conditions = many_shaped (placing src (conditions src m.expression)) (condition_shapes n.expression) (spanned_shape (condition_shape h)) (nodes_shaped src (conditions src m.expression) (condition_shapes n.expression) (condition_shape h) (conditions_shaped src m.expression n.expression h i.expression));
     })
 
-pub all_policies_shaped : {N S E L M F : Type 0} (src : List ℕ) (m : Parts N S E) (n : PartShapes L M F) (f : N → L) (g : S → M) (h : E → F) → PartsShaped m n f g h → Shapes (policies_machine src m) (all_policies_shapes n) (all_policies_shape f g h) no_tree
+pub all_policies_shaped : {N S E L M F : Type 0} (src : List ℕ) (m : PartMachines N S E) (n : PartShapes L M F) (f : N → L) (g : S → M) (h : E → F) → PartsShaped m n f g h → Shapes (policies_machine src m) (all_policies_shapes n) (all_policies_shape f g h) no_tree
 all_policies_shaped src m n f g h i = many_shaped (policy_machine src m) (one_policy_shapes n) (one_policy_shape f g h) (one_policy_shaped src m n f g h i)

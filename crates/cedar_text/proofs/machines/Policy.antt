@@ -20,7 +20,7 @@ use Rattle.cedar_syntax.specs.Trees.{Cell, policy_of}
 use Rattle.cedar_syntax.specs.LooseWords.{ReadsAny, any, ReadsList}
 use Rattle.cedar_syntax.specs.LoosePolicies.{ReadsMany, ReadsAnnotation, ReadsVariableDef, ReadsCond, ReadsPolicy}
 use Rattle.cedar_syntax.specs.LoosePolicies as loose
-use Rattle.cedar_syntax.specs.machines.Door.{Machine, Answer, next, ended, refused, too_large, taken, steps, Comes, RunsTo, Completed, AnswersRightly, Door, IsOutside}
+use Rattle.cedar_syntax.specs.machines.Door.{Machine, Answer, next, ended, refused, too_large, answer_state, steps, Comes, RunsTo, Completed, AnswersRightly, Door, IsOutside}
 use Rattle.cedar_syntax.specs.machines.Marks.{mark_of}
 use Rattle.cedar_text.specs.machines.Words.{token_node}
 use Rattle.cedar_text.specs.machines.Policy.{Sections, at_effect, in_annotations, behind_effect, behind_scope, in_scope, behind_conditions, in_conditions, policy_step, policy_end, policies}
@@ -54,7 +54,7 @@ effect_runs : {A V C : Type 0} {src : List ℕ} {m : Sections A V C} → Section
 effect_runs {src = src} {m = m} d {ts = ts} {xs = xs} r (any {k = k} {i = i} q e) =
     let c = d.annotations.complete ts xs r in
     then_steps (policies src m) (Some (policies src m).start) (Some (policy.Annotated c.last)) _ ts (one k q) (held m.annotations (policies src m) (λ q. policy.Annotated q) (holds_annotations src m) ts m.annotations.start c.last c.goes)
-    (ap (λ a. taken (in_annotations src (token_at k q) a)) (d.at_words c.last xs (token_at k q) (i, e) c.ends) ∙ ap (λ o. taken (at_effect src xs (token_at k q) o)) e)
+    (ap (λ a. answer_state (in_annotations src (token_at k q) a)) (d.at_words c.last xs (token_at k q) (i, e) c.ends) ∙ ap (λ o. answer_state (at_effect src xs (token_at k q) o)) e)
 
 scope_runs : {A V C : Type 0} {src : List ℕ} {m : Sections A V C} → SectionDoors src m → (ts : List Lexeme) {vs : List Lexeme} {xs : List (Cell Annotation)} {i : Cell Ident} {ys : List (Cell VariableDef)} (l e : Spot) → Comes (policies src m) ts (policy.Effect xs i) →
     ReadsList src (ReadsVariableDef src) vs ys → Comes (policies src m) (ts ++ one kind.OpenParen l ++ vs ++ one kind.CloseParen e) (policy.Conditions xs i ys m.conditions.start)
@@ -64,7 +64,7 @@ scope_runs {src = src} {m = m} d ts {vs = vs} {xs = xs} {i = i} {ys = ys} l e f 
     then_steps (policies src m) s (Some (policy.Scope xs i c.last)) _ (ts ++ one kind.OpenParen l ++ vs) (one kind.CloseParen e)
     (then_steps (policies src m) s (Some (policy.Scope xs i m.scope.start)) _ (ts ++ one kind.OpenParen l) vs (then_steps (policies src m) s (Some (policy.Effect xs i)) _ ts (one kind.OpenParen l) f refl)
     (held m.scope (policies src m) (λ q. policy.Scope xs i q) (holds_scope src m xs i) vs m.scope.start c.last c.goes))
-    (ap (λ a. taken (in_scope m.conditions.start xs i mark.CloseParen a)) (d.at_paren c.last ys (token_at kind.CloseParen e) refl c.ends))
+    (ap (λ a. answer_state (in_scope m.conditions.start xs i mark.CloseParen a)) (d.at_paren c.last ys (token_at kind.CloseParen e) refl c.ends))
 
 -- behind the scope
 pub head_runs : {A V C : Type 0} {src : List ℕ} {m : Sections A V C} → SectionDoors src m → {ts us vs : List Lexeme} {xs : List (Cell Annotation)} {i : Ident} {ys : List (Cell VariableDef)} (l e : Spot) →
@@ -79,7 +79,7 @@ conditions_run {src = src} {m = m} d ts {ws = ws} {xs = xs} {i = i} {ys = ys} {z
     let s = Some (policies src m).start in
     then_steps (policies src m) s (Some (policy.Conditions xs i ys c.last)) _ (ts ++ ws) (one kind.Semicolon e)
     (then_steps (policies src m) s (Some (policy.Conditions xs i ys m.conditions.start)) _ ts ws f (held m.conditions (policies src m) (λ q. policy.Conditions xs i ys q) (holds_conditions src m xs i ys) ws m.conditions.start c.last c.goes))
-    (ap (λ a. taken (in_conditions xs i ys mark.Semicolon a)) (d.at_semicolon c.last zs (token_at kind.Semicolon e) refl c.ends))
+    (ap (λ a. answer_state (in_conditions xs i ys mark.Semicolon a)) (d.at_semicolon c.last zs (token_at kind.Semicolon e) refl c.ends))
 
 policy_complete : {A V C : Type 0} {src : List ℕ} {m : Sections A V C} → SectionDoors src m → {ts : List Lexeme} {p : Policy} → ReadsPolicy src ts p → RunsTo (policies src m) ts p
 policy_complete {src = src} d (loose.policy {ts = ts} {us = us} {vs = vs} {xs = xs} {i = i} {ys = ys} {zs = zs} l m e r w v c) =
@@ -97,7 +97,7 @@ pub data PolicyRead {A V C : Type 0} (src : List ℕ) (m : Sections A V C) : Lis
   is_closed : {ts : List Lexeme} {p : Policy} → ReadsPolicy src ts p → PolicyRead src m ts (policy.Closed p)
 
 abbrev After : {A V C : Type 0} → List ℕ → Sections A V C → List Lexeme → Answer (PolicyState A V C) Policy → Type 0
-After src m ts a = IfSome (taken a) (λ s. PolicyRead src m ts s)
+After src m ts a = IfSome (answer_state a) (λ s. PolicyRead src m ts s)
 
 snoc : (ts us : List Lexeme) (t : Lexeme) → ts ++ (us ++ t ∷ []) ≡ ts ++ us ++ t ∷ []
 snoc ts us t = simp append_assoc
@@ -175,7 +175,7 @@ conditions_completed {src = src} {m = m} d xs i ys s =
       last = policy.Closed (policy_of xs i ys c.tree);
       tree = policy_of xs i ys c.tree;
       goes = then_steps (policies src m) (Some (policy.Conditions xs i ys s)) (Some (policy.Conditions xs i ys c.last)) _ c.more (some_token kind.Semicolon ∷ []) (held m.conditions (policies src m) (λ q. policy.Conditions xs i ys q) (holds_conditions src m xs i ys) c.more s c.last c.goes)
-          (ap (λ a. taken (in_conditions xs i ys mark.Semicolon a)) (d.at_semicolon c.last c.tree (some_token kind.Semicolon) refl c.ends));
+          (ap (λ a. answer_state (in_conditions xs i ys mark.Semicolon a)) (d.at_semicolon c.last c.tree (some_token kind.Semicolon) refl c.ends));
       ends = refl;
     }
 
@@ -188,7 +188,7 @@ scope_completed {src = src} {m = m} d xs i s =
       last = h.last;
       tree = h.tree;
       goes = then_steps (policies src m) (Some (policy.Scope xs i s)) (Some (policy.Scope xs i c.last)) _ c.more (some_token kind.CloseParen ∷ h.more) (held m.scope (policies src m) (λ q. policy.Scope xs i q) (holds_scope src m xs i) c.more s c.last c.goes)
-          (ap (λ a. steps (policies src m) (taken (in_scope m.conditions.start xs i mark.CloseParen a)) h.more) (d.at_paren c.last c.tree (some_token kind.CloseParen) refl c.ends) ∙ h.goes);
+          (ap (λ a. steps (policies src m) (answer_state (in_scope m.conditions.start xs i mark.CloseParen a)) h.more) (d.at_paren c.last c.tree (some_token kind.CloseParen) refl c.ends) ∙ h.goes);
       ends = h.ends;
     }
 
@@ -204,7 +204,7 @@ annotated_completed {src = src} {m = m} d s =
       last = h.last;
       tree = h.tree;
       goes = then_steps (policies src m) (Some (policy.Annotated s)) (Some (policy.Annotated c.last)) _ c.more (some_token kind.Identifier ∷ h.more) (held m.annotations (policies src m) (λ q. policy.Annotated q) (holds_annotations src m) c.more s c.last c.goes)
-          (ap (λ a. steps (policies src m) (taken (in_annotations src (some_token kind.Identifier) a)) h.more) (d.at_words c.last c.tree (some_token kind.Identifier) (ident.Ident [], refl) c.ends) ∙ h.goes);
+          (ap (λ a. steps (policies src m) (answer_state (in_annotations src (some_token kind.Identifier) a)) h.more) (d.at_words c.last c.tree (some_token kind.Identifier) (ident.Ident [], refl) c.ends) ∙ h.goes);
       ends = h.ends;
     }
 

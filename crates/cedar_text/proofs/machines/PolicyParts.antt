@@ -21,7 +21,7 @@ use Rattle.cedar_syntax.specs.Trees.{Cell}
 use Rattle.cedar_text.specs.machines.Closing.{node_of}
 use Rattle.cedar_syntax.specs.machines.Door.{ended, refused, is_some, is_taken, Door, Shapes}
 use Rattle.cedar_text.specs.machines.ExpressionShapes as shaped
-use Rattle.cedar_text.specs.machines.ExpressionShapes.{LeftShape, ModeShape, FrameShape, having_shape, after_words, word_shape, step_shape, ends, told, ends_with, sum_shapes, expression_shapes}
+use Rattle.cedar_text.specs.machines.ExpressionShapes.{LeftShape, ModeShape, FrameShape, having_shape, after_words, word_shape, step_shape, ends, shape_answer, ends_with, sum_shapes, expression_shapes}
 use Rattle.cedar_text.specs.machines.Expressions.{sums}
 use Rattle.cedar_syntax.specs.machines.Following.{IsParting, comma, close_paren, FollowsSum, operator, parting, FollowsName, is_word, as_sum}
 use Rattle.cedar_syntax.specs.machines.Judged.{ReadsBy}
@@ -32,7 +32,7 @@ use Rattle.cedar_text.specs.machines.Policies.{one_policy_shapes, one_policy_sha
 use Rattle.cedar_text.specs.machines.PolicyParts.{policy_parts, policy_part_shapes, OneState, AllState, whole_policy, policy_allows, whole_policies, policies_allow}
 use Rattle.cedar_syntax.specs.machines.Recovery.{Recovers}
 use Rattle.cedar_text.specs.machines.WholeExpressions.{StateShape, state_shape, whole_expressions, whole_sums, expression_allows, sum_allows}
-use Rattle.cedar_text.specs.machines.Words.{names, kept, ended_with}
+use Rattle.cedar_text.specs.machines.Words.{names, kept_answer, end_or_refusal}
 use Rattle.cedar_text.specs.machines.WordShapes as worded
 use Rattle.cedar_text.specs.machines.WordShapes.{PathKind, PathShape, WordsShape, as_words_shape, path_shape, name_shapes, name_kind, no_tree, words_shape}
 use Rattle.cedar_syntax.proofs.WordPlaces.{start_is, name_path, path_some}
@@ -97,10 +97,10 @@ whole_sums_shaped src = image_shapes (λ s. state_shape s) no_tree (λ x. node_o
 
 -- ---- what isn't allowed ends a part, if it can end
 
-pub expression_not_taken : (src : List ℕ) (s : State) (t : Lexeme) → expression_allows s (Some t.kind) ≡ false → (whole_expressions src).step s t ≡ ended_with ((whole_expressions src).finish s)
+pub expression_not_taken : (src : List ℕ) (s : State) (t : Lexeme) → expression_allows s (Some t.kind) ≡ false → (whole_expressions src).step s t ≡ end_or_refusal ((whole_expressions src).finish s)
 expression_not_taken src s t h = not_taken (λ s t. (whole_expressions_door src).answers s t) (whole_expressions_shaped src) s t h
 
-pub sum_not_taken : (src : List ℕ) (s : State) (t : Lexeme) → sum_allows s (Some t.kind) ≡ false → (whole_sums src).step s t ≡ ended_with ((whole_sums src).finish s)
+pub sum_not_taken : (src : List ℕ) (s : State) (t : Lexeme) → sum_allows s (Some t.kind) ≡ false → (whole_sums src).step s t ≡ end_or_refusal ((whole_sums src).finish s)
 sum_not_taken src s t h = not_taken (λ s t. (sums_as_nodes src).answers s t) (whole_sums_shaped src) s t h
 
 pub expressions_end : (src : List ℕ) (s : State) → is_some ((whole_expressions src).finish s) ≡ expression_allows s None
@@ -144,12 +144,12 @@ mode_stays w k h n l (shaped.worded p s) e = words_stay w k h n l p s e
 mode_stays w k h n l (shaped.dotted b) e = absurd (cc)
 mode_stays w k h n l (shaped.had_shape b) e = h l b
 
-told_ended : (b : Bool) (o : Option StateShape) → is_some (ends_with b) ≡ true → (b ≡ true → o ≡ None) → is_taken (told b o) ≡ false
-told_ended true o e h = ap (λ o. is_taken (told true o)) (h refl)
+told_ended : (b : Bool) (o : Option StateShape) → is_some (ends_with b) ≡ true → (b ≡ true → o ≡ None) → is_taken (shape_answer b o) ≡ false
+told_ended true o e h = ap (λ o. is_taken (shape_answer true o)) (h refl)
 told_ended false o e h = absurd (cc)
 
 stack_stays : (w : Wanted) (k : TokenKind) → Behind w k → NoColons k → (st : List FrameShape) (l : LeftShape) (m : ModeShape WordsShape) → is_some (ends_with (ends named_shapes st m)) ≡ true →
-    is_taken (told (ends named_shapes st m) (step_shape w named_shapes st l m k)) ≡ false
+    is_taken (shape_answer (ends named_shapes st m) (step_shape w named_shapes st l m k)) ≡ false
 stack_stays w k h n [] l m e = told_ended (ends named_shapes [] m) (step_shape w named_shapes [] l m k) e (λ i. mode_stays w k h n l m i)
 stack_stays w k h n (f ∷ st) l m e = absurd (cc)
 
@@ -162,9 +162,9 @@ expression_ends_at src k h n = ends_at (λ s t. (whole_expressions_door src).ans
 named_stays : (k : TokenKind) → NoColons k → (u : PathShape) → is_some (name_shapes.finish u) ≡ true → is_taken (name_shapes.step u k) ≡ false
 named_stays k n worded.at_start e = absurd (cc)
 named_stays k n worded.behind_colons e = absurd (cc)
-named_stays k n (worded.have c) e = ap (λ a. is_taken (kept name_kind a)) (n c) ∙ kind_stays c
+named_stays k n (worded.have c) e = ap (λ a. is_taken (kept_answer name_kind a)) (n c) ∙ kind_stays c
   where
-    kind_stays : (c : PathKind) → is_taken (ended_with {S = PathShape} (name_kind c)) ≡ false
+    kind_stays : (c : PathKind) → is_taken (end_or_refusal {S = PathShape} (name_kind c)) ≡ false
     kind_stays worded.truth = refl
     kind_stays worded.condition = refl
     kind_stays worded.a_name = refl

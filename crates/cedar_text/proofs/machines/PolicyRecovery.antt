@@ -25,18 +25,18 @@ use Rattle.cedar_syntax.specs.LooseWords.{ReadsAny, any, no_item}
 use Rattle.cedar_syntax.specs.LoosePolicies.{ReadsMany, none, more, ReadsPolicy}
 use Rattle.cedar_syntax.specs.LoosePolicies as loose
 use Rattle.cedar_syntax.specs.Sentences.{HasTree, Starts}
-use Rattle.cedar_syntax.specs.Mended.{InBraces, in_braces, IsBegun, put}
-use Rattle.cedar_syntax.specs.machines.Door.{Machine, Answer, next, ended, refused, too_large, taken, steps, Comes, RunsTo, Door, Shapes, option_image}
-use Rattle.cedar_text.specs.machines.Placing.{AsNode, as_node, spanned, spanned_answer, node_if, placing}
+use Rattle.cedar_syntax.specs.Mended.{InBraces, in_braces, IsBegun, stub_token}
+use Rattle.cedar_syntax.specs.machines.Door.{Machine, Answer, next, ended, refused, too_large, answer_state, steps, Comes, RunsTo, Door, Shapes, option_image}
+use Rattle.cedar_text.specs.machines.Placing.{AsNode, as_node, spanned_state, spanned_answer, node_if, placing}
 use Rattle.cedar_text.specs.machines.Sequences.{sequence, many}
-use Rattle.cedar_text.specs.machines.Scope.{Parts}
+use Rattle.cedar_text.specs.machines.Scope.{PartMachines}
 use Rattle.cedar_text.specs.machines.Policy.{policy_step, policy_end, policies}
 use Rattle.cedar_text.specs.machines.SequenceShapes.{spanned_shape, sequence_shape}
 use Rattle.cedar_text.specs.machines.WordShapes.{no_tree}
 use Rattle.cedar_text.specs.machines.PolicyShapes.{annotation_shape, element_shape, PartShapes, ConditionShape, no_condition, has_word, has_opened, has_body, whole_condition, condition_shape, PolicyShape, in_head, has_effect, in_parens, behind_parens, whole_policy, policy_shape}
 use Rattle.cedar_syntax.specs.machines.Recovery.{Recovers}
 use Rattle.cedar_text.specs.machines.Policies.{ConditionsState, OnePolicy, sections, policy_machine, policies_machine, OnePolicyShape, one_policy_shapes, all_policies_shapes, one_policy_shape, all_policies_shape, condition_way, begun_condition_way, policy_way, begun_policy_way}
-use Rattle.cedar_text.specs.machines.Policies.{closed_condition, closed_begun, closed_policy, one_closed, one_ended, all_closed, policy_recovers, policies_recover}
+use Rattle.cedar_text.specs.machines.Policies.{closed_condition, condition_closing, closed_policy, policy_closing, policy_ending, policies_closing, policy_recovers, policies_recover}
 use Rattle.cedar_syntax.proofs.machines.Laws.{some_is, none_some, false_true, then_steps, rest_of_run, comes}
 use Rattle.cedar_syntax.proofs.machines.Holding.{snoc_assoc, entered}
 use Rattle.cedar_text.proofs.machines.Ending.{Begins, placed_ends}
@@ -76,7 +76,7 @@ condition_way_by {E = E} h zs (Some s) = go s.state
     go (condition.Body i s) = refl
     go (condition.Closed i x) = refl
 
-way_by_shape : {N S E L M F : Type 0} (f : N → L) (g : S → M) (h : E → F) (w : Way) (s : OnePolicy N S E) → policy_way w s ≡ shape_way w (one_policy_shape f g h (spanned None s))
+way_by_shape : {N S E L M F : Type 0} (f : N → L) (g : S → M) (h : E → F) (w : Way) (s : OnePolicy N S E) → policy_way w s ≡ shape_way w (one_policy_shape f g h (spanned_state None s))
 way_by_shape f g h w (policy.Annotated s) = refl
 way_by_shape f g h w (policy.Effect xs i) = refl
 way_by_shape f g h w (policy.Scope xs i s) = refl
@@ -99,7 +99,7 @@ closed_shape (behind_parens u) = behind_parens (closed_condition_shape u)
 closed_shape whole_policy = whole_policy
 
 condition_closed_by : {E F : Type 0} (h : E → F) (zs : List (Cell Cond)) (s : Option (Spanned (ConditionState E))) →
-    sequence_shape (spanned_shape (condition_shape h)) (closed_begun zs s) ≡ closed_condition_shape (sequence_shape (spanned_shape (condition_shape h)) (sequence zs s))
+    sequence_shape (spanned_shape (condition_shape h)) (condition_closing zs s) ≡ closed_condition_shape (sequence_shape (spanned_shape (condition_shape h)) (sequence zs s))
 condition_closed_by h zs None = refl
 condition_closed_by {E = E} h zs (Some s) = go s.state
   where
@@ -110,7 +110,7 @@ condition_closed_by {E = E} h zs (Some s) = go s.state
     go (condition.Body i s) = refl
     go (condition.Closed i x) = refl
 
-closed_by_shape : {N S E L M F : Type 0} (f : N → L) (g : S → M) (h : E → F) (e : Option Extent) (s : OnePolicy N S E) → one_policy_shape f g h (spanned e (closed_policy s)) ≡ closed_shape (one_policy_shape f g h (spanned e s))
+closed_by_shape : {N S E L M F : Type 0} (f : N → L) (g : S → M) (h : E → F) (e : Option Extent) (s : OnePolicy N S E) → one_policy_shape f g h (spanned_state e (closed_policy s)) ≡ closed_shape (one_policy_shape f g h (spanned_state e s))
 closed_by_shape f g h e (policy.Annotated s) = refl
 closed_by_shape f g h e (policy.Effect xs i) = refl
 closed_by_shape f g h e (policy.Scope xs i s) = refl
@@ -131,10 +131,10 @@ closed_in_braces w (behind_parens (Some (has_body u))) h e = refl
 closed_in_braces w (behind_parens (Some whole_condition)) h e = absurd (cc)
 closed_in_braces w whole_policy h e = absurd (h e)
 
-close_shape : {N S E L M F : Type 0} (f : N → L) (g : S → M) (h : E → F) (w : Way) (s : Spanned (OnePolicy N S E)) → (w ≡ way.ToBrace → ⊥) → policy_way w s.state ≡ way.ToBrace → one_policy_shape f g h (one_closed s) ≡ behind_parens (Some whole_condition)
+close_shape : {N S E L M F : Type 0} (f : N → L) (g : S → M) (h : E → F) (w : Way) (s : Spanned (OnePolicy N S E)) → (w ≡ way.ToBrace → ⊥) → policy_way w s.state ≡ way.ToBrace → one_policy_shape f g h (policy_closing s) ≡ behind_parens (Some whole_condition)
 close_shape f g h w s n e = closed_by_shape f g h s.extent s.state ∙ closed_in_braces w (one_policy_shape f g h s) n (sym (way_by_shape f g h w s.state) ∙ e)
 
-closed_shape_is : {N S E L M F : Type 0} (f : N → L) (g : S → M) (h : E → F) (e : Option Extent) {s : OnePolicy N S E} → IsClosed s → one_policy_shape f g h (spanned e s) ≡ behind_parens (Some whole_condition)
+closed_shape_is : {N S E L M F : Type 0} (f : N → L) (g : S → M) (h : E → F) (e : Option Extent) {s : OnePolicy N S E} → IsClosed s → one_policy_shape f g h (spanned_state e s) ≡ behind_parens (Some whole_condition)
 closed_shape_is f g h e (closed xs i ys zs d w x) = refl
 
 to_end_apart : way.ToEnd ≡ way.ToBrace → ⊥
@@ -148,14 +148,14 @@ stop_apart e = cc
 abbrev spare : Spot
 spare = record { start = 0; end = 0; text = [] }
 
-short_reads : (src : List ℕ) (e : Spot) → HasTree (ReadsPolicy src) (put kind.Identifier ++ put kind.OpenParen ++ put kind.CloseParen ++ one kind.Semicolon e)
+short_reads : (src : List ℕ) (e : Spot) → HasTree (ReadsPolicy src) (stub_token kind.Identifier ++ stub_token kind.OpenParen ++ stub_token kind.CloseParen ++ one kind.Semicolon e)
 short_reads src e = (_, loose.policy spare spare e none (any {k = kind.Identifier} {i = ident.Ident []} spare refl) no_item none)
 
 node_tree : {T : Type 0} {src : List ℕ} {R : List Lexeme → T → Type 0} {ts : List Lexeme} {c : Cell T} → AsNode src R ts c → HasTree R ts
 node_tree (as_node {x = x} r) = (x, r)
 
 -- a state that can't end has begun a policy
-begun_by : {N S E : Type 0} {src : List ℕ} {m : Parts N S E} → Grounds src m → (us : List Lexeme) (q : Spanned (OnePolicy N S E)) → Comes (policy_machine src m) us q → (policy_machine src m).finish q ≡ None → IsBegun src us
+begun_by : {N S E : Type 0} {src : List ℕ} {m : PartMachines N S E} → Grounds src m → (us : List Lexeme) (q : Spanned (OnePolicy N S E)) → Comes (policy_machine src m) us q → (policy_machine src m).finish q ≡ None → IsBegun src us
 begun_by {N = N} {S = S} {E = E} {src = src} {m = m} g us q c e =
     let d = one_policy_door g in
     let v = d.viable q in
@@ -169,7 +169,7 @@ begun_by {N = N} {S = S} {E = E} {src = src} {m = m} g us q c e =
         (t, (ts, subst (λ us. HasTree (ReadsPolicy src) us) (sym (snoc_assoc us t ts)) r))
 
 none_begun : (src : List ℕ) → IsBegun src []
-none_begun src = (record { kind = kind.Identifier; start = 0; end = 0; text = [] }, (put kind.OpenParen ++ put kind.CloseParen ++ put kind.Semicolon, short_reads src spare))
+none_begun src = (record { kind = kind.Identifier; start = 0; end = 0; text = [] }, (stub_token kind.OpenParen ++ stub_token kind.CloseParen ++ stub_token kind.Semicolon, short_reads src spare))
 
 -- a machine's state behind tokens is one
 same_state : {S T : Type 0} (m : Machine Lexeme S T) (ts : List Lexeme) (s q : S) → Comes m ts s → Comes m ts q → s ≡ q
@@ -221,7 +221,7 @@ abbrev pub Nothing : List Lexeme → Type 0
 Nothing ts = ts ≡ []
 
 -- a policy is whole where it is left by stopping
-stopped_whole : {N S E : Type 0} (src : List ℕ) (m : Parts N S E) (s : OnePolicy N S E) → policy_way way.Stop s ≡ way.Stop → (t : Lexeme) → taken (policy_step src (sections src m) s t) ≡ None
+stopped_whole : {N S E : Type 0} (src : List ℕ) (m : PartMachines N S E) (s : OnePolicy N S E) → policy_way way.Stop s ≡ way.Stop → (t : Lexeme) → answer_state (policy_step src (sections src m) s t) ≡ None
 stopped_whole src m (policy.Annotated s) e t = absurd (cc)
 stopped_whole src m (policy.Effect xs i) e t = absurd (cc)
 stopped_whole src m (policy.Scope xs i s) e t = absurd (cc)
@@ -247,7 +247,7 @@ not_stopped (policy.Scope xs i s) e = refl
 not_stopped (policy.Conditions xs i ys s) e = refl
 not_stopped (policy.Closed p) e = absurd (e refl)
 
-ended_shape : {N S E L M F : Type 0} (f : N → L) (g : S → M) (h : E → F) (src : List ℕ) (d : Option Extent) (x : Cell Policy) (s : OnePolicy N S E) → node_if src d (policy_end s) ≡ Some x → one_policy_shape f g h (spanned d s) ≡ whole_policy
+ended_shape : {N S E L M F : Type 0} (f : N → L) (g : S → M) (h : E → F) (src : List ℕ) (d : Option Extent) (x : Cell Policy) (s : OnePolicy N S E) → node_if src d (policy_end s) ≡ Some x → one_policy_shape f g h (spanned_state d s) ≡ whole_policy
 ended_shape f g h src d x (policy.Annotated s) e = absurd (cc)
 ended_shape f g h src d x (policy.Effect xs i) e = absurd (cc)
 ended_shape f g h src d x (policy.Scope xs i s) e = absurd (cc)
@@ -257,13 +257,13 @@ ended_shape f g h src d x (policy.Closed p) e = refl
 whole_shape : {N S E L M F : Type 0} (f : N → L) (g : S → M) (h : E → F) (src : List ℕ) (s : Spanned (OnePolicy N S E)) (x : Cell Policy) → node_if src s.extent (policy_end s.state) ≡ Some x → one_policy_shape f g h s ≡ whole_policy
 whole_shape f g h src s x e = ended_shape f g h src s.extent x s.state e
 
-taken_span : {S T : Type 0} (src : List ℕ) (e : Option Extent) (t : Lexeme) (a : Answer S T) → taken a ≡ None → taken (spanned_answer src e t a) ≡ None
+taken_span : {S T : Type 0} (src : List ℕ) (e : Option Extent) (t : Lexeme) (a : Answer S T) → answer_state a ≡ None → answer_state (spanned_answer src e t a) ≡ None
 taken_span src e t (next s) h = absurd (cc)
 taken_span src e t (ended x) h = refl
 taken_span src e t refused h = refl
 taken_span src e t too_large h = refl
 
-alone_inside : {N S E : Type 0} {src : List ℕ} {m : Parts N S E} → Grounds src m → (ts : List Lexeme) → OpenTokens src ts → Inside src (AsNode src (ReadsPolicy src)) ts
+alone_inside : {N S E : Type 0} {src : List ℕ} {m : PartMachines N S E} → Grounds src m → (ts : List Lexeme) → OpenTokens src ts → Inside src (AsNode src (ReadsPolicy src)) ts
 alone_inside {src = src} g ts o =
     let w = whole_policy_of spare o.stands in
     record { opened = o.before ++ o.word ++ one kind.OpenBrace o.brace; within = o.body; is = o.is; braces = in_braces o.before o.brace spare (placed src (o.before ++ one kind.Semicolon spare) w.0, as_node w.1) o.reads o.starts }
@@ -272,25 +272,25 @@ alone_inside {src = src} g ts o =
 alone_open : {src : List ℕ} (ts : List Lexeme) (e : Spot) (x : Cell Policy) → AsNode src (ReadsPolicy src) (ts ++ one kind.Semicolon e) x → OpenPolicy src ts
 alone_open {src = src} ts e x r = let y = node_tree r in one_open ts e y.1 refl
 
-alone_braces : {N S E : Type 0} {src : List ℕ} {m : Parts N S E} → Grounds src m → (us vs : List Lexeme) (s : Spanned (OnePolicy N S E)) → InBraces src (AsNode src (ReadsPolicy src)) us vs → Comes (policy_machine src m) (us ++ vs) s → policy_way way.Stop s.state ≡ way.ToBrace
+alone_braces : {N S E : Type 0} {src : List ℕ} {m : PartMachines N S E} → Grounds src m → (us vs : List Lexeme) (s : Spanned (OnePolicy N S E)) → InBraces src (AsNode src (ReadsPolicy src)) us vs → Comes (policy_machine src m) (us ++ vs) s → policy_way way.Stop s.state ≡ way.ToBrace
 alone_braces {src = src} {m = m} d us vs s (in_braces ts {ws = ws} l e p a b) c =
     let k = in_body d vs l (alone_open ts e p.0 p.1) a b in
     ap (λ s. policy_way way.Stop s.state) (same_state (policy_machine src m) (ts ++ ws ++ one kind.OpenBrace l ++ vs) s k.state c k.comes) ∙ k.is way.Stop
 
-alone_not_begun : {N S E : Type 0} {src : List ℕ} {m : Parts N S E} → Grounds src m → (ts us : List Lexeme) (s : Spanned (OnePolicy N S E)) → ts ≡ [] → IsBegun src us → Comes (policy_machine src m) (ts ++ us) s → policy_way way.Stop s.state ≡ way.Stop → ⊥
+alone_not_begun : {N S E : Type 0} {src : List ℕ} {m : PartMachines N S E} → Grounds src m → (ts us : List Lexeme) (s : Spanned (OnePolicy N S E)) → ts ≡ [] → IsBegun src us → Comes (policy_machine src m) (ts ++ us) s → policy_way way.Stop s.state ≡ way.Stop → ⊥
 alone_not_begun {src = src} {m = m} d ts us s z p c e =
     let n = policy_machine src m in
     let k = comes (one_policy_door d) (us ++ p.0 ∷ []) (p.1.0, (placed src ((us ++ p.0 ∷ []) ++ p.1.0) p.1.1.0, as_node p.1.1.1)) in
     none_some (taken_span src s.extent p.0 (policy_step src (sections src m) s.state p.0) (stopped_whole src m s.state e p.0)) (rest_of_run n us (p.0 ∷ []) s (Some k.0) (subst (λ ts. Comes n (ts ++ us) s) z c) k.1)
 
-alone_closes : {N S E L M F : Type 0} (f : N → L) (g : S → M) (h : E → F) {src : List ℕ} {m : Parts N S E} → Grounds src m → (us vs : List Lexeme) (s : Spanned (OnePolicy N S E)) (e : Spot) → InBraces src (AsNode src (ReadsPolicy src)) us vs → Comes (policy_machine src m) (us ++ vs) s →
-    Comparable (policy_machine src m) (one_policy_shape f g h) (us ++ one kind.CloseBrace e) (one_policy_shape f g h (one_closed s))
+alone_closes : {N S E L M F : Type 0} (f : N → L) (g : S → M) (h : E → F) {src : List ℕ} {m : PartMachines N S E} → Grounds src m → (us vs : List Lexeme) (s : Spanned (OnePolicy N S E)) (e : Spot) → InBraces src (AsNode src (ReadsPolicy src)) us vs → Comes (policy_machine src m) (us ++ vs) s →
+    Comparable (policy_machine src m) (one_policy_shape f g h) (us ++ one kind.CloseBrace e) (one_policy_shape f g h (policy_closing s))
 alone_closes f g h d us vs s e (in_braces ts l q p a b) c =
     let k = behind_brace d l e (alone_open ts q p.0 p.1) a in
     let w = alone_braces d us vs s (in_braces ts l q p a b) c in
     record { state = k.state; comes = k.comes; alike = close_shape f g h way.Stop s stop_apart w ∙ sym (closed_shape_is f g h k.state.extent k.is) }
 
-pub one_recovers : {N S E L M F X : Type 0} (src : List ℕ) (m : Parts N S E) (n : PartShapes L M F) (f : N → L) (g : S → M) (h : E → F) → Grounds src m → PartsShaped m n f g h →
+pub one_recovers : {N S E L M F X : Type 0} (src : List ℕ) (m : PartMachines N S E) (n : PartShapes L M F) (f : N → L) (g : S → M) (h : E → F) → Grounds src m → PartsShaped m n f g h →
     (tell : Spanned (OnePolicy N S E) → ℕ → Option Lexeme → X) (large : Lexeme → X) (U : List Lexeme → Option Lexeme → X → Type 0) (L : Lexeme → X → Type 0) →
     ((s q : Spanned (OnePolicy N S E)) (l : ℕ) (o : Option Lexeme) → one_policy_shape f g h s ≡ one_policy_shape f g h q → tell s l o ≡ tell q l o) →
     ((ts : List Lexeme) (s : Spanned (OnePolicy N S E)) (o : Option Lexeme) (x : X) → Comes (policy_machine src m) ts s → U ts o x ↔ (tell s (end_from 0 ts) o ≡ x)) → ((t : Lexeme) (x : X) → L t x ↔ (large t ≡ x)) →
@@ -312,7 +312,7 @@ one_recovers src m n f g h d i tell large U L a b c = record {
   not_begun = alone_not_begun d;
   closes = alone_closes f g h d;
   ends = λ ts us s e z p w. let r = short_reads src e in let k = (one_policy_door d).complete _ _ (as_node r.1) in
-      record { state = k.last; comes = subst (λ ts. Comes (policy_machine src m) (ts ++ put kind.Identifier ++ put kind.OpenParen ++ put kind.CloseParen ++ one kind.Semicolon e) k.last) (sym z) k.goes; alike = sym (whole_shape f g h src k.last _ k.ends) };
+      record { state = k.last; comes = subst (λ ts. Comes (policy_machine src m) (ts ++ stub_token kind.Identifier ++ stub_token kind.OpenParen ++ stub_token kind.CloseParen ++ one kind.Semicolon e) k.last) (sym z) k.goes; alike = sym (whole_shape f g h src k.last _ k.ends) };
 }
 
 -- policies
@@ -321,7 +321,7 @@ abbrev pub WholePolicies : List ℕ → List Lexeme → Type 0
 WholePolicies src ts = HasTree (ReadsMany src (ReadsPolicy src)) ts
 
 -- behind policies, a run of one more
-another : {N S E : Type 0} {src : List ℕ} {m : Parts N S E} → Grounds src m → (ts us : List Lexeme) (xs : List (Cell Policy)) (q : Spanned (OnePolicy N S E)) → ReadsMany src (ReadsPolicy src) ts xs → Comes (policy_machine src m) us q →
+another : {N S E : Type 0} {src : List ℕ} {m : PartMachines N S E} → Grounds src m → (ts us : List Lexeme) (xs : List (Cell Policy)) (q : Spanned (OnePolicy N S E)) → ReadsMany src (ReadsPolicy src) ts xs → Comes (policy_machine src m) us q →
     ((policy_machine src m).start ≡ q → ⊥) → Comes (policies_machine src m) (ts ++ us) (item_at xs q)
 another {src = src} {m = m} d ts [] xs q r c h = absurd (h (some_is c))
 another {src = src} {m = m} d ts (t ∷ us) xs q r c h =
@@ -331,7 +331,7 @@ another {src = src} {m = m} d ts (t ∷ us) xs q r c h =
     then_steps (many n) (Some (many n).start) (Some k.last) _ ts (t ∷ us) k.goes
     (entered n (many n) (λ q. item_at xs q) (many_holds n xs) k.last t (λ s w. many_next n (placed_ends src p (Begins n) (policy_ends src (sections src m) (Begins n))) k.last.done k.last.begun xs k.ends t s w) us q c)
 
-start_way : {N S E : Type 0} (src : List ℕ) (m : Parts N S E) (q : Spanned (OnePolicy N S E)) → policy_way way.ToEnd q.state ≡ way.ToBrace → (policy_machine src m).start ≡ q → ⊥
+start_way : {N S E : Type 0} (src : List ℕ) (m : PartMachines N S E) (q : Spanned (OnePolicy N S E)) → policy_way way.ToEnd q.state ≡ way.ToBrace → (policy_machine src m).start ≡ q → ⊥
 start_way src m q e h = to_end_apart (ap (λ s. policy_way way.ToEnd s.state) h ∙ e)
 
 abbrev is_at_start : {N S E : Type 0} → OnePolicy N S E → Bool
@@ -344,10 +344,10 @@ is_at_start (policy.Closed p) = false
 closed_later : {N S E : Type 0} {s : OnePolicy N S E} → IsClosed s → is_at_start s ≡ false
 closed_later (closed xs i ys zs d w x) = refl
 
-start_closed : {N S E : Type 0} (src : List ℕ) (m : Parts N S E) (q : Spanned (OnePolicy N S E)) → IsClosed q.state → (policy_machine src m).start ≡ q → ⊥
+start_closed : {N S E : Type 0} (src : List ℕ) (m : PartMachines N S E) (q : Spanned (OnePolicy N S E)) → IsClosed q.state → (policy_machine src m).start ≡ q → ⊥
 start_closed src m q e h = false_true (closed_later e) (ap (λ s. is_at_start s.state) (sym h))
 
-start_whole : {N S E : Type 0} (src : List ℕ) (m : Parts N S E) (q : Spanned (OnePolicy N S E)) (x : Cell Policy) → (policy_machine src m).finish q ≡ Some x → (policy_machine src m).start ≡ q → ⊥
+start_whole : {N S E : Type 0} (src : List ℕ) (m : PartMachines N S E) (q : Spanned (OnePolicy N S E)) (x : Cell Policy) → (policy_machine src m).finish q ≡ Some x → (policy_machine src m).start ≡ q → ⊥
 start_whole src m q x e h = none_some refl (ap (λ q. (policy_machine src m).finish q) h ∙ e)
 
 -- what is in braces
@@ -355,7 +355,7 @@ start_whole src m q x e h = none_some refl (ap (λ q. (policy_machine src m).fin
 many_open_of : {src : List ℕ} (ts : List Lexeme) (e : Spot) → HasTree (ReadsMany src (ReadsPolicy src)) (ts ++ one kind.Semicolon e) → ManyOpen src ts
 many_open_of ts e h = many_open ts e h.1 refl
 
-all_in_braces : {N S E : Type 0} {src : List ℕ} {m : Parts N S E} → Grounds src m → (us vs : List Lexeme) (s : Sequence (Spanned (OnePolicy N S E)) (Cell Policy)) → InBraces src (ReadsMany src (ReadsPolicy src)) us vs → Comes (policies_machine src m) (us ++ vs) s →
+all_in_braces : {N S E : Type 0} {src : List ℕ} {m : PartMachines N S E} → Grounds src m → (us vs : List Lexeme) (s : Sequence (Spanned (OnePolicy N S E)) (Cell Policy)) → InBraces src (ReadsMany src (ReadsPolicy src)) us vs → Comes (policies_machine src m) (us ++ vs) s →
     begun_policy_way s.begun ≡ way.ToBrace
 all_in_braces {src = src} {m = m} d us vs s (in_braces ts {ws = ws} l e p a b) c =
     let o = many_open_of ts e p in
@@ -368,12 +368,12 @@ all_in_braces {src = src} {m = m} d us vs s (in_braces ts {ws = ws} l e p a b) c
     assoc ts us ws l vs = simp append_assoc
 
 all_close_shape : {N S E L M F : Type 0} (f : N → L) (g : S → M) (h : E → F) (xs : List (Cell Policy)) (b : Option (Spanned (OnePolicy N S E))) → begun_policy_way b ≡ way.ToBrace →
-    all_policies_shape f g h (all_closed xs b) ≡ Some (behind_parens (Some whole_condition))
+    all_policies_shape f g h (policies_closing xs b) ≡ Some (behind_parens (Some whole_condition))
 all_close_shape f g h xs None e = absurd (cc)
 all_close_shape f g h xs (Some s) e = ap (λ u. Some u) (close_shape f g h way.ToEnd s to_end_apart e)
 
-all_closes : {N S E L M F : Type 0} (f : N → L) (g : S → M) (h : E → F) {src : List ℕ} {m : Parts N S E} → Grounds src m → (us vs : List Lexeme) (s : Sequence (Spanned (OnePolicy N S E)) (Cell Policy)) (e : Spot) → InBraces src (ReadsMany src (ReadsPolicy src)) us vs →
-    Comes (policies_machine src m) (us ++ vs) s → Comparable (policies_machine src m) (all_policies_shape f g h) (us ++ one kind.CloseBrace e) (all_policies_shape f g h (all_closed s.done s.begun))
+all_closes : {N S E L M F : Type 0} (f : N → L) (g : S → M) (h : E → F) {src : List ℕ} {m : PartMachines N S E} → Grounds src m → (us vs : List Lexeme) (s : Sequence (Spanned (OnePolicy N S E)) (Cell Policy)) (e : Spot) → InBraces src (ReadsMany src (ReadsPolicy src)) us vs →
+    Comes (policies_machine src m) (us ++ vs) s → Comparable (policies_machine src m) (all_policies_shape f g h) (us ++ one kind.CloseBrace e) (all_policies_shape f g h (policies_closing s.done s.begun))
 all_closes f g h {src = src} {m = m} d us vs s e (in_braces ts {ws = ws} l q p a b) c =
     let o = many_open_of ts q p in
     let k = behind_brace d l e o.stands a in
@@ -387,7 +387,7 @@ all_closes f g h {src = src} {m = m} d us vs s e (in_braces ts {ws = ws} l q p a
     assoc : (ts us ws l vs : List Lexeme) → ts ++ (us ++ ws ++ l ++ vs) ≡ (ts ++ us) ++ ws ++ l ++ vs
     assoc ts us ws l vs = simp append_assoc
 
-all_inside : {N S E : Type 0} {src : List ℕ} {m : Parts N S E} → Grounds src m → {ts : List Lexeme} {s : Sequence (Spanned (OnePolicy N S E)) (Cell Policy)} → ManyRead src (policy_machine src m) (ReadsPolicy src) ts s → begun_policy_way s.begun ≡ way.ToBrace →
+all_inside : {N S E : Type 0} {src : List ℕ} {m : PartMachines N S E} → Grounds src m → {ts : List Lexeme} {s : Sequence (Spanned (OnePolicy N S E)) (Cell Policy)} → ManyRead src (policy_machine src m) (ReadsPolicy src) ts s → begun_policy_way s.begun ≡ way.ToBrace →
     Inside src (ReadsMany src (ReadsPolicy src)) ts
 all_inside d (is_between r) e = absurd (cc)
 all_inside {src = src} d (is_begun {ts = ts} us {xs = xs} {s = q} r c) e =
@@ -403,7 +403,7 @@ all_inside {src = src} d (is_begun {ts = ts} us {xs = xs} {s = q} r c) e =
     assoc : (ts us ws l vs : List Lexeme) → (ts ++ us) ++ ws ++ l ++ vs ≡ ts ++ (us ++ ws ++ l ++ vs)
     assoc ts us ws l vs = simp append_assoc
 
-all_split : {N S E : Type 0} {src : List ℕ} {m : Parts N S E} → Grounds src m → {ts : List Lexeme} {s : Sequence (Spanned (OnePolicy N S E)) (Cell Policy)} → ManyRead src (policy_machine src m) (ReadsPolicy src) ts s → Split src (WholePolicies src) ts
+all_split : {N S E : Type 0} {src : List ℕ} {m : PartMachines N S E} → Grounds src m → {ts : List Lexeme} {s : Sequence (Spanned (OnePolicy N S E)) (Cell Policy)} → ManyRead src (policy_machine src m) (ReadsPolicy src) ts s → Split src (WholePolicies src) ts
 all_split {src = src} d (is_between {ts = ts} {xs = xs} r) = record { whole = ts; part = []; is = append-nil ts; stands = (xs, r); begun = none_begun src }
 all_split {src = src} {m = m} d (is_begun {ts = ts} us {xs = xs} {s = q} r c) = by_end ((policy_machine src m).finish q) refl
   where
@@ -411,7 +411,7 @@ all_split {src = src} {m = m} d (is_begun {ts = ts} us {xs = xs} {s = q} r c) = 
     by_end None e = record { whole = ts; part = us; is = refl; stands = (xs, r); begun = begun_by d us q c e }
     by_end (Some x) e = record { whole = ts ++ us; part = []; is = append-nil (ts ++ us); stands = (xs ++ x ∷ [], many_more r ((one_policy_door d).sound us q x c e)); begun = none_begun src }
 
-never_stops : {N S E : Type 0} (src : List ℕ) (m : Parts N S E) (b : Option (Spanned (OnePolicy N S E))) → begun_policy_way b ≡ way.Stop → ⊥
+never_stops : {N S E : Type 0} (src : List ℕ) (m : PartMachines N S E) (b : Option (Spanned (OnePolicy N S E))) → begun_policy_way b ≡ way.Stop → ⊥
 never_stops src m None e = absurd (cc)
 never_stops src m (Some s) e = go s.state e
   where
@@ -433,16 +433,16 @@ never_stops src m (Some s) e = go s.state e
     go (policy.Conditions xs i ys s) e = never s.begun e
     go (policy.Closed p) e = cc
 
-all_ends : {N S E L M F : Type 0} (f : N → L) (g : S → M) (h : E → F) {src : List ℕ} {m : Parts N S E} → Grounds src m → (ts : List Lexeme) (e : Spot) → WholePolicies src ts →
-    Comparable (policies_machine src m) (all_policies_shape f g h) (ts ++ put kind.Identifier ++ put kind.OpenParen ++ put kind.CloseParen ++ one kind.Semicolon e) (Some whole_policy)
+all_ends : {N S E L M F : Type 0} (f : N → L) (g : S → M) (h : E → F) {src : List ℕ} {m : PartMachines N S E} → Grounds src m → (ts : List Lexeme) (e : Spot) → WholePolicies src ts →
+    Comparable (policies_machine src m) (all_policies_shape f g h) (ts ++ stub_token kind.Identifier ++ stub_token kind.OpenParen ++ stub_token kind.CloseParen ++ one kind.Semicolon e) (Some whole_policy)
 all_ends f g h {src = src} {m = m} d ts e w =
-    let us = put kind.Identifier ++ put kind.OpenParen ++ put kind.CloseParen ++ one kind.Semicolon e in
+    let us = stub_token kind.Identifier ++ stub_token kind.OpenParen ++ stub_token kind.CloseParen ++ one kind.Semicolon e in
     let r = short_reads src e in
     let k = (one_policy_door d).complete us (placed src us r.0) (as_node r.1) in
     let c = another d ts us w.0 k.last w.1 k.goes (start_whole src m k.last (placed src us r.0) k.ends) in
     record {
       state = item_at w.0 k.last;
-      comes = subst (λ ts. Comes (policies_machine src m) ts (item_at w.0 k.last)) (assoc ts (put kind.Identifier) (put kind.OpenParen) (put kind.CloseParen) (one kind.Semicolon e)) c;
+      comes = subst (λ ts. Comes (policies_machine src m) ts (item_at w.0 k.last)) (assoc ts (stub_token kind.Identifier) (stub_token kind.OpenParen) (stub_token kind.CloseParen) (one kind.Semicolon e)) c;
       alike = ap (λ u. Some u) (sym (whole_shape f g h src k.last (placed src us r.0) k.ends));
     }
   where
@@ -456,13 +456,13 @@ all_ways f g h (Some s) None e = absurd (cc)
 all_ways f g h (Some s) (Some q) e = way_by_shape f g h way.ToEnd s.state ∙ ap (λ u. shape_way way.ToEnd u) (some_is e) ∙ sym (way_by_shape f g h way.ToEnd q.state)
 
 all_closing : {N S E L M F : Type 0} (f : N → L) (g : S → M) (h : E → F) (xs ys : List (Cell Policy)) (b c : Option (Spanned (OnePolicy N S E))) → option_image (one_policy_shape f g h) b ≡ option_image (one_policy_shape f g h) c →
-    all_policies_shape f g h (all_closed xs b) ≡ all_policies_shape f g h (all_closed ys c)
+    all_policies_shape f g h (policies_closing xs b) ≡ all_policies_shape f g h (policies_closing ys c)
 all_closing f g h xs ys None None e = refl
 all_closing f g h xs ys None (Some q) e = absurd (cc)
 all_closing f g h xs ys (Some s) None e = absurd (cc)
 all_closing f g h xs ys (Some s) (Some q) e = ap (λ u. Some u) (closed_by_shape f g h s.extent s.state ∙ ap (λ u. closed_shape u) (some_is e) ∙ sym (closed_by_shape f g h q.extent q.state))
 
-pub all_recover : {N S E L M F X : Type 0} (src : List ℕ) (m : Parts N S E) (n : PartShapes L M F) (f : N → L) (g : S → M) (h : E → F) → Grounds src m → PartsShaped m n f g h →
+pub all_recover : {N S E L M F X : Type 0} (src : List ℕ) (m : PartMachines N S E) (n : PartShapes L M F) (f : N → L) (g : S → M) (h : E → F) → Grounds src m → PartsShaped m n f g h →
     (tell : Sequence (Spanned (OnePolicy N S E)) (Cell Policy) → ℕ → Option Lexeme → X) (large : Lexeme → X) (U : List Lexeme → Option Lexeme → X → Type 0) (L : Lexeme → X → Type 0) →
     ((s q : Sequence (Spanned (OnePolicy N S E)) (Cell Policy)) (l : ℕ) (o : Option Lexeme) → all_policies_shape f g h s ≡ all_policies_shape f g h q → tell s l o ≡ tell q l o) →
     ((ts : List Lexeme) (s : Sequence (Spanned (OnePolicy N S E)) (Cell Policy)) (o : Option Lexeme) (x : X) → Comes (policies_machine src m) ts s → U ts o x ↔ (tell s (end_from 0 ts) o ≡ x)) → ((t : Lexeme) (x : X) → L t x ↔ (large t ≡ x)) →

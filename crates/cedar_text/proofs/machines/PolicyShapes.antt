@@ -26,14 +26,14 @@ use Rattle.cedar_syntax.specs.Tokens.{any_of}
 use Rattle.cedar_syntax.specs.Trees.{Cell}
 use Rattle.cedar_syntax.specs.machines.Door.{Machine, Answer, next, ended, refused, too_large, is_taken, is_some, option_image, Shapes}
 use Rattle.cedar_syntax.specs.machines.Marks.{mark_of, relation_of}
-use Rattle.cedar_text.specs.machines.Annotation.{at_start, at_key, behind_key, at_value, behind_value, annotation_step, annotation_end, annotations}
-use Rattle.cedar_text.specs.machines.Scope.{at_variable, at_constraint, at_entity_type, at_type_name, in_type_name, in_entity_type, in_constraint, Parts, element_step, end_type_name, end_entity_type, end_constraint, element_end, elements}
+use Rattle.cedar_text.specs.machines.Annotation.{at_start, at_key, behind_annotation_key, at_annotation_value, behind_value, annotation_step, annotation_end, annotations}
+use Rattle.cedar_text.specs.machines.Scope.{at_variable, at_constraint, at_entity_type, at_type_name, in_type_name, in_entity_type, in_constraint, PartMachines, element_step, end_type_name, end_entity_type, end_constraint, element_end, elements}
 use Rattle.cedar_text.specs.machines.Condition.{at_word, behind_word, behind_body, at_body, in_body, condition_step, condition_end, conditions}
 use Rattle.cedar_text.specs.machines.Policy.{Sections, at_effect, in_annotations, behind_effect, behind_scope, in_scope, behind_conditions, in_conditions, policy_step, policy_end, policies}
 use Rattle.cedar_text.specs.machines.WordShapes.{no_tree}
-use Rattle.cedar_text.specs.machines.PolicyShapes.{is_word, is_relation, AnnotationShape, annotation_shape, start_shape, key_shape, behind_key_shape, value_shape, behind_value_shape, annotation_shape_step, annotation_shape_end, annotation_shapes}
+use Rattle.cedar_text.specs.machines.PolicyShapes.{is_word, is_relation, AnnotationShape, annotation_shape, start_shape, annotation_key_shape, behind_key_shape, annotation_value_shape, behind_value_shape, annotation_shape_step, annotation_shape_end, annotation_shapes}
 use Rattle.cedar_text.specs.machines.PolicyShapes.{element_shape, PartShapes, variable_shape, constraint_shape, entity_shape, type_shape, in_type_shape, in_sum_shape, in_expression_shape, element_shape_step, element_shape_end, element_shapes}
-use Rattle.cedar_text.specs.machines.PolicyShapes.{condition_shape, word_shape, behind_word_shape, behind_body_shape, at_body_shape, in_body_shape, condition_shape_step, condition_shape_end, condition_shapes}
+use Rattle.cedar_text.specs.machines.PolicyShapes.{condition_shape, condition_word_shape, behind_word_shape, behind_body_shape, at_body_shape, in_body_shape, condition_shape_step, condition_shape_end, condition_shapes}
 use Rattle.cedar_text.specs.machines.PolicyShapes.{in_head, policy_shape, SectionShapes, effect_shape, in_annotations_shape, behind_effect_shape, behind_scope_shape, in_scope_shape, behind_conditions_shape, in_conditions_shape, policy_shape_step, policy_shape_end, policy_shapes}
 use Rattle.cedar_text.proofs.machines.SequenceShapes.{IsShapeBy, if_taken}
 
@@ -48,15 +48,15 @@ start_steps : (c : Mark) → IsShapeBy annotation_shape (at_start c) (start_shap
 start_steps mark.At = refl
 start_steps _ = refl
 
-key_steps : (src : List ℕ) (t : Lexeme) (o : Option Ident) → IsShapeBy annotation_shape (at_key src t o) (key_shape (is_some o))
+key_steps : (src : List ℕ) (t : Lexeme) (o : Option Ident) → IsShapeBy annotation_shape (at_key src t o) (annotation_key_shape (is_some o))
 key_steps src t None = refl
 key_steps src t (Some i) = refl
 
-behind_key_steps : (i : Cell Ident) (c : Mark) → IsShapeBy annotation_shape (behind_key i c) (behind_key_shape c)
+behind_key_steps : (i : Cell Ident) (c : Mark) → IsShapeBy annotation_shape (behind_annotation_key i c) (behind_key_shape c)
 behind_key_steps i mark.OpenParen = refl
 behind_key_steps i _ = refl
 
-value_steps : (src : List ℕ) (i : Cell Ident) (t : Lexeme) (c : Mark) → IsShapeBy annotation_shape (at_value src i t c) (value_shape c)
+value_steps : (src : List ℕ) (i : Cell Ident) (t : Lexeme) (c : Mark) → IsShapeBy annotation_shape (at_annotation_value src i t c) (annotation_value_shape c)
 value_steps src i t mark.String = refl
 value_steps src i t _ = refl
 
@@ -66,7 +66,7 @@ behind_value_steps i x _ = refl
 
 annotation_steps : (src : List ℕ) (s : AnnotationState) (t : Lexeme) → IsShapeBy annotation_shape (annotation_step src s t) (annotation_shape_step (annotation_shape s) t.kind)
 annotation_steps src annotation.Start t = start_steps (mark_of t.kind)
-annotation_steps src annotation.At t = subst (λ b. IsShapeBy annotation_shape (at_key src t (any_of t.kind t.text)) (key_shape b)) (words_alike t.kind t.text) (key_steps src t (any_of t.kind t.text))
+annotation_steps src annotation.At t = subst (λ b. IsShapeBy annotation_shape (at_key src t (any_of t.kind t.text)) (annotation_key_shape b)) (words_alike t.kind t.text) (key_steps src t (any_of t.kind t.text))
 annotation_steps src (annotation.Key i) t = behind_key_steps i (mark_of t.kind)
 annotation_steps src (annotation.Open i) t = value_steps src i t (mark_of t.kind)
 annotation_steps src (annotation.Value i x) t = behind_value_steps i x (mark_of t.kind)
@@ -86,7 +86,7 @@ annotations_shaped src = record { starts = refl; steps = annotation_steps src; f
 -- elements of the scope
 
 -- the shapes of the parts
-pub record PartsShaped {N S E L M F : Type 0} (m : Parts N S E) (n : PartShapes L M F) (f : N → L) (g : S → M) (h : E → F) : Type 0 where
+pub record PartsShaped {N S E L M F : Type 0} (m : PartMachines N S E) (n : PartShapes L M F) (f : N → L) (g : S → M) (h : E → F) : Type 0 where
   pub name : Shapes m.name n.name f no_tree
   pub sum : Shapes m.sum n.sum g no_tree
   pub expression : Shapes m.expression n.expression h no_tree
@@ -133,12 +133,12 @@ in_expression_steps f g h i x y o refused c w = ap (λ c. in_expression_shape c)
 in_expression_steps {L = L} {M = M} f g h i x y o too_large c w = if_taken (λ c. is_taken (in_expression_shape {N = L} {S = M} c) ≡ true) (λ u. refl) c w
 
 -- from the starts of the parts
-starts_as : {N S E L M F : Type 0} {m : Parts N S E} {n : PartShapes L M F} (f : N → L) (g : S → M) (h : E → F) → PartsShaped m n f g h → (P : L → M → F → Type 0) → P (f m.name.start) (g m.sum.start) (h m.expression.start) →
+starts_as : {N S E L M F : Type 0} {m : PartMachines N S E} {n : PartShapes L M F} (f : N → L) (g : S → M) (h : E → F) → PartsShaped m n f g h → (P : L → M → F → Type 0) → P (f m.name.start) (g m.sum.start) (h m.expression.start) →
     P n.name.start n.sum.start n.expression.start
 starts_as {m = m} {n = n} f g h i P p =
     subst (λ w. P n.name.start n.sum.start w) i.expression.starts (subst (λ w. P n.name.start w (h m.expression.start)) i.sum.starts (subst (λ w. P w (g m.sum.start) (h m.expression.start)) i.name.starts p))
 
-element_steps : {N S E L M F : Type 0} {m : Parts N S E} {n : PartShapes L M F} (f : N → L) (g : S → M) (h : E → F) → PartsShaped m n f g h → (src : List ℕ) (s : ElementState N S E) (t : Lexeme) →
+element_steps : {N S E L M F : Type 0} {m : PartMachines N S E} {n : PartShapes L M F} (f : N → L) (g : S → M) (h : E → F) → PartsShaped m n f g h → (src : List ℕ) (s : ElementState N S E) (t : Lexeme) →
     IsShapeBy (element_shape f g h) (element_step src m s t) (element_shape_step n (element_shape f g h s) t.kind)
 element_steps f g h i src element.Start t =
     subst (λ b. IsShapeBy (element_shape f g h) (at_variable src t (any_of t.kind t.text)) (variable_shape b)) (words_alike t.kind t.text) (variable_steps f g h src t (any_of t.kind t.text))
@@ -164,19 +164,19 @@ end_expression_shaped : (i : Cell Ident) (x : Option (Cell Name)) (y : Option (C
 end_expression_shaped i x y r None = refl
 end_expression_shaped i x y r (Some z) = refl
 
-element_ends : {N S E L M F : Type 0} {m : Parts N S E} {n : PartShapes L M F} (f : N → L) (g : S → M) (h : E → F) → PartsShaped m n f g h → (s : ElementState N S E) → element_shape_end n (element_shape f g h s) ≡ option_image no_tree (element_end m s)
+element_ends : {N S E L M F : Type 0} {m : PartMachines N S E} {n : PartShapes L M F} (f : N → L) (g : S → M) (h : E → F) → PartsShaped m n f g h → (s : ElementState N S E) → element_shape_end n (element_shape f g h s) ≡ option_image no_tree (element_end m s)
 element_ends f g h i element.Start = refl
 element_ends f g h i (element.Variable v) = refl
 element_ends {m = m} f g h i (element.TypeName v s) = i.name.finishes s ∙ end_type_shaped v (m.name.finish s)
 element_ends {m = m} f g h i (element.EntityType v x s) = i.sum.finishes s ∙ end_sum_shaped v x (m.sum.finish s)
 element_ends {m = m} f g h i (element.Constraint v x y o s) = i.expression.finishes s ∙ end_expression_shaped v x y o (m.expression.finish s)
 
-pub elements_shaped : {N S E L M F : Type 0} (src : List ℕ) (m : Parts N S E) (n : PartShapes L M F) (f : N → L) (g : S → M) (h : E → F) → PartsShaped m n f g h → Shapes (elements src m) (element_shapes n) (element_shape f g h) no_tree
+pub elements_shaped : {N S E L M F : Type 0} (src : List ℕ) (m : PartMachines N S E) (n : PartShapes L M F) (f : N → L) (g : S → M) (h : E → F) → PartsShaped m n f g h → Shapes (elements src m) (element_shapes n) (element_shape f g h) no_tree
 elements_shaped src m n f g h i = record { starts = refl; steps = λ s t. element_steps f g h i src s t; finishes = λ s. element_ends f g h i s }
 
 -- conditions
 
-word_steps : {E F : Type 0} (f : E → F) (src : List ℕ) (t : Lexeme) (o : Option Ident) → IsShapeBy (condition_shape f) (at_word src t o) (word_shape (is_some o))
+word_steps : {E F : Type 0} (f : E → F) (src : List ℕ) (t : Lexeme) (o : Option Ident) → IsShapeBy (condition_shape f) (at_word src t o) (condition_word_shape (is_some o))
 word_steps f src t None = refl
 word_steps f src t (Some i) = refl
 
@@ -202,7 +202,7 @@ in_body_steps f i k too_large c h = if_taken (λ c. is_taken (in_body_shape k c)
 
 condition_steps : {E F : Type 0} {m : Machine Lexeme E (Cell Expr)} {n : Machine TokenKind F (Unit {0})} (f : E → F) → Shapes m n f no_tree → (src : List ℕ) (s : ConditionState E) (t : Lexeme) →
     IsShapeBy (condition_shape f) (condition_step src m s t) (condition_shape_step n (condition_shape f s) t.kind)
-condition_steps f i src condition.Start t = subst (λ b. IsShapeBy (condition_shape f) (at_word src t (any_of t.kind t.text)) (word_shape b)) (words_alike t.kind t.text) (word_steps f src t (any_of t.kind t.text))
+condition_steps f i src condition.Start t = subst (λ b. IsShapeBy (condition_shape f) (at_word src t (any_of t.kind t.text)) (condition_word_shape b)) (words_alike t.kind t.text) (word_steps f src t (any_of t.kind t.text))
 condition_steps f i src (condition.Word v) t = behind_word_steps f v (mark_of t.kind)
 condition_steps {m = m} {n = n} f i src (condition.Opened v) t =
     at_body_steps f v (mark_of t.kind) (m.step m.start t) (n.step n.start t.kind) (subst (λ u. IsShapeBy f (m.step m.start t) (n.step u t.kind)) i.starts (i.steps m.start t))

@@ -11,12 +11,12 @@ use Rattle.cedar_syntax.specs.declared.reading.recovery.Way.{Way}
 use Rattle.cedar_syntax.specs.declared.reading.recovery.Way.TheVariants as way
 use Rattle.cedar_syntax.specs.Tokens.{Spot, one, fits}
 use Rattle.cedar_syntax.specs.Sentences.{kinds, HasTree, Starts, Allowed, IsFirstRefused, first}
-use Rattle.cedar_syntax.specs.Mended.{InBraces, Stands, inside, outside, is_stop, Skips, IsBegun, put, Mended, to_brace, to_end, head, Faults, no_fault, too_large, last_fault, more_faults}
-use Rattle.cedar_syntax.specs.machines.Door.{Machine, Answer, next, ended, refused, taken, steps, Comes, AnswersRightly, Door, is_taken, is_some, allows, IsShape, Shapes}
+use Rattle.cedar_syntax.specs.Mended.{InBraces, Stands, inside, outside, is_stop, Skips, IsBegun, stub_token, Mended, to_brace, to_end, head, Faults, no_fault, too_large, last_fault, more_faults}
+use Rattle.cedar_syntax.specs.machines.Door.{Machine, Answer, next, ended, refused, answer_state, steps, Comes, AnswersRightly, Door, is_taken, is_some, allows, IsShape, Shapes}
 use Rattle.cedar_syntax.specs.machines.Door as door
 use Rattle.cedar_syntax.specs.machines.Marks.{mark_of}
 use Rattle.cedar_text.specs.machines.WordShapes.{no_tree}
-use Rattle.cedar_syntax.specs.machines.Recovery.{Recovers, Recovery, reading, skipping, stopped, skipped, judged, recover, recover_all, Told, told, told_reading, told_end, told_all}
+use Rattle.cedar_syntax.specs.machines.Recovery.{Recovers, Recovery, reading, skipping, stopped, skip_step, judgment, recovery_step, recovery_of_all, RunFaults, run_faults, told_reading, told_end, told_all}
 use Rattle.cedar_syntax.proofs.machines.Laws.{some_is, none_some, false_true, steps-none, then_steps, starts_from, comes, exactly, stops_at, ends_alike}
 use Rattle.cedar_syntax.proofs.machines.Holding.{snoc_assoc, one_more}
 use Rattle.cedar_text.proofs.machines.Ending.{spot_of, token_at}
@@ -50,7 +50,7 @@ pub record Comparable {S T V : Type 0} (m : Machine Lexeme S T) (f : S → V) (t
   pub alike : v ≡ f state
 
 abbrev pub short_policy : Spot → List Lexeme
-short_policy e = put kind.Identifier ++ put kind.OpenParen ++ put kind.CloseParen ++ one kind.Semicolon e
+short_policy e = stub_token kind.Identifier ++ stub_token kind.OpenParen ++ stub_token kind.CloseParen ++ one kind.Semicolon e
 
 -- what a machine shows of itself to be recovered
 pub record Recoverable {S T F V : Type 0} (src : List ℕ) (m : Machine Lexeme S T) (R : List Lexeme → T → Type 0) (W : List Lexeme → Type 0) (U : List Lexeme → Option Lexeme → F → Type 0) (L : Lexeme → F → Type 0) (r : Recovers S F)
@@ -66,13 +66,13 @@ pub record Recoverable {S T F V : Type 0} (src : List ℕ) (m : Machine Lexeme S
   pub not_begun : (ts us : List Lexeme) (s : S) → W ts → IsBegun src us → Comes m (ts ++ us) s → r.way s ≡ way.Stop → ⊥
   pub closes : (us vs : List Lexeme) (s : S) (e : Spot) → InBraces src R us vs → Comes m (us ++ vs) s → Comparable m f (us ++ one kind.CloseBrace e) (f (r.close s))
   pub ends : (ts us : List Lexeme) (s : S) (e : Spot) → W ts → IsBegun src us → Comes m (ts ++ us) s →
-      Comparable m f (ts ++ put kind.Identifier ++ put kind.OpenParen ++ put kind.CloseParen ++ one kind.Semicolon e) (f (r.end s))
+      Comparable m f (ts ++ stub_token kind.Identifier ++ stub_token kind.OpenParen ++ stub_token kind.CloseParen ++ one kind.Semicolon e) (f (r.end s))
 
 -- runs of the parser that recovers
 
-reads_by : {S T F : Type 0} (m : Machine Lexeme S T) (r : Recovers S F) (xs : List F) (l : ℕ) (s q : S) (t : Lexeme) (ts us : List Lexeme) (a : Answer S T) → steps m (taken a) ts ≡ Some q →
+reads_by : {S T F : Type 0} (m : Machine Lexeme S T) (r : Recovers S F) (xs : List F) (l : ℕ) (s q : S) (t : Lexeme) (ts us : List Lexeme) (a : Answer S T) → steps m (answer_state a) ts ≡ Some q →
     ((u : S) → steps m (Some u) ts ≡ Some q → told_all m r (reading xs t.end u) (ts ++ us) ≡ told_all m r (reading xs (end_from t.end ts) q) us) →
-    told_all m r (judged r xs l s t a) (ts ++ us) ≡ told_all m r (reading xs (end_from t.end ts) q) us
+    told_all m r (judgment r xs l s t a) (ts ++ us) ≡ told_all m r (reading xs (end_from t.end ts) q) us
 reads_by m r xs l s q t ts us (next u) h go = go u h
 reads_by m r xs l s q t ts us (ended x) h go = absurd (none_some (steps-none m ts) h)
 reads_by m r xs l s q t ts us refused h go = absurd (none_some (steps-none m ts) h)
@@ -84,7 +84,7 @@ pub reads : {S T F : Type 0} (m : Machine Lexeme S T) (r : Recovers S F) (xs : L
 reads m r xs l s q [] us h = ap (λ s. told_all m r (reading xs l s) us) (some_is h)
 reads m r xs l s q (t ∷ ts) us h = reads_by m r xs l s q t ts us (m.step s t) h (λ u g. reads m r xs t.end u q ts us g)
 
-pub stays : {S T F : Type 0} (m : Machine Lexeme S T) (r : Recovers S F) (xs : List F) (x : F) (ts : List Lexeme) → told_all m r (stopped xs x) ts ≡ told xs (Some x)
+pub stays : {S T F : Type 0} (m : Machine Lexeme S T) (r : Recovers S F) (xs : List F) (x : F) (ts : List Lexeme) → told_all m r (stopped xs x) ts ≡ run_faults xs (Some x)
 stays m r xs x [] = refl
 stays m r xs x (t ∷ ts) = stays m r xs x ts
 
@@ -100,7 +100,7 @@ skips_on way.ToBrace = true
 skips_on way.ToEnd = true
 skips_on way.Stop = false
 
-skip_one : {S F : Type 0} (r : Recovers S F) (xs : List F) (w : Way) (s : S) (x : F) (t : Lexeme) (k : TokenKind) → skips_on w ≡ true → is_stop (braced w) k ≡ false → skipped r xs w s x t (mark_of k) ≡ skipping xs w s x
+skip_one : {S F : Type 0} (r : Recovers S F) (xs : List F) (w : Way) (s : S) (x : F) (t : Lexeme) (k : TokenKind) → skips_on w ≡ true → is_stop (braced w) k ≡ false → skip_step r xs w s x t (mark_of k) ≡ skipping xs w s x
 skip_one r xs way.ToBrace s x t kind.CloseBrace h e = absurd (cc)
 skip_one r xs way.ToBrace s x t kind.Semicolon h e = absurd (cc)
 skip_one r xs way.ToBrace s x t _ h e = refl
@@ -113,7 +113,7 @@ pub skips : {S T F : Type 0} (m : Machine Lexeme S T) (r : Recovers S F) (xs : L
 skips m r xs w s x [] us h i = refl
 skips m r xs w s x (t ∷ ts) us h i = ap (λ q. told_all m r q (ts ++ us)) (skip_one r xs w s x t t.kind h i.0) ∙ skips m r xs w s x ts us h i.1
 
-pub skips_out : {S T F : Type 0} (m : Machine Lexeme S T) (r : Recovers S F) (xs : List F) (w : Way) (s : S) (x : F) (ts : List Lexeme) → skips_on w ≡ true → Skips (braced w) ts → told_all m r (skipping xs w s x) ts ≡ told xs (Some x)
+pub skips_out : {S T F : Type 0} (m : Machine Lexeme S T) (r : Recovers S F) (xs : List F) (w : Way) (s : S) (x : F) (ts : List Lexeme) → skips_on w ≡ true → Skips (braced w) ts → told_all m r (skipping xs w s x) ts ≡ run_faults xs (Some x)
 skips_out m r xs w s x [] h i = refl
 skips_out m r xs w s x (t ∷ ts) h i = ap (λ q. told_all m r q ts) (skip_one r xs w s x t t.kind h i.0) ∙ skips_out m r xs w s x ts h i.1
 
@@ -124,13 +124,13 @@ no_stop b (j ∷ ts) us t e h = no_stop b ts us t e h.1
 -- a fault is told, and then it is left
 
 refused_by : {S T F V : Type 0} (m : Machine Lexeme S T) (r : Recovers S F) (f : S → V) (xs : List F) (l : ℕ) (s : S) (t : Lexeme) (ts : List Lexeme) (a : Answer S T) (c : Answer V (Unit {0})) → IsShapeBy f a c → is_taken c ≡ false →
-    told_all m r (judged r xs l s t a) ts ≡ told_all m r (skipping xs (r.way s) s (r.tell s l (Some t))) (t ∷ ts)
+    told_all m r (judgment r xs l s t a) ts ≡ told_all m r (skipping xs (r.way s) s (r.tell s l (Some t))) (t ∷ ts)
 refused_by m r f xs l s t ts (next q) c i e = absurd (false_true e (ap (λ c. is_taken c) i))
 refused_by m r f xs l s t ts (ended x) c i e = refl
 refused_by m r f xs l s t ts refused c i e = refl
 refused_by m r f xs l s t ts door.too_large c i e = absurd (false_true e i)
 
-end_told : {T F : Type 0} (xs : List F) (x : F) (o : Option T) → is_some o ≡ false → told_reading xs x o ≡ told xs (Some x)
+end_told : {T F : Type 0} (xs : List F) (x : F) (o : Option T) → is_some o ≡ false → told_reading xs x o ≡ run_faults xs (Some x)
 end_told xs x None e = refl
 end_told xs x (Some y) e = absurd (cc)
 
@@ -171,7 +171,7 @@ pub record StopAt {S T F V : Type 0} (src : List ℕ) (m : Machine Lexeme S T) (
   pub comes : Comes m front state
   pub last : end_from 0 front ≡ t.end
   pub alike : f to ≡ f state
-  pub resumes : (xs : List F) (x : F) → skipped r xs (r.way s) s x t (mark_of t.kind) ≡ reading (xs ++ x ∷ []) t.end to
+  pub resumes : (xs : List F) (x : F) → skip_step r xs (r.way s) s x t (mark_of t.kind) ≡ reading (xs ++ x ∷ []) t.end to
 
 stop_assoc : (ts vs ws : List Lexeme) (t : Lexeme) → ts ++ (vs ++ (t ∷ []) ++ ws) ≡ ts ++ (vs ++ t ∷ ws)
 stop_assoc ts vs ws t = simp append_assoc
@@ -190,7 +190,7 @@ at_brace {src = src} {m = m} {R = R} {W = W} {r = r} {f = f} d before s vs ws e 
       comes = g.comes;
       last = end_from-append 0 b.opened (one kind.CloseBrace e);
       alike = g.alike;
-      resumes = λ xs x. ap (λ w. skipped r xs w s x (token_at kind.CloseBrace e) mark.CloseBrace) h;
+      resumes = λ xs x. ap (λ w. skip_step r xs w s x (token_at kind.CloseBrace e) mark.CloseBrace) h;
     }
 
 way_apart : {w : Way} → w ≡ way.ToBrace → w ≡ way.ToEnd → ⊥
@@ -208,7 +208,7 @@ stands_by {src = src} {R = R} d before s way.ToBrace c h i = let b = d.inside be
 stands_by {m = m} d before s way.ToEnd c h i = outside (λ us vs e b. way_apart (d.braces us vs s b (subst (λ ts. Comes m ts s) (sym e) c)) h)
 stands_by d before s way.Stop c h i = absurd (cc)
 
-end_resumes : {S F : Type 0} (r : Recovers S F) (xs : List F) (w : Way) (s : S) (x : F) (e : Spot) → skips_on w ≡ true → skipped r xs w s x (token_at kind.Semicolon e) mark.Semicolon ≡ reading (xs ++ x ∷ []) e.end (r.end s)
+end_resumes : {S F : Type 0} (r : Recovers S F) (xs : List F) (w : Way) (s : S) (x : F) (e : Spot) → skips_on w ≡ true → skip_step r xs w s x (token_at kind.Semicolon e) mark.Semicolon ≡ reading (xs ++ x ∷ []) e.end (r.end s)
 end_resumes r xs way.ToBrace s x e h = refl
 end_resumes r xs way.ToEnd s x e h = refl
 end_resumes r xs way.Stop s x e h = absurd (cc)
@@ -218,7 +218,7 @@ at_semicolon : {S T F V : Type 0} {src : List ℕ} {m : Machine Lexeme S T} {R :
 at_semicolon {src = src} {m = m} {R = R} {W = W} {r = r} {f = f} d before s vs ws e c h k =
     let b = d.begun before s c (not_stopped (r.way s) h) in
     let g = d.ends b.whole b.part s e b.stands b.begun (subst (λ ts. Comes m ts s) (sym b.is) c) in
-    let front : List Lexeme = b.whole ++ put kind.Identifier ++ put kind.OpenParen ++ put kind.CloseParen ++ one kind.Semicolon e in
+    let front : List Lexeme = b.whole ++ stub_token kind.Identifier ++ stub_token kind.OpenParen ++ stub_token kind.CloseParen ++ one kind.Semicolon e in
     record {
       front = front;
       to = r.end s;
@@ -227,7 +227,7 @@ at_semicolon {src = src} {m = m} {R = R} {W = W} {r = r} {f = f} d before s vs w
           (subst (λ us. Mended src R W (b.whole ++ b.part) us (front ++ ws)) (snoc_assoc vs (token_at kind.Semicolon e) ws)
           (to_end b.whole b.part vs ws e b.stands b.begun (subst (λ ts. Stands src R (braced (r.way s)) ts) (sym b.is) (stands_by d before s (r.way s) c refl h)) k));
       comes = g.comes;
-      last = end_from-append 0 (b.whole ++ put kind.Identifier ++ put kind.OpenParen ++ put kind.CloseParen) (one kind.Semicolon e);
+      last = end_from-append 0 (b.whole ++ stub_token kind.Identifier ++ stub_token kind.OpenParen ++ stub_token kind.CloseParen) (one kind.Semicolon e);
       alike = g.alike;
       resumes = λ xs x. end_resumes r xs (r.way s) s x e h;
     }
@@ -264,7 +264,7 @@ pub record Resumed {S T F V : Type 0} (m : Machine Lexeme S T) (r : Recovers S F
   pub comes : Comes m front state
   pub last : end_from 0 front ≡ stop.end
   pub alike : f to ≡ f state
-  pub resumes : (xs : List F) (x : F) → skipped r xs (r.way s) s x stop (mark_of stop.kind) ≡ reading (xs ++ x ∷ []) stop.end to
+  pub resumes : (xs : List F) (x : F) → skip_step r xs (r.way s) s x stop (mark_of stop.kind) ≡ reading (xs ++ x ∷ []) stop.end to
 
 way_of : {S T F V : Type 0} {src : List ℕ} {m : Machine Lexeme S T} {R : List Lexeme → T → Type 0} {W : List Lexeme → Type 0} {U : List Lexeme → Option Lexeme → F → Type 0} {L : Lexeme → F → Type 0} {r : Recovers S F} {n : Machine TokenKind V (Unit {0})} {f : S → V} →
     Recoverable src m R W U L r n f → {before : List Lexeme} (s : S) (w : Way) → r.way s ≡ w → (w ≡ way.Stop → ⊥) → Comes m before s → {b : Bool} → Stands src R b before → braced w ≡ b
@@ -299,7 +299,7 @@ resumed {r = r} d s (to_brace ts us vs ws e b k) c =
       comes = g.comes;
       last = end_from-append 0 ts (one kind.CloseBrace e);
       alike = g.alike;
-      resumes = λ xs x. ap (λ w. skipped r xs w s x (token_at kind.CloseBrace e) mark.CloseBrace) h;
+      resumes = λ xs x. ap (λ w. skip_step r xs w s x (token_at kind.CloseBrace e) mark.CloseBrace) h;
     }
 resumed {r = r} d s (to_end ts us {b = b} vs ws e p q i k) c =
     let h = goes_on_by (r.way s) (d.not_begun ts us s p q c) in
@@ -309,7 +309,7 @@ resumed {r = r} d s (to_end ts us {b = b} vs ws e p q i k) c =
       skips = vs;
       stop = token_at kind.Semicolon e;
       after = ws;
-      front = ts ++ put kind.Identifier ++ put kind.OpenParen ++ put kind.CloseParen ++ one kind.Semicolon e;
+      front = ts ++ stub_token kind.Identifier ++ stub_token kind.OpenParen ++ stub_token kind.CloseParen ++ one kind.Semicolon e;
       to = r.end s;
       state = g.state;
       goes_on = h;
@@ -318,7 +318,7 @@ resumed {r = r} d s (to_end ts us {b = b} vs ws e p q i k) c =
       is_one = refl;
       mends = refl;
       comes = g.comes;
-      last = end_from-append 0 (ts ++ put kind.Identifier ++ put kind.OpenParen ++ put kind.CloseParen) (one kind.Semicolon e);
+      last = end_from-append 0 (ts ++ stub_token kind.Identifier ++ stub_token kind.OpenParen ++ stub_token kind.CloseParen) (one kind.Semicolon e);
       alike = g.alike;
       resumes = λ xs x. end_resumes r xs (r.way s) s x e h;
     }

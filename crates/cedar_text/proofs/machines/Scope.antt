@@ -20,11 +20,11 @@ use Rattle.cedar_syntax.specs.Trees.{Cell, variable_def_of}
 use Rattle.cedar_syntax.specs.LooseWords.{ReadsAny, any, ReadsName}
 use Rattle.cedar_syntax.specs.LooseExpressions.{ReadsRelOp, less, less_eq, greater_eq, greater, not_eq, equal, within, single_eq, ReadsExpr, ReadsAdd}
 use Rattle.cedar_syntax.specs.LoosePolicies.{ReadsTypeName, no_type_name, type_name, ReadsEntityType, no_entity_type, entity_type, ReadsConstraint, no_constraint, constraint, ReadsVariableDef, variable_def}
-use Rattle.cedar_syntax.specs.machines.Door.{Machine, Answer, next, ended, refused, too_large, taken, steps, Comes, RunsTo, Completed, AnswersRightly, Door}
+use Rattle.cedar_syntax.specs.machines.Door.{Machine, Answer, next, ended, refused, too_large, answer_state, steps, Comes, RunsTo, Completed, AnswersRightly, Door}
 use Rattle.cedar_syntax.specs.machines.Marks.{mark_of, relation_of}
 use Rattle.cedar_text.specs.machines.Placing.{AsNode, as_node}
 use Rattle.cedar_syntax.specs.machines.Following.{IsParting, comma, close_paren, FollowsSum, operator, parting, FollowsName, is_word, as_sum}
-use Rattle.cedar_text.specs.machines.Scope.{at_variable, at_constraint, at_entity_type, at_type_name, in_type_name, in_entity_type, in_constraint, Parts, element_step, end_type_name, end_entity_type, end_constraint, element_end, elements}
+use Rattle.cedar_text.specs.machines.Scope.{at_variable, at_constraint, at_entity_type, at_type_name, in_type_name, in_entity_type, in_constraint, PartMachines, element_step, end_type_name, end_entity_type, end_constraint, element_end, elements}
 use Rattle.cedar_syntax.proofs.machines.Laws.{some_is, then_steps, some_token}
 use Rattle.cedar_syntax.proofs.machines.Holding.{Holds, held, one_more, kept}
 use Rattle.cedar_text.proofs.machines.Ending.{NotEmpty, EndsAt, Refuses, IsKind, spot_of, token_at}
@@ -32,7 +32,7 @@ use Rattle.cedar_syntax.proofs.machines.Marked.{IsMarked, at, open_paren, colon,
 use Rattle.cedar_syntax.proofs.machines.Marked as marks
 
 -- the doors of the parts
-pub record PartDoors {N S E : Type 0} (src : List ℕ) (m : Parts N S E) : Type 0 where
+pub record PartDoors {N S E : Type 0} (src : List ℕ) (m : PartMachines N S E) : Type 0 where
   pub name : Door m.name (AsNode src (ReadsName src))
   pub sum : Door m.sum (AsNode src (ReadsAdd src))
   pub expression : Door m.expression (AsNode src (ReadsExpr src))
@@ -40,13 +40,13 @@ pub record PartDoors {N S E : Type 0} (src : List ℕ) (m : Parts N S E) : Type 
   pub behind_sum : (k : TokenKind) → FollowsSum k → EndsAt m.sum (IsKind k)
   pub behind_expression : (k : TokenKind) → IsParting k → EndsAt m.expression (IsKind k)
 
-holds_name : {N S E : Type 0} (src : List ℕ) (m : Parts N S E) (i : Cell Ident) → Holds m.name (elements src m) (λ q. element.TypeName i q)
+holds_name : {N S E : Type 0} (src : List ℕ) (m : PartMachines N S E) (i : Cell Ident) → Holds m.name (elements src m) (λ q. element.TypeName i q)
 holds_name src m i s q t e = ap (λ a. in_type_name m.sum.start m.expression.start i t a) e
 
-holds_sum : {N S E : Type 0} (src : List ℕ) (m : Parts N S E) (i : Cell Ident) (x : Option (Cell Name)) → Holds m.sum (elements src m) (λ q. element.EntityType i x q)
+holds_sum : {N S E : Type 0} (src : List ℕ) (m : PartMachines N S E) (i : Cell Ident) (x : Option (Cell Name)) → Holds m.sum (elements src m) (λ q. element.EntityType i x q)
 holds_sum src m i x s q t e = ap (λ a. in_entity_type m.expression.start i x t a) e
 
-holds_expression : {N S E : Type 0} (src : List ℕ) (m : Parts N S E) (i : Cell Ident) (x : Option (Cell Name)) (y : Option (Cell Add)) (o : RelOp) → Holds m.expression (elements src m) (λ q. element.Constraint i x y o q)
+holds_expression : {N S E : Type 0} (src : List ℕ) (m : PartMachines N S E) (i : Cell Ident) (x : Option (Cell Name)) (y : Option (Cell Add)) (o : RelOp) → Holds m.expression (elements src m) (λ q. element.Constraint i x y o q)
 holds_expression src m i x y o s q t e = ap (λ a. in_constraint i x y o a) e
 
 -- complete
@@ -57,7 +57,7 @@ data FollowsType : TokenKind → Type 0 where
   the_operator : {k : TokenKind} (o : RelOp) → ReadsRelOp k o → FollowsType k
 
 -- behind a variable and its type name
-record Typed {N S E : Type 0} (src : List ℕ) (m : Parts N S E) (ts : List Lexeme) (i : Cell Ident) (x : Option (Cell Name)) : Type 0 where
+record Typed {N S E : Type 0} (src : List ℕ) (m : PartMachines N S E) (ts : List Lexeme) (i : Cell Ident) (x : Option (Cell Name)) : Type 0 where
   last : ElementState N S E
   goes : Comes (elements src m) ts last
   ends : element_end m last ≡ Some (variable_def_of i x None None)
@@ -78,10 +78,10 @@ follows_name : {k : TokenKind} → FollowsType k → FollowsName k
 follows_name the_word = is_word
 follows_name (the_operator o r) = as_sum (operator o r)
 
-variable_runs : {N S E : Type 0} (src : List ℕ) (m : Parts N S E) {ts : List Lexeme} {i : Ident} → ReadsAny ts i → Comes (elements src m) ts (element.Variable (placed src ts i))
-variable_runs src m (any {k = k} q e) = ap (λ o. taken (at_variable src (token_at k q) o)) e
+variable_runs : {N S E : Type 0} (src : List ℕ) (m : PartMachines N S E) {ts : List Lexeme} {i : Ident} → ReadsAny ts i → Comes (elements src m) ts (element.Variable (placed src ts i))
+variable_runs src m (any {k = k} q e) = ap (λ o. answer_state (at_variable src (token_at k q) o)) e
 
-type_runs : {N S E : Type 0} {src : List ℕ} {m : Parts N S E} → PartDoors src m → {ts us : List Lexeme} {i : Ident} {x : Option (Cell Name)} → ReadsAny ts i → ReadsTypeName src us x → Typed src m (ts ++ us) (placed src ts i) x
+type_runs : {N S E : Type 0} {src : List ℕ} {m : PartMachines N S E} → PartDoors src m → {ts us : List Lexeme} {i : Ident} {x : Option (Cell Name)} → ReadsAny ts i → ReadsTypeName src us x → Typed src m (ts ++ us) (placed src ts i) x
 type_runs {src = src} {m = m} d {ts = ts} {i = i} w no_type_name = record {
   last = element.Variable (placed src ts i);
   goes = ap (λ ts. steps (elements src m) (Some element.Start) ts) (append-nil ts) ∙ variable_runs src m w;
@@ -100,7 +100,7 @@ type_runs {src = src} {m = m} d {ts = ts} {i = i} w (type_name {ts = us} {x = x}
     }
 
 -- behind the entity type
-record EntityTyped {N S E : Type 0} (src : List ℕ) (m : Parts N S E) (ts : List Lexeme) (i : Cell Ident) (x : Option (Cell Name)) (y : Option (Cell Add)) : Type 0 where
+record EntityTyped {N S E : Type 0} (src : List ℕ) (m : PartMachines N S E) (ts : List Lexeme) (i : Cell Ident) (x : Option (Cell Name)) (y : Option (Cell Add)) : Type 0 where
   last : ElementState N S E
   goes : Comes (elements src m) ts last
   ends : element_end m last ≡ Some (variable_def_of i x y None)
@@ -126,7 +126,7 @@ an_operator equal = refl
 an_operator within = refl
 an_operator single_eq = refl
 
-entity_runs : {N S E : Type 0} {src : List ℕ} {m : Parts N S E} → PartDoors src m → {ts vs : List Lexeme} {i : Cell Ident} {x : Option (Cell Name)} {y : Option (Cell Add)} → Typed src m ts i x → ReadsEntityType src vs y → EntityTyped src m (ts ++ vs) i x y
+entity_runs : {N S E : Type 0} {src : List ℕ} {m : PartMachines N S E} → PartDoors src m → {ts vs : List Lexeme} {i : Cell Ident} {x : Option (Cell Name)} {y : Option (Cell Add)} → Typed src m ts i x → ReadsEntityType src vs y → EntityTyped src m (ts ++ vs) i x y
 entity_runs {src = src} {m = m} d {ts = ts} {i = i} {x = x} g no_entity_type = record {
   last = g.last;
   goes = ap (λ ts. steps (elements src m) (Some element.Start) ts) (append-nil ts) ∙ g.goes;
@@ -138,13 +138,13 @@ entity_runs {src = src} {m = m} d {ts = ts} {i = i} {x = x} g (entity_type {ts =
     record {
       last = element.EntityType i x c.last;
       goes = then_steps (elements src m) (Some element.Start) (Some g.last) _ ts (one kind.Is p ++ us) g.goes
-          (ap (λ a. steps (elements src m) (taken a) us) (g.goes_on kind.Is p the_word) ∙ held m.sum (elements src m) (λ q. element.EntityType i x q) (holds_sum src m i x) us m.sum.start c.last c.goes);
+          (ap (λ a. steps (elements src m) (answer_state a) us) (g.goes_on kind.Is p the_word) ∙ held m.sum (elements src m) (λ q. element.EntityType i x q) (holds_sum src m i x) us m.sum.start c.last c.goes);
       ends = ap (λ o. end_entity_type i x o) c.ends;
       goes_on = λ k p o h. ap (λ a. in_entity_type m.expression.start i x (token_at k p) a) (d.behind_sum k (operator o h) c.last (placed src us y) (token_at k p) refl c.ends)
           ∙ ap (λ o. at_constraint m.expression.start i x (Some (placed src us y)) o) (an_operator h);
     }
 
-constraint_runs : {N S E : Type 0} {src : List ℕ} {m : Parts N S E} → PartDoors src m → {ts ws : List Lexeme} {i : Cell Ident} {x : Option (Cell Name)} {y : Option (Cell Add)} {z : Option (RelOp × Cell Expr)} → EntityTyped src m ts i x y → ReadsConstraint src ws z →
+constraint_runs : {N S E : Type 0} {src : List ℕ} {m : PartMachines N S E} → PartDoors src m → {ts ws : List Lexeme} {i : Cell Ident} {x : Option (Cell Name)} {y : Option (Cell Add)} {z : Option (RelOp × Cell Expr)} → EntityTyped src m ts i x y → ReadsConstraint src ws z →
     RunsTo (elements src m) (ts ++ ws) (variable_def_of i x y z)
 constraint_runs {src = src} {m = m} d {ts = ts} g no_constraint = record { last = g.last; goes = ap (λ ts. steps (elements src m) (Some element.Start) ts) (append-nil ts) ∙ g.goes; ends = g.ends }
 constraint_runs {src = src} {m = m} d {ts = ts} {i = i} {x = x} {y = y} g (constraint {ts = us} {k = k} {o = o} {x = z} p h r) =
@@ -152,11 +152,11 @@ constraint_runs {src = src} {m = m} d {ts = ts} {i = i} {x = x} {y = y} g (const
     record {
       last = element.Constraint i x y o c.last;
       goes = then_steps (elements src m) (Some element.Start) (Some g.last) _ ts (one k p ++ us) g.goes
-          (ap (λ a. steps (elements src m) (taken a) us) (g.goes_on k p o h) ∙ held m.expression (elements src m) (λ q. element.Constraint i x y o q) (holds_expression src m i x y o) us m.expression.start c.last c.goes);
+          (ap (λ a. steps (elements src m) (answer_state a) us) (g.goes_on k p o h) ∙ held m.expression (elements src m) (λ q. element.Constraint i x y o q) (holds_expression src m i x y o) us m.expression.start c.last c.goes);
       ends = ap (λ z. end_constraint i x y o z) c.ends;
     }
 
-element_complete : {N S E : Type 0} {src : List ℕ} {m : Parts N S E} → PartDoors src m → {ts : List Lexeme} {x : VariableDef} → ReadsVariableDef src ts x → RunsTo (elements src m) ts x
+element_complete : {N S E : Type 0} {src : List ℕ} {m : PartMachines N S E} → PartDoors src m → {ts : List Lexeme} {x : VariableDef} → ReadsVariableDef src ts x → RunsTo (elements src m) ts x
 element_complete {src = src} {m = m} d (variable_def {ts = ts} {us = us} {vs = vs} {ws = ws} {i = i} {x = x} {y = y} {z = z} w t e c) =
     subst (λ ts'. RunsTo (elements src m) ts' (variable_def_of (placed src ts i) x y z)) (assoc ts us vs ws) (constraint_runs d (entity_runs d (type_runs d w t) e) c)
   where
@@ -165,7 +165,7 @@ element_complete {src = src} {m = m} d (variable_def {ts = ts} {us = us} {vs = v
 
 -- sound
 
-data ElementRead {N S E : Type 0} (src : List ℕ) (m : Parts N S E) : List Lexeme → ElementState N S E → Type 0 where
+data ElementRead {N S E : Type 0} (src : List ℕ) (m : PartMachines N S E) : List Lexeme → ElementState N S E → Type 0 where
   at_start : ElementRead src m [] element.Start
   at_word : {ts : List Lexeme} {i : Ident} → ReadsAny ts i → ElementRead src m ts (element.Variable (placed src ts i))
   at_name : {ts : List Lexeme} {i : Ident} {s : N} (p : Spot) (us : List Lexeme) → ReadsAny ts i → Comes m.name us s → ElementRead src m (ts ++ one kind.Colon p ++ us) (element.TypeName (placed src ts i) s)
@@ -175,41 +175,41 @@ data ElementRead {N S E : Type 0} (src : List ℕ) (m : Parts N S E) : List Lexe
       ReadsAny ts i → ReadsTypeName src us x → ReadsEntityType src vs y → ReadsRelOp k o → Comes m.expression ws s →
       ElementRead src m (ts ++ us ++ vs ++ one k p ++ ws) (element.Constraint (placed src ts i) x y o s)
 
-abbrev After : {N S E : Type 0} → List ℕ → Parts N S E → List Lexeme → Answer (ElementState N S E) VariableDef → Type 0
-After src m ts a = IfSome (taken a) (λ s. ElementRead src m ts s)
+abbrev After : {N S E : Type 0} → List ℕ → PartMachines N S E → List Lexeme → Answer (ElementState N S E) VariableDef → Type 0
+After src m ts a = IfSome (answer_state a) (λ s. ElementRead src m ts s)
 
 snoc : (ts us : List Lexeme) (t : Lexeme) → ts ++ (us ++ t ∷ []) ≡ ts ++ us ++ t ∷ []
 snoc ts us t = simp append_assoc
 
-word_read : {N S E : Type 0} (src : List ℕ) (m : Parts N S E) (t : Lexeme) (o : Option Ident) → any_of t.kind t.text ≡ o → After src m (t ∷ []) (at_variable src t o)
+word_read : {N S E : Type 0} (src : List ℕ) (m : PartMachines N S E) (t : Lexeme) (o : Option Ident) → any_of t.kind t.text ≡ o → After src m (t ∷ []) (at_variable src t o)
 word_read src m t None e = tt
 word_read src m t (Some i) e = at_word (any (spot_of t) e)
 
-constraint_read : {N S E : Type 0} (src : List ℕ) (m : Parts N S E) {ts us vs : List Lexeme} {i : Ident} {x : Option (Cell Name)} {y : Option (Cell Add)} → ReadsAny ts i → ReadsTypeName src us x → ReadsEntityType src vs y →
+constraint_read : {N S E : Type 0} (src : List ℕ) (m : PartMachines N S E) {ts us vs : List Lexeme} {i : Ident} {x : Option (Cell Name)} {y : Option (Cell Add)} → ReadsAny ts i → ReadsTypeName src us x → ReadsEntityType src vs y →
     (k : TokenKind) (p : Spot) (o : Option RelOp) → IsRelated o k → After src m (ts ++ us ++ vs ++ one k p) (at_constraint m.expression.start (placed src ts i) x y o)
 constraint_read src m {ts = ts} {us = us} {vs = vs} {i = i} {x = x} {y = y} w t e k p (Some o) (related_by h) =
     subst (λ ts'. ElementRead src m ts' (element.Constraint (placed src ts i) x y o m.expression.start)) (append-nil (ts ++ us ++ vs ++ one k p)) (at_operator p [] w t e h refl)
 constraint_read src m w t e k p None unrelated = tt
 
 -- behind a type name, where no `is` stands
-bare_read : {N S E : Type 0} (src : List ℕ) (m : Parts N S E) {ts us : List Lexeme} {i : Ident} {x : Option (Cell Name)} → ReadsAny ts i → ReadsTypeName src us x → (k : TokenKind) (p : Spot) →
+bare_read : {N S E : Type 0} (src : List ℕ) (m : PartMachines N S E) {ts us : List Lexeme} {i : Ident} {x : Option (Cell Name)} → ReadsAny ts i → ReadsTypeName src us x → (k : TokenKind) (p : Spot) →
     After src m (ts ++ us ++ one k p) (at_constraint m.expression.start (placed src ts i) x None (relation_of k))
 bare_read src m {ts = ts} {us = us} {i = i} {x = x} w t k p =
     subst (λ ts'. After src m (ts' ++ one k p) (at_constraint m.expression.start (placed src ts i) x None (relation_of k))) (append-nil (ts ++ us)) (constraint_read src m w t no_entity_type k p (relation_of k) (related k))
 
-type_read : {N S E : Type 0} (src : List ℕ) (m : Parts N S E) {ts us : List Lexeme} {i : Ident} {x : Option (Cell Name)} → ReadsAny ts i → ReadsTypeName src us x → (c : Mark) (k : TokenKind) (p : Spot) → IsMarked c k →
+type_read : {N S E : Type 0} (src : List ℕ) (m : PartMachines N S E) {ts us : List Lexeme} {i : Ident} {x : Option (Cell Name)} → ReadsAny ts i → ReadsTypeName src us x → (c : Mark) (k : TokenKind) (p : Spot) → IsMarked c k →
     After src m (ts ++ us ++ one k p) (at_entity_type m.sum.start m.expression.start (placed src ts i) x (token_at k p) c)
 type_read src m {ts = ts} {us = us} {i = i} {x = x} w t mark.Is k p marks.is_word =
     subst (λ ts'. ElementRead src m ts' (element.EntityType (placed src ts i) x m.sum.start)) (append-nil (ts ++ us ++ one kind.Is p)) (at_type p [] w t refl)
 type_read src m w t _ k p h = bare_read src m w t k p
 
 -- behind a variable, where no `:` stands
-alone_read : {N S E : Type 0} (src : List ℕ) (m : Parts N S E) {ts : List Lexeme} {i : Ident} → ReadsAny ts i → (c : Mark) (k : TokenKind) (p : Spot) → IsMarked c k →
+alone_read : {N S E : Type 0} (src : List ℕ) (m : PartMachines N S E) {ts : List Lexeme} {i : Ident} → ReadsAny ts i → (c : Mark) (k : TokenKind) (p : Spot) → IsMarked c k →
     After src m (ts ++ one k p) (at_entity_type m.sum.start m.expression.start (placed src ts i) None (token_at k p) c)
 alone_read src m {ts = ts} {i = i} w c k p h =
     subst (λ ts'. After src m (ts' ++ one k p) (at_entity_type m.sum.start m.expression.start (placed src ts i) None (token_at k p) c)) (append-nil ts) (type_read src m w no_type_name c k p h)
 
-name_read : {N S E : Type 0} (src : List ℕ) (m : Parts N S E) {ts : List Lexeme} {i : Ident} → ReadsAny ts i → (c : Mark) (k : TokenKind) (p : Spot) → IsMarked c k →
+name_read : {N S E : Type 0} (src : List ℕ) (m : PartMachines N S E) {ts : List Lexeme} {i : Ident} → ReadsAny ts i → (c : Mark) (k : TokenKind) (p : Spot) → IsMarked c k →
     After src m (ts ++ one k p) (at_type_name m.name.start m.sum.start m.expression.start (placed src ts i) (token_at k p) c)
 name_read src m {ts = ts} {i = i} w mark.Colon k p colon = subst (λ ts'. ElementRead src m ts' (element.TypeName (placed src ts i) m.name.start)) (append-nil (ts ++ one kind.Colon p)) (at_name p [] w refl)
 name_read src m w c k p h = alone_read src m w c k p h
@@ -223,7 +223,7 @@ entity_of p (as_node r) = entity_type p r
 constraint_of : {src : List ℕ} {us : List Lexeme} {k : TokenKind} {o : RelOp} {x : Cell Expr} (p : Spot) → ReadsRelOp k o → AsNode src (ReadsExpr src) us x → ReadsConstraint src (one k p ++ us) (Some (o, x))
 constraint_of p h (as_node r) = constraint p h r
 
-in_name_read : {N S E : Type 0} {src : List ℕ} {m : Parts N S E} → PartDoors src m → {ts : List Lexeme} {i : Ident} {s : N} (p : Spot) (us : List Lexeme) → ReadsAny ts i → Comes m.name us s → (t : Lexeme) (a : Answer N (Cell Name)) → m.name.step s t ≡ a →
+in_name_read : {N S E : Type 0} {src : List ℕ} {m : PartMachines N S E} → PartDoors src m → {ts : List Lexeme} {i : Ident} {s : N} (p : Spot) (us : List Lexeme) → ReadsAny ts i → Comes m.name us s → (t : Lexeme) (a : Answer N (Cell Name)) → m.name.step s t ≡ a →
     AnswersRightly t a (m.name.finish s) → After src m (ts ++ one kind.Colon p ++ us ++ t ∷ []) (in_type_name m.sum.start m.expression.start (placed src ts i) t a)
 in_name_read {src = src} {m = m} d {ts = ts} {i = i} {s = s} p us w c t (next q) e h =
     subst (λ ts'. ElementRead src m ts' (element.TypeName (placed src ts i) q)) (snoc (ts ++ one kind.Colon p) us t) (at_name p (us ++ t ∷ []) w (one_more m.name us s q t c e))
@@ -236,7 +236,7 @@ in_name_read {src = src} {m = m} d {ts = ts} {i = i} {s = s} p us w c t (ended x
 in_name_read d p us w c t refused e h = tt
 in_name_read d p us w c t too_large e h = tt
 
-in_sum_read : {N S E : Type 0} {src : List ℕ} {m : Parts N S E} → PartDoors src m → {ts us : List Lexeme} {i : Ident} {x : Option (Cell Name)} {s : S} (p : Spot) (vs : List Lexeme) → ReadsAny ts i → ReadsTypeName src us x → Comes m.sum vs s →
+in_sum_read : {N S E : Type 0} {src : List ℕ} {m : PartMachines N S E} → PartDoors src m → {ts us : List Lexeme} {i : Ident} {x : Option (Cell Name)} {s : S} (p : Spot) (vs : List Lexeme) → ReadsAny ts i → ReadsTypeName src us x → Comes m.sum vs s →
     (t : Lexeme) (a : Answer S (Cell Add)) → m.sum.step s t ≡ a → AnswersRightly t a (m.sum.finish s) → After src m (ts ++ us ++ one kind.Is p ++ vs ++ t ∷ []) (in_entity_type m.expression.start (placed src ts i) x t a)
 in_sum_read {src = src} {m = m} d {ts = ts} {us = us} {i = i} {x = x} {s = s} p vs w n c t (next q) e h =
     subst (λ ts'. ElementRead src m ts' (element.EntityType (placed src ts i) x q)) (snoc (ts ++ us ++ one kind.Is p) vs t) (at_type p (vs ++ t ∷ []) w n (one_more m.sum vs s q t c e))
@@ -249,7 +249,7 @@ in_sum_read {src = src} {m = m} d {ts = ts} {us = us} {i = i} {x = x} {s = s} p 
 in_sum_read d p vs w n c t refused e h = tt
 in_sum_read d p vs w n c t too_large e h = tt
 
-in_expression_read : {N S E : Type 0} {src : List ℕ} (m : Parts N S E) {ts us vs : List Lexeme} {i : Ident} {x : Option (Cell Name)} {y : Option (Cell Add)} {k : TokenKind} {o : RelOp} {s : E} (p : Spot) (ws : List Lexeme) → ReadsAny ts i → ReadsTypeName src us x →
+in_expression_read : {N S E : Type 0} {src : List ℕ} (m : PartMachines N S E) {ts us vs : List Lexeme} {i : Ident} {x : Option (Cell Name)} {y : Option (Cell Add)} {k : TokenKind} {o : RelOp} {s : E} (p : Spot) (ws : List Lexeme) → ReadsAny ts i → ReadsTypeName src us x →
     ReadsEntityType src vs y → ReadsRelOp k o → Comes m.expression ws s → (t : Lexeme) (a : Answer E (Cell Expr)) → m.expression.step s t ≡ a → After src m (ts ++ us ++ vs ++ one k p ++ ws ++ t ∷ []) (in_constraint (placed src ts i) x y o a)
 in_expression_read {src = src} m {ts = ts} {us = us} {vs = vs} {i = i} {x = x} {y = y} {k = k} {o = o} {s = s} p ws w n f h c t (next q) e =
     subst (λ ts'. ElementRead src m ts' (element.Constraint (placed src ts i) x y o q)) (snoc (ts ++ us ++ vs ++ one k p) ws t) (at_operator p (ws ++ t ∷ []) w n f h (one_more m.expression ws s q t c e))
@@ -257,7 +257,7 @@ in_expression_read m p ws w n f h c t (ended z) e = tt
 in_expression_read m p ws w n f h c t refused e = tt
 in_expression_read m p ws w n f h c t too_large e = tt
 
-element_keeps : {N S E : Type 0} {src : List ℕ} {m : Parts N S E} → PartDoors src m → (ts : List Lexeme) (s : ElementState N S E) (t : Lexeme) → ElementRead src m ts s → After src m (ts ++ t ∷ []) (element_step src m s t)
+element_keeps : {N S E : Type 0} {src : List ℕ} {m : PartMachines N S E} → PartDoors src m → (ts : List Lexeme) (s : ElementState N S E) (t : Lexeme) → ElementRead src m ts s → After src m (ts ++ t ∷ []) (element_step src m s t)
 element_keeps {src = src} {m = m} d ts s t at_start = word_read src m t (any_of t.kind t.text) refl
 element_keeps {src = src} {m = m} d ts s t (at_word w) = name_read src m w (mark_of t.kind) t.kind (spot_of t) (marked t.kind)
 element_keeps {m = m} d ts s t (at_name {s = q} p us w c) = in_name_read d p us w c t (m.name.step q t) refl (d.name.answers q t)
@@ -276,7 +276,7 @@ expression_there : (i : Cell Ident) (n : Option (Cell Name)) (y : Option (Cell A
 expression_there i n y r None v e = absurd (cc)
 expression_there i n y r (Some x) v e = (x, refl, some_is e)
 
-element_sound : {N S E : Type 0} {src : List ℕ} {m : Parts N S E} → PartDoors src m → {ts : List Lexeme} {s : ElementState N S E} (v : VariableDef) → ElementRead src m ts s → element_end m s ≡ Some v → ReadsVariableDef src ts v
+element_sound : {N S E : Type 0} {src : List ℕ} {m : PartMachines N S E} → PartDoors src m → {ts : List Lexeme} {s : ElementState N S E} (v : VariableDef) → ElementRead src m ts s → element_end m s ≡ Some v → ReadsVariableDef src ts v
 element_sound d v at_start e = absurd (cc)
 element_sound {src = src} d v (at_word {ts = ts} {i = i} w) e =
     let r : ReadsVariableDef src (ts ++ []) (variable_def_of (placed src ts i) None None None) = variable_def w no_type_name no_entity_type no_constraint in
@@ -305,7 +305,7 @@ element_sound {src = src} {m = m} d v (at_operator {ts = ts} {us = us} {vs = vs}
 
 -- viable
 
-element_viable : {N S E : Type 0} {src : List ℕ} {m : Parts N S E} → PartDoors src m → (s : ElementState N S E) → Completed (elements src m) s
+element_viable : {N S E : Type 0} {src : List ℕ} {m : PartMachines N S E} → PartDoors src m → (s : ElementState N S E) → Completed (elements src m) s
 element_viable d element.Start = record { more = some_token kind.Identifier ∷ []; last = _; tree = _; goes = refl; ends = refl }
 element_viable d (element.Variable i) = record { more = []; last = element.Variable i; tree = variable_def_of i None None None; goes = refl; ends = refl }
 element_viable {src = src} {m = m} d (element.TypeName i s) =
@@ -363,14 +363,14 @@ in_expression_answers N S i x y r t (ended z) o h = ap (λ o. end_constraint i x
 in_expression_answers N S i x y r t refused o h = ap (λ o. end_constraint i x y r o) h
 in_expression_answers N S i x y r t too_large o h = h
 
-element_answers : {N S E : Type 0} {src : List ℕ} {m : Parts N S E} → PartDoors src m → (s : ElementState N S E) (t : Lexeme) → AnswersRightly t (element_step src m s t) (element_end m s)
+element_answers : {N S E : Type 0} {src : List ℕ} {m : PartMachines N S E} → PartDoors src m → (s : ElementState N S E) (t : Lexeme) → AnswersRightly t (element_step src m s t) (element_end m s)
 element_answers {N = N} {S = S} {E = E} {src = src} d element.Start t = word_answers N S E src t (any_of t.kind t.text) refl
 element_answers {m = m} d (element.Variable i) t = name_answers m.name.start m.sum.start m.expression.start i t (mark_of t.kind) refl
 element_answers {m = m} d (element.TypeName i s) t = in_name_answers m.sum.start m.expression.start i t (m.name.step s t) (m.name.finish s) (d.name.answers s t)
 element_answers {N = N} {m = m} d (element.EntityType i x s) t = in_sum_answers N m.expression.start i x t (m.sum.step s t) (m.sum.finish s) (d.sum.answers s t)
 element_answers {N = N} {S = S} {m = m} d (element.Constraint i x y o s) t = in_expression_answers N S i x y o t (m.expression.step s t) (m.expression.finish s) (d.expression.answers s t)
 
-pub element_door : {N S E : Type 0} (src : List ℕ) (m : Parts N S E) → PartDoors src m → Door (elements src m) (ReadsVariableDef src)
+pub element_door : {N S E : Type 0} (src : List ℕ) (m : PartMachines N S E) → PartDoors src m → Door (elements src m) (ReadsVariableDef src)
 element_door src m d = record {
   complete = λ ts v r. element_complete d r;
   sound = λ ts s v f e. element_sound d v (kept (elements src m) (λ ts s. ElementRead src m ts s) at_start (λ ts s t h. element_keeps d ts s t h) ts s f) e;
@@ -396,7 +396,7 @@ no_operator : {k : TokenKind} → IsParting k → relation_of k ≡ None
 no_operator comma = refl
 no_operator close_paren = refl
 
-pub element_ends : {N S E : Type 0} (src : List ℕ) (m : Parts N S E) → PartDoors src m → EndsAt (elements src m) IsBehindElement
+pub element_ends : {N S E : Type 0} (src : List ℕ) (m : PartMachines N S E) → PartDoors src m → EndsAt (elements src m) IsBehindElement
 element_ends src m d element.Start v t h e = absurd (cc)
 element_ends src m d (element.Variable i) v t h e = name_parted m.name.start m.sum.start m.expression.start i t.kind (spot_of t) h ∙ ap (λ v. ended v) (some_is e)
 element_ends {N = N} src m d (element.TypeName i s) v t h e =
@@ -415,5 +415,5 @@ no_word : (N S E : Type 0) (src : List ℕ) (k : TokenKind) (p : Spot) → IsPar
 no_word N S E src k p comma = refl
 no_word N S E src k p close_paren = refl
 
-pub element_refuses : {N S E : Type 0} (src : List ℕ) (m : Parts N S E) → Refuses (elements src m) IsBehindElement
+pub element_refuses : {N S E : Type 0} (src : List ℕ) (m : PartMachines N S E) → Refuses (elements src m) IsBehindElement
 element_refuses {N = N} {S = S} {E = E} src m t h = no_word N S E src t.kind (spot_of t) h

@@ -10,7 +10,7 @@ use Rattle.cedar_syntax.specs.Trees.{Cell}
 use Rattle.cedar_syntax.specs.machines.Door.{Machine, Answer, next, ended, refused, too_large, is_taken, IsShape, option_image, Shapes}
 use Rattle.cedar_syntax.specs.machines.Marks.{mark_of}
 use Rattle.cedar_text.specs.machines.Placing.{spanned_answer, node_if, placing}
-use Rattle.cedar_text.specs.machines.Sequences.{beginning, with_last, sequence_end, many_answer, many_step, many, behind_item, listed_answer, listed_step, listed}
+use Rattle.cedar_text.specs.machines.Sequences.{item_beginning, items_with_last, sequence_end, many_answer, many_step, many, behind_item, listed_answer, listed_step, comma_list}
 use Rattle.cedar_text.specs.machines.SequenceShapes.{spanned_shape, sequence_shape, beginning_shape, sequence_shape_end, many_shape_answer, many_shape_step, many_shapes, behind_item_shape, listed_shape_answer, listed_shape_step, listed_shapes}
 use Rattle.cedar_text.specs.machines.WordShapes.{no_tree}
 
@@ -49,7 +49,7 @@ nodes_shaped src m n f i = record {
 
 -- sequences
 
-begin_shaped : {S T U : Type 0} (f : S → U) (xs : List T) (a : Answer S T) (c : Answer U (Unit {0})) → IsShapeBy f a c → IsShapeBy (sequence_shape f) (beginning xs a) (beginning_shape c)
+begin_shaped : {S T U : Type 0} (f : S → U) (xs : List T) (a : Answer S T) (c : Answer U (Unit {0})) → IsShapeBy f a c → IsShapeBy (sequence_shape f) (item_beginning xs a) (beginning_shape c)
 begin_shaped f xs (next s) c h = ap (λ c. beginning_shape c) h
 begin_shaped f xs (ended x) c h = ap (λ c. beginning_shape c) h
 begin_shaped f xs refused c h = ap (λ c. beginning_shape c) h
@@ -59,7 +59,7 @@ begin_shaped f xs too_large c h = if_taken (λ c. is_taken (beginning_shape c) �
 start_shaped : {S T U : Type 0} {m : Machine Lexeme S T} {n : Machine TokenKind U (Unit {0})} (f : S → U) → Shapes m n f no_tree → (t : Lexeme) → IsShapeBy f (m.step m.start t) (n.step n.start t.kind)
 start_shaped {m = m} {n = n} f i t = subst (λ u. IsShapeBy f (m.step m.start t) (n.step u t.kind)) i.starts (i.steps m.start t)
 
-last_shaped : {T : Type 0} (xs : List T) (o : Option T) → option_image no_tree o ≡ option_image no_tree (with_last xs o)
+last_shaped : {T : Type 0} (xs : List T) (o : Option T) → option_image no_tree o ≡ option_image no_tree (items_with_last xs o)
 last_shaped xs None = refl
 last_shaped xs (Some x) = refl
 
@@ -67,7 +67,7 @@ many_item_shaped : {S T U : Type 0} {m : Machine Lexeme S T} {n : Machine TokenK
     IsShapeBy (sequence_shape f) (many_answer m xs t a) (many_shape_answer n t.kind c)
 many_item_shaped {n = n} f i xs t (next s) c h = ap (λ c. many_shape_answer n t.kind c) h
 many_item_shaped {m = m} {n = n} f i xs t (ended x) c h =
-    subst (λ c. IsShapeBy (sequence_shape f) (beginning (xs ++ x ∷ []) (m.step m.start t)) (many_shape_answer n t.kind c)) (sym h) (begin_shaped f (xs ++ x ∷ []) (m.step m.start t) (n.step n.start t.kind) (start_shaped f i t))
+    subst (λ c. IsShapeBy (sequence_shape f) (item_beginning (xs ++ x ∷ []) (m.step m.start t)) (many_shape_answer n t.kind c)) (sym h) (begin_shaped f (xs ++ x ∷ []) (m.step m.start t) (n.step n.start t.kind) (start_shaped f i t))
 many_item_shaped {n = n} f i xs t refused c h = ap (λ c. many_shape_answer n t.kind c) h
 many_item_shaped {n = n} f i xs t too_large c h = if_taken (λ c. is_taken (many_shape_answer n t.kind c) ≡ true) (λ u. refl) c h
 
@@ -98,5 +98,5 @@ listed_steps : {S T U : Type 0} {m : Machine Lexeme S T} {n : Machine TokenKind 
 listed_steps {m = m} {n = n} f i xs None t = begin_shaped f xs (m.step m.start t) (n.step n.start t.kind) (start_shaped f i t)
 listed_steps {m = m} {n = n} f i xs (Some s) t = listed_item_shaped f xs (mark_of t.kind) (m.step s t) (n.step (f s) t.kind) (i.steps s t)
 
-pub listed_shaped : {S T U : Type 0} (m : Machine Lexeme S T) (n : Machine TokenKind U (Unit {0})) (f : S → U) → Shapes m n f no_tree → Shapes (listed m) (listed_shapes n) (sequence_shape f) no_tree
+pub listed_shaped : {S T U : Type 0} (m : Machine Lexeme S T) (n : Machine TokenKind U (Unit {0})) (f : S → U) → Shapes m n f no_tree → Shapes (comma_list m) (listed_shapes n) (sequence_shape f) no_tree
 listed_shaped m n f i = record { starts = refl; steps = λ s t. listed_steps f i s.done s.begun t; finishes = λ s. sequence_ends f i s.done s.begun }

@@ -12,10 +12,10 @@ use Rattle.cedar_syntax.specs.Place.{placed}
 use Rattle.cedar_syntax.specs.Trees.{Cell}
 use Rattle.cedar_syntax.specs.LooseWords.{ReadsItems, one_item, more_items, ReadsList, no_item, items, items_comma}
 use Rattle.cedar_syntax.specs.LoosePolicies.{ReadsMany, none, more}
-use Rattle.cedar_syntax.specs.machines.Door.{Machine, Answer, next, ended, refused, too_large, taken, steps, Comes, RunsTo, Completed, AnswersRightly, Door, is_taken}
+use Rattle.cedar_syntax.specs.machines.Door.{Machine, Answer, next, ended, refused, too_large, answer_state, steps, Comes, RunsTo, Completed, AnswersRightly, Door, is_taken}
 use Rattle.cedar_syntax.specs.machines.Marks.{mark_of}
 use Rattle.cedar_text.specs.machines.Placing.{AsNode, as_node}
-use Rattle.cedar_text.specs.machines.Sequences.{sequence, beginning, with_last, sequence_end, many_answer, many_step, many, behind_item, listed_answer, listed_step, listed}
+use Rattle.cedar_text.specs.machines.Sequences.{sequence, item_beginning, items_with_last, sequence_end, many_answer, many_step, many, behind_item, listed_answer, listed_step, comma_list}
 use Rattle.cedar_syntax.proofs.machines.Laws.{some_is, none_some, then_steps}
 use Rattle.cedar_syntax.proofs.machines.Holding.{Holds, held, entered, one_more, kept}
 use Rattle.cedar_text.proofs.machines.Ending.{NotEmpty, EndsAt, Refuses, Begins, IsKind}
@@ -30,13 +30,13 @@ pub item_runs : {S T : Type 0} (m : Machine Lexeme S T) (n : Machine Lexeme (Seq
 item_runs m n xs z h u i [] s x f e = absurd (none_some (ap (λ s. m.finish s) (sym (some_is f)) ∙ z) e)
 item_runs m n xs z h u i (t ∷ ts) s x f e = entered m n (λ q. item_at xs q) h u t (λ q w. i t q w) ts s f
 
-begin_answers : {S T : Type 0} (t : Lexeme) (xs : List T) (a : Answer S T) (o : Option T) → AnswersRightly t a o → AnswersRightly t (beginning xs a) (Some xs)
+begin_answers : {S T : Type 0} (t : Lexeme) (xs : List T) (a : Answer S T) (o : Option T) → AnswersRightly t a o → AnswersRightly t (item_beginning xs a) (Some xs)
 begin_answers t xs (next s) o h = h
 begin_answers t xs (ended x) o h = refl
 begin_answers t xs refused o h = refl
 begin_answers t xs too_large o h = h
 
-finished : {T : Type 0} (xs : List T) (o : Option T) (ys : List T) → with_last xs o ≡ Some ys → (x : T) × (o ≡ Some x) × (xs ++ x ∷ [] ≡ ys)
+finished : {T : Type 0} (xs : List T) (o : Option T) (ys : List T) → items_with_last xs o ≡ Some ys → (x : T) × (o ≡ Some x) × (xs ++ x ∷ [] ≡ ys)
 finished xs None ys e = absurd (cc)
 finished xs (Some x) ys e = (x, refl, some_is e)
 
@@ -47,10 +47,10 @@ many_holds m xs s q t e = ap (λ a. many_answer m xs t a) e
 
 pub many_next : {S T : Type 0} (m : Machine Lexeme S T) → EndsAt m (Begins m) → (done : List T) (b : Option S) (xs : List T) → sequence_end m.finish done b ≡ Some xs → (t : Lexeme) (q : S) → m.step m.start t ≡ next q →
     many_step m done b t ≡ next (item_at xs q)
-many_next m h done None xs e t q w = ap (λ a. beginning done a) w ∙ ap (λ xs. next (item_at xs q)) (some_is e)
+many_next m h done None xs e t q w = ap (λ a. item_beginning done a) w ∙ ap (λ xs. next (item_at xs q)) (some_is e)
 many_next m h done (Some s) xs e t q w =
     let f = finished done (m.finish s) xs e in
-    ap (λ a. many_answer m done t a) (h s f.0 t (ap (λ a. is_taken a) w) f.1) ∙ ap (λ a. beginning (done ++ f.0 ∷ []) a) w ∙ ap (λ xs. next (item_at xs q)) f.2
+    ap (λ a. many_answer m done t a) (h s f.0 t (ap (λ a. is_taken a) w) f.1) ∙ ap (λ a. item_beginning (done ++ f.0 ∷ []) a) w ∙ ap (λ xs. next (item_at xs q)) f.2
 
 many_one_more : {S T : Type 0} {src : List ℕ} {m : Machine Lexeme S (Cell T)} {R : List Lexeme → T → Type 0} → Door m (AsNode src R) → NotEmpty m → EndsAt m (Begins m) →
     (ts us : List Lexeme) (xs : List (Cell T)) (y : Cell T) → RunsTo (many m) ts xs → AsNode src R us y → RunsTo (many m) (ts ++ us) (xs ++ y ∷ [])
@@ -60,7 +60,7 @@ many_one_more {m = m} d z h ts us xs y g r =
       last = item_at xs c.last;
       goes = then_steps (many m) (Some (many m).start) (Some g.last) _ ts us g.goes
           (item_runs m (many m) xs z (many_holds m xs) g.last (λ t q w. many_next m h g.last.done g.last.begun xs g.ends t q w) us c.last y c.goes c.ends);
-      ends = ap (λ o. with_last xs o) c.ends;
+      ends = ap (λ o. items_with_last xs o) c.ends;
     }
 
 many_complete : {S T : Type 0} {src : List ℕ} {m : Machine Lexeme S (Cell T)} {R : List Lexeme → T → Type 0} → Door m (AsNode src R) → NotEmpty m → EndsAt m (Begins m) →
@@ -76,14 +76,14 @@ pub many_more : {T : Type 0} {src : List ℕ} {R : List Lexeme → T → Type 0}
 many_more r (as_node i) = more r i
 
 many_begins : {S T : Type 0} {src : List ℕ} (m : Machine Lexeme S (Cell T)) (R : List Lexeme → T → Type 0) {ts : List Lexeme} {xs : List (Cell T)} → ReadsMany src R ts xs → (t : Lexeme) (a : Answer S (Cell T)) → m.step m.start t ≡ a →
-    IfSome (taken (beginning xs a)) (λ q. ManyRead src m R (ts ++ t ∷ []) q)
-many_begins m R r t (next q) e = is_begun (t ∷ []) r (ap (λ a. taken a) e)
+    IfSome (answer_state (item_beginning xs a)) (λ q. ManyRead src m R (ts ++ t ∷ []) q)
+many_begins m R r t (next q) e = is_begun (t ∷ []) r (ap (λ a. answer_state a) e)
 many_begins m R r t (ended x) e = tt
 many_begins m R r t refused e = tt
 many_begins m R r t too_large e = tt
 
 many_goes : {S T : Type 0} {src : List ℕ} {m : Machine Lexeme S (Cell T)} {R : List Lexeme → T → Type 0} → Door m (AsNode src R) → {ts : List Lexeme} (us : List Lexeme) {xs : List (Cell T)} {s : S} → ReadsMany src R ts xs → Comes m us s →
-    (t : Lexeme) (a : Answer S (Cell T)) → m.step s t ≡ a → AnswersRightly t a (m.finish s) → IfSome (taken (many_answer m xs t a)) (λ q. ManyRead src m R ((ts ++ us) ++ t ∷ []) q)
+    (t : Lexeme) (a : Answer S (Cell T)) → m.step s t ≡ a → AnswersRightly t a (m.finish s) → IfSome (answer_state (many_answer m xs t a)) (λ q. ManyRead src m R ((ts ++ us) ++ t ∷ []) q)
 many_goes {src = src} {m = m} {R = R} d {ts = ts} us {xs = xs} {s = s} r c t (next q) e i = subst (λ w. ManyRead src m R w (item_at xs q)) (assoc ts us t) (is_begun (us ++ t ∷ []) r (one_more m us s q t c e))
   where
     assoc : (ts us : List Lexeme) (t : Lexeme) → ts ++ (us ++ t ∷ []) ≡ (ts ++ us) ++ t ∷ []
@@ -93,7 +93,7 @@ many_goes d us r c t refused e i = tt
 many_goes d us r c t too_large e i = tt
 
 many_keeps : {S T : Type 0} {src : List ℕ} {m : Machine Lexeme S (Cell T)} {R : List Lexeme → T → Type 0} → Door m (AsNode src R) → (ts : List Lexeme) (s : Sequence S (Cell T)) (t : Lexeme) → ManyRead src m R ts s →
-    IfSome (taken ((many m).step s t)) (λ q. ManyRead src m R (ts ++ t ∷ []) q)
+    IfSome (answer_state ((many m).step s t)) (λ q. ManyRead src m R (ts ++ t ∷ []) q)
 many_keeps {m = m} {R = R} d ts s t (is_between r) = many_begins m R r t (m.step m.start t) refl
 many_keeps {m = m} d ts s t (is_begun us {s = q} r c) = many_goes d us r c t (m.step q t) refl (d.answers q t)
 
@@ -110,14 +110,14 @@ many_viable : {S T : Type 0} {m : Machine Lexeme S T} {R : List Lexeme → T →
 many_viable d xs None = record { more = []; last = sequence xs None; tree = xs; goes = refl; ends = refl }
 many_viable {m = m} d xs (Some s) =
     let c = d.viable s in
-    record { more = c.more; last = item_at xs c.last; tree = xs ++ c.tree ∷ []; goes = held m (many m) (λ q. item_at xs q) (many_holds m xs) c.more s c.last c.goes; ends = ap (λ o. with_last xs o) c.ends }
+    record { more = c.more; last = item_at xs c.last; tree = xs ++ c.tree ∷ []; goes = held m (many m) (λ q. item_at xs q) (many_holds m xs) c.more s c.last c.goes; ends = ap (λ o. items_with_last xs o) c.ends }
 
 many_item_answers : {S T : Type 0} {m : Machine Lexeme S T} {R : List Lexeme → T → Type 0} → Door m R → (t : Lexeme) (xs : List T) (a : Answer S T) (o : Option T) → AnswersRightly t a o →
-    AnswersRightly t (many_answer m xs t a) (with_last xs o)
+    AnswersRightly t (many_answer m xs t a) (items_with_last xs o)
 many_item_answers d t xs (next s) o h = h
 many_item_answers {m = m} d t xs (ended x) o h =
-    subst (λ o. AnswersRightly t (beginning (xs ++ x ∷ []) (m.step m.start t)) (with_last xs o)) (sym h) (begin_answers t (xs ++ x ∷ []) (m.step m.start t) (m.finish m.start) (d.answers m.start t))
-many_item_answers d t xs refused o h = ap (λ o. with_last xs o) h
+    subst (λ o. AnswersRightly t (item_beginning (xs ++ x ∷ []) (m.step m.start t)) (items_with_last xs o)) (sym h) (begin_answers t (xs ++ x ∷ []) (m.step m.start t) (m.finish m.start) (d.answers m.start t))
+many_item_answers d t xs refused o h = ap (λ o. items_with_last xs o) h
 many_item_answers d t xs too_large o h = h
 
 many_answers : {S T : Type 0} {m : Machine Lexeme S T} {R : List Lexeme → T → Type 0} → Door m R → (xs : List T) (b : Option S) (t : Lexeme) → AnswersRightly t (many_step m xs b t) (sequence_end m.finish xs b)
@@ -134,7 +134,7 @@ many_door src m R d z h = record {
 
 -- items separated by commas
 
-listed_holds : {S T : Type 0} (m : Machine Lexeme S T) (xs : List T) → Holds m (listed m) (λ q. item_at xs q)
+listed_holds : {S T : Type 0} (m : Machine Lexeme S T) (xs : List T) → Holds m (comma_list m) (λ q. item_at xs q)
 listed_holds m xs s q t e = ap (λ a. listed_answer xs (mark_of t.kind) a) e
 
 -- items, of which the last is held
@@ -142,25 +142,25 @@ record ItemsAt {S T : Type 0} (m : Machine Lexeme S T) (ts : List Lexeme) (xs : 
   before : List T
   last : S
   item : T
-  goes : Comes (listed m) ts (item_at before last)
+  goes : Comes (comma_list m) ts (item_at before last)
   ends : m.finish last ≡ Some item
   is : before ++ item ∷ [] ≡ xs
 
-comma_taken : {S T : Type 0} {m : Machine Lexeme S T} → EndsAt m (IsKind kind.Comma) → {ts : List Lexeme} {xs : List T} (p : Spot) → ItemsAt m ts xs → Comes (listed m) (ts ++ one kind.Comma p) (sequence xs None)
+comma_taken : {S T : Type 0} {m : Machine Lexeme S T} → EndsAt m (IsKind kind.Comma) → {ts : List Lexeme} {xs : List T} (p : Spot) → ItemsAt m ts xs → Comes (comma_list m) (ts ++ one kind.Comma p) (sequence xs None)
 comma_taken {m = m} h {ts = ts} p g =
-    then_steps (listed m) (Some (listed m).start) (Some (item_at g.before g.last)) _ ts (one kind.Comma p) g.goes
-    (ap (λ a. taken (listed_answer g.before mark.Comma a)) (h g.last g.item record { kind = kind.Comma; start = p.start; end = p.end; text = p.text } refl g.ends) ∙ ap (λ xs. Some (sequence xs None)) g.is)
+    then_steps (comma_list m) (Some (comma_list m).start) (Some (item_at g.before g.last)) _ ts (one kind.Comma p) g.goes
+    (ap (λ a. answer_state (listed_answer g.before mark.Comma a)) (h g.last g.item record { kind = kind.Comma; start = p.start; end = p.end; text = p.text } refl g.ends) ∙ ap (λ xs. Some (sequence xs None)) g.is)
 
 listed_item : {S T : Type 0} {src : List ℕ} {m : Machine Lexeme S (Cell T)} {R : List Lexeme → T → Type 0} → Door m (AsNode src R) → NotEmpty m → (ts us : List Lexeme) (xs : List (Cell T)) (y : Cell T) →
-    Comes (listed m) ts (sequence xs None) → AsNode src R us y → ItemsAt m (ts ++ us) (xs ++ y ∷ [])
+    Comes (comma_list m) ts (sequence xs None) → AsNode src R us y → ItemsAt m (ts ++ us) (xs ++ y ∷ [])
 listed_item {m = m} d z ts us xs y g r =
     let c = d.complete us y r in
     record {
       before = xs;
       last = c.last;
       item = y;
-      goes = then_steps (listed m) (Some (listed m).start) (Some (sequence xs None)) _ ts us g
-          (item_runs m (listed m) xs z (listed_holds m xs) (sequence xs None) (λ t q w. ap (λ a. beginning xs a) w) us c.last y c.goes c.ends);
+      goes = then_steps (comma_list m) (Some (comma_list m).start) (Some (sequence xs None)) _ ts us g
+          (item_runs m (comma_list m) xs z (listed_holds m xs) (sequence xs None) (λ t q w. ap (λ a. item_beginning xs a) w) us c.last y c.goes c.ends);
       ends = c.ends;
       is = refl;
     }
@@ -171,9 +171,9 @@ items_run {src = src} d z h (one_item {ts = ts} {x = x} r) = listed_item d z [] 
 items_run {src = src} d z h (more_items {ts = ts} {us = us} {xs = xs} {y = y} p r i) = listed_item d z (ts ++ one kind.Comma p) us xs (placed src us y) (comma_taken h p (items_run d z h r)) (as_node i)
 
 listed_complete : {S T : Type 0} {src : List ℕ} {m : Machine Lexeme S (Cell T)} {R : List Lexeme → T → Type 0} → Door m (AsNode src R) → NotEmpty m → EndsAt m (IsKind kind.Comma) → {ts : List Lexeme} {xs : List (Cell T)} → ReadsList src R ts xs →
-    RunsTo (listed m) ts xs
+    RunsTo (comma_list m) ts xs
 listed_complete {m = m} d z h no_item = record { last = sequence [] None; goes = refl; ends = refl }
-listed_complete d z h (items r) = let g = items_run d z h r in record { last = item_at g.before g.last; goes = g.goes; ends = ap (λ o. with_last g.before o) g.ends ∙ ap (λ xs. Some xs) g.is }
+listed_complete d z h (items r) = let g = items_run d z h r in record { last = item_at g.before g.last; goes = g.goes; ends = ap (λ o. items_with_last g.before o) g.ends ∙ ap (λ xs. Some xs) g.is }
 listed_complete d z h (items_comma {xs = xs} p r) = record { last = sequence xs None; goes = comma_taken h p (items_run d z h r); ends = refl }
 
 -- what stands before an item
@@ -194,19 +194,19 @@ list_before nothing = no_item
 list_before (a_comma p r) = items_comma p r
 
 list_begins : {S T : Type 0} {src : List ℕ} (m : Machine Lexeme S (Cell T)) (R : List Lexeme → T → Type 0) {ts : List Lexeme} {xs : List (Cell T)} → Before src R ts xs → (t : Lexeme) (a : Answer S (Cell T)) → m.step m.start t ≡ a →
-    IfSome (taken (beginning xs a)) (λ q. ListRead src m R (ts ++ t ∷ []) q)
-list_begins m R r t (next q) e = has_item (t ∷ []) r (ap (λ a. taken a) e)
+    IfSome (answer_state (item_beginning xs a)) (λ q. ListRead src m R (ts ++ t ∷ []) q)
+list_begins m R r t (next q) e = has_item (t ∷ []) r (ap (λ a. answer_state a) e)
 list_begins m R r t (ended x) e = tt
 list_begins m R r t refused e = tt
 list_begins m R r t too_large e = tt
 
 list_behind : {S T : Type 0} {src : List ℕ} (m : Machine Lexeme S (Cell T)) (R : List Lexeme → T → Type 0) {ts : List Lexeme} {xs : List (Cell T)} → ReadsItems src R ts xs → (c : Mark) (k : TokenKind) (p : Spot) → IsMarked c k →
-    IfSome (taken (behind_item {S = S} xs c)) (λ q. ListRead src m R (ts ++ one k p) q)
+    IfSome (answer_state (behind_item {S = S} xs c)) (λ q. ListRead src m R (ts ++ one k p) q)
 list_behind m R r mark.Comma k p comma = wants_item (a_comma p r)
 list_behind m R r _ k p i = tt
 
 list_goes : {S T : Type 0} {src : List ℕ} {m : Machine Lexeme S (Cell T)} {R : List Lexeme → T → Type 0} → Door m (AsNode src R) → {ts : List Lexeme} (us : List Lexeme) {xs : List (Cell T)} {s : S} → Before src R ts xs → Comes m us s →
-    (t : Lexeme) (a : Answer S (Cell T)) → m.step s t ≡ a → AnswersRightly t a (m.finish s) → IfSome (taken (listed_answer xs (mark_of t.kind) a)) (λ q. ListRead src m R ((ts ++ us) ++ t ∷ []) q)
+    (t : Lexeme) (a : Answer S (Cell T)) → m.step s t ≡ a → AnswersRightly t a (m.finish s) → IfSome (answer_state (listed_answer xs (mark_of t.kind) a)) (λ q. ListRead src m R ((ts ++ us) ++ t ∷ []) q)
 list_goes {src = src} {m = m} {R = R} d {ts = ts} us {xs = xs} {s = s} r c t (next q) e i = subst (λ w. ListRead src m R w (item_at xs q)) (assoc ts us t) (has_item (us ++ t ∷ []) r (one_more m us s q t c e))
   where
     assoc : (ts us : List Lexeme) (t : Lexeme) → ts ++ (us ++ t ∷ []) ≡ (ts ++ us) ++ t ∷ []
@@ -216,7 +216,7 @@ list_goes d us r c t refused e i = tt
 list_goes d us r c t too_large e i = tt
 
 list_keeps : {S T : Type 0} {src : List ℕ} {m : Machine Lexeme S (Cell T)} {R : List Lexeme → T → Type 0} → Door m (AsNode src R) → (ts : List Lexeme) (s : Sequence S (Cell T)) (t : Lexeme) → ListRead src m R ts s →
-    IfSome (taken ((listed m).step s t)) (λ q. ListRead src m R (ts ++ t ∷ []) q)
+    IfSome (answer_state ((comma_list m).step s t)) (λ q. ListRead src m R (ts ++ t ∷ []) q)
 list_keeps {m = m} {R = R} d ts s t (wants_item r) = list_begins m R r t (m.step m.start t) refl
 list_keeps {m = m} d ts s t (has_item us {s = q} r c) = list_goes d us r c t (m.step q t) refl (d.answers q t)
 
@@ -226,11 +226,11 @@ list_sound {src = src} {R = R} d {ts = ts} ys (wants_item r) e = subst (λ xs. R
 list_sound {src = src} {m = m} {R = R} d ys (has_item {ts = ts} us {xs = xs} {s = s} r c) e =
     let f = finished xs (m.finish s) ys e in subst (λ xs. ReadsList src R (ts ++ us) xs) f.2 (items (items_with r (d.sound us s f.0 c f.1)))
 
-listed_viable : {S T : Type 0} {m : Machine Lexeme S T} {R : List Lexeme → T → Type 0} → Door m R → (xs : List T) (b : Option S) → Completed (listed m) (sequence xs b)
+listed_viable : {S T : Type 0} {m : Machine Lexeme S T} {R : List Lexeme → T → Type 0} → Door m R → (xs : List T) (b : Option S) → Completed (comma_list m) (sequence xs b)
 listed_viable d xs None = record { more = []; last = sequence xs None; tree = xs; goes = refl; ends = refl }
 listed_viable {m = m} d xs (Some s) =
     let c = d.viable s in
-    record { more = c.more; last = item_at xs c.last; tree = xs ++ c.tree ∷ []; goes = held m (listed m) (λ q. item_at xs q) (listed_holds m xs) c.more s c.last c.goes; ends = ap (λ o. with_last xs o) c.ends }
+    record { more = c.more; last = item_at xs c.last; tree = xs ++ c.tree ∷ []; goes = held m (comma_list m) (λ q. item_at xs q) (listed_holds m xs) c.more s c.last c.goes; ends = ap (λ o. items_with_last xs o) c.ends }
 
 comma_answers : (S : Type 0) {T : Type 0} (xs : List T) (c : Mark) (t : Lexeme) → IsMarked c t.kind → AnswersRightly t (behind_item {S = S} xs c) (Some xs)
 comma_answers S xs mark.Comma t i = not_number i
@@ -239,28 +239,28 @@ comma_answers S xs mark.Comma t i = not_number i
     not_number comma e = absurd (cc)
 comma_answers S xs _ t i = refl
 
-listed_item_answers : {S T : Type 0} (t : Lexeme) (xs : List T) (a : Answer S T) (o : Option T) → AnswersRightly t a o → AnswersRightly t (listed_answer xs (mark_of t.kind) a) (with_last xs o)
+listed_item_answers : {S T : Type 0} (t : Lexeme) (xs : List T) (a : Answer S T) (o : Option T) → AnswersRightly t a o → AnswersRightly t (listed_answer xs (mark_of t.kind) a) (items_with_last xs o)
 listed_item_answers t xs (next s) o h = h
-listed_item_answers {S = S} t xs (ended x) o h = subst (λ o. AnswersRightly t (behind_item {S = S} (xs ++ x ∷ []) (mark_of t.kind)) (with_last xs o)) (sym h) (comma_answers S (xs ++ x ∷ []) (mark_of t.kind) t (marked t.kind))
-listed_item_answers t xs refused o h = ap (λ o. with_last xs o) h
+listed_item_answers {S = S} t xs (ended x) o h = subst (λ o. AnswersRightly t (behind_item {S = S} (xs ++ x ∷ []) (mark_of t.kind)) (items_with_last xs o)) (sym h) (comma_answers S (xs ++ x ∷ []) (mark_of t.kind) t (marked t.kind))
+listed_item_answers t xs refused o h = ap (λ o. items_with_last xs o) h
 listed_item_answers t xs too_large o h = h
 
 listed_answers : {S T : Type 0} {m : Machine Lexeme S T} {R : List Lexeme → T → Type 0} → Door m R → (xs : List T) (b : Option S) (t : Lexeme) → AnswersRightly t (listed_step m xs b t) (sequence_end m.finish xs b)
 listed_answers {m = m} d xs None t = begin_answers t xs (m.step m.start t) (m.finish m.start) (d.answers m.start t)
 listed_answers {m = m} d xs (Some s) t = listed_item_answers t xs (m.step s t) (m.finish s) (d.answers s t)
 
-pub listed_door : {S T : Type 0} (src : List ℕ) (m : Machine Lexeme S (Cell T)) (R : List Lexeme → T → Type 0) → Door m (AsNode src R) → NotEmpty m → EndsAt m (IsKind kind.Comma) → Door (listed m) (ReadsList src R)
+pub listed_door : {S T : Type 0} (src : List ℕ) (m : Machine Lexeme S (Cell T)) (R : List Lexeme → T → Type 0) → Door m (AsNode src R) → NotEmpty m → EndsAt m (IsKind kind.Comma) → Door (comma_list m) (ReadsList src R)
 listed_door src m R d z h = record {
   complete = λ ts xs r. listed_complete d z h r;
-  sound = λ ts s xs f e. list_sound d xs (kept (listed m) (λ ts s. ListRead src m R ts s) (wants_item nothing) (λ ts s t h. list_keeps d ts s t h) ts s f) e;
+  sound = λ ts s xs f e. list_sound d xs (kept (comma_list m) (λ ts s. ListRead src m R ts s) (wants_item nothing) (λ ts s t h. list_keeps d ts s t h) ts s f) e;
   viable = λ s. listed_viable d s.done s.begun;
   answers = λ s t. listed_answers d s.done s.begun t;
 }
 
 -- where sequences end
 
-beginning_ends : {S T : Type 0} (xs : List T) (a : Answer S T) → a ≡ refused → beginning xs a ≡ ended xs
-beginning_ends xs a e = ap (λ a. beginning xs a) e
+beginning_ends : {S T : Type 0} (xs : List T) (a : Answer S T) → a ≡ refused → item_beginning xs a ≡ ended xs
+beginning_ends xs a e = ap (λ a. item_beginning xs a) e
 
 many_ends_by : {S T : Type 0} (m : Machine Lexeme S T) {P : Lexeme → Type 0} → EndsAt m P → Refuses m P → (done : List T) (b : Option S) (xs : List T) (t : Lexeme) → P t → sequence_end m.finish done b ≡ Some xs → many_step m done b t ≡ ended xs
 many_ends_by m h r done None xs t p e = beginning_ends done (m.step m.start t) (r t p) ∙ ap (λ xs. ended xs) (some_is e)
@@ -278,5 +278,5 @@ listed_ends_by m h r g done (Some s) xs t p e =
     let f = finished done (m.finish s) xs e in
     ap (λ a. listed_answer done (mark_of t.kind) a) (h s f.0 t p f.1) ∙ g t p (done ++ f.0 ∷ []) ∙ ap (λ xs. ended xs) f.2
 
-pub listed_ends : {S T : Type 0} (m : Machine Lexeme S T) {P : Lexeme → Type 0} → EndsAt m P → Refuses m P → ((t : Lexeme) → P t → (xs : List T) → behind_item {S = S} xs (mark_of t.kind) ≡ ended xs) → EndsAt (listed m) P
+pub listed_ends : {S T : Type 0} (m : Machine Lexeme S T) {P : Lexeme → Type 0} → EndsAt m P → Refuses m P → ((t : Lexeme) → P t → (xs : List T) → behind_item {S = S} xs (mark_of t.kind) ≡ ended xs) → EndsAt (comma_list m) P
 listed_ends m h r g s xs t p e = listed_ends_by m h r g s.done s.begun xs t p e

@@ -9,7 +9,7 @@ use Rattle.cedar_syntax.specs.Place.{placed_or_start}
 use Rattle.cedar_syntax.specs.Sentences.{kinds, HasTree}
 use Rattle.cedar_syntax.specs.Tokens.{fits}
 use Rattle.cedar_syntax.specs.Trees.{Cell}
-use Rattle.cedar_syntax.specs.machines.Door.{Answer, next, ended, refused, too_large, Machine, taken, steps, Comes, AnswersRightly, Door, is_some, IsShape, Shapes}
+use Rattle.cedar_syntax.specs.machines.Door.{Answer, next, ended, refused, too_large, Machine, answer_state, steps, Comes, AnswersRightly, Door, is_some, IsShape, Shapes}
 use Rattle.cedar_syntax.proofs.machines.Laws.{some_is, none_some, false_true, steps-none, steps_shaped, ends_alike}
 use Rattle.cedar_text.specs.StandsInText.{StandsInText}
 use Rattle.cedar_text.proofs.KindTexts.{NumbersFit, text_of, text_utf8, tokens_from, text_laid, kinds_are, all_fit}
@@ -22,12 +22,12 @@ record ComesAs {S T U : Type 0} (m : Machine Lexeme S T) (f : S → U) (s : S) (
 
 one_step : {S T U V : Type 0} (m : Machine Lexeme S T) (n : Machine TokenKind U V) (f : S → U) (g : T → V) (s : S) (t : Lexeme) (ts : List Lexeme) (u : U) (a : Answer S T) (c : Answer U V) (o : Option T) →
     m.step s t ≡ a → IsShape f g a c → AnswersRightly t a o → (t.kind ≡ kind.Number → fits t.text ≡ true) → ((r : S) → steps n (Some (f r)) (kinds ts) ≡ Some u → ComesAs m f r ts u) →
-    steps n (taken c) (kinds ts) ≡ Some u → ComesAs m f s (t ∷ ts) u
+    steps n (answer_state c) (kinds ts) ≡ Some u → ComesAs m f s (t ∷ ts) u
 one_step m n f g s t ts u (next r) c o h w v fit more e =
-    let k = more r (sym (ap (λ c. steps n (taken c) (kinds ts)) w) ∙ e) in
-    record { last = k.last; goes = ap (λ a. steps m (taken a) ts) h ∙ k.goes; alike = k.alike }
-one_step m n f g s t ts u (ended x) c o h w v fit more e = absurd (none_some (steps-none n (kinds ts)) (sym (ap (λ c. steps n (taken c) (kinds ts)) w) ∙ e))
-one_step m n f g s t ts u refused c o h w v fit more e = absurd (none_some (steps-none n (kinds ts)) (sym (ap (λ c. steps n (taken c) (kinds ts)) w) ∙ e))
+    let k = more r (sym (ap (λ c. steps n (answer_state c) (kinds ts)) w) ∙ e) in
+    record { last = k.last; goes = ap (λ a. steps m (answer_state a) ts) h ∙ k.goes; alike = k.alike }
+one_step m n f g s t ts u (ended x) c o h w v fit more e = absurd (none_some (steps-none n (kinds ts)) (sym (ap (λ c. steps n (answer_state c) (kinds ts)) w) ∙ e))
+one_step m n f g s t ts u refused c o h w v fit more e = absurd (none_some (steps-none n (kinds ts)) (sym (ap (λ c. steps n (answer_state c) (kinds ts)) w) ∙ e))
 one_step m n f g s t ts u too_large c o h w v fit more e = absurd (false_true v.1 (fit v.0))
 
 -- tokens whose kinds the shapes take, and whose numbers fit, are taken

@@ -10,19 +10,19 @@ use Rattle.cedar_syntax.specs.declared.err.faults.ParseError.{ParseError}
 use Rattle.cedar_syntax.specs.declared.reading.expected.Narrowing.TheVariants as narrowing
 use Rattle.cedar_syntax.specs.declared.reading.recovery.Way.{Way}
 use Rattle.cedar_syntax.specs.Expected.{IsExpected}
-use Rattle.cedar_syntax.specs.FirstFault.{end_at, end_of, unexpected_at, early_at}
+use Rattle.cedar_syntax.specs.FirstFault.{end_at, tokens_end, unexpected_fault, early_at}
 use Rattle.cedar_syntax.specs.ParseErrors.{faults_of}
 use Rattle.cedar_syntax.specs.Grammar.{Rule, IsNodeOf}
 use Rattle.cedar_syntax.specs.Trees.{Cell}
-use Rattle.cedar_syntax.specs.MendedFaults.{fault_of, Unallowed, a_token, the_end, IsLarge, listed, IsListed, IsFaultList, IsMendedRefusal}
+use Rattle.cedar_syntax.specs.MendedFaults.{fault_of, Unallowed, a_token, the_end, IsLarge, faults_with_last, IsListed, IsFaultList, IsMendedRefusal}
 use Rattle.cedar_syntax.specs.declared.reading.extent.Extent.{Extent}
-use Rattle.cedar_syntax.specs.Place.{join, extent_of, extent}
+use Rattle.cedar_syntax.specs.Place.{joint_extent, extent_of, extent}
 use Rattle.cedar_syntax.specs.Sentences.{kinds}
 use Rattle.cedar_syntax.specs.machines.Door.{Machine, Answer, next, ended, refused, too_large, Comes, is_taken, is_some, allows, IsShape, Shapes, Door}
-use Rattle.cedar_syntax.specs.machines.Judged.{may_take, ReadsBy, expected_by}
+use Rattle.cedar_syntax.specs.machines.Judged.{may_take, ReadsBy, wanted_kinds}
 use Rattle.cedar_syntax.specs.machines.Marks.{mark_of}
-use Rattle.cedar_syntax.specs.machines.Mending.{refused_fault, bad_fault, judged_by, recover_by, recover_all_by, last_of, told_at, TellsAll, IsTold}
-use Rattle.cedar_syntax.specs.machines.Recovery.{Recovers, Recovery, reading, skipping, stopped, judged, recover, recover_all, Told, told, told_reading, told_end}
+use Rattle.cedar_syntax.specs.machines.Mending.{refused_fault, bad_fault, judgment_by, recovery_step_by, recovery_of_all_by, last_of, met_faults, AreAllFaults, IsTold}
+use Rattle.cedar_syntax.specs.machines.Recovery.{Recovers, Recovery, reading, skipping, stopped, judgment, recovery_step, recovery_of_all, RunFaults, run_faults, told_reading, told_end}
 use Rattle.cedar_text.specs.machines.WordShapes.{no_tree}
 use Rattle.cedar_text.proofs.machines.Entries.{may_take_shape}
 use Rattle.cedar_syntax.proofs.machines.Expected.{expected_is, one_list}
@@ -33,7 +33,7 @@ use Rattle.cedar_syntax.proofs.machines.Skipping.{as_skipped}
 
 -- ---- what states allow is what the machine takes
 
-judged_same : {S T F : Type 0} (b : Bool) (r : Recovers S F) (xs : List F) (l : ℕ) (s : S) (t : Lexeme) (a : Answer S T) → may_take a ≡ b → judged_by b r xs l s t a ≡ judged r xs l s t a
+judged_same : {S T F : Type 0} (b : Bool) (r : Recovers S F) (xs : List F) (l : ℕ) (s : S) (t : Lexeme) (a : Answer S T) → may_take a ≡ b → judgment_by b r xs l s t a ≡ judgment r xs l s t a
 judged_same true r xs l s t (next q) e = refl
 judged_same true r xs l s t (ended x) e = absurd (cc)
 judged_same true r xs l s t refused e = absurd (cc)
@@ -44,19 +44,19 @@ judged_same false r xs l s t refused e = as_skipped r xs (r.way s) s (r.tell s l
 judged_same false r xs l s t too_large e = absurd (cc)
 
 recover_same : {S T V F : Type 0} (m : Machine Lexeme S T) (n : Machine TokenKind V (Unit {0})) (f : S → V) (r : Recovers S F) → Shapes m n f no_tree → (q : Recovery S F) (t : Lexeme) →
-    recover_by m (λ s after. allows n (f s) after) r q t ≡ recover m r q t
+    recovery_step_by m (λ s after. allows n (f s) after) r q t ≡ recovery_step m r q t
 recover_same m n f r i (reading xs l s) t = judged_same (is_taken (n.step (f s) t.kind)) r xs l s t (m.step s t) (may_take_shape f no_tree (m.step s t) (n.step (f s) t.kind) (i.steps s t))
 recover_same m n f r i (skipping xs w s x) t = as_skipped r xs w s x t (mark_of t.kind)
 recover_same m n f r i (stopped xs x) t = refl
 
 all_same : {S T V F : Type 0} (m : Machine Lexeme S T) (n : Machine TokenKind V (Unit {0})) (f : S → V) (r : Recovers S F) → Shapes m n f no_tree → (q : Recovery S F) (ts : List Lexeme) →
-    recover_all_by m (λ s after. allows n (f s) after) r q ts ≡ recover_all m r q ts
+    recovery_of_all_by m (λ s after. allows n (f s) after) r q ts ≡ recovery_of_all m r q ts
 all_same m n f r i q [] = refl
-all_same m n f r i q (t ∷ ts) = ap (λ q. recover_all_by m (λ s after. allows n (f s) after) r q ts) (recover_same m n f r i q t) ∙ all_same m n f r i (recover m r q t) ts
+all_same m n f r i q (t ∷ ts) = ap (λ q. recovery_of_all_by m (λ s after. allows n (f s) after) r q ts) (recover_same m n f r i q t) ∙ all_same m n f r i (recovery_step m r q t) ts
 
 -- ---- what is told at last
 
-end_list : {T F : Type 0} (xs : List F) (y : F) (o : Option T) (b : Bool) → is_some o ≡ b → listed (cond b None (Some y)) xs ≡ listed (told_reading xs y o).last (told_reading xs y o).mended
+end_list : {T F : Type 0} (xs : List F) (y : F) (o : Option T) (b : Bool) → is_some o ≡ b → faults_with_last (cond b None (Some y)) xs ≡ faults_with_last (told_reading xs y o).last (told_reading xs y o).mended
 end_list xs y None true e = absurd (cc)
 end_list xs y None false e = refl
 end_list xs y (Some x) true e = refl
@@ -67,7 +67,7 @@ reading_list src place xs y None = inl refl
 reading_list src place xs y (Some x) = inl refl
 
 told_list : {S T V : Type 0} (src : List ℕ) (m : Machine Lexeme S T) (n : Machine TokenKind V (Unit {0})) (f : S → V) (r : Recovers S ParseError) → Shapes m n f no_tree → (q : Recovery S ParseError) (bad : Option ℕ) →
-    IsListed src bad (told_end m r q).mended (told_end m r q).last (told_at (λ s after. allows n (f s) after) r (bad_fault fault_of src) q bad)
+    IsListed src bad (told_end m r q).mended (told_end m r q).last (met_faults (λ s after. allows n (f s) after) r (bad_fault fault_of src) q bad)
 told_list src m n f r i (reading xs l s) None = end_list xs (r.tell s l None) (m.finish s) (is_some (n.finish (f s))) (sym (ends_alike f no_tree i s))
 told_list src m n f r i (reading xs l s) (Some place) = reading_list src place xs (r.tell s l None) (m.finish s)
 told_list src m n f r i (skipping xs w s x) None = refl
@@ -76,12 +76,12 @@ told_list src m n f r i (stopped xs x) None = refl
 told_list src m n f r i (stopped xs x) (Some place) = inr (x, refl, refl)
 
 tells_list : {S T V : Type 0} {R : Rule T} {W : List ℕ → List Lexeme → Type 0} {r : Recovers S ParseError} {m : Machine Lexeme S (Cell T)} {n : Machine TokenKind V (Unit {0})} {f : S → V} (text : List ℕ) →
-    Recoverable text m (IsNodeOf R text) (W text) (Unallowed (IsNodeOf R text) narrowing.Tokens text) (IsLarge text) r n f → (xs : List ParseError) → TellsAll m (λ s after. allows n (f s) after) r (bad_fault fault_of text) text xs → IsFaultList R W text xs
+    Recoverable text m (IsNodeOf R text) (W text) (Unallowed (IsNodeOf R text) narrowing.Tokens text) (IsLarge text) r n f → (xs : List ParseError) → AreAllFaults m (λ s after. allows n (f s) after) r (bad_fault fault_of text) text xs → IsFaultList R W text xs
 tells_list {r = r} {m = m} {n = n} {f = f} text d xs h =
     let a = has_faults d h.tokens in
-    let q = recover_all m r (reading [] 0 m.start) h.tokens in
+    let q = recovery_of_all m r (reading [] 0 m.start) h.tokens in
     let e = (faults_exactly d h.tokens a.mended a.last).0 a.stands in
-    let same : xs ≡ told_at (λ s after. allows n (f s) after) r (bad_fault fault_of text) q h.bad = h.is ∙ ap (λ q. told_at (λ s after. allows n (f s) after) r (bad_fault fault_of text) q h.bad) (all_same m n f r d.shaped (reading [] 0 m.start) h.tokens) in
+    let same : xs ≡ met_faults (λ s after. allows n (f s) after) r (bad_fault fault_of text) q h.bad = h.is ∙ ap (λ q. met_faults (λ s after. allows n (f s) after) r (bad_fault fault_of text) q h.bad) (all_same m n f r d.shaped (reading [] 0 m.start) h.tokens) in
     record {
       tokens = h.tokens;
       bad = h.bad;
@@ -99,15 +99,15 @@ refused_list W text d (Errors errors) h = tells_list text d (faults_of errors) h
 
 -- ---- a fault is told as it is recorded
 
-end_on : (a b : Extent) (o : Option Extent) → end_at (join (Some a) (join (Some b) o)) ≡ end_at (join (Some b) o)
+end_on : (a b : Extent) (o : Option Extent) → end_at (joint_extent (Some a) (joint_extent (Some b) o)) ≡ end_at (joint_extent (Some b) o)
 end_on a b None = refl
 end_on a b (Some c) = refl
 
-last_end : (t : Lexeme) (ts : List Lexeme) → end_of (t ∷ ts) ≡ end_from t.end ts
+last_end : (t : Lexeme) (ts : List Lexeme) → tokens_end (t ∷ ts) ≡ end_from t.end ts
 last_end t [] = refl
 last_end t (u ∷ us) = end_on (extent_of t) (extent_of u) (extent us) ∙ last_end u us
 
-pub end_is : (ts : List Lexeme) → end_of ts ≡ end_from 0 ts
+pub end_is : (ts : List Lexeme) → tokens_end ts ≡ end_from 0 ts
 end_is [] = refl
 end_is (t ∷ ts) = last_end t ts
 
@@ -115,13 +115,13 @@ pub tells_exactly : {S T V : Type 0} {m : Machine Lexeme S T} {n : Machine Token
     Unallowed R narrowing.Tokens src ts o x ↔ (refused_fault fault_of (λ after. allows n (f s) after) src (end_from 0 ts) o ≡ x)
 tells_exactly {m = m} {n = n} {R = R} f d i src ts s o x c = (λ h. there o x h, λ e. subst (λ x. Unallowed R narrowing.Tokens src ts o x) e (back o))
   where
-    expects : (after : Option TokenKind) → IsExpected R narrowing.Tokens (kinds ts) after (expected_by (λ after. allows n (f s) after) narrowing.Tokens after)
+    expects : (after : Option TokenKind) → IsExpected R narrowing.Tokens (kinds ts) after (wanted_kinds (λ after. allows n (f s) after) narrowing.Tokens after)
     expects after = expected_is R (kinds ts) (λ after. allows n (f s) after) narrowing.Tokens after (λ k. exactly f no_tree d i ts s (Some k) c)
 
     there : (o : Option Lexeme) (x : ParseError) → Unallowed R narrowing.Tokens src ts o x → refused_fault fault_of (λ after. allows n (f s) after) src (end_from 0 ts) o ≡ x
-    there (Some t) x (a_token h) = ap (λ ks. fault_of src (unexpected_at t ks)) (one_list (expects (Some t.kind)) h)
+    there (Some t) x (a_token h) = ap (λ ks. fault_of src (unexpected_fault t ks)) (one_list (expects (Some t.kind)) h)
     there None x (the_end {ks = ks} h) = ap (λ ks. fault_of src (early_at (end_from 0 ts) ks)) (one_list (expects None) h) ∙ ap (λ l. fault_of src (early_at l ks)) (sym (end_is ts))
 
     back : (o : Option Lexeme) → Unallowed R narrowing.Tokens src ts o (refused_fault fault_of (λ after. allows n (f s) after) src (end_from 0 ts) o)
     back (Some t) = a_token (expects (Some t.kind))
-    back None = subst (λ l. Unallowed R narrowing.Tokens src ts None (fault_of src (early_at l (expected_by (λ after. allows n (f s) after) narrowing.Tokens None)))) (end_is ts) (the_end (expects None))
+    back None = subst (λ l. Unallowed R narrowing.Tokens src ts None (fault_of src (early_at l (wanted_kinds (λ after. allows n (f s) after) narrowing.Tokens None)))) (end_is ts) (the_end (expects None))

@@ -25,8 +25,8 @@ use Rattle.cedar_syntax.specs.Tokens.{fits, any_of}
 use Rattle.cedar_syntax.specs.Trees.{Cell}
 use Rattle.cedar_syntax.specs.LooseWords.{is_common}
 use Rattle.cedar_syntax.specs.machines.Door.{Answer, next, ended, refused, too_large, Machine, IsShape, option_image, Shapes}
-use Rattle.cedar_text.specs.machines.Words.{path_begun, path_more, path_had, path_step, path_end, paths, item_wanted, key_had, number_value, value_wanted, item_had, as_words, words_more, path_words, inits_step, words_step, words_end, path_end_words, words_machine, name_alone, name_among, name_in, ref_in, ended_with, kept, kept_end, keeping, names, refs, ident_begun, ident_step, ident_end, idents}
-use Rattle.cedar_text.specs.machines.WordShapes.{no_tree, PathShape, at_start, have, WordsShape, in_path, WordsKind, PathKind, a_name, ident_kind, kind_among, path_kind, any_kind, path_shape, begun_shape, had_shape, further_shape, path_shape_step, path_shape_end, path_shapes, init_shape, words_shape, words_kind, as_words_shape, more_shape, path_words_shape, item_shape, key_shape, value_shape, item_had_shape, init_shape_step, words_shape_step, words_shape_end, path_words_shape_end, words_shapes, name_kind, name_shapes, entity_kind, ref_shapes, ident_shape, ident_begun_shape, ident_shape_step, ident_shape_end, ident_shapes}
+use Rattle.cedar_text.specs.machines.Words.{path_beginning, path_more, path_had, path_step, path_end, paths, wanted_item, key_had, number_value, wanted_value, item_had, as_words, words_more, path_words, inits_step, words_step, words_end, path_end_words, words_machine, name_alone, name_among, path_as_name, words_as_ref, end_or_refusal, kept_answer, kept_end, keeping, names, refs, identifier_beginning, ident_step, ident_end, idents}
+use Rattle.cedar_text.specs.machines.WordShapes.{no_tree, PathShape, at_start, have, WordsShape, in_path, WordsKind, PathKind, a_name, ident_kind, kind_among, path_kind, any_kind, path_shape, begun_shape, had_shape, further_shape, path_shape_step, path_shape_end, path_shapes, init_shape, words_shape, words_kind, as_words_shape, more_shape, path_words_shape, item_shape, init_key_shape, init_value_shape, item_had_shape, init_shape_step, words_shape_step, words_shape_end, path_words_shape_end, words_shapes, name_kind, name_shapes, entity_kind, ref_shapes, ident_shape, ident_begun_shape, ident_shape_step, ident_shape_end, ident_shapes}
 
 -- ---- what a kind says of an identifier
 
@@ -60,7 +60,7 @@ kind_more (y ∷ xs) x i = refl
 abbrev IsPathShape : Answer PathState Path → Answer PathShape PathKind → Type 0
 IsPathShape a c = IsShape path_shape path_kind a c
 
-begun_shaped : (o : Option Ident) (e : Extent) → IsPathShape (path_begun o e) (begun_shape (option_image ident_kind o))
+begun_shaped : (o : Option Ident) (e : Extent) → IsPathShape (path_beginning o e) (begun_shape (option_image ident_kind o))
 begun_shaped (Some i) e = refl
 begun_shaped None e = refl
 
@@ -73,7 +73,7 @@ further_shaped src p (Some i) e = ap (λ c. next (have c)) (sym (kind_more p.bef
 further_shaped src p None e = refl
 
 path_steps : (src : List ℕ) (s : PathState) (t : Lexeme) → IsPathShape (path_step src s t) (path_shape_step (path_shape s) t.kind)
-path_steps src path.Start t = subst (λ o. IsPathShape (path_begun (any_of t.kind t.text) (extent_of t)) (begun_shape o)) (sym (any_shaped t.kind t.text)) (begun_shaped (any_of t.kind t.text) (extent_of t))
+path_steps src path.Start t = subst (λ o. IsPathShape (path_beginning (any_of t.kind t.text) (extent_of t)) (begun_shape o)) (sym (any_shaped t.kind t.text)) (begun_shaped (any_of t.kind t.text) (extent_of t))
 path_steps src (path.Have p) t = had_shaped p t.kind
 path_steps src (path.Behind p) t =
     subst (λ o. IsPathShape (path_more src p (any_of t.kind t.text) (extent_of t)) (further_shape o)) (sym (any_shaped t.kind t.text)) (further_shaped src p (any_of t.kind t.text) (extent_of t))
@@ -112,20 +112,20 @@ path_words_shaped src (path.Have p) t = as_words_shaped (path_had p t.kind) (had
 path_words_shaped src (path.Behind p) t =
     subst (λ o. IsWordsShape (words_more src p (any_of t.kind t.text) t.kind t) (more_shape o t.kind)) (sym (any_shaped t.kind t.text)) (more_shaped src p (any_of t.kind t.text) t.kind t)
 
-item_shaped : (src : List ℕ) (x : Cell Name) (n : ℕ) (ys : List (Cell RefInit)) (o : Option Ident) (k : TokenKind) (e : Extent) → IsWordsShape (item_wanted src x n ys o k e) (item_shape (option_image ident_kind o) k)
+item_shaped : (src : List ℕ) (x : Cell Name) (n : ℕ) (ys : List (Cell RefInit)) (o : Option Ident) (k : TokenKind) (e : Extent) → IsWordsShape (wanted_item src x n ys o k e) (item_shape (option_image ident_kind o) k)
 item_shaped src x n ys (Some i) k e = refl
 item_shaped src x n ys None kind.CloseBrace e = refl
 item_shaped src x n ys None _ e = refl
 
-key_shaped : (x : Cell Name) (n : ℕ) (ys : List (Cell RefInit)) (w : Word) (k : TokenKind) → IsWordsShape (key_had x n ys w k) (key_shape k)
+key_shaped : (x : Cell Name) (n : ℕ) (ys : List (Cell RefInit)) (w : Word) (k : TokenKind) → IsWordsShape (key_had x n ys w k) (init_key_shape k)
 key_shaped x n ys w kind.Colon = refl
 key_shaped x n ys w _ = refl
 
-number_shaped : (src : List ℕ) (x : Cell Name) (n : ℕ) (ys : List (Cell RefInit)) (w : Word) (b : Bool) (t : Lexeme) → IsWordsShape (number_value src x n ys w b t) (value_shape kind.Number)
+number_shaped : (src : List ℕ) (x : Cell Name) (n : ℕ) (ys : List (Cell RefInit)) (w : Word) (b : Bool) (t : Lexeme) → IsWordsShape (number_value src x n ys w b t) (init_value_shape kind.Number)
 number_shaped src x n ys w true t = refl
 number_shaped src x n ys w false t = refl
 
-value_shaped : (src : List ℕ) (x : Cell Name) (n : ℕ) (ys : List (Cell RefInit)) (w : Word) (k : TokenKind) (t : Lexeme) → IsWordsShape (value_wanted src x n ys w k t) (value_shape k)
+value_shaped : (src : List ℕ) (x : Cell Name) (n : ℕ) (ys : List (Cell RefInit)) (w : Word) (k : TokenKind) (t : Lexeme) → IsWordsShape (wanted_value src x n ys w k t) (init_value_shape k)
 value_shaped src x n ys w kind.True t = refl
 value_shaped src x n ys w kind.False t = refl
 value_shaped src x n ys w kind.Number t = number_shaped src x n ys w (fits t.text) t
@@ -139,7 +139,7 @@ item_had_shaped src x n ys _ e = refl
 
 inits_shaped : (src : List ℕ) (x : Cell Name) (n : ℕ) (ys : List (Cell RefInit)) (p : InitPlace) (t : Lexeme) → IsWordsShape (inits_step src x n ys p t) (init_shape_step (init_shape p) t.kind)
 inits_shaped src x n ys place.Item t =
-    subst (λ o. IsWordsShape (item_wanted src x n ys (any_of t.kind t.text) t.kind (extent_of t)) (item_shape o t.kind)) (sym (any_shaped t.kind t.text)) (item_shaped src x n ys (any_of t.kind t.text) t.kind (extent_of t))
+    subst (λ o. IsWordsShape (wanted_item src x n ys (any_of t.kind t.text) t.kind (extent_of t)) (item_shape o t.kind)) (sym (any_shaped t.kind t.text)) (item_shaped src x n ys (any_of t.kind t.text) t.kind (extent_of t))
 inits_shaped src x n ys (place.Key w) t = key_shaped x n ys w t.kind
 inits_shaped src x n ys (place.Value w) t = value_shaped src x n ys w t.kind t
 inits_shaped src x n ys place.Behind t = item_had_shaped src x n ys t.kind (extent_of t)
@@ -164,16 +164,16 @@ words_shaped src = record { starts = refl; steps = λ s t. words_steps src s t; 
 
 -- ---- a machine whose trees are some of another's
 
-ended_shaped : {S T U V : Type 0} (f : S → U) (g : T → V) (o : Option T) → IsShape f g (ended_with o) (ended_with (option_image g o))
+ended_shaped : {S T U V : Type 0} (f : S → U) (g : T → V) (o : Option T) → IsShape f g (end_or_refusal o) (end_or_refusal (option_image g o))
 ended_shaped f g (Some x) = refl
 ended_shaped f g None = refl
 
 kept_shaped : {S T T' U V V' : Type 0} (f : S → U) (g : T → V) (h : T → Option T') (i : V → Option V') (j : T' → V') → ((x : T) → i (g x) ≡ option_image j (h x)) → (a : Answer S T) (c : Answer U V) → IsShape f g a c →
-    IsShape f j (kept h a) (kept i c)
-kept_shaped f g h i j w (next s) c e = ap (λ c. kept i c) e
+    IsShape f j (kept_answer h a) (kept_answer i c)
+kept_shaped f g h i j w (next s) c e = ap (λ c. kept_answer i c) e
 kept_shaped f g h i j w (ended x) c e =
-    subst (λ c. IsShape f j (ended_with (h x)) (kept i c)) (sym e) (subst (λ o. IsShape f j (ended_with (h x)) (ended_with o)) (sym (w x)) (ended_shaped f j (h x)))
-kept_shaped f g h i j w refused c e = ap (λ c. kept i c) e
+    subst (λ c. IsShape f j (end_or_refusal (h x)) (kept_answer i c)) (sym e) (subst (λ o. IsShape f j (end_or_refusal (h x)) (end_or_refusal o)) (sym (w x)) (ended_shaped f j (h x)))
+kept_shaped f g h i j w refused c e = ap (λ c. kept_answer i c) e
 kept_shaped f g h i j w too_large (next s) e = refl
 kept_shaped f g h i j w too_large (ended p) e = absurd (cc)
 kept_shaped f g h i j w too_large refused e = absurd (cc)
@@ -204,25 +204,25 @@ name_among_kind src p [] = name_alone_kind src p p.last.ident
 name_among_kind src p (x ∷ xs) = refl
 
 pub names_shaped : (src : List ℕ) → Shapes (names src) name_shapes path_shape no_tree
-names_shaped src = kept_shapes path_shape path_kind (λ p. name_in src p) name_kind no_tree (λ p. name_among_kind src p p.before) (paths_shaped src)
+names_shaped src = kept_shapes path_shape path_kind (λ p. path_as_name src p) name_kind no_tree (λ p. name_among_kind src p p.before) (paths_shaped src)
 
-ref_kind : (src : List ℕ) (x : Words) → entity_kind (words_kind x) ≡ option_image no_tree (ref_in src x)
+ref_kind : (src : List ℕ) (x : Words) → entity_kind (words_kind x) ≡ option_image no_tree (words_as_ref src x)
 ref_kind src (words.Path p) = refl
 ref_kind src (words.Entity e) = refl
 
 pub refs_shaped : (src : List ℕ) → Shapes (refs src) ref_shapes words_shape no_tree
-refs_shaped src = kept_shapes words_shape words_kind (λ x. ref_in src x) entity_kind no_tree (λ x. ref_kind src x) (words_shaped src)
+refs_shaped src = kept_shapes words_shape words_kind (λ x. words_as_ref src x) entity_kind no_tree (λ x. ref_kind src x) (words_shaped src)
 
 abbrev IsIdentShape : Answer IdentState (Cell Ident) → Answer Bool (Unit {0}) → Type 0
 IsIdentShape a c = IsShape ident_shape no_tree a c
 
-ident_begun_shaped : (o : Option Ident) (e : Extent) → IsIdentShape (ident_begun o e) (ident_begun_shape (option_image ident_kind o))
+ident_begun_shaped : (o : Option Ident) (e : Extent) → IsIdentShape (identifier_beginning o e) (ident_begun_shape (option_image ident_kind o))
 ident_begun_shaped (Some i) e = refl
 ident_begun_shaped None e = refl
 
 ident_steps : (src : List ℕ) (s : IdentState) (t : Lexeme) → IsIdentShape (ident_step src s t) (ident_shape_step (ident_shape s) t.kind)
 ident_steps src one_ident.Start t =
-    subst (λ o. IsIdentShape (ident_begun (any_of t.kind t.text) (extent_of t)) (ident_begun_shape o)) (sym (any_shaped t.kind t.text)) (ident_begun_shaped (any_of t.kind t.text) (extent_of t))
+    subst (λ o. IsIdentShape (identifier_beginning (any_of t.kind t.text) (extent_of t)) (ident_begun_shape o)) (sym (any_shaped t.kind t.text)) (ident_begun_shaped (any_of t.kind t.text) (extent_of t))
 ident_steps src (one_ident.Have w) t = refl
 
 ident_ends : (src : List ℕ) (s : IdentState) → ident_shape_end (ident_shape s) ≡ option_image no_tree (ident_end src s)

@@ -25,8 +25,8 @@ use Rattle.cedar_syntax.specs.Place.{extent, node_at, placed}
 use Rattle.cedar_syntax.specs.Tokens.{Spot, one, between_quotes, any_of}
 use Rattle.cedar_syntax.specs.Trees.{Cell, name_of, ref_init_of}
 use Rattle.cedar_syntax.specs.LooseWords.{ReadsItems, one_item, more_items, ReadsList, no_item, items, items_comma, ReadsLiteral, truth, falsity, number, string, any, ReadsPath, one_word, more_words, ReadsRefInit, ref_init, ReadsRef, uid, with_inits}
-use Rattle.cedar_syntax.specs.machines.Door.{taken, steps, Comes, RunsTo}
-use Rattle.cedar_text.specs.machines.Words.{word_node, first_word, with_word, path_extent, path_begun, path_more, paths, named, entity_of, inits_of, item_wanted, number_value, as_words, words_more, words_machine}
+use Rattle.cedar_syntax.specs.machines.Door.{answer_state, steps, Comes, RunsTo}
+use Rattle.cedar_text.specs.machines.Words.{word_node, one_word_path, with_word, path_extent, path_beginning, path_more, paths, path_node, entity_with_extent, inits_of, wanted_item, number_value, as_words, words_more, words_machine}
 use Rattle.cedar_text.specs.machines.WordsRead.{word_at, ReadsWholePath, first, further, ReadsWords, a_path, an_entity}
 use Rattle.cedar_syntax.proofs.machines.Laws.{some_is, then_steps}
 use Rattle.cedar_syntax.proofs.machines.Extents.{at, spans, from_to}
@@ -56,7 +56,7 @@ one_more src ts xs x k i p r e h = record {
 }
 
 pub path_as : {src : List ℕ} {ts : List Lexeme} {xs : List (Cell Ident)} {x : Cell Ident} → ReadsPath src ts xs x → PathAs src ts xs x
-path_as (one_word (any {i = i} p e)) = record { path = first_word (word_at i p); reads = first p e; before = refl; last = refl }
+path_as (one_word (any {i = i} p e)) = record { path = one_word_path (word_at i p); reads = first p e; before = refl; last = refl }
 path_as {src = src} (more_words {ts = ts} {xs = xs} {x = x} p r (any {k = k} {i = i} q e)) = one_more src ts xs x k i p q e (path_as r)
 
 pub as_path : {src : List ℕ} {ts : List Lexeme} {q : Path} → ReadsWholePath src ts q → ReadsPath src ts q.before (word_node src q.last)
@@ -64,27 +64,27 @@ as_path (first p e) = one_word (any p e)
 as_path (further k p r s e) = more_words p (as_path s) (any r e)
 
 -- the name that a path is
-pub named_is : (src : List ℕ) (ts : List Lexeme) (q : Path) → ReadsWholePath src ts q → named src q ≡ placed src ts (name_of q.before (word_node src q.last))
+pub named_is : (src : List ℕ) (ts : List Lexeme) (q : Path) → ReadsWholePath src ts q → path_node src q ≡ placed src ts (name_of q.before (word_node src q.last))
 named_is src ts q r = ap (λ e. node_at src e (name_of q.before (word_node src q.last))) (sym (spanned r))
 
-pub named_as : (src : List ℕ) (ts : List Lexeme) (xs : List (Cell Ident)) (x : Cell Ident) (h : PathAs src ts xs x) → named src h.path ≡ placed src ts (name_of xs x)
+pub named_as : (src : List ℕ) (ts : List Lexeme) (xs : List (Cell Ident)) (x : Cell Ident) (h : PathAs src ts xs x) → path_node src h.path ≡ placed src ts (name_of xs x)
 named_as src ts xs x h = named_is src ts h.path h.reads ∙ ap (λ w. placed src ts (name_of w (word_node src h.path.last))) h.before ∙ ap (λ w. placed src ts (name_of xs w)) h.last
 
 -- ---- complete: paths
 
 path_runs : {src : List ℕ} {ts : List Lexeme} {q : Path} → ReadsWholePath src ts q → Comes (paths src) ts (path.Have q)
-path_runs (first p e) = ap (λ o. taken (path_begun o (at p))) e
+path_runs (first p e) = ap (λ o. answer_state (path_beginning o (at p))) e
 path_runs {src = src} (further {ts = ts} {q = q} k p r s e) =
     then_steps (paths src) (Some path.Start) (Some (path.Behind q)) _ (ts ++ one kind.ColonColon p) (one k r)
     (then_steps (paths src) (Some path.Start) (Some (path.Have q)) _ ts (one kind.ColonColon p) (path_runs s) refl)
-    (ap (λ o. taken (path_more src q o (at r))) e)
+    (ap (λ o. answer_state (path_more src q o (at r))) e)
 
 pub words_run : {src : List ℕ} {ts : List Lexeme} {q : Path} → ReadsWholePath src ts q → Comes (words_machine src) ts (state.Path (path.Have q))
-words_run (first p e) = ap (λ o. taken (as_words (path_begun o (at p)))) e
+words_run (first p e) = ap (λ o. answer_state (as_words (path_beginning o (at p)))) e
 words_run {src = src} (further {ts = ts} {q = q} k p r s e) =
     then_steps (words_machine src) (Some (state.Path path.Start)) (Some (state.Path (path.Behind q))) _ (ts ++ one kind.ColonColon p) (one k r)
     (then_steps (words_machine src) (Some (state.Path path.Start)) (Some (state.Path (path.Have q))) _ ts (one kind.ColonColon p) (words_run s) refl)
-    (ap (λ o. taken (words_more src q o k record { kind = k; start = r.start; end = r.end; text = r.text })) e)
+    (ap (λ o. answer_state (words_more src q o k record { kind = k; start = r.start; end = r.end; text = r.text })) e)
 
 -- ---- complete: entity literals
 
@@ -96,14 +96,14 @@ value_runs : (src : List ℕ) (x : Cell Name) (n : ℕ) (ys : List (Cell RefInit
 value_runs src x n ys k p q i (truth r) = refl
 value_runs src x n ys k p q i (falsity r) = refl
 value_runs src x n ys k p q i (number r e) =
-    ap (λ b. taken (number_value src x n ys (word_at i p) b record { kind = kind.Number; start = r.start; end = r.end; text = r.text })) e
+    ap (λ b. answer_state (number_value src x n ys (word_at i p) b record { kind = kind.Number; start = r.start; end = r.end; text = r.text })) e
 value_runs src x n ys k p q i (string r) = refl
 
 init_runs : (src : List ℕ) (x : Cell Name) (n : ℕ) (ys : List (Cell RefInit)) {us : List Lexeme} {y : RefInit} → ReadsRefInit src us y → Goes src x n ys place.Item us (ys ++ placed src us y ∷ []) place.Behind
 init_runs src x n ys (ref_init {us = us} q (any {k = k} {i = i} p e) r) =
     let m = words_machine src in
     then_steps m (Some (state.Inits (inits_of x n ys place.Item))) (Some (state.Inits (inits_of x n ys (place.Value (word_at i p))))) _ (one k p ++ one kind.Colon q) us
-    (ap (λ o. steps m (taken (item_wanted src x n ys o k (at p))) (one kind.Colon q)) e)
+    (ap (λ o. steps m (answer_state (wanted_item src x n ys o k (at p))) (one kind.Colon q)) e)
     (value_runs src x n ys k p q i r)
 
 items_run : (src : List ℕ) (x : Cell Name) (n : ℕ) {us : List Lexeme} {ys : List (Cell RefInit)} → ReadsItems src (ReadsRefInit src) us ys → Goes src x n [] place.Item us ys place.Behind
@@ -115,7 +115,7 @@ items_run src x n (more_items {ts = ts} {us = us} {xs = xs} p r s) =
     (then_steps m begun (Some (state.Inits (inits_of x n xs place.Behind))) _ ts (one kind.Comma p) (items_run src x n r) refl) (init_runs src x n xs s)
 
 abbrev pub closed_entity : List ℕ → Cell Name → ℕ → List (Cell RefInit) → Spot → Entity
-closed_entity src x n ys p = entity_of src (ref.Ref x ys) record { start = n; end = p.end }
+closed_entity src x n ys p = entity_with_extent src (ref.Ref x ys) record { start = n; end = p.end }
 
 pub list_runs : (src : List ℕ) (x : Cell Name) (n : ℕ) (m : Spot) {us : List Lexeme} {ys : List (Cell RefInit)} → ReadsList src (ReadsRefInit src) us ys →
     steps (words_machine src) (Some (state.Inits (inits_of x n [] place.Item))) (us ++ one kind.CloseBrace m) ≡ Some (state.Entity (closed_entity src x n ys m))
@@ -134,17 +134,17 @@ behind_path src ts q p r = then_steps (words_machine src) _ _ _ ts (one kind.Col
 pub record EntityAs (src : List ℕ) (ts : List Lexeme) (x : Ref) : Type 0 where
   pub extent_is : Extent
   pub spans_it : extent ts ≡ Some extent_is
-  pub goes : Comes (words_machine src) ts (state.Entity (entity_of src x extent_is))
+  pub goes : Comes (words_machine src) ts (state.Entity (entity_with_extent src x extent_is))
 
-entity_as : (src : List ℕ) (ts : List Lexeme) (x y : Ref) (e : Extent) → x ≡ y → extent ts ≡ Some e → Comes (words_machine src) ts (state.Entity (entity_of src x e)) → EntityAs src ts y
-entity_as src ts x y e f g h = record { extent_is = e; spans_it = g; goes = h ∙ ap (λ x. Some (state.Entity (entity_of src x e))) f }
+entity_as : (src : List ℕ) (ts : List Lexeme) (x y : Ref) (e : Extent) → x ≡ y → extent ts ≡ Some e → Comes (words_machine src) ts (state.Entity (entity_with_extent src x e)) → EntityAs src ts y
+entity_as src ts x y e f g h = record { extent_is = e; spans_it = g; goes = h ∙ ap (λ x. Some (state.Entity (entity_with_extent src x e))) f }
 
 uid_runs : (src : List ℕ) (ts : List Lexeme) (xs : List (Cell Ident)) (x : Cell Ident) (p r : Spot) → PathAs src ts xs x →
     EntityAs src (ts ++ one kind.ColonColon p ++ one kind.StringLit r) (ref.Uid (placed src ts (name_of xs x)) (placed src (one kind.StringLit r) (str.String (between_quotes r.text))))
 uid_runs src ts xs x p r h =
     let us : List Lexeme = ts ++ one kind.ColonColon p ++ one kind.StringLit r in
     let s : Cell Str = node_at src (Some (at r)) (str.String (between_quotes r.text)) in
-    entity_as src us (ref.Uid (named src h.path) s) (ref.Uid (placed src ts (name_of xs x)) s) (from_to (path_extent h.path) (at r)) (ap (λ w. ref.Uid w s) (named_as src ts xs x h))
+    entity_as src us (ref.Uid (path_node src h.path) s) (ref.Uid (placed src ts (name_of xs x)) s) (from_to (path_extent h.path) (at r)) (ap (λ w. ref.Uid w s) (named_as src ts xs x h))
     (spans ts (one kind.ColonColon p) kind.StringLit r (path_extent h.path) (spanned h.reads))
     (then_steps (words_machine src) _ _ _ (ts ++ one kind.ColonColon p) (one kind.StringLit r) (behind_path src ts h.path p h.reads) refl)
 
@@ -152,12 +152,12 @@ inits_run : (src : List ℕ) (ts : List Lexeme) (xs : List (Cell Ident)) (x : Ce
     EntityAs src (ts ++ one kind.ColonColon p ++ one kind.OpenBrace l ++ us ++ one kind.CloseBrace m) (ref.Ref (placed src ts (name_of xs x)) ys)
 inits_run src ts xs x p l m {us = us} {ys = ys} h r =
     let w = words_machine src in
-    entity_as src (ts ++ one kind.ColonColon p ++ one kind.OpenBrace l ++ us ++ one kind.CloseBrace m) (ref.Ref (named src h.path) ys) (ref.Ref (placed src ts (name_of xs x)) ys) (from_to (path_extent h.path) (at m))
+    entity_as src (ts ++ one kind.ColonColon p ++ one kind.OpenBrace l ++ us ++ one kind.CloseBrace m) (ref.Ref (path_node src h.path) ys) (ref.Ref (placed src ts (name_of xs x)) ys) (from_to (path_extent h.path) (at m))
     (ap (λ w. ref.Ref w ys) (named_as src ts xs x h))
     (ap (λ v. extent v) (moved_back ts (one kind.ColonColon p) (one kind.OpenBrace l) us (one kind.CloseBrace m)) ∙ spans ts (one kind.ColonColon p ++ one kind.OpenBrace l ++ us) kind.CloseBrace m (path_extent h.path) (spanned h.reads))
     (ap (λ v. steps w (Some (state.Path path.Start)) v) (append_assoc (ts ++ one kind.ColonColon p ++ one kind.OpenBrace l) us (one kind.CloseBrace m)) ∙
     then_steps w (Some (state.Path path.Start)) _ _ (ts ++ one kind.ColonColon p ++ one kind.OpenBrace l) (us ++ one kind.CloseBrace m)
-    (then_steps w _ _ _ (ts ++ one kind.ColonColon p) (one kind.OpenBrace l) (behind_path src ts h.path p h.reads) refl) (list_runs src (named src h.path) h.path.start m r))
+    (then_steps w _ _ _ (ts ++ one kind.ColonColon p) (one kind.OpenBrace l) (behind_path src ts h.path p h.reads) refl) (list_runs src (path_node src h.path) h.path.start m r))
   where
     moved_back : (ts vs ws us xs : List Lexeme) → ts ++ vs ++ ws ++ us ++ xs ≡ ts ++ (vs ++ ws ++ us) ++ xs
     moved_back ts vs ws us xs = simp append_assoc
@@ -170,7 +170,7 @@ pub complete : (src : List ℕ) (ts : List Lexeme) (x : Words) → ReadsWords sr
 complete src ts _ (a_path {q = q} r) = record { last = state.Path (path.Have q); goes = words_run r; ends = refl }
 complete src ts _ (an_entity {x = x} e f r) =
     let h = entity_runs r in
-    record { last = state.Entity (entity_of src x h.extent_is); goes = h.goes; ends = ap (λ e. Some (words.Entity (entity_of src x e))) (some_is (sym h.spans_it ∙ f)) }
+    record { last = state.Entity (entity_with_extent src x h.extent_is); goes = h.goes; ends = ap (λ e. Some (words.Entity (entity_with_extent src x e))) (some_is (sym h.spans_it ∙ f)) }
 
 pub path_complete : (src : List ℕ) (ts : List Lexeme) (x : Path) → ReadsWholePath src ts x → RunsTo (paths src) ts x
 path_complete src ts x r = record { last = path.Have x; goes = path_runs r; ends = refl }

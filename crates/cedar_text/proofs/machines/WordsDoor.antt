@@ -22,7 +22,7 @@ use Rattle.cedar_syntax.specs.Place.{extent_of}
 use Rattle.cedar_syntax.specs.Tokens.{Spot, fits, any_of}
 use Rattle.cedar_syntax.specs.Trees.{Cell}
 use Rattle.cedar_syntax.specs.machines.Door.{Answer, next, ended, refused, too_large, Completed, AnswersRightly, Door, IsOutside}
-use Rattle.cedar_text.specs.machines.Words.{word_of, first_word, with_word, path_begun, path_more, path_had, path_step, path_end, paths, inits_of, item_wanted, key_had, number_value, value_wanted, item_had, inits_step, as_words, words_more, path_words, words_step, path_end_words, words_end, words_machine}
+use Rattle.cedar_text.specs.machines.Words.{word_of, one_word_path, with_word, path_beginning, path_more, path_had, path_step, path_end, paths, inits_of, wanted_item, key_had, number_value, wanted_value, item_had, inits_step, as_words, words_more, path_words, words_step, path_end_words, words_end, words_machine}
 use Rattle.cedar_text.specs.machines.WordsRead.{ReadsWholePath, ReadsWords}
 use Rattle.cedar_syntax.proofs.machines.Laws.{some_is, none_some, some_token}
 use Rattle.cedar_syntax.proofs.machines.Extents.{at}
@@ -41,7 +41,7 @@ spot t = record { start = t.start; end = t.end; text = t.text }
 pub no_number : (k : TokenKind) (v : List ℕ) (i : Ident) → any_of k v ≡ Some i → k ≡ kind.Number → ⊥
 no_number k v i e f = none_some (ap (λ k. any_of k v) f) e
 
-begun_answers : (k : TokenKind) (p : Spot) (o : Option Ident) → any_of k p.text ≡ o → AnswersRightly (token k p) (path_begun o (at p)) None
+begun_answers : (k : TokenKind) (p : Spot) (o : Option Ident) → any_of k p.text ≡ o → AnswersRightly (token k p) (path_beginning o (at p)) None
 begun_answers k p None e = refl
 begun_answers k p (Some i) e = λ h. absurd (no_number k p.text i e h)
 
@@ -79,7 +79,7 @@ path_words_answers src path.Start t = as_words_answers t (path_step src path.Sta
 path_words_answers src (path.Have q) t = had_words_answers q t.kind (spot t)
 path_words_answers src (path.Behind q) t = words_more_answers src q t.kind (spot t) (any_of t.kind t.text) refl
 
-item_answers : (src : List ℕ) (x : Cell Name) (n : ℕ) (ys : List (Cell RefInit)) (k : TokenKind) (p : Spot) (o : Option Ident) → any_of k p.text ≡ o → AnswersRightly (token k p) (item_wanted src x n ys o k (at p)) None
+item_answers : (src : List ℕ) (x : Cell Name) (n : ℕ) (ys : List (Cell RefInit)) (k : TokenKind) (p : Spot) (o : Option Ident) → any_of k p.text ≡ o → AnswersRightly (token k p) (wanted_item src x n ys o k (at p)) None
 item_answers src x n ys k p (Some i) e = λ h. absurd (no_number k p.text i e h)
 item_answers src x n ys kind.CloseBrace p None e = λ h. absurd (cc)
 item_answers src x n ys _ p None e = refl
@@ -92,7 +92,7 @@ number_answers : (src : List ℕ) (x : Cell Name) (n : ℕ) (ys : List (Cell Ref
 number_answers src x n ys w p true e = λ h. e
 number_answers src x n ys w p false e = (refl, e)
 
-value_answers : (src : List ℕ) (x : Cell Name) (n : ℕ) (ys : List (Cell RefInit)) (w : Word) (k : TokenKind) (p : Spot) → AnswersRightly (token k p) (value_wanted src x n ys w k (token k p)) None
+value_answers : (src : List ℕ) (x : Cell Name) (n : ℕ) (ys : List (Cell RefInit)) (w : Word) (k : TokenKind) (p : Spot) → AnswersRightly (token k p) (wanted_value src x n ys w k (token k p)) None
 value_answers src x n ys w kind.True p = λ h. absurd (cc)
 value_answers src x n ys w kind.False p = λ h. absurd (cc)
 value_answers src x n ys w kind.Number p = number_answers src x n ys w p (fits p.text) refl
@@ -132,7 +132,7 @@ inits_completed src x n ys place.Behind = record { more = some_token kind.CloseB
 
 words_completed : (src : List ℕ) (s : WordsState) → Completed (words_machine src) s
 words_completed src (state.Path path.Start) =
-    record { more = some_token kind.Identifier ∷ []; last = state.Path (path.Have (first_word nameless)); tree = words.Path (first_word nameless); goes = refl; ends = refl }
+    record { more = some_token kind.Identifier ∷ []; last = state.Path (path.Have (one_word_path nameless)); tree = words.Path (one_word_path nameless); goes = refl; ends = refl }
 words_completed src (state.Path (path.Have q)) = record { more = []; last = state.Path (path.Have q); tree = words.Path q; goes = refl; ends = refl }
 words_completed src (state.Path (path.Behind q)) =
     record { more = some_token kind.Identifier ∷ []; last = state.Path (path.Have (with_word src q nameless)); tree = words.Path (with_word src q nameless); goes = refl; ends = refl }
@@ -150,7 +150,7 @@ words_door src = record {
 }
 
 path_completed : (src : List ℕ) (s : PathState) → Completed (paths src) s
-path_completed src path.Start = record { more = some_token kind.Identifier ∷ []; last = path.Have (first_word nameless); tree = first_word nameless; goes = refl; ends = refl }
+path_completed src path.Start = record { more = some_token kind.Identifier ∷ []; last = path.Have (one_word_path nameless); tree = one_word_path nameless; goes = refl; ends = refl }
 path_completed src (path.Have q) = record { more = []; last = path.Have q; tree = q; goes = refl; ends = refl }
 path_completed src (path.Behind q) = record { more = some_token kind.Identifier ∷ []; last = path.Have (with_word src q nameless); tree = with_word src q nameless; goes = refl; ends = refl }
 
@@ -176,7 +176,7 @@ words_behind src (state.Inits s) x t n e = absurd (none_some refl e)
 words_behind src (state.Entity d) x t n e = ap (λ x. ended x) (some_is e)
 
 pub words_before : (src : List ℕ) (t : Lexeme) → any_of t.kind t.text ≡ None → words_step src (state.Path path.Start) t ≡ refused
-words_before src t e = ap (λ o. as_words (path_begun o (extent_of t))) e
+words_before src t e = ap (λ o. as_words (path_beginning o (extent_of t))) e
 
 -- a kind that is no identifier and not `::`
 pub words_outside : (src : List ℕ) (k : TokenKind) → ((v : List ℕ) → any_of k v ≡ None) → (k ≡ kind.ColonColon → ⊥) → IsOutside (words_machine src) k

@@ -23,8 +23,8 @@ use Rattle.cedar_syntax.specs.Place.{extent, node_at, placed}
 use Rattle.cedar_syntax.specs.Tokens.{Spot, one, fits, between_quotes, any_of}
 use Rattle.cedar_syntax.specs.Trees.{Cell, ref_init_of}
 use Rattle.cedar_syntax.specs.LooseWords.{ReadsItems, one_item, more_items, ReadsList, no_item, items, items_comma, ReadsLiteral, truth, falsity, number, string, any, ReadsRefInit, ref_init, ReadsRef, uid, with_inits}
-use Rattle.cedar_syntax.specs.machines.Door.{Answer, taken, steps, Comes}
-use Rattle.cedar_text.specs.machines.Words.{path_extent, path_begun, path_more, path_had, path_step, path_end, paths, named, entity_of, uid_of, inits_of, item_wanted, key_had, number_value, value_wanted, item_had, as_words, words_more, words_step, words_end, words_machine}
+use Rattle.cedar_syntax.specs.machines.Door.{Answer, answer_state, steps, Comes}
+use Rattle.cedar_text.specs.machines.Words.{path_extent, path_beginning, path_more, path_had, path_step, path_end, paths, path_node, entity_with_extent, uid_of, inits_of, wanted_item, key_had, number_value, wanted_value, item_had, as_words, words_more, words_step, words_end, words_machine}
 use Rattle.cedar_text.specs.machines.WordsRead.{word_at, ReadsWholePath, first, further, ReadsWords, a_path, an_entity}
 use Rattle.cedar_syntax.proofs.machines.Laws.{some_is, none_some, steps-none, if_some}
 use Rattle.cedar_syntax.proofs.machines.Extents.{at, spans, from_to}
@@ -44,11 +44,11 @@ data Begun (src : List ℕ) : List Lexeme → WordsState → Type 0 where
   has : {ts : List Lexeme} {q : Path} → ReadsWholePath src ts q → Begun src ts (state.Path (path.Have q))
   behind : {ts : List Lexeme} {q : Path} (p : Spot) → ReadsWholePath src ts q → Begun src (ts ++ one kind.ColonColon p) (state.Path (path.Behind q))
   braced : {ts us : List Lexeme} {q : Path} {ys : List (Cell RefInit)} {h : InitPlace} (p l : Spot) → ReadsWholePath src ts q → BegunInits src us ys h →
-      Begun src (ts ++ one kind.ColonColon p ++ one kind.OpenBrace l ++ us) (state.Inits (inits_of (named src q) q.start ys h))
-  whole : {ts : List Lexeme} {x : Ref} (e : Extent) → extent ts ≡ Some e → ReadsRef src ts x → Begun src ts (state.Entity (entity_of src x e))
+      Begun src (ts ++ one kind.ColonColon p ++ one kind.OpenBrace l ++ us) (state.Inits (inits_of (path_node src q) q.start ys h))
+  whole : {ts : List Lexeme} {x : Ref} (e : Extent) → extent ts ≡ Some e → ReadsRef src ts x → Begun src ts (state.Entity (entity_with_extent src x e))
 
 abbrev After : List ℕ → List Lexeme → Answer WordsState Words → Type 0
-After src ts a = IfSome (taken a) (λ s. Begun src ts s)
+After src ts a = IfSome (answer_state a) (λ s. Begun src ts s)
 
 moved : {src : List ℕ} {ts us : List Lexeme} {s : WordsState} → ts ≡ us → Begun src ts s → Begun src us s
 moved {src = src} {s = s} e h = subst (λ w. Begun src w s) e h
@@ -58,7 +58,7 @@ after_moved src a e h = subst (λ w. After src w a) e h
 
 -- paths
 
-start_begun : (src : List ℕ) (k : TokenKind) (p : Spot) (o : Option Ident) → any_of k p.text ≡ o → After src (one k p) (as_words (path_begun o (at p)))
+start_begun : (src : List ℕ) (k : TokenKind) (p : Spot) (o : Option Ident) → any_of k p.text ≡ o → After src (one k p) (as_words (path_beginning o (at p)))
 start_begun src k p None e = tt
 start_begun src k p (Some i) e = has (first p e)
 
@@ -69,7 +69,7 @@ had_begun r _ p = tt
 uid_begun : {src : List ℕ} {ts : List Lexeme} {q : Path} (p r : Spot) → ReadsWholePath src ts q →
     Begun src (ts ++ one kind.ColonColon p ++ one kind.StringLit r) (state.Entity (uid_of src q record { kind = kind.StringLit; start = r.start; end = r.end; text = r.text }))
 uid_begun {src = src} {ts = ts} {q = q} p r s =
-    subst (λ w. Begun src (ts ++ one kind.ColonColon p ++ one kind.StringLit r) (state.Entity (entity_of src (ref.Uid w (node_at src (Some (at r)) (str.String (between_quotes r.text)))) (from_to (path_extent q) (at r)))))
+    subst (λ w. Begun src (ts ++ one kind.ColonColon p ++ one kind.StringLit r) (state.Entity (entity_with_extent src (ref.Uid w (node_at src (Some (at r)) (str.String (between_quotes r.text)))) (from_to (path_extent q) (at r)))))
     (sym (named_is src ts q s))
     (whole (from_to (path_extent q) (at r)) (spans ts (one kind.ColonColon p) kind.StringLit r (path_extent q) (spanned s)) (uid p r (as_path s)))
 
@@ -93,9 +93,9 @@ list_of no_more = no_item
 list_of (behind_comma p h) = items_comma p h
 
 closes : {src : List ℕ} {ts us : List Lexeme} {q : Path} {ys : List (Cell RefInit)} (p l m : Spot) → ReadsWholePath src ts q → ReadsList src (ReadsRefInit src) us ys →
-    Begun src (ts ++ one kind.ColonColon p ++ one kind.OpenBrace l ++ us ++ one kind.CloseBrace m) (state.Entity (closed_entity src (named src q) q.start ys m))
+    Begun src (ts ++ one kind.ColonColon p ++ one kind.OpenBrace l ++ us ++ one kind.CloseBrace m) (state.Entity (closed_entity src (path_node src q) q.start ys m))
 closes {src = src} {ts = ts} {us = us} {q = q} {ys = ys} p l m r h =
-    subst (λ w. Begun src (ts ++ one kind.ColonColon p ++ one kind.OpenBrace l ++ us ++ one kind.CloseBrace m) (state.Entity (entity_of src (ref.Ref w ys) (from_to (path_extent q) (at m))))) (sym (named_is src ts q r))
+    subst (λ w. Begun src (ts ++ one kind.ColonColon p ++ one kind.OpenBrace l ++ us ++ one kind.CloseBrace m) (state.Entity (entity_with_extent src (ref.Ref w ys) (from_to (path_extent q) (at m))))) (sym (named_is src ts q r))
     (whole (from_to (path_extent q) (at m)) (ap (λ v. extent v) (moved_back ts (one kind.ColonColon p) (one kind.OpenBrace l) us (one kind.CloseBrace m)) ∙ spans ts (one kind.ColonColon p ++ one kind.OpenBrace l ++ us) kind.CloseBrace m (path_extent q) (spanned r))
     (with_inits p l m (as_path r) h))
   where
@@ -106,29 +106,29 @@ abbrev AfterBrace : List ℕ → List Lexeme → Spot → Spot → List Lexeme �
 AfterBrace src ts p l us a = After src (ts ++ one kind.ColonColon p ++ one kind.OpenBrace l ++ us) a
 
 wanted_begun : {src : List ℕ} {ts us : List Lexeme} {q : Path} {ys : List (Cell RefInit)} (p l : Spot) → ReadsWholePath src ts q → BegunInits src us ys place.Item → (k : TokenKind) (r : Spot) (o : Option Ident) → any_of k r.text ≡ o →
-    AfterBrace src ts p l (us ++ one k r) (item_wanted src (named src q) q.start ys o k (at r))
+    AfterBrace src ts p l (us ++ one k r) (wanted_item src (path_node src q) q.start ys o k (at r))
 wanted_begun p l s h k r (Some i) e = braced p l s (key k r h e)
 wanted_begun {src = src} {ts = ts} {us = us} p l s h kind.CloseBrace r None e = moved (append_assoc (ts ++ one kind.ColonColon p ++ one kind.OpenBrace l) us (one kind.CloseBrace r)) (closes p l r s (list_of h))
 wanted_begun p l s h _ r None e = tt
 
 key_begun : {src : List ℕ} {ts us : List Lexeme} {q : Path} {ys : List (Cell RefInit)} {i : Ident} (p l : Spot) → ReadsWholePath src ts q → (k : TokenKind) (r : Spot) → BegunInits src us ys place.Item → any_of k r.text ≡ Some i → (c : TokenKind) (m : Spot) →
-    AfterBrace src ts p l (us ++ one k r ++ one c m) (key_had (named src q) q.start ys (word_at i r) c)
+    AfterBrace src ts p l (us ++ one k r ++ one c m) (key_had (path_node src q) q.start ys (word_at i r) c)
 key_begun p l s k r h e kind.Colon m = braced p l s (value k r m h e)
 key_begun p l s k r h e _ m = tt
 
 put_begun : {src : List ℕ} {ts us vs : List Lexeme} {q : Path} {ys : List (Cell RefInit)} {i : Ident} {v : Literal} (p l : Spot) → ReadsWholePath src ts q → (k : TokenKind) (r c : Spot) → BegunInits src us ys place.Item → any_of k r.text ≡ Some i →
     ReadsLiteral src vs v →
-    Begun src (ts ++ one kind.ColonColon p ++ one kind.OpenBrace l ++ (us ++ one k r ++ one kind.Colon c ++ vs)) (state.Inits (inits_of (named src q) q.start (ys ++ placed src (one k r ++ one kind.Colon c ++ vs) (ref_init_of (placed src (one k r) i) (placed src vs v)) ∷ []) place.Behind))
+    Begun src (ts ++ one kind.ColonColon p ++ one kind.OpenBrace l ++ (us ++ one k r ++ one kind.Colon c ++ vs)) (state.Inits (inits_of (path_node src q) q.start (ys ++ placed src (one k r ++ one kind.Colon c ++ vs) (ref_init_of (placed src (one k r) i) (placed src vs v)) ∷ []) place.Behind))
 put_begun {src = src} {ts = ts} {us = us} {vs = vs} p l s k r c h e w =
     moved (ap (λ z. ts ++ one kind.ColonColon p ++ one kind.OpenBrace l ++ z) (simp append_assoc)) (braced p l s (item_behind h (ref_init c (any r e) w)))
 
 number_begun : {src : List ℕ} {ts us : List Lexeme} {q : Path} {ys : List (Cell RefInit)} {i : Ident} (p l : Spot) → ReadsWholePath src ts q → (k : TokenKind) (r c : Spot) → BegunInits src us ys place.Item → any_of k r.text ≡ Some i → (m : Spot) (b : Bool) →
-    fits m.text ≡ b → AfterBrace src ts p l (us ++ one k r ++ one kind.Colon c ++ one kind.Number m) (number_value src (named src q) q.start ys (word_at i r) b record { kind = kind.Number; start = m.start; end = m.end; text = m.text })
+    fits m.text ≡ b → AfterBrace src ts p l (us ++ one k r ++ one kind.Colon c ++ one kind.Number m) (number_value src (path_node src q) q.start ys (word_at i r) b record { kind = kind.Number; start = m.start; end = m.end; text = m.text })
 number_begun p l s k r c h e m true f = put_begun p l s k r c h e (number m f)
 number_begun p l s k r c h e m false f = tt
 
 value_begun : {src : List ℕ} {ts us : List Lexeme} {q : Path} {ys : List (Cell RefInit)} {i : Ident} (p l : Spot) → ReadsWholePath src ts q → (k : TokenKind) (r c : Spot) → BegunInits src us ys place.Item → any_of k r.text ≡ Some i → (d : TokenKind) (m : Spot) →
-    AfterBrace src ts p l (us ++ one k r ++ one kind.Colon c ++ one d m) (value_wanted src (named src q) q.start ys (word_at i r) d record { kind = d; start = m.start; end = m.end; text = m.text })
+    AfterBrace src ts p l (us ++ one k r ++ one kind.Colon c ++ one d m) (wanted_value src (path_node src q) q.start ys (word_at i r) d record { kind = d; start = m.start; end = m.end; text = m.text })
 value_begun p l s k r c h e kind.True m = put_begun p l s k r c h e (truth m)
 value_begun p l s k r c h e kind.False m = put_begun p l s k r c h e (falsity m)
 value_begun p l s k r c h e kind.Number m = number_begun p l s k r c h e m (fits m.text) refl
@@ -136,7 +136,7 @@ value_begun p l s k r c h e kind.StringLit m = put_begun p l s k r c h e (string
 value_begun p l s k r c h e _ m = tt
 
 item_begun : {src : List ℕ} {ts us : List Lexeme} {q : Path} {ys : List (Cell RefInit)} (p l : Spot) → ReadsWholePath src ts q → ReadsItems src (ReadsRefInit src) us ys → (k : TokenKind) (r : Spot) →
-    AfterBrace src ts p l (us ++ one k r) (item_had src (named src q) q.start ys k (at r))
+    AfterBrace src ts p l (us ++ one k r) (item_had src (path_node src q) q.start ys k (at r))
 item_begun p l s h kind.Comma r = braced p l s (behind_comma r h)
 item_begun {src = src} {ts = ts} {us = us} p l s h kind.CloseBrace r =
     moved (append_assoc (ts ++ one kind.ColonColon p ++ one kind.OpenBrace l) us (one kind.CloseBrace r)) (closes p l r s (items h))
@@ -146,7 +146,7 @@ abbrev spot : Lexeme → Spot
 spot t = record { start = t.start; end = t.end; text = t.text }
 
 inits_begun : {src : List ℕ} {ts us : List Lexeme} {q : Path} {ys : List (Cell RefInit)} {h : InitPlace} (p l : Spot) → ReadsWholePath src ts q → BegunInits src us ys h → (t : Lexeme) →
-    AfterBrace src ts p l (us ++ t ∷ []) (words_step src (state.Inits (inits_of (named src q) q.start ys h)) t)
+    AfterBrace src ts p l (us ++ t ∷ []) (words_step src (state.Inits (inits_of (path_node src q) q.start ys h)) t)
 inits_begun p l s no_more t = wanted_begun p l s no_more t.kind (spot t) (any_of t.kind t.text) refl
 inits_begun p l s (behind_comma r h) t = wanted_begun p l s (behind_comma r h) t.kind (spot t) (any_of t.kind t.text) refl
 inits_begun p l s (key k r h e) t = key_begun p l s k r h e t.kind (spot t)
@@ -172,7 +172,7 @@ finish_begun (whole e f r) = an_entity e f r
 run_begun : {src : List ℕ} (ts us : List Lexeme) (o : Option WordsState) (s : WordsState) → IfSome o (λ s. Begun src ts s) → steps (words_machine src) o us ≡ Some s → Begun src (ts ++ us) s
 run_begun {src = src} ts us None s h e = absurd (none_some (steps-none (words_machine src) us) e)
 run_begun {src = src} ts [] (Some r) s h e = rw append-nil (subst (λ q. Begun src ts q) (some_is e) h)
-run_begun {src = src} ts (t ∷ us) (Some r) s h e = moved (simp append_assoc) (run_begun (ts ++ t ∷ []) us (taken (words_step src r t)) s (step_begun h t) e)
+run_begun {src = src} ts (t ∷ us) (Some r) s h e = moved (simp append_assoc) (run_begun (ts ++ t ∷ []) us (answer_state (words_step src r t)) s (step_begun h t) e)
 
 pub sound : (src : List ℕ) (ts : List Lexeme) (s : WordsState) (x : Words) → Comes (words_machine src) ts s → words_end s ≡ Some x → ReadsWords src ts x
 sound src ts s x f e = if_some (λ x. ReadsWords src ts x) (words_end s) x (finish_begun (run_begun [] ts (Some (state.Path path.Start)) s at_start f)) e
@@ -185,9 +185,9 @@ data PathBegun (src : List ℕ) : List Lexeme → PathState → Type 0 where
   behind : {ts : List Lexeme} {q : Path} (p : Spot) → ReadsWholePath src ts q → PathBegun src (ts ++ one kind.ColonColon p) (path.Behind q)
 
 abbrev AfterPath : List ℕ → List Lexeme → Answer PathState Path → Type 0
-AfterPath src ts a = IfSome (taken a) (λ s. PathBegun src ts s)
+AfterPath src ts a = IfSome (answer_state a) (λ s. PathBegun src ts s)
 
-path_started : (src : List ℕ) (k : TokenKind) (p : Spot) (o : Option Ident) → any_of k p.text ≡ o → AfterPath src (one k p) (path_begun o (at p))
+path_started : (src : List ℕ) (k : TokenKind) (p : Spot) (o : Option Ident) → any_of k p.text ≡ o → AfterPath src (one k p) (path_beginning o (at p))
 path_started src k p None e = tt
 path_started src k p (Some i) e = has (first p e)
 
@@ -212,7 +212,7 @@ path_ended (behind p r) = tt
 path_run : {src : List ℕ} (ts us : List Lexeme) (o : Option PathState) (s : PathState) → IfSome o (λ s. PathBegun src ts s) → steps (paths src) o us ≡ Some s → PathBegun src (ts ++ us) s
 path_run {src = src} ts us None s h e = absurd (none_some (steps-none (paths src) us) e)
 path_run {src = src} ts [] (Some r) s h e = rw append-nil (subst (λ q. PathBegun src ts q) (some_is e) h)
-path_run {src = src} ts (t ∷ us) (Some r) s h e = subst (λ w. PathBegun src w s) (simp append_assoc) (path_run (ts ++ t ∷ []) us (taken (path_step src r t)) s (path_stepped h t) e)
+path_run {src = src} ts (t ∷ us) (Some r) s h e = subst (λ w. PathBegun src w s) (simp append_assoc) (path_run (ts ++ t ∷ []) us (answer_state (path_step src r t)) s (path_stepped h t) e)
 
 pub path_sound : (src : List ℕ) (ts : List Lexeme) (s : PathState) (x : Path) → Comes (paths src) ts s → path_end s ≡ Some x → ReadsWholePath src ts x
 path_sound src ts s x f e = if_some (λ x. ReadsWholePath src ts x) (path_end s) x (path_ended (path_run [] ts (Some path.Start) s at_start f)) e

@@ -27,13 +27,13 @@ abbrev pub at_key : List ℕ → Lexeme → Option Ident → AnnotationAnswer
 at_key src t None = refused
 at_key src t (Some i) = next (annotation.Key (token_node src t i))
 
-abbrev pub behind_key : Cell Ident → Mark → AnnotationAnswer
-behind_key i mark.OpenParen = next (annotation.Open i)
-behind_key i _ = ended (annotation_of i None)
+abbrev pub behind_annotation_key : Cell Ident → Mark → AnnotationAnswer
+behind_annotation_key i mark.OpenParen = next (annotation.Open i)
+behind_annotation_key i _ = ended (annotation_of i None)
 
-abbrev pub at_value : List ℕ → Cell Ident → Lexeme → Mark → AnnotationAnswer
-at_value src i t mark.String = next (annotation.Value i (string_node src t))
-at_value src i t _ = refused
+abbrev pub at_annotation_value : List ℕ → Cell Ident → Lexeme → Mark → AnnotationAnswer
+at_annotation_value src i t mark.String = next (annotation.Value i (string_node src t))
+at_annotation_value src i t _ = refused
 
 abbrev pub behind_value : Cell Ident → Cell Str → Mark → AnnotationAnswer
 behind_value i x mark.CloseParen = next (annotation.Closed i x)
@@ -42,8 +42,8 @@ behind_value i x _ = refused
 abbrev pub annotation_step : List ℕ → AnnotationState → Lexeme → AnnotationAnswer
 annotation_step src annotation.Start t = at_start (mark_of t.kind)
 annotation_step src annotation.At t = at_key src t (any_of t.kind t.text)
-annotation_step src (annotation.Key i) t = behind_key i (mark_of t.kind)
-annotation_step src (annotation.Open i) t = at_value src i t (mark_of t.kind)
+annotation_step src (annotation.Key i) t = behind_annotation_key i (mark_of t.kind)
+annotation_step src (annotation.Open i) t = at_annotation_value src i t (mark_of t.kind)
 annotation_step src (annotation.Value i x) t = behind_value i x (mark_of t.kind)
 annotation_step src (annotation.Closed i x) t = ended (annotation_of i (Some x))
 

@@ -26,13 +26,13 @@ use Rattle.cedar_text.specs.declared.text_to_cst.expression.state.Levels.{Levels
 use Rattle.cedar_text.specs.declared.text_to_cst.expression.state.Signs.{Signs}
 use Rattle.cedar_text.specs.declared.text_to_cst.expression.state.Operand.{Operand}
 use Rattle.cedar_syntax.specs.declared.reading.extent.Extent.{Extent}
-use Rattle.cedar_syntax.specs.Place.{join, node_at}
+use Rattle.cedar_syntax.specs.Place.{joint_extent, node_at}
 use Rattle.cedar_syntax.specs.Trees.{Cell, expr_of, if_of, or_of, and_of, common_of, has_of, like_of, is_of, add_of, mult_of, unary_of, member_of, name_of}
 
 -- a tree and its bytes
 
-abbrev pub ranged : {T : Type 0} → Option Extent → T → Ranged T
-ranged e x = record { tree = x; extent = e }
+abbrev pub ranged_tree : {T : Type 0} → Option Extent → T → Ranged T
+ranged_tree e x = record { tree = x; extent = e }
 
 abbrev pub node_of : {T : Type 0} → List ℕ → Ranged T → Cell T
 node_of src x = node_at src x.extent x.tree
@@ -52,20 +52,25 @@ abbrev pub longer : {T I : Type 0} → Chain T I → I → Option Extent → Cha
 longer c y e = record {
   initial = c.initial;
   extended = c.extended ++ y ∷ [];
-  extent = join c.extent e;
+  extent = joint_extent c.extent e;
 }
 
-abbrev pub linked : {T : Type 0} → List ℕ → Option (Plain T) → Ranged T → Plain T
-linked src None x = begun_chain src x
-linked src (Some c) x = longer c (node_of src x) x.extent
+abbrev pub plain_chain : {T : Type 0} → List ℕ → Option (Plain T) → Ranged T → Plain T
+plain_chain src None x = begun_chain src x
+plain_chain src (Some c) x = longer c (node_of src x) x.extent
 
-abbrev pub marked : {T O : Type 0} → List ℕ → Option (Pending T O) → Ranged T → Marked T O
-marked src None x = begun_chain src x
-marked src (Some p) x = longer p.chain (p.op, node_of src x) x.extent
+abbrev pub marked_chain : {T O : Type 0} → List ℕ → Option (Pending T O) → Ranged T → Marked T O
+marked_chain src None x = begun_chain src x
+marked_chain src (Some p) x = longer p.chain (p.op, node_of src x) x.extent
 
 -- a chain and an operator
 abbrev pub onward : {T I : Type 0} → Chain T I → Extent → Chain T I
-onward c e = record { initial = c.initial; extended = c.extended; extent = join c.extent (Some e) }
+onward c e = record {
+  initial = c.initial;
+  extended = c.extended;
+  extent = joint_extent c.extent
+      (Some e);
+}
 
 abbrev pub pending : {T O : Type 0} → Marked T O → O → Extent → Pending T O
 pending c o e = record { chain = onward c e; op = o }
@@ -73,63 +78,65 @@ pending c o e = record { chain = onward c e; op = o }
 -- what a level and its last operand are
 
 abbrev pub unary_at : List ℕ → Operand → Ranged Unary
-unary_at src m = ranged (join m.signs.extent m.extent)
+unary_at src m = ranged_tree (joint_extent m.signs.extent m.extent)
     (unary_of m.signs.op (node_at src m.extent (member_of m.item m.access)))
 
 abbrev pub made_mult : Marked Unary MultOp → Ranged Mult
-made_mult c = ranged c.extent (mult_of c.initial c.extended)
+made_mult c = ranged_tree c.extent (mult_of c.initial c.extended)
 
 abbrev pub made_add : Marked Mult AddOp → Ranged Add
-made_add c = ranged c.extent (add_of c.initial c.extended)
+made_add c = ranged_tree c.extent (add_of c.initial c.extended)
 
 abbrev pub made_common : Marked Add RelOp → Ranged Relation
-made_common c = ranged c.extent (common_of c.initial c.extended)
+made_common c = ranged_tree c.extent (common_of c.initial c.extended)
 
 -- a relation that ends with this sum
-abbrev pub related : List ℕ → Option Left → Ranged Add → Ranged Relation
-related src None x = made_common (marked src None x)
-related src (Some (left.Common p)) x = made_common (marked src (Some p) x)
-related src (Some (left.Has y)) x = ranged (join y.extent x.extent) (has_of y.tree (node_of src x))
-related src (Some (left.Like y)) x = ranged (join y.extent x.extent)
-    (like_of y.tree (node_of src x))
-related src (Some (left.Is y)) x = ranged (join y.extent x.extent)
-    (is_of y.tree (node_of src x) None)
-related src (Some (left.IsIn y z e)) x = ranged (join e x.extent)
-    (is_of y z (Some (node_of src x)))
+abbrev pub relation_with_sum : List ℕ → Option Left → Ranged Add → Ranged Relation
+relation_with_sum src None x = made_common (marked_chain src None x)
+relation_with_sum src (Some (left.Common p)) x = made_common (marked_chain src (Some p) x)
+relation_with_sum src (Some (left.Has y)) x =
+    ranged_tree (joint_extent y.extent x.extent) (has_of y.tree (node_of src x))
+relation_with_sum src (Some (left.Like y)) x =
+    ranged_tree (joint_extent y.extent x.extent) (like_of y.tree (node_of src x))
+relation_with_sum src (Some (left.Is y)) x =
+    ranged_tree (joint_extent y.extent x.extent) (is_of y.tree (node_of src x) None)
+relation_with_sum src (Some (left.IsIn y z e)) x =
+    ranged_tree (joint_extent e x.extent) (is_of y z (Some (node_of src x)))
 
 abbrev pub made_and : Plain Relation → Ranged And
-made_and c = ranged c.extent (and_of c.initial c.extended)
+made_and c = ranged_tree c.extent (and_of c.initial c.extended)
 
 abbrev pub made_or : Plain And → Ranged Or
-made_or c = ranged c.extent (or_of c.initial c.extended)
+made_or c = ranged_tree c.extent (or_of c.initial c.extended)
 
 abbrev pub made_expr : List ℕ → Ranged Or → Ranged Expr
-made_expr src x = ranged x.extent (expr_of (node_of src x))
+made_expr src x = ranged_tree x.extent (expr_of (node_of src x))
 
 -- the `if`s around an expression
-abbrev pub branched : List ℕ → List Branch → Ranged Expr → Ranged Expr
-branched src [] x = x
-branched src (b ∷ bs) x =
-    branched src bs (ranged (join b.extent x.extent) (if_of b.guard b.yes (node_of src x)))
+abbrev pub with_branches : List ℕ → List Branch → Ranged Expr → Ranged Expr
+with_branches src [] x = x
+with_branches src (b ∷ bs) x =
+    with_branches src bs (ranged_tree (joint_extent b.extent x.extent)
+    (if_of b.guard b.yes (node_of src x)))
 
 abbrev pub mult_at : List ℕ → Levels → Operand → Ranged Mult
-mult_at src lv m = made_mult (marked src lv.mult (unary_at src m))
+mult_at src lv m = made_mult (marked_chain src lv.mult (unary_at src m))
 
 abbrev pub add_at : List ℕ → Levels → Operand → Ranged Add
-add_at src lv m = made_add (marked src lv.add (mult_at src lv m))
+add_at src lv m = made_add (marked_chain src lv.add (mult_at src lv m))
 
 abbrev pub relation_at : List ℕ → Levels → Operand → Ranged Relation
-relation_at src lv m = related src lv.relation (add_at src lv m)
+relation_at src lv m = relation_with_sum src lv.relation (add_at src lv m)
 
 abbrev pub and_at : List ℕ → Levels → Operand → Ranged And
-and_at src lv m = made_and (linked src lv.and (relation_at src lv m))
+and_at src lv m = made_and (plain_chain src lv.and (relation_at src lv m))
 
 abbrev pub or_at : List ℕ → Levels → Operand → Ranged Or
-or_at src lv m = made_or (linked src lv.or (and_at src lv m))
+or_at src lv m = made_or (plain_chain src lv.or (and_at src lv m))
 
 -- the expression that the levels and a last operand are
 abbrev pub whole : List ℕ → Levels → Operand → Ranged Expr
-whole src lv m = branched src lv.branches (made_expr src (or_at src lv m))
+whole src lv m = with_branches src lv.branches (made_expr src (or_at src lv m))
 
 -- levels
 
@@ -159,13 +166,15 @@ abbrev pub operand_of : List ℕ → Signs → Ranged Primary → Operand
 operand_of src sg x = operand_with sg (node_of src x) [] x.extent false
 
 -- one access more
-abbrev pub accessed : List ℕ → Operand → Ranged MemAccess → Operand
-accessed src m x = operand_with m.signs m.item (m.access ++ node_of src x ∷ [])
-    (join m.extent x.extent) m.is_if
+abbrev pub with_access : List ℕ → Operand → Ranged MemAccess → Operand
+with_access src m x =
+    operand_with m.signs m.item (m.access ++ node_of src x ∷ []) (joint_extent m.extent x.extent)
+    m.is_if
 
 -- the word `if` alone as a name
 abbrev pub if_primary : List ℕ → Option Extent → Ranged Primary
-if_primary src e = ranged e (primary.Name (node_at src e (name_of [] (node_at src e ident.If))))
+if_primary src e =
+    ranged_tree e (primary.Name (node_at src e (name_of [] (node_at src e ident.If))))
 
 -- right of `has`
 abbrev pub if_operand : List ℕ → Option Extent → Operand

@@ -67,12 +67,12 @@ conditions src m = record {
 }
 
 -- the body that is begun has ended with this tree
-abbrev pub body_ended : {E : Type 0} → ConditionState E → Cell Expr → Mark → ConditionAnswer E
-body_ended condition.Start x c = refused
-body_ended (condition.Word i) x c = refused
-body_ended (condition.Opened i) x c = refused
-body_ended (condition.Body i s) x c = behind_body i (Some x) c
-body_ended (condition.Closed i y) x c = refused
+abbrev pub body_ending : {E : Type 0} → ConditionState E → Cell Expr → Mark → ConditionAnswer E
+body_ending condition.Start x c = refused
+body_ending (condition.Word i) x c = refused
+body_ending (condition.Opened i) x c = refused
+body_ending (condition.Body i s) x c = behind_body i (Some x) c
+body_ending (condition.Closed i y) x c = refused
 
 -- no body is begun
 abbrev pub IsOutsideBody : {E : Type 0} → ConditionState E → Type 0

@@ -1,4 +1,5 @@
--- Shapes of expressions: what of a state decides which kinds of token may come next. They are a machine over kinds, without trees, over any shapes of words.
+-- Shapes of expressions: what of a state decides which kinds of token may come next. They are a
+-- machine over kinds, without trees, over any shapes of words.
 use Rattle.std.specs.Prelude.{List, [], ◌∷◌, Option, Some, None, Bool, true, false}
 use Rattle.cedar_lexer.specs.declared.token.TokenKind.{TokenKind}
 use Rattle.cedar_syntax.specs.declared.cst.Expr.{Expr}
@@ -50,7 +51,8 @@ use Rattle.cedar_syntax.specs.machines.Door.{Machine, Answer, next, ended, refus
 use Rattle.cedar_syntax.specs.machines.Classes.{class_of, operator_of}
 use Rattle.cedar_text.specs.machines.Having.{side_place}
 
--- what of a relation's left side decides: nothing is begun, comparisons are, a word with one right side is, `is` is
+-- what of a relation's left side decides: nothing is begun, comparisons are, a word with one right
+-- side is, `is` is
 pub data LeftShape : Type 0 where
   free : LeftShape
   comparing : LeftShape
@@ -90,11 +92,11 @@ pub record WordShapes (W K : Type 0) : Type 0 where
 
 -- what a kind makes of a shape, or nothing where it is not taken
 
-abbrev pub opened : {W : Type 0} → List FrameShape → Place → Option (Shape W)
-opened st p = Some (shape st free (wants p None))
+abbrev pub opening_shape : {W : Type 0} → List FrameShape → Place → Option (Shape W)
+opening_shape st p = Some (shape st free (wants p None))
 
-abbrev pub operand_wanted : {W : Type 0} → List FrameShape → LeftShape → Option (Shape W)
-operand_wanted st l = Some (shape st l (wants place.Operand None))
+abbrev pub wanted_operand : {W : Type 0} → List FrameShape → LeftShape → Option (Shape W)
+wanted_operand st l = Some (shape st l (wants place.Operand None))
 
 abbrev pub operand_had : {W : Type 0} → List FrameShape → LeftShape → Bool → Option (Shape W)
 operand_had st l b = Some (shape st l (had_shape b))
@@ -147,40 +149,40 @@ list_end st place.Has c = None
 list_end st place.Operand c = None
 list_end st place.Primary c = None
 
-abbrev pub first_word : {W K : Type 0} → List FrameShape → LeftShape → Place → Answer W K
+abbrev pub first_word_shape : {W K : Type 0} → List FrameShape → LeftShape → Place → Answer W K
     → Option (Shape W)
-first_word st l p (next w) = Some (shape st l (worded p w))
-first_word st l p (ended x) = None
-first_word st l p refused = None
-first_word st l p too_large = None
+first_word_shape st l p (next w) = Some (shape st l (worded p w))
+first_word_shape st l p (ended x) = None
+first_word_shape st l p refused = None
+first_word_shape st l p too_large = None
 
 -- a number that fits stands for each other
 abbrev pub wanted_shape : {W K : Type 0} → List FrameShape → LeftShape → Place → Option Sign
     → Beginning → Answer W K → Option (Shape W)
-wanted_shape st l p q beginning.Word w = first_word st l p w
+wanted_shape st l p q beginning.Word w = first_word_shape st l p w
 wanted_shape st l p q (beginning.Number n) w = operand_had st l false
 wanted_shape st l p q beginning.TooLarge w = operand_had st l false
 wanted_shape st l p q beginning.String w = operand_had st l false
 wanted_shape st l p q (beginning.Slot s) w = operand_had st l false
 wanted_shape st l p q (beginning.Sign s) w = sign_shape st l p q s
-wanted_shape st l p q beginning.Paren w = opened (in_paren l ∷ st) place.Expr
-wanted_shape st l p q beginning.Bracket w = opened (in_set l ∷ st) place.Item
-wanted_shape st l p q beginning.Brace w = opened (in_key l ∷ st) place.Key
+wanted_shape st l p q beginning.Paren w = opening_shape (in_paren l ∷ st) place.Expr
+wanted_shape st l p q beginning.Bracket w = opening_shape (in_set l ∷ st) place.Item
+wanted_shape st l p q beginning.Brace w = opening_shape (in_key l ∷ st) place.Key
 wanted_shape st l p q (beginning.Ends c) w = list_end st p c
 wanted_shape st l p q beginning.Other w = None
 
 abbrev pub wanting_shape : {W K : Type 0} → WordShapes W K → List FrameShape → LeftShape → Place
     → Option Sign → TokenKind → Option (Shape W)
-wanting_shape n st l p q k = wanted_shape st l p q (class_of k [])
-    (n.machine.step n.machine.start k)
+wanting_shape n st l p q k =
+    wanted_shape st l p q (class_of k []) (n.machine.step n.machine.start k)
 
 -- behind an operand
 
 abbrev pub access_shape : {W : Type 0} → List FrameShape → LeftShape → Bool → Access
     → Option (Shape W)
 access_shape st l b opens.Dot = Some (shape st l (dotted b))
-access_shape st l b opens.Paren = opened (in_call l b ∷ st) place.Item
-access_shape st l b opens.Bracket = opened (in_index l b ∷ st) place.Expr
+access_shape st l b opens.Paren = opening_shape (in_call l b ∷ st) place.Item
+access_shape st l b opens.Bracket = opening_shape (in_index l b ∷ st) place.Expr
 
 -- which operators may stand behind an operand
 
@@ -205,42 +207,42 @@ has_and reach.If = true
 has_and reach.Whole = true
 
 abbrev pub within_shape : {W : Type 0} → List FrameShape → RelOp → Option (Shape W)
-within_shape st rel.In = operand_wanted st sided_once
+within_shape st rel.In = wanted_operand st sided_once
 within_shape st _ = None
 
 abbrev pub compare_shape : {W : Type 0} → List FrameShape → LeftShape → RelOp → Option (Shape W)
-compare_shape st free o = operand_wanted st comparing
-compare_shape st comparing o = operand_wanted st comparing
+compare_shape st free o = wanted_operand st comparing
+compare_shape st comparing o = wanted_operand st comparing
 compare_shape st sided_once o = None
 compare_shape st typed o = within_shape st o
 
-abbrev pub side_left : Side → LeftShape
-side_left side.Has = sided_once
-side_left side.Like = sided_once
-side_left side.Is = typed
+abbrev pub side_left_shape : Side → LeftShape
+side_left_shape side.Has = sided_once
+side_left_shape side.Like = sided_once
+side_left_shape side.Is = typed
 
 abbrev pub side_shape : {W : Type 0} → List FrameShape → LeftShape → Side → Option (Shape W)
-side_shape st free s = Some (shape st (side_left s) (wants (side_place s) None))
+side_shape st free s = Some (shape st (side_left_shape s) (wants (side_place s) None))
 side_shape st comparing s = None
 side_shape st sided_once s = None
 side_shape st typed s = None
 
-abbrev pub if_taken : {W : Type 0} → Bool → Option (Shape W) → Option (Shape W)
-if_taken true o = o
-if_taken false o = None
+abbrev pub shape_if : {W : Type 0} → Bool → Option (Shape W) → Option (Shape W)
+shape_if true o = o
+shape_if false o = None
 
 abbrev pub paren_shape : {W : Type 0} → List FrameShape → LeftShape → Closing → Option (Shape W)
 paren_shape st l closing.Paren = operand_had st l false
 paren_shape st l _ = None
 
 abbrev pub set_shape : {W : Type 0} → List FrameShape → LeftShape → Closing → Option (Shape W)
-set_shape st l closing.Comma = opened (in_set l ∷ st) place.Item
+set_shape st l closing.Comma = opening_shape (in_set l ∷ st) place.Item
 set_shape st l closing.Bracket = operand_had st l false
 set_shape st l _ = None
 
 abbrev pub call_shape : {W : Type 0} → List FrameShape → LeftShape → Bool → Closing
     → Option (Shape W)
-call_shape st l b closing.Comma = opened (in_call l b ∷ st) place.Item
+call_shape st l b closing.Comma = opening_shape (in_call l b ∷ st) place.Item
 call_shape st l b closing.Paren = operand_had st l b
 call_shape st l b _ = None
 
@@ -250,20 +252,20 @@ index_shape st l b closing.Bracket = operand_had st l b
 index_shape st l b _ = None
 
 abbrev pub key_shape : {W : Type 0} → List FrameShape → LeftShape → Closing → Option (Shape W)
-key_shape st l closing.Colon = opened (in_value l ∷ st) place.Expr
+key_shape st l closing.Colon = opening_shape (in_value l ∷ st) place.Expr
 key_shape st l _ = None
 
 abbrev pub value_shape : {W : Type 0} → List FrameShape → LeftShape → Closing → Option (Shape W)
-value_shape st l closing.Comma = opened (in_key l ∷ st) place.Key
+value_shape st l closing.Comma = opening_shape (in_key l ∷ st) place.Key
 value_shape st l closing.Brace = operand_had st l false
 value_shape st l _ = None
 
 abbrev pub guard_shape : {W : Type 0} → List FrameShape → Closing → Option (Shape W)
-guard_shape st closing.Then = opened (in_yes ∷ st) place.Expr
+guard_shape st closing.Then = opening_shape (in_yes ∷ st) place.Expr
 guard_shape st _ = None
 
 abbrev pub yes_shape : {W : Type 0} → List FrameShape → Closing → Option (Shape W)
-yes_shape st closing.Else = opened st place.Expr
+yes_shape st closing.Else = opening_shape st place.Expr
 yes_shape st _ = None
 
 abbrev pub ended_shape : {W : Type 0} → List FrameShape → Closing → Option (Shape W)
@@ -279,13 +281,13 @@ ended_shape (in_yes ∷ st) c = yes_shape st c
 
 abbrev pub had_step : {W : Type 0} → List FrameShape → LeftShape → Bool → Reach → Operator
     → Option (Shape W)
-had_step st l b r (operator.Access a) = if_taken (has_access r) (access_shape st l b a)
-had_step st l b r (operator.Multiply o) = if_taken (has_sum r) (operand_wanted st l)
-had_step st l b r (operator.Sum o) = if_taken (has_sum r) (operand_wanted st l)
-had_step st l b r (operator.Compare o) = if_taken (has_relation r) (compare_shape st l o)
-had_step st l b r (operator.Side s) = if_taken (has_relation r) (side_shape st l s)
-had_step st l b r operator.And = if_taken (has_and r) (operand_wanted st free)
-had_step st l b r operator.Or = if_taken (has_and r) (operand_wanted st free)
+had_step st l b r (operator.Access a) = shape_if (has_access r) (access_shape st l b a)
+had_step st l b r (operator.Multiply o) = shape_if (has_sum r) (wanted_operand st l)
+had_step st l b r (operator.Sum o) = shape_if (has_sum r) (wanted_operand st l)
+had_step st l b r (operator.Compare o) = shape_if (has_relation r) (compare_shape st l o)
+had_step st l b r (operator.Side s) = shape_if (has_relation r) (side_shape st l s)
+had_step st l b r operator.And = shape_if (has_and r) (wanted_operand st free)
+had_step st l b r operator.Or = shape_if (has_and r) (wanted_operand st free)
 had_step st l b r (operator.Ends c) = ended_shape st c
 had_step st l b r operator.Other = None
 
@@ -313,7 +315,7 @@ abbrev pub guard_begins : {W K : Type 0} → WordShapes W K → List FrameShape 
 guard_begins n st k = wanting_shape n (in_guard ∷ st) free place.Expr None k
 
 abbrev pub if_key_shape : {W : Type 0} → List FrameShape → Option (Shape W)
-if_key_shape (in_key l ∷ st) = opened (in_value l ∷ st) place.Expr
+if_key_shape (in_key l ∷ st) = opening_shape (in_value l ∷ st) place.Expr
 if_key_shape _ = None
 
 abbrev pub key_or_guard_shape : {W K : Type 0} → WordShapes W K → List FrameShape → TokenKind
@@ -361,23 +363,23 @@ if_ends p false = true
 if_ends place.Has true = true
 if_ends _ true = false
 
-abbrev pub words_end : {W K : Type 0} → WordShapes W K → Place → Option K → Bool
-words_end n p None = false
-words_end n p (Some x) = if_ends p (n.is_if x)
+abbrev pub words_can_end : {W K : Type 0} → WordShapes W K → Place → Option K → Bool
+words_can_end n p None = false
+words_can_end n p (Some x) = if_ends p (n.is_if x)
 
 abbrev pub ends : {W K : Type 0} → WordShapes W K → List FrameShape → ModeShape W → Bool
 ends n [] (wants p q) = false
-ends n [] (worded p s) = words_end n p (n.machine.finish s)
+ends n [] (worded p s) = words_can_end n p (n.machine.finish s)
 ends n [] (dotted b) = false
 ends n [] (had_shape b) = true
 ends n (f ∷ st) m = false
 
 -- the machine over kinds
 
-abbrev pub told : {W : Type 0} → Bool → Option (Shape W) → Answer (Shape W) (Unit {0})
-told b (Some s) = next s
-told true None = ended tt
-told false None = refused
+abbrev pub shape_answer : {W : Type 0} → Bool → Option (Shape W) → Answer (Shape W) (Unit {0})
+shape_answer b (Some s) = next s
+shape_answer true None = ended tt
+shape_answer false None = refused
 
 abbrev pub ends_with : Bool → Option (Unit {0})
 ends_with true = Some tt
@@ -387,7 +389,7 @@ abbrev pub shapes_from : {W K : Type 0} → Wanted → WordShapes W K → Place
     → Machine TokenKind (Shape W) (Unit {0})
 shapes_from w n p = record {
   start = shape [] free (wants p None);
-  step = λ s k. told (ends n s.stack s.mode) (step_shape w n s.stack s.left_side s.mode k);
+  step = λ s k. shape_answer (ends n s.stack s.mode) (step_shape w n s.stack s.left_side s.mode k);
   finish = λ s. ends_with (ends n s.stack s.mode);
 }
 

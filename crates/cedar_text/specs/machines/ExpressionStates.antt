@@ -1,4 +1,5 @@
--- The states of the machine of expressions, the classes of tokens that it tells apart, and how far an operand goes on.
+-- The states of the machine of expressions, the classes of tokens that it tells apart, and how far
+-- an operand goes on.
 use Rattle.std.specs.Prelude.{ℕ, List, [], ◌∷◌, Option, Some, cond}
 use Rattle.cedar_syntax.specs.declared.cst.Expr.{Expr}
 use Rattle.cedar_syntax.specs.declared.cst.Primary.{Primary}
@@ -18,7 +19,7 @@ use Rattle.cedar_text.specs.declared.text_to_cst.expression.state.Wanted.TheVari
 use Rattle.cedar_text.specs.declared.text_to_cst.expression.state.Reach.{Reach}
 use Rattle.cedar_text.specs.declared.text_to_cst.expression.state.Reach.TheVariants as reach
 use Rattle.cedar_syntax.specs.declared.reading.extent.Extent.{Extent}
-use Rattle.cedar_syntax.specs.Place.{join}
+use Rattle.cedar_syntax.specs.Place.{joint_extent}
 use Rattle.cedar_text.specs.machines.Closing.{fresh, no_signs, operand_of}
 
 -- states
@@ -45,7 +46,7 @@ has_primary src st lv sg x = has_operand st lv (operand_of src sg x)
 
 -- from an open bracket to its end
 abbrev pub around : Extent → Extent → Option Extent
-around l m = join (Some l) (Some m)
+around l m = joint_extent (Some l) (Some m)
 
 -- how far an operand goes on: inside of brackets as a whole expression's
 

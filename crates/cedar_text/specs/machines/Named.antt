@@ -15,29 +15,29 @@ use Rattle.cedar_syntax.specs.Place.{extent, placed}
 use Rattle.cedar_syntax.specs.Tokens.{Spot, one}
 use Rattle.cedar_syntax.specs.Trees.{Cell, name_of}
 use Rattle.cedar_syntax.specs.LooseWords.{ReadsPath, ReadsRef}
-use Rattle.cedar_text.specs.machines.Closing.{ranged}
+use Rattle.cedar_text.specs.machines.Closing.{ranged_tree}
 use Rattle.cedar_syntax.specs.machines.Door.{Machine, ended, steps}
 use Rattle.cedar_text.specs.machines.Words.{word_node, path_extent, keeping, words_machine}
 
-pub data Named : Type 0 where
-  path : Ranged Name → Named
-  entity : Ranged (Cell Ref) → Named
+pub data NameOrEntity : Type 0 where
+  path : Ranged Name → NameOrEntity
+  entity : Ranged (Cell Ref) → NameOrEntity
 
-pub data ReadsNamed (src : List ℕ) : List Lexeme → Named → Type 0 where
+pub data ReadsNamed (src : List ℕ) : List Lexeme → NameOrEntity → Type 0 where
   a_path : {ts : List Lexeme} {xs : List (Cell Ident)} {x : Cell Ident} → ReadsPath src ts xs x →
-      ReadsNamed src ts (path (ranged (extent ts) (name_of xs x)))
+      ReadsNamed src ts (path (ranged_tree (extent ts) (name_of xs x)))
   a_ref : {ts : List Lexeme} {x : Ref} → ReadsRef src ts x →
-      ReadsNamed src ts (entity (ranged (extent ts) (placed src ts x)))
+      ReadsNamed src ts (entity (ranged_tree (extent ts) (placed src ts x)))
 
 -- words that have been read, as such a tree
-abbrev pub named_of : List ℕ → Words → Named
-named_of src (words.Path p) =
-    path (ranged (Some (path_extent p)) (name_of p.before (word_node src p.last)))
-named_of src (words.Entity e) = entity (ranged (Some e.extent) e.node)
+abbrev pub words_tree : List ℕ → Words → NameOrEntity
+words_tree src (words.Path p) =
+    path (ranged_tree (Some (path_extent p)) (name_of p.before (word_node src p.last)))
+words_tree src (words.Entity e) = entity (ranged_tree (Some e.extent) e.node)
 
 -- the machine of words, with such trees
-abbrev pub named_words : List ℕ → Machine Lexeme WordsState Named
-named_words src = keeping (λ x. Some (named_of src x)) (words_machine src)
+abbrev pub named_words : List ℕ → Machine Lexeme WordsState NameOrEntity
+named_words src = keeping (λ x. Some (words_tree src x)) (words_machine src)
 
 -- `::`, by which alone words go on that could end
 abbrev pub joins_words : TokenKind → Bool
@@ -45,7 +45,7 @@ joins_words kind.ColonColon = true
 joins_words _ = false
 
 -- `::` and an identifier behind a path: a path of more than one word
-pub record IsLonger (names : Machine Lexeme WordsState Named) (s : WordsState)
+pub record IsLonger (names : Machine Lexeme WordsState NameOrEntity) (s : WordsState)
     (ts : List Lexeme) : Type 0 where
   pub last : WordsState
   pub longer : Ranged Name
@@ -55,9 +55,9 @@ pub record IsLonger (names : Machine Lexeme WordsState Named) (s : WordsState)
   pub ends : names.finish last ≡ Some (path longer)
   pub joined : longer.tree.path ≡ before ++ word ∷ []
 
-pub record IsWords (names : Machine Lexeme WordsState Named) : Type 0 where
+pub record IsWords (names : Machine Lexeme WordsState NameOrEntity) : Type 0 where
   -- any other token has ended the words before it
-  pub ends : (s : WordsState) (x : Named) (t : Lexeme) → joins_words t.kind ≡ false →
+  pub ends : (s : WordsState) (x : NameOrEntity) (t : Lexeme) → joins_words t.kind ≡ false →
       names.finish s ≡ Some x → names.step s t ≡ ended x
   -- a path can always go on
   pub longer : (s : WordsState) (x : Ranged Name) (p q : Spot) →

@@ -11,11 +11,11 @@ foreseen outlook.Ends = ended tt
 foreseen outlook.Refuses = refused
 
 -- an answer of a machine of shapes, without the shape
-abbrev pub outcome : {U : Type 0} → Answer U (Unit {0}) → Answer (Unit {0}) (Unit {0})
-outcome (next u) = next tt
-outcome (ended x) = ended tt
-outcome refused = refused
-outcome too_large = too_large
+abbrev pub bare_answer : {U : Type 0} → Answer U (Unit {0}) → Answer (Unit {0}) (Unit {0})
+bare_answer (next u) = next tt
+bare_answer (ended x) = ended tt
+bare_answer refused = refused
+bare_answer too_large = too_large
 
 -- what is done with a token that is taken or not, where the tree can end or not
 abbrev pub outlook_of : Bool → Bool → Outlook

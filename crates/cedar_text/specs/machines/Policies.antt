@@ -20,10 +20,10 @@ use Rattle.cedar_text.specs.declared.text_to_cst.sequence.Spanned.{Spanned}
 use Rattle.cedar_text.specs.declared.text_to_cst.sequence.Sequence.{Sequence}
 use Rattle.cedar_syntax.specs.Trees.{Cell, policy_of}
 use Rattle.cedar_syntax.specs.machines.Door.{Machine}
-use Rattle.cedar_text.specs.machines.Placing.{spanned, placing}
-use Rattle.cedar_text.specs.machines.Sequences.{sequence, many, listed}
+use Rattle.cedar_text.specs.machines.Placing.{spanned_state, placing}
+use Rattle.cedar_text.specs.machines.Sequences.{sequence, many, comma_list}
 use Rattle.cedar_text.specs.machines.Annotation.{annotations}
-use Rattle.cedar_text.specs.machines.Scope.{Parts, elements}
+use Rattle.cedar_text.specs.machines.Scope.{PartMachines, elements}
 use Rattle.cedar_text.specs.machines.Condition.{conditions}
 use Rattle.cedar_text.specs.machines.Policy.{Sections, policies}
 use Rattle.cedar_text.specs.machines.SequenceShapes.{spanned_shape, sequence_shape, many_shapes, listed_shapes}
@@ -42,28 +42,28 @@ ConditionsState E = Sequence (Spanned (ConditionState E)) (Cell Cond)
 abbrev pub OnePolicy : Type 0 → Type 0 → Type 0 → Type 0
 OnePolicy N S E = PolicyState AnnotationsState (ScopeState N S E) (ConditionsState E)
 
-abbrev pub sections : {N S E : Type 0} → List ℕ → Parts N S E →
+abbrev pub sections : {N S E : Type 0} → List ℕ → PartMachines N S E →
     Sections AnnotationsState (ScopeState N S E) (ConditionsState E)
 sections src m = record {
   annotations = many (placing src (annotations src));
-  scope = listed (placing src (elements src m));
+  scope = comma_list (placing src (elements src m));
   conditions = many (placing src (conditions src m.expression));
 }
 
 -- one policy, and policies
-abbrev pub policy_machine : {N S E : Type 0} → List ℕ → Parts N S E →
+abbrev pub policy_machine : {N S E : Type 0} → List ℕ → PartMachines N S E →
     Machine Lexeme (Spanned (OnePolicy N S E)) (Cell Policy)
 policy_machine src m = placing src (policies src (sections src m))
 
-abbrev pub policies_machine : {N S E : Type 0} → List ℕ → Parts N S E →
+abbrev pub policies_machine : {N S E : Type 0} → List ℕ → PartMachines N S E →
     Machine Lexeme (Sequence (Spanned (OnePolicy N S E)) (Cell Policy)) (List (Cell Policy))
 policies_machine src m = many (policy_machine src m)
 
 -- their shapes
 
 abbrev pub OnePolicyShape : Type 0 → Type 0 → Type 0 → Type 0
-OnePolicyShape N S E = PolicyShape (Option AnnotationShape) (Option (ElementShape N S E))
-    (Option (ConditionShape E))
+OnePolicyShape N S E =
+    PolicyShape (Option AnnotationShape) (Option (ElementShape N S E)) (Option (ConditionShape E))
 
 abbrev pub section_shapes : {N S E : Type 0} → PartShapes N S E →
     SectionShapes (Option AnnotationShape) (Option (ElementShape N S E))
@@ -128,10 +128,11 @@ closed_condition (condition.Opened i) = condition.Closed i None
 closed_condition (condition.Body i s) = condition.Closed i None
 closed_condition (condition.Closed i x) = condition.Closed i x
 
-abbrev pub closed_begun : {E : Type 0} → List (Cell Cond) → Option (Spanned (ConditionState E)) →
-    ConditionsState E
-closed_begun zs None = sequence zs None
-closed_begun zs (Some s) = sequence zs (Some (spanned s.extent (closed_condition s.state)))
+abbrev pub condition_closing : {E : Type 0} → List (Cell Cond)
+    → Option (Spanned (ConditionState E)) → ConditionsState E
+condition_closing zs None = sequence zs None
+condition_closing zs (Some s) =
+    sequence zs (Some (spanned_state s.extent (closed_condition s.state)))
 
 abbrev pub closed_policy : {A V E : Type 0} → PolicyState A V (ConditionsState E) →
     PolicyState A V (ConditionsState E)
@@ -139,23 +140,24 @@ closed_policy (policy.Annotated s) = policy.Annotated s
 closed_policy (policy.Effect xs i) = policy.Effect xs i
 closed_policy (policy.Scope xs i s) = policy.Scope xs i s
 closed_policy (policy.Conditions xs i ys s) =
-    policy.Conditions xs i ys (closed_begun s.done s.begun)
+    policy.Conditions xs i ys (condition_closing s.done s.begun)
 closed_policy (policy.Closed p) = policy.Closed p
 
 -- a policy of which nothing is known
-abbrev pub faulty : Policy
-faulty = policy_of [] record { node = None; loc = None } [] []
+abbrev pub unknown_policy : Policy
+unknown_policy = policy_of [] record { node = None; loc = None } [] []
 
-abbrev pub one_closed : {N S E : Type 0} → Spanned (OnePolicy N S E) → Spanned (OnePolicy N S E)
-one_closed s = spanned s.extent (closed_policy s.state)
+abbrev pub policy_closing : {N S E : Type 0} → Spanned (OnePolicy N S E)
+    → Spanned (OnePolicy N S E)
+policy_closing s = spanned_state s.extent (closed_policy s.state)
 
-abbrev pub one_ended : {N S E : Type 0} → Spanned (OnePolicy N S E) → Spanned (OnePolicy N S E)
-one_ended s = spanned s.extent (policy.Closed faulty)
+abbrev pub policy_ending : {N S E : Type 0} → Spanned (OnePolicy N S E) → Spanned (OnePolicy N S E)
+policy_ending s = spanned_state s.extent (policy.Closed unknown_policy)
 
-abbrev pub all_closed : {N S E : Type 0} → List (Cell Policy) →
+abbrev pub policies_closing : {N S E : Type 0} → List (Cell Policy) →
     Option (Spanned (OnePolicy N S E)) → Sequence (Spanned (OnePolicy N S E)) (Cell Policy)
-all_closed xs None = sequence xs None
-all_closed xs (Some s) = sequence xs (Some (one_closed s))
+policies_closing xs None = sequence xs None
+policies_closing xs (Some s) = sequence xs (Some (policy_closing s))
 
 -- how the parser of one policy recovers, and that of policies; faults are told by `tell` and
 -- `large`
@@ -165,8 +167,8 @@ abbrev pub policy_recovers : {N S E F : Type 0} →
     Recovers (Spanned (OnePolicy N S E)) F
 policy_recovers tell large = record {
   way = λ s. policy_way way.Stop s.state;
-  close = λ s. one_closed s;
-  end = λ s. one_ended s;
+  close = λ s. policy_closing s;
+  end = λ s. policy_ending s;
   tell = tell;
   large = large;
 }
@@ -176,8 +178,8 @@ abbrev pub policies_recover : {N S E F : Type 0} →
     Recovers (Sequence (Spanned (OnePolicy N S E)) (Cell Policy)) F
 policies_recover tell large = record {
   way = λ s. begun_policy_way s.begun;
-  close = λ s. all_closed s.done s.begun;
-  end = λ s. sequence s.done (Some (spanned None (policy.Closed faulty)));
+  close = λ s. policies_closing s.done s.begun;
+  end = λ s. sequence s.done (Some (spanned_state None (policy.Closed unknown_policy)));
   tell = tell;
   large = large;
 }

@@ -97,21 +97,21 @@ policies src m = record {
 
 -- the part that is begun has ended with these items
 
-abbrev pub scope_ended : {A V C : Type 0} → C → PolicyState A V C → List (Cell VariableDef) →
+abbrev pub scope_ending : {A V C : Type 0} → C → PolicyState A V C → List (Cell VariableDef) →
     Mark → PolicyAnswer A V C
-scope_ended c (policy.Annotated s) ys k = refused
-scope_ended c (policy.Effect xs i) ys k = refused
-scope_ended c (policy.Scope xs i s) ys k = behind_scope c xs i ys k
-scope_ended c (policy.Conditions xs i us s) ys k = refused
-scope_ended c (policy.Closed p) ys k = refused
+scope_ending c (policy.Annotated s) ys k = refused
+scope_ending c (policy.Effect xs i) ys k = refused
+scope_ending c (policy.Scope xs i s) ys k = behind_scope c xs i ys k
+scope_ending c (policy.Conditions xs i us s) ys k = refused
+scope_ending c (policy.Closed p) ys k = refused
 
-abbrev pub conditions_ended : {A V C : Type 0} → PolicyState A V C → List (Cell Cond) → Mark →
+abbrev pub conditions_ending : {A V C : Type 0} → PolicyState A V C → List (Cell Cond) → Mark →
     PolicyAnswer A V C
-conditions_ended (policy.Annotated s) zs k = refused
-conditions_ended (policy.Effect xs i) zs k = refused
-conditions_ended (policy.Scope xs i s) zs k = refused
-conditions_ended (policy.Conditions xs i ys s) zs k = behind_conditions xs i ys zs k
-conditions_ended (policy.Closed p) zs k = refused
+conditions_ending (policy.Annotated s) zs k = refused
+conditions_ending (policy.Effect xs i) zs k = refused
+conditions_ending (policy.Scope xs i s) zs k = refused
+conditions_ending (policy.Conditions xs i ys s) zs k = behind_conditions xs i ys zs k
+conditions_ending (policy.Closed p) zs k = refused
 
 -- no part is begun
 abbrev pub IsOutsideSections : {A V C : Type 0} → PolicyState A V C → Type 0

@@ -11,18 +11,18 @@ use Rattle.cedar_text.specs.declared.text_to_cst.state.PathState.{PathState}
 use Rattle.cedar_syntax.specs.Trees.{Cell}
 use Rattle.cedar_syntax.specs.machines.Door.{Machine, allows}
 use Rattle.cedar_text.specs.machines.ExpressionShapes.{expression_shapes, sum_shapes}
-use Rattle.cedar_syntax.specs.machines.Mapping.{mapped, policies_node}
+use Rattle.cedar_syntax.specs.machines.Mapping.{mapped_machine, policies_node}
 use Rattle.cedar_text.specs.machines.NamedShapes.{named_shapes}
 use Rattle.cedar_text.specs.machines.Placing.{placing}
 use Rattle.cedar_text.specs.machines.Policies.{OnePolicy, policy_machine, policies_machine, one_policy_shapes, one_policy_shape, all_policies_shapes, all_policies_shape}
 use Rattle.cedar_text.specs.machines.PolicyShapes.{PartShapes}
-use Rattle.cedar_text.specs.machines.Scope.{Parts}
+use Rattle.cedar_text.specs.machines.Scope.{PartMachines}
 use Rattle.cedar_text.specs.machines.WholeExpressions.{StateShape, state_shape, whole_expressions, whole_sums}
 use Rattle.cedar_text.specs.machines.Words.{names}
 use Rattle.cedar_text.specs.machines.WordShapes.{PathShape, path_shape, name_shapes}
 
 -- the machines of the parts, and their shapes
-abbrev pub policy_parts : List ℕ → Parts PathState State State
+abbrev pub policy_parts : List ℕ → PartMachines PathState State State
 policy_parts src = record {
   name = names src;
   sum = whole_sums src;
@@ -54,8 +54,8 @@ policy_allows s after =
 
 -- and policies
 abbrev pub whole_policies : List ℕ → Machine Lexeme AllState (Cell Policies)
-whole_policies src = mapped (policies_node src)
-    (placing src (policies_machine src (policy_parts src)))
+whole_policies src =
+    mapped_machine (policies_node src) (placing src (policies_machine src (policy_parts src)))
 
 abbrev pub policies_allow : AllState → Option TokenKind → Bool
 policies_allow s after =

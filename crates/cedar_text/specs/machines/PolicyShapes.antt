@@ -44,17 +44,17 @@ abbrev pub start_shape : Mark → Answer AnnotationShape (Unit {0})
 start_shape mark.At = next behind_at
 start_shape _ = refused
 
-abbrev pub key_shape : Bool → Answer AnnotationShape (Unit {0})
-key_shape true = next has_key
-key_shape false = refused
+abbrev pub annotation_key_shape : Bool → Answer AnnotationShape (Unit {0})
+annotation_key_shape true = next has_key
+annotation_key_shape false = refused
 
 abbrev pub behind_key_shape : Mark → Answer AnnotationShape (Unit {0})
 behind_key_shape mark.OpenParen = next wants_value
 behind_key_shape _ = ended tt
 
-abbrev pub value_shape : Mark → Answer AnnotationShape (Unit {0})
-value_shape mark.String = next has_value
-value_shape _ = refused
+abbrev pub annotation_value_shape : Mark → Answer AnnotationShape (Unit {0})
+annotation_value_shape mark.String = next has_value
+annotation_value_shape _ = refused
 
 abbrev pub behind_value_shape : Mark → Answer AnnotationShape (Unit {0})
 behind_value_shape mark.CloseParen = next whole_annotation
@@ -62,9 +62,9 @@ behind_value_shape _ = refused
 
 abbrev pub annotation_shape_step : AnnotationShape → TokenKind → Answer AnnotationShape (Unit {0})
 annotation_shape_step no_annotation k = start_shape (mark_of k)
-annotation_shape_step behind_at k = key_shape (is_word k)
+annotation_shape_step behind_at k = annotation_key_shape (is_word k)
 annotation_shape_step has_key k = behind_key_shape (mark_of k)
-annotation_shape_step wants_value k = value_shape (mark_of k)
+annotation_shape_step wants_value k = annotation_value_shape (mark_of k)
 annotation_shape_step has_value k = behind_value_shape (mark_of k)
 annotation_shape_step whole_annotation k = ended tt
 
@@ -184,9 +184,9 @@ condition_shape f (condition.Opened i) = has_opened
 condition_shape f (condition.Body i s) = has_body (f s)
 condition_shape f (condition.Closed i x) = whole_condition
 
-abbrev pub word_shape : {E : Type 0} → Bool → Answer (ConditionShape E) (Unit {0})
-word_shape true = next has_word
-word_shape false = refused
+abbrev pub condition_word_shape : {E : Type 0} → Bool → Answer (ConditionShape E) (Unit {0})
+condition_word_shape true = next has_word
+condition_word_shape false = refused
 
 abbrev pub behind_word_shape : {E : Type 0} → Mark → Answer (ConditionShape E) (Unit {0})
 behind_word_shape mark.OpenBrace = next has_opened
@@ -212,7 +212,7 @@ in_body_shape c too_large = too_large
 
 abbrev pub condition_shape_step : {E : Type 0} → Machine TokenKind E (Unit {0}) →
     ConditionShape E → TokenKind → Answer (ConditionShape E) (Unit {0})
-condition_shape_step n no_condition k = word_shape (is_word k)
+condition_shape_step n no_condition k = condition_word_shape (is_word k)
 condition_shape_step n has_word k = behind_word_shape (mark_of k)
 condition_shape_step n has_opened k = at_body_shape (mark_of k) (n.step n.start k)
 condition_shape_step n (has_body u) k = in_body_shape (mark_of k) (n.step u k)

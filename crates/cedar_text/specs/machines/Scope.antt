@@ -65,13 +65,13 @@ in_constraint i x y o refused = refused
 in_constraint i x y o too_large = too_large
 
 -- the machines of the parts
-pub record Parts (N S E : Type 0) : Type 0 where
+pub record PartMachines (N S E : Type 0) : Type 0 where
   pub name : Machine Lexeme N (Cell Name)
   pub sum : Machine Lexeme S (Cell Add)
   pub expression : Machine Lexeme E (Cell Expr)
 
-abbrev pub element_step : {N S E : Type 0} → List ℕ → Parts N S E → ElementState N S E → Lexeme →
-    ElementAnswer N S E
+abbrev pub element_step : {N S E : Type 0} → List ℕ → PartMachines N S E → ElementState N S E
+    → Lexeme → ElementAnswer N S E
 element_step src m element.Start t = at_variable src t (any_of t.kind t.text)
 element_step src m (element.Variable i) t =
     at_type_name m.name.start m.sum.start m.expression.start i t (mark_of t.kind)
@@ -95,14 +95,15 @@ abbrev pub end_constraint : Cell Ident → Option (Cell Name) → Option (Cell A
 end_constraint i x y o None = None
 end_constraint i x y o (Some z) = Some (variable_def_of i x y (Some (o, z)))
 
-abbrev pub element_end : {N S E : Type 0} → Parts N S E → ElementState N S E → Option VariableDef
+abbrev pub element_end : {N S E : Type 0} → PartMachines N S E → ElementState N S E
+    → Option VariableDef
 element_end m element.Start = None
 element_end m (element.Variable i) = Some (variable_def_of i None None None)
 element_end m (element.TypeName i s) = end_type_name i (m.name.finish s)
 element_end m (element.EntityType i x s) = end_entity_type i x (m.sum.finish s)
 element_end m (element.Constraint i x y o s) = end_constraint i x y o (m.expression.finish s)
 
-abbrev pub elements : {N S E : Type 0} → List ℕ → Parts N S E →
+abbrev pub elements : {N S E : Type 0} → List ℕ → PartMachines N S E →
     Machine Lexeme (ElementState N S E) VariableDef
 elements src m = record {
   start = element.Start;
@@ -112,29 +113,29 @@ elements src m = record {
 
 -- the part that is begun has ended with this tree
 
-abbrev pub name_ended : {N S E : Type 0} → S → E → ElementState N S E → Cell Name → Lexeme →
+abbrev pub name_ending : {N S E : Type 0} → S → E → ElementState N S E → Cell Name → Lexeme →
     ElementAnswer N S E
-name_ended s e element.Start x t = refused
-name_ended s e (element.Variable i) x t = refused
-name_ended s e (element.TypeName i q) x t = at_entity_type s e i (Some x) t (mark_of t.kind)
-name_ended s e (element.EntityType i y q) x t = refused
-name_ended s e (element.Constraint i y z o q) x t = refused
+name_ending s e element.Start x t = refused
+name_ending s e (element.Variable i) x t = refused
+name_ending s e (element.TypeName i q) x t = at_entity_type s e i (Some x) t (mark_of t.kind)
+name_ending s e (element.EntityType i y q) x t = refused
+name_ending s e (element.Constraint i y z o q) x t = refused
 
-abbrev pub sum_ended : {N S E : Type 0} → E → ElementState N S E → Cell Add → TokenKind →
+abbrev pub sum_ending : {N S E : Type 0} → E → ElementState N S E → Cell Add → TokenKind →
     ElementAnswer N S E
-sum_ended e element.Start y k = refused
-sum_ended e (element.Variable i) y k = refused
-sum_ended e (element.TypeName i q) y k = refused
-sum_ended e (element.EntityType i x q) y k = at_constraint e i x (Some y) (relation_of k)
-sum_ended e (element.Constraint i x z o q) y k = refused
+sum_ending e element.Start y k = refused
+sum_ending e (element.Variable i) y k = refused
+sum_ending e (element.TypeName i q) y k = refused
+sum_ending e (element.EntityType i x q) y k = at_constraint e i x (Some y) (relation_of k)
+sum_ending e (element.Constraint i x z o q) y k = refused
 
-abbrev pub expression_ended : {N S E : Type 0} → ElementState N S E → Cell Expr →
+abbrev pub expression_ending : {N S E : Type 0} → ElementState N S E → Cell Expr →
     ElementAnswer N S E
-expression_ended element.Start z = refused
-expression_ended (element.Variable i) z = refused
-expression_ended (element.TypeName i q) z = refused
-expression_ended (element.EntityType i x q) z = refused
-expression_ended (element.Constraint i x y o q) z = ended (variable_def_of i x y (Some (o, z)))
+expression_ending element.Start z = refused
+expression_ending (element.Variable i) z = refused
+expression_ending (element.TypeName i q) z = refused
+expression_ending (element.EntityType i x q) z = refused
+expression_ending (element.Constraint i x y o q) z = ended (variable_def_of i x y (Some (o, z)))
 
 -- no part is begun
 abbrev pub IsOutsideParts : {N S E : Type 0} → ElementState N S E → Type 0

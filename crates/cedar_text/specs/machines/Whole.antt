@@ -1,4 +1,5 @@
--- What a whole text is read as: the place where its first operand is wanted, the shapes, and what a step makes of a state that allows the token.
+-- What a whole text is read as: the place where its first operand is wanted, the shapes, and what
+-- a step makes of a state that allows the token.
 use Rattle.std.specs.Prelude.{Bool, true, false}
 use Rattle.cedar_lexer.specs.declared.token.TokenKind.{TokenKind}
 use Rattle.cedar_text.specs.declared.text_to_cst.expression.state.Place.{Place}

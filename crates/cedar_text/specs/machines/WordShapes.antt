@@ -142,16 +142,16 @@ item_shape (Some c) k = next (in_inits key)
 item_shape None kind.CloseBrace = next behind_entity
 item_shape None _ = refused
 
-abbrev pub key_shape : TokenKind → Answer WordsShape WordsKind
-key_shape kind.Colon = next (in_inits value)
-key_shape _ = refused
+abbrev pub init_key_shape : TokenKind → Answer WordsShape WordsKind
+init_key_shape kind.Colon = next (in_inits value)
+init_key_shape _ = refused
 
-abbrev pub value_shape : TokenKind → Answer WordsShape WordsKind
-value_shape kind.True = next (in_inits behind_item)
-value_shape kind.False = next (in_inits behind_item)
-value_shape kind.Number = next (in_inits behind_item)
-value_shape kind.StringLit = next (in_inits behind_item)
-value_shape _ = refused
+abbrev pub init_value_shape : TokenKind → Answer WordsShape WordsKind
+init_value_shape kind.True = next (in_inits behind_item)
+init_value_shape kind.False = next (in_inits behind_item)
+init_value_shape kind.Number = next (in_inits behind_item)
+init_value_shape kind.StringLit = next (in_inits behind_item)
+init_value_shape _ = refused
 
 abbrev pub item_had_shape : TokenKind → Answer WordsShape WordsKind
 item_had_shape kind.Comma = next (in_inits item)
@@ -160,8 +160,8 @@ item_had_shape _ = refused
 
 abbrev pub init_shape_step : InitShape → TokenKind → Answer WordsShape WordsKind
 init_shape_step item k = item_shape (any_kind k) k
-init_shape_step key k = key_shape k
-init_shape_step value k = value_shape k
+init_shape_step key k = init_key_shape k
+init_shape_step value k = init_value_shape k
 init_shape_step behind_item k = item_had_shape k
 
 abbrev pub words_shape_step : WordsShape → TokenKind → Answer WordsShape WordsKind

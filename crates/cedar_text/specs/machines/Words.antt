@@ -43,8 +43,8 @@ abbrev pub word_node : List ℕ → Word → Cell Ident
 word_node src w = node_at src (Some w.extent) w.ident
 
 -- one identifier alone
-abbrev pub first_word : Word → Path
-first_word w = record { before = []; start = w.extent.start; last = w }
+abbrev pub one_word_path : Word → Path
+one_word_path w = record { before = []; start = w.extent.start; last = w }
 
 -- a path with one identifier more
 abbrev pub with_word : List ℕ → Path → Word → Path
@@ -55,9 +55,9 @@ abbrev pub path_extent : Path → Extent
 path_extent p = record { start = p.start; end = p.last.extent.end }
 
 -- an identifier where a path begins, and behind `::`
-abbrev pub path_begun : Option Ident → Extent → Answer PathState Path
-path_begun (Some i) e = next (path.Have (first_word (word_of i e)))
-path_begun None e = refused
+abbrev pub path_beginning : Option Ident → Extent → Answer PathState Path
+path_beginning (Some i) e = next (path.Have (one_word_path (word_of i e)))
+path_beginning None e = refused
 
 abbrev pub path_more : List ℕ → Path → Option Ident → Extent → Answer PathState Path
 path_more src p (Some i) e = next (path.Have (with_word src p (word_of i e)))
@@ -69,7 +69,7 @@ path_had p kind.ColonColon = next (path.Behind p)
 path_had p _ = ended p
 
 abbrev pub path_step : List ℕ → PathState → Lexeme → Answer PathState Path
-path_step src path.Start t = path_begun (any_of t.kind t.text) (extent_of t)
+path_step src path.Start t = path_beginning (any_of t.kind t.text) (extent_of t)
 path_step src (path.Have p) t = path_had p t.kind
 path_step src (path.Behind p) t = path_more src p (any_of t.kind t.text) (extent_of t)
 
@@ -88,11 +88,11 @@ paths src = record {
 -- ---- entity literals
 
 -- a path as a name
-abbrev pub named : List ℕ → Path → Cell Name
-named src p = node_at src (Some (path_extent p)) (name_of p.before (word_node src p.last))
+abbrev pub path_node : List ℕ → Path → Cell Name
+path_node src p = node_at src (Some (path_extent p)) (name_of p.before (word_node src p.last))
 
-abbrev pub entity_of : List ℕ → Ref → Extent → Entity
-entity_of src x e = record { node = node_at src (Some e) x; extent = e }
+abbrev pub entity_with_extent : List ℕ → Ref → Extent → Entity
+entity_with_extent src x e = record { node = node_at src (Some e) x; extent = e }
 
 -- a tree of one token, and a string, as a node
 abbrev pub token_node : {T : Type 0} → List ℕ → Lexeme → T → Cell T
@@ -104,7 +104,7 @@ string_node src t = token_node src t (str.String (between_quotes t.text))
 -- a path and a string
 abbrev pub uid_of : List ℕ → Path → Lexeme → Entity
 uid_of src p t =
-    entity_of src (ref.Uid (named src p) (string_node src t))
+    entity_with_extent src (ref.Uid (path_node src p) (string_node src t))
     record { start = p.start; end = t.end }
 
 abbrev pub inits_of : Cell Name → ℕ → List (Cell RefInit) → InitPlace → Inits
@@ -114,17 +114,17 @@ abbrev pub at_inits : Cell Name → ℕ → List (Cell RefInit) → InitPlace �
 at_inits x n ys p = next (state.Inits (inits_of x n ys p))
 
 -- the closing brace
-abbrev pub inits_closed : List ℕ → Cell Name → ℕ → List (Cell RefInit) → Extent →
+abbrev pub inits_closing : List ℕ → Cell Name → ℕ → List (Cell RefInit) → Extent →
     Answer WordsState Words
-inits_closed src x n ys e =
-    next (state.Entity (entity_of src (ref.Ref x ys) record { start = n; end = e.end }))
+inits_closing src x n ys e =
+    next (state.Entity (entity_with_extent src (ref.Ref x ys) record { start = n; end = e.end }))
 
 -- where an item may stand
-abbrev pub item_wanted : List ℕ → Cell Name → ℕ → List (Cell RefInit) → Option Ident → TokenKind →
+abbrev pub wanted_item : List ℕ → Cell Name → ℕ → List (Cell RefInit) → Option Ident → TokenKind →
     Extent → Answer WordsState Words
-item_wanted src x n ys (Some i) k e = at_inits x n ys (place.Key (word_of i e))
-item_wanted src x n ys None kind.CloseBrace e = inits_closed src x n ys e
-item_wanted src x n ys None _ e = refused
+wanted_item src x n ys (Some i) k e = at_inits x n ys (place.Key (word_of i e))
+wanted_item src x n ys None kind.CloseBrace e = inits_closing src x n ys e
+wanted_item src x n ys None _ e = refused
 
 -- behind a key
 abbrev pub key_had : Cell Name → ℕ → List (Cell RefInit) → Word → TokenKind →
@@ -151,28 +151,28 @@ abbrev pub string_literal : List ℕ → Lexeme → Literal
 string_literal src t = literal.Str (string_node src t)
 
 -- behind `:`
-abbrev pub value_wanted : List ℕ → Cell Name → ℕ → List (Cell RefInit) → Word → TokenKind →
+abbrev pub wanted_value : List ℕ → Cell Name → ℕ → List (Cell RefInit) → Word → TokenKind →
     Lexeme → Answer WordsState Words
-value_wanted src x n ys w kind.True t = with_value src x n ys w literal.True (extent_of t)
-value_wanted src x n ys w kind.False t = with_value src x n ys w literal.False (extent_of t)
-value_wanted src x n ys w kind.Number t = number_value src x n ys w (fits t.text) t
-value_wanted src x n ys w kind.StringLit t =
+wanted_value src x n ys w kind.True t = with_value src x n ys w literal.True (extent_of t)
+wanted_value src x n ys w kind.False t = with_value src x n ys w literal.False (extent_of t)
+wanted_value src x n ys w kind.Number t = number_value src x n ys w (fits t.text) t
+wanted_value src x n ys w kind.StringLit t =
     with_value src x n ys w (string_literal src t) (extent_of t)
-value_wanted src x n ys w _ t = refused
+wanted_value src x n ys w _ t = refused
 
 -- behind an item
 abbrev pub item_had : List ℕ → Cell Name → ℕ → List (Cell RefInit) → TokenKind → Extent →
     Answer WordsState Words
 item_had src x n ys kind.Comma e = at_inits x n ys place.Item
-item_had src x n ys kind.CloseBrace e = inits_closed src x n ys e
+item_had src x n ys kind.CloseBrace e = inits_closing src x n ys e
 item_had src x n ys _ e = refused
 
 abbrev pub inits_step : List ℕ → Cell Name → ℕ → List (Cell RefInit) → InitPlace → Lexeme →
     Answer WordsState Words
 inits_step src x n ys place.Item t =
-    item_wanted src x n ys (any_of t.kind t.text) t.kind (extent_of t)
+    wanted_item src x n ys (any_of t.kind t.text) t.kind (extent_of t)
 inits_step src x n ys (place.Key w) t = key_had x n ys w t.kind
-inits_step src x n ys (place.Value w) t = value_wanted src x n ys w t.kind t
+inits_step src x n ys (place.Value w) t = wanted_value src x n ys w t.kind t
 inits_step src x n ys place.Behind t = item_had src x n ys t.kind (extent_of t)
 
 -- ---- a path or an entity literal
@@ -189,11 +189,11 @@ abbrev pub words_more : List ℕ → Path → Option Ident → TokenKind → Lex
 words_more src p (Some i) k t =
     next (state.Path (path.Have (with_word src p (word_of i (extent_of t)))))
 words_more src p None kind.StringLit t = next (state.Entity (uid_of src p t))
-words_more src p None kind.OpenBrace t = at_inits (named src p) p.start [] place.Item
+words_more src p None kind.OpenBrace t = at_inits (path_node src p) p.start [] place.Item
 words_more src p None _ t = refused
 
 abbrev pub path_words : List ℕ → PathState → Lexeme → Answer WordsState Words
-path_words src path.Start t = as_words (path_begun (any_of t.kind t.text) (extent_of t))
+path_words src path.Start t = as_words (path_beginning (any_of t.kind t.text) (extent_of t))
 path_words src (path.Have p) t = as_words (path_had p t.kind)
 path_words src (path.Behind p) t = words_more src p (any_of t.kind t.text) t.kind t
 
@@ -224,30 +224,30 @@ words_machine src = record {
 
 -- `true`, `false` and `if` are no names
 abbrev pub name_alone : List ℕ → Path → Bool → Option (Cell Name)
-name_alone src p true = Some (named src p)
+name_alone src p true = Some (path_node src p)
 name_alone src p false = None
 
 abbrev pub name_among : List ℕ → Path → List (Cell Ident) → Option (Cell Name)
 name_among src p [] = name_alone src p (is_common p.last.ident)
-name_among src p (x ∷ xs) = Some (named src p)
+name_among src p (x ∷ xs) = Some (path_node src p)
 
-abbrev pub name_in : List ℕ → Path → Option (Cell Name)
-name_in src p = name_among src p p.before
+abbrev pub path_as_name : List ℕ → Path → Option (Cell Name)
+path_as_name src p = name_among src p p.before
 
-abbrev pub ref_in : List ℕ → Words → Option (Cell Ref)
-ref_in src (words.Path p) = None
-ref_in src (words.Entity e) = Some e.node
+abbrev pub words_as_ref : List ℕ → Words → Option (Cell Ref)
+words_as_ref src (words.Path p) = None
+words_as_ref src (words.Entity e) = Some e.node
 
 -- a machine whose trees are some of another's
-abbrev pub ended_with : {S T : Type 0} → Option T → Answer S T
-ended_with (Some x) = ended x
-ended_with None = refused
+abbrev pub end_or_refusal : {S T : Type 0} → Option T → Answer S T
+end_or_refusal (Some x) = ended x
+end_or_refusal None = refused
 
-abbrev pub kept : {S T U : Type 0} → (T → Option U) → Answer S T → Answer S U
-kept f (next s) = next s
-kept f (ended x) = ended_with (f x)
-kept f refused = refused
-kept f too_large = too_large
+abbrev pub kept_answer : {S T U : Type 0} → (T → Option U) → Answer S T → Answer S U
+kept_answer f (next s) = next s
+kept_answer f (ended x) = end_or_refusal (f x)
+kept_answer f refused = refused
+kept_answer f too_large = too_large
 
 abbrev pub kept_end : {T U : Type 0} → (T → Option U) → Option T → Option U
 kept_end f (Some x) = f x
@@ -256,24 +256,24 @@ kept_end f None = None
 abbrev pub keeping : {K S T U : Type 0} → (T → Option U) → Machine K S T → Machine K S U
 keeping f m = record {
   start = m.start;
-  step = λ s k. kept f (m.step s k);
+  step = λ s k. kept_answer f (m.step s k);
   finish = λ s. kept_end f (m.finish s);
 }
 
 abbrev pub names : List ℕ → Machine Lexeme PathState (Cell Name)
-names src = keeping (λ p. name_in src p) (paths src)
+names src = keeping (λ p. path_as_name src p) (paths src)
 
 abbrev pub refs : List ℕ → Machine Lexeme WordsState (Cell Ref)
-refs src = keeping (λ x. ref_in src x) (words_machine src)
+refs src = keeping (λ x. words_as_ref src x) (words_machine src)
 
 -- ---- one identifier
 
-abbrev pub ident_begun : Option Ident → Extent → Answer IdentState (Cell Ident)
-ident_begun (Some i) e = next (one_ident.Have (word_of i e))
-ident_begun None e = refused
+abbrev pub identifier_beginning : Option Ident → Extent → Answer IdentState (Cell Ident)
+identifier_beginning (Some i) e = next (one_ident.Have (word_of i e))
+identifier_beginning None e = refused
 
 abbrev pub ident_step : List ℕ → IdentState → Lexeme → Answer IdentState (Cell Ident)
-ident_step src one_ident.Start t = ident_begun (any_of t.kind t.text) (extent_of t)
+ident_step src one_ident.Start t = identifier_beginning (any_of t.kind t.text) (extent_of t)
 ident_step src (one_ident.Have w) t = ended (word_node src w)
 
 abbrev pub ident_end : List ℕ → IdentState → Option (Cell Ident)

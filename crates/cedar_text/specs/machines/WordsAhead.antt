@@ -8,8 +8,8 @@ use Rattle.cedar_text.specs.declared.text_to_cst.state.Words.{Words}
 use Rattle.cedar_text.specs.declared.text_to_cst.state.WordsState.{WordsState}
 use Rattle.cedar_syntax.specs.machines.Door.{Answer, next, ended, refused, too_large}
 use Rattle.cedar_syntax.specs.machines.Judged.{answer_of}
-use Rattle.cedar_text.specs.machines.Named.{Named, named_of}
-use Rattle.cedar_text.specs.machines.Words.{kept, kept_end}
+use Rattle.cedar_text.specs.machines.Named.{NameOrEntity, words_tree}
+use Rattle.cedar_text.specs.machines.Words.{kept_answer, kept_end}
 
 abbrev pub goes_of : {W K : Type 0} → (K → Bool) → Answer W K → Goes
 goes_of f (next s) = goes.Next
@@ -28,9 +28,9 @@ goes_from false None = goes.Refused
 goes_from false (Some b) = goes.Ended b
 
 -- what a step of the words that left this state answered
-abbrev pub given_named : List ℕ → Taken Words → WordsState → Answer WordsState Named
-given_named src f s = kept (λ x. Some (named_of src x)) (answer_of f s)
+abbrev pub words_answer : List ℕ → Taken Words → WordsState → Answer WordsState NameOrEntity
+words_answer src f s = kept_answer (λ x. Some (words_tree src x)) (answer_of f s)
 
 -- words at the end
-abbrev pub named_end : List ℕ → Option Words → Option Named
-named_end src o = kept_end (λ x. Some (named_of src x)) o
+abbrev pub named_end : List ℕ → Option Words → Option NameOrEntity
+named_end src o = kept_end (λ x. Some (words_tree src x)) o

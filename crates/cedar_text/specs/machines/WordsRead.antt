@@ -13,14 +13,14 @@ use Rattle.cedar_text.specs.declared.text_to_cst.state.Words.TheVariants as word
 use Rattle.cedar_syntax.specs.Place.{extent}
 use Rattle.cedar_syntax.specs.Tokens.{Spot, one, any_of}
 use Rattle.cedar_syntax.specs.LooseWords.{ReadsRef}
-use Rattle.cedar_text.specs.machines.Words.{word_of, first_word, with_word, entity_of}
+use Rattle.cedar_text.specs.machines.Words.{word_of, one_word_path, with_word, entity_with_extent}
 
 abbrev pub word_at : Ident → Spot → Word
 word_at i p = word_of i record { start = p.start; end = p.end }
 
 pub data ReadsWholePath (src : List ℕ) : List Lexeme → Path → Type 0 where
   first : {k : TokenKind} {i : Ident} (p : Spot) → any_of k p.text ≡ Some i →
-      ReadsWholePath src (one k p) (first_word (word_at i p))
+      ReadsWholePath src (one k p) (one_word_path (word_at i p))
   further : {ts : List Lexeme} {q : Path} {i : Ident} (k : TokenKind) (p r : Spot) →
       ReadsWholePath src ts q → any_of k r.text ≡ Some i →
       ReadsWholePath src (ts ++ one kind.ColonColon p ++ one k r) (with_word src q (word_at i r))
@@ -29,4 +29,4 @@ pub data ReadsWords (src : List ℕ) : List Lexeme → Words → Type 0 where
   a_path : {ts : List Lexeme} {q : Path} → ReadsWholePath src ts q →
       ReadsWords src ts (words.Path q)
   an_entity : {ts : List Lexeme} {x : Ref} (e : Extent) → extent ts ≡ Some e → ReadsRef src ts x →
-      ReadsWords src ts (words.Entity (entity_of src x e))
+      ReadsWords src ts (words.Entity (entity_with_extent src x e))

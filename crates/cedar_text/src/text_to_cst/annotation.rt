@@ -4,7 +4,7 @@ ghost use Rattle.cedar_lexer.specs.Token.{lexeme_of};
 ghost use Rattle.cedar_syntax.specs.Tokens.{any_of};
 ghost use Rattle.cedar_syntax.specs.WrittenTokens.{IsWritten};
 ghost use Rattle.cedar_syntax.specs.machines.Marks.{mark_of};
-ghost use Rattle.cedar_text.specs.machines.Annotation.{at_start, at_key, behind_key, at_value, behind_value};
+ghost use Rattle.cedar_text.specs.machines.Annotation.{at_start, at_key, behind_annotation_key, at_annotation_value, behind_value};
 ghost use Rattle.cedar_syntax.specs.machines.Judged.{answer_of};
 
 use crate::text_to_cst::literal::string_node;
@@ -71,7 +71,7 @@ impl AnnotationState {
 
     /// The `(` behind the key, or the end of the annotation.
     fn open(&mut self, key: Node<Option<Ident>>, mark: Mark) -> Taken<Annotation>
-        ensures { answer_of result self.new ≡ behind_key key mark }
+        ensures { answer_of result self.new ≡ behind_annotation_key key mark }
     {
         match mark {
             Mark::OpenParen => {
@@ -92,7 +92,8 @@ impl AnnotationState {
     ) -> Result<Taken<Annotation>, AllocError>
         requires { IsWritten (lexeme_of token) }
         ensures { IfOk result (λ taken. answer_of taken self.new
-            ≡ at_value source.now key (lexeme_of token.entry) (mark_of token.entry.kind)) }
+            ≡ at_annotation_value source.now key (lexeme_of token.entry)
+            (mark_of token.entry.kind)) }
     {
         match token.kind {
             TokenKind::StringLit => {

@@ -4,7 +4,7 @@ ghost use Rattle.cedar_lexer.specs.Token.{lexeme_of};
 ghost use Rattle.cedar_syntax.specs.Tokens.{any_of};
 ghost use Rattle.cedar_syntax.specs.WrittenTokens.{IsWritten};
 ghost use Rattle.cedar_syntax.specs.machines.Marks.{mark_of};
-ghost use Rattle.cedar_text.specs.machines.Condition.{at_word, behind_word, behind_body, at_body, body_ended, condition_step, IsOutsideBody};
+ghost use Rattle.cedar_text.specs.machines.Condition.{at_word, behind_word, behind_body, at_body, body_ending, condition_step, IsOutsideBody};
 ghost use Rattle.cedar_syntax.specs.machines.Judged.{answer_of};
 
 use crate::text_to_cst::reader::{Reader, put};
@@ -113,7 +113,7 @@ impl<E: Reader<Node<Option<Expr>>>> ConditionState<E> {
 
     /// The body that is begun has ended before this mark.
     fn leave(&mut self, body: Node<Option<Expr>>, mark: Mark) -> Taken<Cond>
-        ensures { answer_of result self.new ≡ body_ended self.old body mark }
+        ensures { answer_of result self.new ≡ body_ending self.old body mark }
     {
         match mem::replace(self, ConditionState::Start) {
             ConditionState::Body(word, _) => self.close(word, Some(body), mark),

@@ -8,7 +8,7 @@ ghost use Rattle.cedar_syntax.specs.Tokens.{any_of};
 ghost use Rattle.cedar_syntax.specs.WrittenTokens.{IsWritten, Written};
 ghost use Rattle.cedar_syntax.specs.machines.Door.{allows, is_taken};
 ghost use Rattle.cedar_syntax.specs.machines.Judged.{answer_of};
-ghost use Rattle.cedar_text.specs.machines.Words.{as_words, path_begun, path_words, words_more, words_step, entity_of, uid_of, at_inits, inits_closed, item_wanted, key_had, with_value, string_literal, value_wanted, item_had, inits_step, named};
+ghost use Rattle.cedar_text.specs.machines.Words.{as_words, path_beginning, path_words, words_more, words_step, entity_with_extent, uid_of, at_inits, inits_closing, wanted_item, key_had, with_value, string_literal, wanted_value, item_had, inits_step, path_node};
 ghost use Rattle.cedar_text.specs.machines.WordShapes.{any_kind, more_shape, item_shape, init_shape, init_shape_step, words_shapes, words_shape};
 
 use crate::text_to_cst::literal::string_node;
@@ -37,7 +37,7 @@ fn entity_of(
     reference: Ref,
     extent: Extent,
 ) -> Result<Entity, AllocError>
-    ensures { IfOk result (λ entity. entity ≡ entity_of source.now reference extent) }
+    ensures { IfOk result (λ entity. entity ≡ entity_with_extent source.now reference extent) }
 {
     let node = node_at(source, Some(extent), reference)?;
     Ok(Entity {
@@ -70,7 +70,7 @@ fn uid_of(
 fn open_entity(alloc: Global, source: &Source, path: Path) -> Result<OpenEntity, AllocError>
     ensures { IfOk result
         (λ begun. begun
-        ≡ record { path = named source.now path; start = path.start; inits = [] }) }
+        ≡ record { path = path_node source.now path; start = path.start; inits = [] }) }
 {
     let start = path.start;
     let path = path.into_name(source)?;
@@ -160,7 +160,7 @@ impl WordsState {
     fn begin(&mut self, alloc: Global, token: Token<'_>) -> Result<Taken<Words>, AllocError>
         ensures { IfOk result
             (λ taken. answer_of taken self.new ≡ as_words
-            (path_begun (any_of token.entry.kind token.entry.text.now)
+            (path_beginning (any_of token.entry.kind token.entry.text.now)
             (extent_of (lexeme_of token.entry)))) }
     {
         match as_ident(alloc, token.kind, token.text)? {
@@ -237,7 +237,7 @@ impl WordsState {
     ) -> Result<Taken<Words>, AllocError>
         ensures { IfOk result
             (λ taken. answer_of taken self.new
-            ≡ inits_closed source.now begun.path begun.start begun.inits end) }
+            ≡ inits_closing source.now begun.path begun.start begun.inits end) }
     {
         let OpenEntity { path, start, inits } = begun;
         let reference = Ref::Ref {
@@ -269,7 +269,7 @@ impl WordsState {
     ) -> Result<Taken<Words>, AllocError>
         ensures { IfOk result
             (λ taken. answer_of taken self.new
-            ≡ item_wanted source.now begun.path begun.start begun.inits
+            ≡ wanted_item source.now begun.path begun.start begun.inits
             (any_of token.entry.kind token.entry.text.now) token.entry.kind
             (extent_of (lexeme_of token.entry))) }
     {
@@ -334,7 +334,7 @@ impl WordsState {
         requires { IsWritten (lexeme_of token) }
         ensures { IfOk result
             (λ taken. answer_of taken self.new
-            ≡ value_wanted source.now begun.path begun.start begun.inits key token.entry.kind
+            ≡ wanted_value source.now begun.path begun.start begun.inits key token.entry.kind
             (lexeme_of token.entry)) }
     {
         let extent = token_extent(token);

@@ -19,7 +19,7 @@ pub trait Foresees: Drop {
     ghost use Rattle.std.specs.Prelude.{◌≡◌};
     ghost use Rattle.cedar_lexer.specs.declared.token.TokenKind.{TokenKind};
     ghost use Rattle.cedar_syntax.specs.machines.Door.{Machine};
-    ghost use Rattle.cedar_text.specs.machines.Outlooks.{foreseen, outcome};
+    ghost use Rattle.cedar_text.specs.machines.Outlooks.{foreseen, bare_answer};
 
     // what of a state decides it, and the machine that goes over kinds
     ghost Shape: { Type 0 };
@@ -30,9 +30,9 @@ pub trait Foresees: Drop {
 
     /// What is done with a first token of this kind.
     fn begins(kind: TokenKind) -> Outlook
-        ensures { foreseen result ≡ outcome (shapes.step shapes.start kind) };
+        ensures { foreseen result ≡ bare_answer (shapes.step shapes.start kind) };
 
     /// What is done with a token of this kind.
     fn foresees(&self, kind: TokenKind) -> Outlook
-        ensures { foreseen result ≡ outcome (shapes.step (shape self.now) kind) };
+        ensures { foreseen result ≡ bare_answer (shapes.step (shape self.now) kind) };
 }

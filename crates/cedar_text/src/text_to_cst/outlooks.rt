@@ -1,7 +1,7 @@
 //! What is foreseen of the parts of a policy.
 ghost use Rattle.std.specs.Prelude.{◌≡◌};
 ghost use Rattle.cedar_syntax.specs.machines.Marks.{mark_of};
-ghost use Rattle.cedar_text.specs.machines.Outlooks.{foreseen, outcome};
+ghost use Rattle.cedar_text.specs.machines.Outlooks.{foreseen, bare_answer};
 ghost use Rattle.cedar_text.specs.machines.PolicyShapes.{is_relation, constraint_shape, entity_shape, behind_body_shape};
 
 use crate::text_to_cst::annotation::AnnotationState;
@@ -59,7 +59,7 @@ impl Foresees for AnnotationState {
 impl<N: Foresees, S: Foresees, E: Foresees> ElementState<N, S, E> {
     /// What is done with an operator, or another token where one may stand.
     fn compares(kind: TokenKind) -> Outlook
-        ensures { foreseen result ≡ outcome
+        ensures { foreseen result ≡ bare_answer
             (constraint_shape {N = N.Shape} {S = S.Shape} E.shapes.start (is_relation kind)) }
     {
         match as_relation(kind) {
@@ -70,7 +70,7 @@ impl<N: Foresees, S: Foresees, E: Foresees> ElementState<N, S, E> {
 
     /// What is done with `is`, or another token where it may stand.
     fn narrows(kind: TokenKind) -> Outlook
-        ensures { foreseen result ≡ outcome
+        ensures { foreseen result ≡ bare_answer
             (entity_shape {N = N.Shape} S.shapes.start E.shapes.start kind (mark_of kind)) }
     {
         match as_mark(kind) {
@@ -123,7 +123,7 @@ impl<N: Foresees, S: Foresees, E: Foresees> Foresees for ElementState<N, S, E> {
 impl<E: Foresees> ConditionState<E> {
     /// What is done with a `}`, or another token where it may stand.
     fn shuts(kind: TokenKind) -> Outlook
-        ensures { foreseen result ≡ outcome (behind_body_shape {E = E.Shape} (mark_of kind)) }
+        ensures { foreseen result ≡ bare_answer (behind_body_shape {E = E.Shape} (mark_of kind)) }
     {
         match as_mark(kind) {
             Mark::CloseBrace => Outlook::Takes,

@@ -3,8 +3,8 @@ ghost use Rattle.std.specs.Prelude.{◌≡◌, IfOk};
 ghost use Rattle.cedar_text.specs.declared.text_to_cst.state.PathState.{PathState};
 ghost use Rattle.cedar_text.specs.declared.text_to_cst.state.PathState.TheVariants as begun;
 ghost use Rattle.cedar_syntax.specs.machines.Judged.{answer_of};
-ghost use Rattle.cedar_text.specs.machines.Outlooks.{foreseen, outcome};
-ghost use Rattle.cedar_text.specs.machines.Words.{ended_with, name_in};
+ghost use Rattle.cedar_text.specs.machines.Outlooks.{foreseen, bare_answer};
+ghost use Rattle.cedar_text.specs.machines.Words.{end_or_refusal, path_as_name};
 ghost use Rattle.cedar_text.specs.machines.WordShapes.{name_shapes, path_shape};
 
 use crate::text_to_cst::outlook::{Foresees, Outlook};
@@ -22,7 +22,7 @@ impl Path {
     /// The name that ends before a token, if the path is one.
     fn end_name(self, source: &Source) -> Result<Taken<Node<Option<Name>>>, AllocError>
         ensures { IfOk result (λ taken. (s : PathState) → answer_of taken s
-            ≡ ended_with (name_in source.now self)) }
+            ≡ end_or_refusal (path_as_name source.now self)) }
     {
         if !self.is_name() {
             return Ok(Taken::Refused);
@@ -33,7 +33,7 @@ impl Path {
     /// What is done with a token of this kind behind the path.
     fn foresees_behind(&self, kind: TokenKind) -> Outlook
         ensures { foreseen result
-            ≡ outcome (name_shapes.step (path_shape (begun.Have self.now)) kind) }
+            ≡ bare_answer (name_shapes.step (path_shape (begun.Have self.now)) kind) }
     {
         if matches!(kind, TokenKind::ColonColon) {
             return Outlook::Takes;

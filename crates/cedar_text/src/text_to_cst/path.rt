@@ -6,7 +6,7 @@ ghost use Rattle.cedar_syntax.specs.Tokens.{any_of};
 ghost use Rattle.cedar_syntax.specs.LooseWords.{is_common};
 ghost use Rattle.cedar_syntax.specs.machines.Door.{allows, is_some};
 ghost use Rattle.cedar_syntax.specs.machines.Judged.{answer_of};
-ghost use Rattle.cedar_text.specs.machines.Words.{first_word, with_word, path_extent, path_begun, path_more, path_step, named};
+ghost use Rattle.cedar_text.specs.machines.Words.{one_word_path, with_word, path_extent, path_beginning, path_more, path_step, path_node};
 ghost use Rattle.cedar_text.specs.machines.WordShapes.{path_kind, name_kind, path_shapes, path_shape};
 
 use crate::text_to_cst::state::{Path, PathState, Word};
@@ -25,7 +25,7 @@ use std::mem;
 
 /// One identifier alone.
 pub fn first_word(alloc: Global, word: Word) -> Path
-    ensures { result ≡ first_word word }
+    ensures { result ≡ one_word_path word }
 {
     Path {
         before: Items::new(alloc),
@@ -72,7 +72,7 @@ impl Path {
     /// The path as a name, at its bytes.
     #[inline(always)]
     pub fn into_name(self, source: &Source) -> Result<Node<Option<Name>>, AllocError>
-        ensures { IfOk result (λ name. name ≡ named source.now self) }
+        ensures { IfOk result (λ name. name ≡ path_node source.now self) }
     {
         let Path {
             before: path,
@@ -100,7 +100,7 @@ impl PathState {
     /// An identifier where the path begins.
     fn begin(&mut self, alloc: Global, token: Token<'_>) -> Result<Taken<Path>, AllocError>
         ensures { IfOk result
-            (λ taken. answer_of taken self.new ≡ path_begun
+            (λ taken. answer_of taken self.new ≡ path_beginning
             (any_of token.entry.kind token.entry.text.now) (extent_of (lexeme_of token.entry))) }
     {
         match as_ident(alloc, token.kind, token.text)? {

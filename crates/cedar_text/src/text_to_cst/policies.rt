@@ -1,6 +1,6 @@
 //! One policy and policies, in which reading goes on behind a fault.
 ghost use Rattle.std.specs.Prelude.{◌≡◌};
-ghost use Rattle.cedar_text.specs.machines.Policies.{condition_way, begun_condition_way, policy_way, closed_condition, closed_policy, faulty};
+ghost use Rattle.cedar_text.specs.machines.Policies.{condition_way, begun_condition_way, policy_way, closed_condition, closed_policy, unknown_policy};
 
 use crate::text_to_cst::condition::ConditionState;
 use crate::text_to_cst::policy::{Annotations, Begun, Conditions, PolicyState, Scope};
@@ -17,7 +17,7 @@ use std::mem;
 
 /// A policy of which nothing is known.
 fn faulty(alloc: Global) -> Policy
-    ensures { result ≡ faulty }
+    ensures { result ≡ unknown_policy }
 {
     Policy::Policy(PolicyImpl {
         annotations: Items::new(alloc),
@@ -110,13 +110,13 @@ where
     E: Reader<Node<Option<Expr>>>,
 {
     ghost use Rattle.cedar_syntax.specs.declared.reading.recovery.Way.TheVariants as way;
-    ghost use Rattle.cedar_text.specs.machines.Policies.{policy_way, one_closed, one_ended};
+    ghost use Rattle.cedar_text.specs.machines.Policies.{policy_way, policy_closing, policy_ending};
 
     ghost left = { λ s. policy_way way.Stop s.state };
 
-    ghost closed = { λ s. one_closed s };
+    ghost closed = { λ s. policy_closing s };
 
-    ghost over = { λ s. one_ended s };
+    ghost over = { λ s. policy_ending s };
 
     fn way(&self) -> Way {
         self.state.way(Way::Stop)
@@ -167,15 +167,16 @@ where
 {
     ghost use Rattle.std.specs.Prelude.{Some, None};
     ghost use Rattle.cedar_text.specs.declared.text_to_cst.policy.PolicyState.TheVariants as policy;
-    ghost use Rattle.cedar_text.specs.machines.Placing.{spanned};
+    ghost use Rattle.cedar_text.specs.machines.Placing.{spanned_state};
     ghost use Rattle.cedar_text.specs.machines.Sequences.{sequence};
-    ghost use Rattle.cedar_text.specs.machines.Policies.{begun_policy_way, all_closed, faulty};
+    ghost use Rattle.cedar_text.specs.machines.Policies.{begun_policy_way, policies_closing, unknown_policy};
 
     ghost left = { λ s. begun_policy_way s.begun };
 
-    ghost closed = { λ s. all_closed s.done s.begun };
+    ghost closed = { λ s. policies_closing s.done s.begun };
 
-    ghost over = { λ s. sequence s.done (Some (spanned None (policy.Closed faulty))) };
+    ghost over = { λ s. sequence s.done
+        (Some (spanned_state None (policy.Closed unknown_policy))) };
 
     fn way(&self) -> Way {
         match &self.begun {
@@ -210,16 +211,16 @@ where
 {
     ghost use Rattle.std.specs.Prelude.{Some, None};
     ghost use Rattle.cedar_text.specs.declared.text_to_cst.policy.PolicyState.TheVariants as policy;
-    ghost use Rattle.cedar_text.specs.machines.Placing.{spanned};
+    ghost use Rattle.cedar_text.specs.machines.Placing.{spanned_state};
     ghost use Rattle.cedar_text.specs.machines.Sequences.{sequence};
-    ghost use Rattle.cedar_text.specs.machines.Policies.{begun_policy_way, all_closed, faulty};
+    ghost use Rattle.cedar_text.specs.machines.Policies.{begun_policy_way, policies_closing, unknown_policy};
 
     ghost left = { λ s. begun_policy_way s.state.begun };
 
-    ghost closed = { λ s. spanned s.extent (all_closed s.state.done s.state.begun) };
+    ghost closed = { λ s. spanned_state s.extent (policies_closing s.state.done s.state.begun) };
 
-    ghost over = { λ s. spanned s.extent
-        (sequence s.state.done (Some (spanned None (policy.Closed faulty)))) };
+    ghost over = { λ s. spanned_state s.extent
+        (sequence s.state.done (Some (spanned_state None (policy.Closed unknown_policy)))) };
 
     fn way(&self) -> Way {
         self.state.way()

@@ -4,7 +4,7 @@ ghost use Rattle.cedar_lexer.specs.Token.{lexeme_of};
 ghost use Rattle.cedar_syntax.specs.Tokens.{any_of};
 ghost use Rattle.cedar_syntax.specs.Trees.{policy_of};
 ghost use Rattle.cedar_syntax.specs.WrittenTokens.{IsWritten};
-ghost use Rattle.cedar_text.specs.machines.Policy.{at_effect, behind_effect, behind_parts, scope_ended, conditions_ended, outside_sections, IsOutsideSections};
+ghost use Rattle.cedar_text.specs.machines.Policy.{at_effect, behind_effect, behind_parts, scope_ending, conditions_ending, outside_sections, IsOutsideSections};
 ghost use Rattle.cedar_syntax.specs.machines.Judged.{answer_of};
 
 use crate::text_to_cst::annotation::AnnotationState;
@@ -132,7 +132,7 @@ where
         mark: Mark,
     ) -> Taken<Policy>
         ensures { answer_of result self.new
-            ≡ scope_ended record { done = []; begun = None } self.old variables mark }
+            ≡ scope_ending record { done = []; begun = None } self.old variables mark }
     {
         match mem::replace(self, PolicyState::Annotated(Sequence::new(alloc))) {
             PolicyState::Scope(annotations, effect, held) => match mark {
@@ -169,7 +169,7 @@ where
         conds: Items<Node<Option<Cond>>>,
         mark: Mark,
     ) -> Taken<Policy>
-        ensures { answer_of result self.new ≡ conditions_ended self.old conds mark }
+        ensures { answer_of result self.new ≡ conditions_ending self.old conds mark }
     {
         match mem::replace(self, PolicyState::Annotated(Sequence::new(alloc))) {
             PolicyState::Conditions(annotations, effect, variables, held) => {

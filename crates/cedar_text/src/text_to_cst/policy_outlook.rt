@@ -3,7 +3,7 @@ ghost use Rattle.std.specs.Prelude.{◌≡◌, Option, None, IfOk};
 ghost use Rattle.cedar_syntax.specs.machines.Door.{is_some, allows, option_image};
 ghost use Rattle.cedar_syntax.specs.machines.Mapping.{policies_node};
 ghost use Rattle.cedar_syntax.specs.machines.Marks.{mark_of};
-ghost use Rattle.cedar_text.specs.machines.Outlooks.{foreseen, outcome};
+ghost use Rattle.cedar_text.specs.machines.Outlooks.{foreseen, bare_answer};
 ghost use Rattle.cedar_text.specs.machines.Placing.{node_if};
 ghost use Rattle.cedar_text.specs.machines.Policies.{one_policy_shapes, one_policy_shape, all_policies_shapes, all_policies_shape};
 ghost use Rattle.cedar_text.specs.machines.Policy.{policy_end};
@@ -28,7 +28,8 @@ use std::alloc::AllocError;
 impl<S: Foresees, T: Drop> Sequence<S, T> {
     /// What is done with a token of this kind where an item may begin.
     pub fn begins_item(kind: TokenKind) -> Outlook
-        ensures { foreseen result ≡ outcome (beginning_shape (S.shapes.step S.shapes.start kind)) }
+        ensures { foreseen result ≡ bare_answer
+            (beginning_shape (S.shapes.step S.shapes.start kind)) }
     {
         match S::begins(kind) {
             Outlook::Takes => Outlook::Takes,
@@ -38,7 +39,7 @@ impl<S: Foresees, T: Drop> Sequence<S, T> {
 
     /// What is done with it where items stand one behind the other.
     pub fn foresees_many(&self, kind: TokenKind) -> Outlook
-        ensures { foreseen result ≡ outcome
+        ensures { foreseen result ≡ bare_answer
             (many_shape_step S.shapes (sequence_shape S.shape self.now) kind) }
     {
         match &self.begun {
@@ -53,7 +54,7 @@ impl<S: Foresees, T: Drop> Sequence<S, T> {
 
     /// What is done with it where items are separated by commas.
     pub fn foresees_listed(&self, kind: TokenKind) -> Outlook
-        ensures { foreseen result ≡ outcome
+        ensures { foreseen result ≡ bare_answer
             (listed_shape_step S.shapes (sequence_shape S.shape self.now) kind) }
     {
         match &self.begun {
@@ -78,7 +79,7 @@ where
 {
     /// What is done with a token of this kind where the effect may stand.
     fn names(kind: TokenKind) -> Outlook
-        ensures { foreseen result ≡ outcome
+        ensures { foreseen result ≡ bare_answer
             (effect_shape {A = Option AnnotationShape}
             {V = Option (ElementShape N.Shape S.Shape E.Shape)}
             {C = Option (ConditionShape E.Shape)} (is_word kind)) }
@@ -92,7 +93,7 @@ where
 
     /// What is done with it where the scope may end.
     fn leaves(kind: TokenKind) -> Outlook
-        ensures { foreseen result ≡ outcome
+        ensures { foreseen result ≡ bare_answer
             (behind_scope_shape {A = Option AnnotationShape}
             {V = Option (ElementShape N.Shape S.Shape E.Shape)}
             {C = Option (ConditionShape E.Shape)} None (mark_of kind)) }
@@ -105,7 +106,7 @@ where
 
     /// What is done with it where the policy may end.
     fn shuts(kind: TokenKind) -> Outlook
-        ensures { foreseen result ≡ outcome
+        ensures { foreseen result ≡ bare_answer
             (behind_conditions_shape {A = Option AnnotationShape}
             {V = Option (ElementShape N.Shape S.Shape E.Shape)}
             {C = Option (ConditionShape E.Shape)} (mark_of kind)) }

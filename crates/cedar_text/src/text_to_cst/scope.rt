@@ -4,7 +4,7 @@ ghost use Rattle.cedar_lexer.specs.Token.{lexeme_of};
 ghost use Rattle.cedar_syntax.specs.Tokens.{any_of};
 ghost use Rattle.cedar_syntax.specs.WrittenTokens.{IsWritten};
 ghost use Rattle.cedar_syntax.specs.machines.Marks.{mark_of, relation_of};
-ghost use Rattle.cedar_text.specs.machines.Scope.{at_variable, at_constraint, at_entity_type, at_type_name, name_ended, sum_ended, expression_ended, element_step, IsOutsideParts};
+ghost use Rattle.cedar_text.specs.machines.Scope.{at_variable, at_constraint, at_entity_type, at_type_name, name_ending, sum_ending, expression_ending, element_step, IsOutsideParts};
 ghost use Rattle.cedar_syntax.specs.machines.Judged.{answer_of};
 
 use crate::text_to_cst::reader::{Reader, put};
@@ -160,7 +160,7 @@ where
         token: Token<'_>,
     ) -> Taken<VariableDef>
         ensures { (src : List ℕ) → answer_of result self.new
-            ≡ name_ended (S.machine src).start (E.machine src).start self.old name
+            ≡ name_ending (S.machine src).start (E.machine src).start self.old name
             (lexeme_of token.entry) }
     {
         match mem::replace(self, ElementState::Start) {
@@ -180,7 +180,7 @@ where
         kind: TokenKind,
     ) -> Taken<VariableDef>
         ensures { (src : List ℕ) → answer_of result self.new
-            ≡ sum_ended (E.machine src).start self.old sum kind }
+            ≡ sum_ending (E.machine src).start self.old sum kind }
     {
         match mem::replace(self, ElementState::Start) {
             ElementState::EntityType(variable, name, held) => {
@@ -193,7 +193,7 @@ where
 
     /// The constraint that is begun has ended.
     fn leave_expression(&mut self, expression: Node<Option<Expr>>) -> Taken<VariableDef>
-        ensures { answer_of result self.new ≡ expression_ended self.old expression }
+        ensures { answer_of result self.new ≡ expression_ending self.old expression }
     {
         match mem::replace(self, ElementState::Start) {
             ElementState::Constraint(variable, unused_type_name, entity_type, operator, held) => {

@@ -3,7 +3,7 @@ ghost use Rattle.std.specs.Prelude.{◌≡◌, [], None, IfOk};
 ghost use Rattle.cedar_lexer.specs.Token.{lexeme_of};
 ghost use Rattle.cedar_syntax.specs.WrittenTokens.{IsWritten};
 ghost use Rattle.cedar_syntax.specs.machines.Door.{ended};
-ghost use Rattle.cedar_text.specs.machines.Sequences.{sequence, beginning, many_step, behind_item, listed_step};
+ghost use Rattle.cedar_text.specs.machines.Sequences.{sequence, item_beginning, many_step, behind_item, listed_step};
 ghost use Rattle.cedar_syntax.specs.machines.Judged.{answer_of};
 
 use crate::text_to_cst::reader::Reader;
@@ -88,8 +88,8 @@ impl<T: Drop, S: Reader<T>> Sequence<S, T> {
     ) -> Result<Taken<Items<T>>, AllocError>
         requires { IsWritten (lexeme_of token) }
         ensures { IfOk result (λ taken. answer_of taken self.new
-            ≡ beginning self.old.done ((S.machine source.now).step (S.machine source.now).start
-            (lexeme_of token.entry))) }
+            ≡ item_beginning self.old.done ((S.machine source.now).step
+            (S.machine source.now).start (lexeme_of token.entry))) }
     {
         let mut item = S::begin(alloc);
         match item.step(alloc, source, token)? {

@@ -1,7 +1,8 @@
 -- Where a box keeps its value.
 --
--- A tree that holds a boxed tree holds itself through `Boxed`. The check then has to know where the one value of a
--- `Boxed` lies: in the memory of the `Box` inside. Its pointer and its allocator hold nothing of it.
+-- A tree that holds a boxed tree holds itself through `Boxed`. The check then has to know where
+-- the one value of a `Boxed` lies: in the memory of the `Box` inside. Its pointer and its
+-- allocator hold nothing of it.
 
 use base.Fml.{ftrue}
 use base.Stored.{gnil}
@@ -63,7 +64,8 @@ module _ (Old New : RattleType) (renewed : Old.Denot → New.Denot) where
   abbrev refill : Box Old.Denot Global → Box New.Denot Global
   refill filled = refilled filled (renewed filled.value)
 
-  -- the standard box is laid out, owned and lent as before: each of the three follows the value's own
+  -- the standard box is laid out, owned and lent as before: each of the three follows the value's
+  -- own
   std_box_places : Alike Old New renewed → Alike (std_box Old) (std_box New) refill
   unfolding part_of
   std_box_places alike = record {

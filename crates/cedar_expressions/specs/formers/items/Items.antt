@@ -1,7 +1,8 @@
 -- Where a list keeps its elements.
 --
--- A tree that holds a list of trees holds itself through `Items`. The check then has to know at which places of an
--- `Items` its elements lie: all of them in the one `Vec` inside, in order, and none anywhere else.
+-- A tree that holds a list of trees holds itself through `Items`. The check then has to know at
+-- which places of an `Items` its elements lie: all of them in the one `Vec` inside, in order, and
+-- none anywhere else.
 
 use base.Stored.{code_map}
 use denote.Hole.Carrier.{listed, list-listed}

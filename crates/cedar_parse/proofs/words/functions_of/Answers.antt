@@ -2,7 +2,7 @@ use Rattle.std.proofs.Common.{◌≡◌, true, false, sym, ap, ◌∙◌, string
 use Rattle.std.specs.BTreeSet.{BTreeSet, contains}
 use Rattle.cedar_expressions.specs.Path.{Path}
 use Rattle.cedar_expressions.specs.contracts.names.NameOrd.TheImpl as name_order
-use Rattle.cedar_parse.specs.Words.{IsNamed, names_function}
+use Rattle.cedar_parse.specs.Words.{IsFoundName, names_function}
 use Rattle.cedar_parse.proofs.Naming.{function_more, none_more}
 use Rattle.cedar_parse.proofs.words.functions_of.Goals as goal
 use Rattle.cedar_parse.proofs.words.functions_of.Goals.{in-Some+in_ok-insert, in_default}
@@ -13,7 +13,7 @@ loop-word-preserved c name =
     let words = c.args.words.now in
     let x = c.word-item.result in
     let held = λ (set : BTreeSet Path). contains name_order.ghosts.cmp set name in
-    let found : IsNamed (λ name. names_function name c.as_str.result.now) c.in_ok-name.field-0 = c.in_ok-name.ensures in
+    let found : IsFoundName (λ name. names_function name c.as_str.result.now) c.in_ok-name.field-0 = c.in_ok-name.ensures in
     elim c.match-branch-2.branch [
       | in-Some+in_ok-insert w ↦
           (let named : names_function w.in-Some.name (string_bytes x) ≡ true = ap (names_function w.in-Some.name) (sym c.as_str.ensures.value) ∙ (rw w.in-Some.is at found) in

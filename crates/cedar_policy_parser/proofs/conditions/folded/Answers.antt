@@ -1,4 +1,5 @@
 use Rattle.std.proofs.Common.{◌≡◌, length, arith}
+use Rattle.cedar_policy_parser.proofs.ConditionValues.{joined_aside}
 use Rattle.cedar_policy_parser.proofs.FoldedConditions.{meant_first, meant_more, meant_whole}
 use Rattle.cedar_policy_parser.proofs.conditions.folded.Goals as goal
 
@@ -8,7 +9,7 @@ loop-condition-init c = meant_first c.args.conditions.items c.pop.new.self.items
 pub loop-condition-preserved : goal.loop-condition-preserved
 loop-condition-preserved c =
     meant_more c.loop-condition.earlier.items c.pop-in-loop-condition.new.self.items c.pop-in-loop-condition.result c.in-Some-pop.condition c.loop-condition.all c.in_ok-all.all _
-    c.pop-in-loop-condition.ensures.items c.in-Some-pop.is c.in_ok-all.ensures.value c.loop-condition.invariant
+    c.pop-in-loop-condition.ensures.items c.in-Some-pop.is (joined_aside c.in-Some-pop.condition c.loop-condition.all c.in_ok-all.all c.in_ok-all.ensures.value) c.loop-condition.invariant
 
 pub returns : goal.returns
 returns c =

@@ -1,6 +1,6 @@
 use Rattle.std.proofs.Common.{refl}
-use Rattle.cedar_policy_parser.specs.Conditions.{slot_told}
-use Rattle.cedar_policy_parser.specs.Seen.{none_seen}
+use Rattle.cedar_policy_parser.specs.Conditions.{condition_slot_fault}
+use Rattle.cedar_policy_parser.specs.Seen.{empty_view}
 use Rattle.cedar_policy_parser.proofs.FaultLists.{told_read}
 use Rattle.cedar_policy_parser.proofs.Loops.{take_whole}
 use Rattle.cedar_policy_parser.proofs.Outcomes.{gives_at}
@@ -11,8 +11,8 @@ loop-slot-init c = refl
 
 pub loop-slot-preserved : goal.loop-slot-preserved
 loop-slot-preserved c =
-    gives_at none_seen c.one_more_fault-all.result _ _
-    (told_read (slot_told c.args.site.loc.now) c.args.slots.now c.loop-slot.slot-index _ c.loop-slot-test.true)
+    gives_at empty_view c.one_more_fault-all.result _ _
+    (told_read (condition_slot_fault c.args.site.loc.now) c.args.slots.now c.loop-slot.slot-index _ c.loop-slot-test.true)
     (c.one_more_fault-all.ensures.told _ _ c.loop-slot.invariant c.slot_fault.ensures)
 
 pub returns : goal.returns

@@ -30,3 +30,15 @@ returns-clause-no_clause c = kinds.no_clause
 
 pub returns-clause-slots : goal.returns-clause-slots
 returns-clause-slots c = kinds.clause_slots
+
+pub returns-clause-effect_refused : goal.returns-clause-effect_refused
+returns-clause-effect_refused c = kinds.effect_refused
+
+pub returns-clause-annotation_refused : goal.returns-clause-annotation_refused
+returns-clause-annotation_refused c = kinds.annotation_refused
+
+pub returns-clause-scope_refused : goal.returns-clause-scope_refused
+returns-clause-scope_refused c = kinds.scope_refused
+
+pub returns-clause-condition_refused : goal.returns-clause-condition_refused
+returns-clause-condition_refused c = kinds.condition_refused

@@ -2,4 +2,4 @@ use Rattle.cedar_policy_parser.proofs.sound.Sets.{policy_meant}
 use Rattle.cedar_policy_parser.proofs.policy_laws.policy_is_meant.Goals as goal
 
 pub returns : goal.returns
-returns c e found src id ts x parts r h = policy_meant e found id parts r h
+returns c e src id ts x parts r h = policy_meant e id parts r h

@@ -1,5 +1,5 @@
 use Rattle.std.proofs.Common.{refl}
-use Rattle.cedar_policy_parser.specs.Scope.{extra_told}
+use Rattle.cedar_policy_parser.specs.Scope.{extra_element_fault}
 use Rattle.cedar_policy_parser.proofs.FaultLists.{told_next}
 use Rattle.cedar_policy_parser.proofs.Loops.{take_whole}
 use Rattle.cedar_policy_parser.proofs.scope.no_extra.Goals as goal
@@ -9,7 +9,7 @@ loop-node-init c = refl
 
 pub loop-node-preserved : goal.loop-node-preserved
 loop-node-preserved c =
-    let whole = told_next (λ n. extra_told n.loc n.node) c.args.others.now c.loop-node.node-index c.node-item.result c.loop-node-test.true c.node-item.is in
+    let whole = told_next (λ n. extra_element_fault n.loc n.node) c.args.others.now c.loop-node.node-index c.node-item.result c.loop-node-test.true c.node-item.is in
     rw whole (c.one_more_fault-all.ensures.told _ _ c.loop-node.invariant c.extra_fault.ensures)
 
 pub returns : goal.returns

@@ -1,9 +1,8 @@
 use Rattle.std.proofs.Common.{List, take}
-use Rattle.cedar_policy_parser.specs.Conditions.{Found}
 use Rattle.cedar_policy_parser.specs.Extensions.{table_of}
-use Rattle.cedar_policy_parser.specs.Policies.{kept_in, set_outcome}
+use Rattle.cedar_policy_parser.specs.Policies.{set_view, set_outcome}
 use Rattle.cedar_policy_parser.specs.Seen.{Gives}
 use Rattle.cedar_policy_parser.proofs.sets.policies.Given as goal
 
 abbrev pub invariant-loop-count : goal.invariant-loop-count
-invariant-loop-count l = (found : List (List Found)) × Gives (kept_in l.set) l.all (set_outcome (table_of l.styles) found (take l.count l.nodes))
+invariant-loop-count l = Gives (set_view l.set) l.all (set_outcome (table_of l.styles) (take l.count l.nodes))

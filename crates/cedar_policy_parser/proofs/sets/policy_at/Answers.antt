@@ -5,6 +5,4 @@ use Rattle.cedar_policy_parser.specs.Seen.{Gives}
 use Rattle.cedar_policy_parser.proofs.sets.policy_at.Goals as goal
 
 pub returns : goal.returns
-returns c =
-    let given = c.static_or_template.ensures in
-    (given.0, subst (λ id. Gives either_parts c.static_or_template.result (either_outcome (table_of c.args.styles.now) given.0 id c.args.node.now)) c.in_ok-id.ensures given.1)
+returns c = subst (λ id. Gives either_parts c.static_or_template.result (either_outcome (table_of c.args.styles.now) id c.args.node.now)) c.in_ok-id.ensures c.static_or_template.ensures

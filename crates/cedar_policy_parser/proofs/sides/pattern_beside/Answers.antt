@@ -1,4 +1,4 @@
-use Rattle.cedar_policy_parser.specs.Applied.{seen_matched}
+use Rattle.cedar_policy_parser.specs.Applied.{seen_pattern}
 use Rattle.cedar_policy_parser.proofs.Identifiers.{items_of}
 use Rattle.cedar_policy_parser.proofs.Outcomes.{both_gives, given_next, gives_at}
 use Rattle.cedar_policy_parser.proofs.sides.pattern_beside.Goals as goal
@@ -7,5 +7,5 @@ pub returns : goal.returns
 returns g c x h k l =
     let m = g.B.ExprBuilderInfallibleBuild.meaning in
     let right = rw c.in_ok-right.was at l in
-    gives_at (seen_matched m) c.flatten_tuple_2.result _ _ (given_next h _ _ right)
+    gives_at (seen_pattern m) c.flatten_tuple_2.result _ _ (given_next h _ _ right)
     (both_gives m items_of c.args.target c.into_pattern-pattern.result c.flatten_tuple_2.result x _ c.flatten_tuple_2.ensures.both c.flatten_tuple_2.ensures.faults k c.into_pattern-pattern.ensures)

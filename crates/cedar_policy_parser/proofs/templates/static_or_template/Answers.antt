@@ -12,11 +12,11 @@ returns-then-is_some c =
     let t = c.in_ok-template.template in
     let given = c.in_ok-template.ensures in
     let some : is_some (slice_get (template_slots t) 0) ≡ true = first_of (cc, search rules) in
-    (given.0, on_right (template_outcome e given.0 c.args.id c.args.node.now) t given.1 (template_free e given.0 c.args.id c.args.node.now t given.1) some)
+    on_right (template_outcome e c.args.id c.args.node.now) t given (template_free e c.args.id c.args.node.now t given) some
 
 pub returns : goal.returns
 returns c =
     let e = table_of c.args.styles.now in
     let t = c.in_ok-template.template in
     let given = c.in_ok-template.ensures in
-    (given.0, on_left (template_outcome e given.0 c.args.id c.args.node.now) t c.in-Ok.policy given.1 (template_free e given.0 c.args.id c.args.node.now t given.1) c.in-Ok.ensures.0 c.in-Ok.ensures.1)
+    on_left (template_outcome e c.args.id c.args.node.now) t c.in-Ok.policy given (template_free e c.args.id c.args.node.now t given) c.in-Ok.ensures.0 c.in-Ok.ensures.1

@@ -9,9 +9,9 @@ pub returns-in-Ok : goal.returns-in-Ok
 returns-in-Ok c =
     let e = table_of c.args.styles.now in
     let given = c.in-Ok.ensures in
-    (given.0, gives_at template_parts c.only_static.result _ _ (ap (only_static c.args.node.now.loc) given.1) (c.only_static.ensures (template_free e given.0 c.args.id c.args.node.now c.in-Ok.template given.1)))
+    gives_at template_parts c.only_static.result _ _ (ap (only_static c.args.node.now.loc) given) (c.only_static.ensures (template_free e c.args.id c.args.node.now c.in-Ok.template given))
 
 pub returns-in-Err : goal.returns-in-Err
 returns-in-Err c =
     let given = c.in-Err.ensures in
-    (given.0, c.refused_static.ensures c.args.node.now.loc (template_outcome (table_of c.args.styles.now) given.0 c.args.id c.args.node.now) given.1)
+    c.refused_static.ensures c.args.node.now.loc (template_outcome (table_of c.args.styles.now) c.args.id c.args.node.now) given

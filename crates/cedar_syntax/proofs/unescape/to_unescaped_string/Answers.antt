@@ -6,7 +6,7 @@ use Rattle.cedar_syntax.specs.declared.err.escape.UnescapeError.{UnescapeError}
 use Rattle.cedar_syntax.specs.declared.unescape.piece.PieceValue.{PieceValue}
 use Rattle.cedar_syntax.specs.declared.unescape.piece.PieceValue.TheVariants.{Nothing, Character, Fault}
 use Rattle.cedar_syntax.specs.EscapeFaults.{found_faults, fault_between}
-use Rattle.cedar_syntax.specs.Piece.{Placed, unescaped_piece, fault_of}
+use Rattle.cedar_syntax.specs.Piece.{Placed, unescaped_piece, piece_value_faults}
 use Rattle.cedar_syntax.proofs.Layouts.{step, goes_on_as, placed_between, finish}
 use Rattle.cedar_syntax.proofs.Answering.{answered, text_gives, text_tells, text_ok, text_err, text_succeeds, text_fails}
 use Rattle.cedar_syntax.proofs.unescape.to_unescaped_string.Goals as goal
@@ -21,14 +21,14 @@ gives_character o t c e = ap (λ (x : PieceValue). t ++ unescaped_piece x) e
 gives_fault : (o : PieceValue) (t : List ℕ) (k : EscapeError) → o ≡ Fault k → t ++ unescaped_piece o ≡ t
 gives_fault o t k e = ap (λ (x : PieceValue). t ++ unescaped_piece x) e ∙ append-nil t
 
-tells_nothing : (raw : List ℕ) (p : Placed) (o : PieceValue) (found : List UnescapeError) → o ≡ Nothing → found ++ fault_of raw p o ≡ found
-tells_nothing raw p o found e = ap (λ (x : PieceValue). found ++ fault_of raw p x) e ∙ append-nil found
+tells_nothing : (raw : List ℕ) (p : Placed) (o : PieceValue) (found : List UnescapeError) → o ≡ Nothing → found ++ piece_value_faults raw p o ≡ found
+tells_nothing raw p o found e = ap (λ (x : PieceValue). found ++ piece_value_faults raw p x) e ∙ append-nil found
 
-tells_character : (raw : List ℕ) (p : Placed) (o : PieceValue) (found : List UnescapeError) (c : ℕ) → o ≡ Character c → found ++ fault_of raw p o ≡ found
-tells_character raw p o found c e = ap (λ (x : PieceValue). found ++ fault_of raw p x) e ∙ append-nil found
+tells_character : (raw : List ℕ) (p : Placed) (o : PieceValue) (found : List UnescapeError) (c : ℕ) → o ≡ Character c → found ++ piece_value_faults raw p o ≡ found
+tells_character raw p o found c e = ap (λ (x : PieceValue). found ++ piece_value_faults raw p x) e ∙ append-nil found
 
-tells_fault : (raw : List ℕ) (p : Placed) (o : PieceValue) (found : List UnescapeError) (k : EscapeError) → o ≡ Fault k → found ++ fault_of raw p o ≡ found ++ fault_between raw k p.start p.end ∷ []
-tells_fault raw p o found k e = ap (λ (x : PieceValue). found ++ fault_of raw p x) e
+tells_fault : (raw : List ℕ) (p : Placed) (o : PieceValue) (found : List UnescapeError) (k : EscapeError) → o ≡ Fault k → found ++ piece_value_faults raw p o ≡ found ++ fault_between raw k p.start p.end ∷ []
+tells_fault raw p o found k e = ap (λ (x : PieceValue). found ++ piece_value_faults raw p x) e
 
 pub overflow_sub-raw-in-Fault : goal.overflow_sub-raw-in-Fault
 overflow_sub-raw-in-Fault c =
@@ -57,7 +57,7 @@ loop-first-preserved c =
     (string_bytes l.text) (found_faults l.faults) l.invariant.0 v l.invariant.1 c.in-Some.ensures.read c.first_piece-step.ensures l.invariant.3 in
     let fits : length rest' ≤ length raw = omega (arith, s.shorter, l.invariant.1) in
     let p = placed_between raw l.rest.now rest' s.text o in
-    let on = goes_on_as text_gives (text_tells raw) raw rest' (string_bytes l.text ++ unescaped_piece o) (string_bytes c.match-step.text) (found_faults l.faults ++ fault_of raw p o) (found_faults c.match-step.faults) in
+    let on = goes_on_as text_gives (text_tells raw) raw rest' (string_bytes l.text ++ unescaped_piece o) (string_bytes c.match-step.text) (found_faults l.faults ++ piece_value_faults raw p o) (found_faults c.match-step.faults) in
     elim c.match-step.branch [
       | in-Nothing w ↦ (v, fits, cc (l.invariant.2), on (gives_nothing o (string_bytes l.text) w.in-Nothing.is ∙ ap string_bytes (sym w.text-is)) (tells_nothing raw p o (found_faults l.faults) w.in-Nothing.is ∙ ap found_faults (sym w.faults-is)) s.goes_on)
       | in-Character+in_ok-push-in-Character w ↦

@@ -23,15 +23,15 @@ use Rattle.cedar_text.specs.declared.text_to_cst.expression.state.Mode.{Mode}
 use Rattle.cedar_text.specs.declared.text_to_cst.expression.state.Mode.TheVariants as mode
 use Rattle.cedar_text.specs.declared.text_to_cst.expression.state.State.{State}
 use Rattle.cedar_syntax.specs.declared.reading.extent.Extent.{Extent}
-use Rattle.cedar_syntax.specs.Place.{join, extent, node_at, placed}
+use Rattle.cedar_syntax.specs.Place.{joint_extent, extent, node_at, placed}
 use Rattle.cedar_syntax.specs.Tokens.{Spot, one}
 use Rattle.cedar_syntax.specs.Trees.{Cell, member_of, rec_init_of}
 use Rattle.cedar_syntax.specs.LooseExpressions.{if_name, lone_expr}
 use Rattle.cedar_text.specs.machines.Named.{joins_words}
-use Rattle.cedar_text.specs.machines.Closing.{ranged, node_of, whole, fresh, accessed}
+use Rattle.cedar_text.specs.machines.Closing.{ranged_tree, node_of, whole, fresh, with_access}
 use Rattle.cedar_text.specs.machines.ExpressionStates.{state, opening, has_operand, has_primary}
-use Rattle.cedar_text.specs.machines.Wanting.{set_with, record_with, set_closed, record_closed, call_closed}
-use Rattle.cedar_text.specs.machines.Having.{having, record_more, ended_by}
+use Rattle.cedar_text.specs.machines.Wanting.{set_with, record_with, set_closing, record_closing, call_closing}
+use Rattle.cedar_text.specs.machines.Having.{having, record_more, frame_ending}
 use Rattle.cedar_text.proofs.expressions.complete.Runs.{chain_extent, at, Setting, next_of, run, two, three, token, StandsAt, met}
 use Rattle.cedar_text.proofs.expressions.complete.Words.{PrimaryAt, had_at}
 use Rattle.cedar_text.proofs.expressions.complete.If.{if_runs, if_key_runs}
@@ -49,8 +49,8 @@ paren_runs {src = src} c st lv pl sg ts l m x h =
     let inside = paren_frame lv sg l ∷ st in
     had_at c st lv pl sg (one kind.OpenParen l ++ ts ++ one kind.CloseParen m) (primary.Expr (placed src ts x))
     (three c (Some (state st lv (mode.Want pl sg))) (Some (opening inside [] place.Expr)) _ _ (one kind.OpenParen l) ts (one kind.CloseParen m) refl h.goes
-    (met c inside h.levels h.md h.last kind.CloseParen m h.at_it refl ∙ ap (λ o. next_of (ended_by src inside o closing.Paren (at m))) h.is)
-    ∙ ap (λ q. Some (has_primary src st lv sg (ranged q (primary.Expr (placed src ts x))))) (around_is ts kind.OpenParen kind.CloseParen l m))
+    (met c inside h.levels h.md h.last kind.CloseParen m h.at_it refl ∙ ap (λ o. next_of (frame_ending src inside o closing.Paren (at m))) h.is)
+    ∙ ap (λ q. Some (has_primary src st lv sg (ranged_tree q (primary.Expr (placed src ts x))))) (around_is ts kind.OpenParen kind.CloseParen l m))
 
 abbrev pub index_frame : Levels → Operand → Spot → Frame
 index_frame lv u l = frame.Index record { outer = lv; operand = u; opened = at l }
@@ -61,8 +61,8 @@ index_runs {src = src} c ts l m x g st lv md u s a =
     let inside = index_frame lv u l ∷ st in
     let h = g (index_frame lv u l) st in
     three c (Some (state st lv md)) (Some (opening inside [] place.Expr)) _ _ (one kind.OpenBracket l) ts (one kind.CloseBracket m) (met c st lv md u kind.OpenBracket l s refl ∙ begins_access st lv u opens.Bracket (at l) a) h.goes
-    (met c inside h.levels h.md h.last kind.CloseBracket m h.at_it refl ∙ ap (λ o. next_of (ended_by src inside o closing.Bracket (at m))) h.is)
-    ∙ ap (λ q. Some (has_operand st lv (accessed src u (ranged q (access.Index (placed src ts x)))))) (around_is ts kind.OpenBracket kind.CloseBracket l m)
+    (met c inside h.levels h.md h.last kind.CloseBracket m h.at_it refl ∙ ap (λ o. next_of (frame_ending src inside o closing.Bracket (at m))) h.is)
+    ∙ ap (λ q. Some (has_operand st lv (with_access src u (ranged_tree q (access.Index (placed src ts x)))))) (around_is ts kind.OpenBracket kind.CloseBracket l m)
 
 -- lists of expressions: what a comma and the closing kind do within this frame
 pub record IsList {src : List ℕ} (c : Setting src) (st : List Frame) (f : List (Cell Expr) → Frame) (k : TokenKind) (done : List (Cell Expr) → Extent → State) : Type 0 where
@@ -121,7 +121,7 @@ abbrev pub set_frame : Levels → Signs → Spot → List (Cell Expr) → Frame
 set_frame lv sg l xs = frame.Set (set_with lv sg (at l) xs)
 
 abbrev pub set_done : {src : List ℕ} → Setting src → List Frame → Levels → Signs → Spot → List (Cell Expr) → Extent → State
-set_done {src = src} c st lv sg l xs m = set_closed src st (set_with lv sg (at l) xs) m
+set_done {src = src} c st lv sg l xs m = set_closing src st (set_with lv sg (at l) xs) m
 
 pub set_list : {src : List ℕ} (c : Setting src) (st : List Frame) (lv : Levels) (sg : Signs) (l : Spot) → IsList c st (set_frame lv sg l) kind.CloseBracket (set_done c st lv sg l)
 set_list c st lv sg l = record { comma = λ xs w m p. refl; closes = λ xs w m p. refl; empty = λ xs p. refl; apart = refl }
@@ -131,7 +131,7 @@ pub set_runs : {src : List ℕ} (c : Setting src) (st : List Frame) (lv : Levels
 set_runs {src = src} c st lv pl sg ts l m xs h =
     had_at c st lv pl sg (one kind.OpenBracket l ++ ts ++ one kind.CloseBracket m) (primary.EList xs)
     (three c (Some (state st lv (mode.Want pl sg))) (Some (opening (set_frame lv sg l [] ∷ st) [] place.Item)) _ _ (one kind.OpenBracket l) ts (one kind.CloseBracket m) refl refl (h m)
-    ∙ ap (λ q. Some (has_primary src st lv sg (ranged q (primary.EList xs)))) (around_is ts kind.OpenBracket kind.CloseBracket l m))
+    ∙ ap (λ q. Some (has_primary src st lv sg (ranged_tree q (primary.EList xs)))) (around_is ts kind.OpenBracket kind.CloseBracket l m))
 
 -- arguments
 
@@ -142,7 +142,7 @@ abbrev pub call_frame : Levels → Operand → Spot → List (Cell Expr) → Fra
 call_frame lv u l xs = frame.Call (call_with lv u (at l) xs)
 
 abbrev pub call_done : {src : List ℕ} → Setting src → List Frame → Levels → Operand → Spot → List (Cell Expr) → Extent → State
-call_done {src = src} c st lv u l xs m = call_closed src st (call_with lv u (at l) xs) m
+call_done {src = src} c st lv u l xs m = call_closing src st (call_with lv u (at l) xs) m
 
 pub call_list : {src : List ℕ} (c : Setting src) (st : List Frame) (lv : Levels) (u : Operand) (l : Spot) → IsList c st (call_frame lv u l) kind.CloseParen (call_done c st lv u l)
 call_list c st lv u l = record { comma = λ xs w m p. refl; closes = λ xs w m p. refl; empty = λ xs p. refl; apart = refl }
@@ -152,7 +152,7 @@ pub call_runs : {src : List ℕ} (c : Setting src) (ts : List Lexeme) (l m : Spo
 call_runs {src = src} c ts l m xs g st lv md u s a =
     three c (Some (state st lv md)) (Some (opening (call_frame lv u l [] ∷ st) [] place.Item)) _ _ (one kind.OpenParen l) ts (one kind.CloseParen m) (met c st lv md u kind.OpenParen l s refl ∙ begins_access st lv u opens.Paren (at l) a) refl
     (g st lv u m)
-    ∙ ap (λ q. Some (has_operand st lv (accessed src u (ranged q (access.Call xs))))) (around_is ts kind.OpenParen kind.CloseParen l m)
+    ∙ ap (λ q. Some (has_operand st lv (with_access src u (ranged_tree q (access.Call xs))))) (around_is ts kind.OpenParen kind.CloseParen l m)
 
 -- pairs
 
@@ -167,7 +167,7 @@ pub record PairAt {src : List ℕ} (c : Setting src) (st : List Frame) (f : Reco
   pub goes : run c (Some (opening (frame.Key f ∷ st) [] place.Key)) ts ≡ Some (state (frame.Value value ∷ st) levels md)
 
 abbrev pub value_of : {src : List ℕ} → Setting src → Record → List Lexeme → Expr → Spot → Value
-value_of {src = src} c f ts x p = record { pairs = f; key = placed src ts x; extent = join (extent ts) (Some (at p)) }
+value_of {src = src} c f ts x p = record { pairs = f; key = placed src ts x; extent = joint_extent (extent ts) (Some (at p)) }
 
 -- with a key that has been read
 keyed : {src : List ℕ} (c : Setting src) (st : List Frame) (f : Record) (ts us : List Lexeme) (x y : Expr) (p : Spot) →
@@ -189,7 +189,7 @@ pub pairs : {src : List ℕ} (c : Setting src) (st : List Frame) (f : Record) (t
 pairs {src = src} c st f ts us x y p h g =
     keyed c st f ts us x y p
     (two c (Some (opening (frame.Key f ∷ st) [] place.Key)) _ _ ts (one kind.Colon p) h.goes
-    (met c (frame.Key f ∷ st) h.levels h.md h.last kind.Colon p h.at_it refl ∙ ap (λ o. next_of (ended_by src (frame.Key f ∷ st) o closing.Colon (at p))) h.is)) g
+    (met c (frame.Key f ∷ st) h.levels h.md h.last kind.Colon p h.at_it refl ∙ ap (λ o. next_of (frame_ending src (frame.Key f ∷ st) o closing.Colon (at p))) h.is)) g
 
 pub if_pairs : {src : List ℕ} (c : Setting src) (st : List Frame) (f : Record) (ts : List Lexeme) (y : Expr) (p q : Spot) → ((v : Value) → ExprAt c (frame.Value v ∷ st) [] place.Expr ts y) →
     PairAt c st f (one kind.If p ++ one kind.Colon q ++ ts) (rec_init_of (placed src (one kind.If p) (lone_expr src (one kind.If p) (member_of (placed src (one kind.If p) (if_name src p)) []))) (placed src ts y))
@@ -236,7 +236,7 @@ further_pairs c st lv sg l ts us xs y p h g = record {
 }
 
 abbrev pub RecordRuns : {src : List ℕ} → Setting src → List Frame → Levels → Signs → Spot → List Lexeme → List (Cell RecInit) → Type 0
-RecordRuns {src = src} c st lv sg l ts xs = (p : Spot) → run c (run c (keys_open st lv sg l []) ts) (one kind.CloseBrace p) ≡ Some (record_closed src st (key_frame lv sg l xs) (at p))
+RecordRuns {src = src} c st lv sg l ts xs = (p : Spot) → run c (run c (keys_open st lv sg l []) ts) (one kind.CloseBrace p) ≡ Some (record_closing src st (key_frame lv sg l xs) (at p))
 
 pub no_pairs_close : {src : List ℕ} (c : Setting src) (st : List Frame) (lv : Levels) (sg : Signs) (l : Spot) → RecordRuns c st lv sg l [] []
 no_pairs_close c st lv sg l p = refl
@@ -244,7 +244,7 @@ no_pairs_close c st lv sg l p = refl
 pub pairs_close : {src : List ℕ} (c : Setting src) (st : List Frame) (lv : Levels) (sg : Signs) (l : Spot) (ts : List Lexeme) (xs : List (Cell RecInit)) → PairsAt c st lv sg l ts xs → RecordRuns c st lv sg l ts xs
 pairs_close {src = src} c st lv sg l ts xs h p =
     ap (λ s. run c s (one kind.CloseBrace p)) h.goes ∙ met c (frame.Value h.value ∷ st) h.levels h.md h.last kind.CloseBrace p h.at_it refl
-    ∙ ap (λ f. Some (record_closed src st f (at p))) h.is
+    ∙ ap (λ f. Some (record_closing src st f (at p))) h.is
 
 pub pairs_comma_close : {src : List ℕ} (c : Setting src) (st : List Frame) (lv : Levels) (sg : Signs) (l : Spot) (ts : List Lexeme) (xs : List (Cell RecInit)) (q : Spot) → PairsAt c st lv sg l ts xs → RecordRuns c st lv sg l (ts ++ one kind.Comma q) xs
 pairs_comma_close c st lv sg l ts xs q h p = ap (λ s. run c s (one kind.CloseBrace p)) (pair_comma c st lv sg l ts xs q h)
@@ -254,4 +254,4 @@ pub braces_run : {src : List ℕ} (c : Setting src) (st : List Frame) (lv : Leve
 braces_run {src = src} c st lv pl sg ts l m xs h =
     had_at c st lv pl sg (one kind.OpenBrace l ++ ts ++ one kind.CloseBrace m) (primary.RInits xs)
     (three c (Some (state st lv (mode.Want pl sg))) (keys_open st lv sg l []) _ _ (one kind.OpenBrace l) ts (one kind.CloseBrace m) refl refl (h m)
-    ∙ ap (λ q. Some (has_primary src st lv sg (ranged q (primary.RInits xs)))) (around_is ts kind.OpenBrace kind.CloseBrace l m))
+    ∙ ap (λ q. Some (has_primary src st lv sg (ranged_tree q (primary.RInits xs)))) (around_is ts kind.OpenBrace kind.CloseBrace l m))

@@ -19,7 +19,7 @@ use Rattle.cedar_syntax.specs.declared.cst.MemAccess.{MemAccess}
 use Rattle.cedar_syntax.specs.declared.cst.Primary.{Primary}
 use Rattle.cedar_syntax.specs.declared.cst.RecInit.{RecInit}
 use Rattle.cedar_syntax.specs.declared.reading.class.Side.TheVariants as side
-use Rattle.cedar_text.specs.machines.Named.{Named}
+use Rattle.cedar_text.specs.machines.Named.{NameOrEntity}
 use Rattle.cedar_text.specs.declared.text_to_cst.state.WordsState.{WordsState}
 use Rattle.cedar_text.specs.declared.text_to_cst.expression.state.Branch.{Branch}
 use Rattle.cedar_text.specs.declared.text_to_cst.expression.state.Levels.{Levels}
@@ -38,9 +38,9 @@ use Rattle.cedar_syntax.specs.Place.{extent, placed}
 use Rattle.cedar_syntax.specs.Tokens.{Spot, one}
 use Rattle.cedar_syntax.specs.Trees.{Cell, bangs_of, dashes_of}
 use Rattle.cedar_syntax.specs.LooseExpressions.{if_name, ReadsExpr, or_expr, if_expr, ReadsOr, or, ReadsAnds, one_and, more_and, ReadsAnd, and, ReadsRelations, one_relation, more_relation, ReadsRelation, common, has, has_if, like, is, is_in, ReadsAdds, one_add, more_add, ReadsAdd, add, ReadsMults, one_mult, more_mult, ReadsMult, mult, ReadsUnaries, one_unary, more_unary, ReadsUnary, plain, banged, dashed, ReadsMember, member, ReadsAccesses, no_access, more_access, ReadsAccess, field, call, index, ReadsPrimary, literally, referred, named, slotted, paren, set, in_braces, ReadsExprs, no_expr, exprs, exprs_comma, ReadsExprItems, one_expr, more_exprs, ReadsRecInits, no_init, inits, inits_comma, ReadsInitItems, one_init, more_inits, ReadsRecInit, rec_init, if_init}
-use Rattle.cedar_syntax.specs.machines.Door.{Machine, taken, steps, RunsTo, Door, option_image}
+use Rattle.cedar_syntax.specs.machines.Door.{Machine, answer_state, steps, RunsTo, Door, option_image}
 use Rattle.cedar_text.specs.machines.Named.{ReadsNamed, IsWords}
-use Rattle.cedar_text.specs.machines.Closing.{made_mult, made_add, made_and, made_or, whole, add_at, fresh, no_signs, signs_of, operand_with, ranged}
+use Rattle.cedar_text.specs.machines.Closing.{made_mult, made_add, made_and, made_or, whole, add_at, fresh, no_signs, signs_of, operand_with, ranged_tree}
 use Rattle.cedar_text.specs.machines.ExpressionStates.{state, opening, edge}
 use Rattle.cedar_text.specs.machines.Expressions.{step_of, expr_at_end, sum_at_end, primary_at_end, expressions, sums, primaries}
 use Rattle.cedar_text.proofs.expressions.complete.Runs.{at, Setting, next_of, run, StandsAt, Sums, a_sum, a_whole, Accesses, if_accessed, sums_accessed, is_alone, is_first, not_alone, taken_next}
@@ -161,26 +161,26 @@ mutual
 
 -- the three machines
 
-abbrev pub expression_setting : (src : List ℕ) (names : Machine Lexeme WordsState Named) → Door names (ReadsNamed src) → IsWords names → Setting src
+abbrev pub expression_setting : (src : List ℕ) (names : Machine Lexeme WordsState NameOrEntity) → Door names (ReadsNamed src) → IsWords names → Setting src
 expression_setting src names d i = record { wanted = form.Expr; names = names; door = d; words = i }
 
-abbrev pub sum_setting : (src : List ℕ) (names : Machine Lexeme WordsState Named) → Door names (ReadsNamed src) → IsWords names → Setting src
+abbrev pub sum_setting : (src : List ℕ) (names : Machine Lexeme WordsState NameOrEntity) → Door names (ReadsNamed src) → IsWords names → Setting src
 sum_setting src names d i = record { wanted = form.Sum; names = names; door = d; words = i }
 
-abbrev pub primary_setting : (src : List ℕ) (names : Machine Lexeme WordsState Named) → Door names (ReadsNamed src) → IsWords names → Setting src
+abbrev pub primary_setting : (src : List ℕ) (names : Machine Lexeme WordsState NameOrEntity) → Door names (ReadsNamed src) → IsWords names → Setting src
 primary_setting src names d i = record { wanted = form.Primary; names = names; door = d; words = i }
 
 -- each takes a token as the run does
 abbrev pub GoesAs : {T : Type 0} {src : List ℕ} → Setting src → Machine Lexeme State T → Type 0
-GoesAs {src = src} c m = (s : State) (t : Lexeme) → taken (m.step s t) ≡ next_of (step_of c.wanted src c.names s t)
+GoesAs {src = src} c m = (s : State) (t : Lexeme) → answer_state (m.step s t) ≡ next_of (step_of c.wanted src c.names s t)
 
 pub goes_as : {T : Type 0} {src : List ℕ} (c : Setting src) (m : Machine Lexeme State T) → GoesAs c m → (s : Option State) (ts : List Lexeme) → steps m s ts ≡ run c s ts
 goes_as c m g s [] = refl
 goes_as c m g None (t ∷ ts) = goes_as c m g None ts
-goes_as c m g (Some s) (t ∷ ts) = goes_as c m g (taken (m.step s t)) ts ∙ ap (λ o. run c o ts) (g s t)
+goes_as c m g (Some s) (t ∷ ts) = goes_as c m g (answer_state (m.step s t)) ts ∙ ap (λ o. run c o ts) (g s t)
 
-pub expressions_complete : (src : List ℕ) (names : Machine Lexeme WordsState Named) → Door names (ReadsNamed src) → IsWords names → (ts : List Lexeme) (x : Expr) → ReadsExpr src ts x →
-    RunsTo (expressions src names) ts (ranged (extent ts) x)
+pub expressions_complete : (src : List ℕ) (names : Machine Lexeme WordsState NameOrEntity) → Door names (ReadsNamed src) → IsWords names → (ts : List Lexeme) (x : Expr) → ReadsExpr src ts x →
+    RunsTo (expressions src names) ts (ranged_tree (extent ts) x)
 expressions_complete src names d i ts x r =
     let c = expression_setting src names d i in
     let h = expr_runs c r [] [] place.Expr refl refl in
@@ -190,8 +190,8 @@ expressions_complete src names d i ts x r =
       ends = ap (λ o. option_image (λ m. whole src h.levels m) o) h.at_it.ends ∙ ap (λ y. Some y) h.is;
     }
 
-pub sums_complete : (src : List ℕ) (names : Machine Lexeme WordsState Named) → Door names (ReadsNamed src) → IsWords names → (ts : List Lexeme) (x : Add) → ReadsAdd src ts x →
-    RunsTo (sums src names) ts (ranged (extent ts) x)
+pub sums_complete : (src : List ℕ) (names : Machine Lexeme WordsState NameOrEntity) → Door names (ReadsNamed src) → IsWords names → (ts : List Lexeme) (x : Add) → ReadsAdd src ts x →
+    RunsTo (sums src names) ts (ranged_tree (extent ts) x)
 sums_complete src names d i ts x r =
     let c = sum_setting src names d i in
     let h = add_runs c r [] (fresh []) place.Operand refl a_sum in
@@ -201,7 +201,7 @@ sums_complete src names d i ts x r =
       ends = ap (λ o. option_image (λ m. add_at src (at_add (fresh []) h.s h.m) m) o) h.at_it.ends ∙ ap (λ y. Some y) h.is;
     }
 
-pub primaries_complete : (src : List ℕ) (names : Machine Lexeme WordsState Named) → Door names (ReadsNamed src) → IsWords names → (ts : List Lexeme) (x : Primary) → ReadsPrimary src ts x →
+pub primaries_complete : (src : List ℕ) (names : Machine Lexeme WordsState NameOrEntity) → Door names (ReadsNamed src) → IsWords names → (ts : List Lexeme) (x : Primary) → ReadsPrimary src ts x →
     RunsTo (primaries src names) ts (placed src ts x)
 primaries_complete src names d i ts x r =
     let c = primary_setting src names d i in

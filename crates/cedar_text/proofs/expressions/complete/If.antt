@@ -5,7 +5,7 @@ use Rattle.cedar_lexer.specs.declared.token.TokenKind.{TokenKind}
 use Rattle.cedar_lexer.specs.declared.token.TokenKind.TheVariants as kind
 use Rattle.cedar_syntax.specs.declared.cst.Ident.TheVariants as ident
 use Rattle.cedar_syntax.specs.declared.cst.Name.{Name}
-use Rattle.cedar_text.specs.machines.Named.{Named}
+use Rattle.cedar_text.specs.machines.Named.{NameOrEntity}
 use Rattle.cedar_text.specs.machines.Named as named_as
 use Rattle.cedar_text.specs.declared.text_to_cst.state.WordsState.{WordsState}
 use Rattle.cedar_text.specs.declared.text_to_cst.expression.state.Ranged.{Ranged}
@@ -30,8 +30,8 @@ use Rattle.cedar_text.specs.machines.Named.{a_path, joins_words}
 use Rattle.cedar_text.specs.machines.Closing.{no_signs, if_operand, if_key}
 use Rattle.cedar_syntax.specs.machines.Classes.{operator_of}
 use Rattle.cedar_text.specs.machines.ExpressionStates.{state, opening}
-use Rattle.cedar_text.specs.machines.Having.{value_begun}
-use Rattle.cedar_text.specs.machines.Expressions.{guard_begun, key_or_guard, if_alone, word_read, last_operand}
+use Rattle.cedar_text.specs.machines.Having.{value_beginning}
+use Rattle.cedar_text.specs.machines.Expressions.{guard_beginning, key_or_guard, if_alone, word_reading, last_operand}
 use Rattle.cedar_text.proofs.expressions.complete.Runs.{none_some, at, Setting, next_of, from, run, run-none, token, spot_of, StandsAt, is_first}
 use Rattle.cedar_text.proofs.expressions.complete.Words.{closed, in_words, WordsAt, words_run, words_stand}
 
@@ -52,9 +52,9 @@ if_stands {src = src} c st lv p h = words_stand c st lv place.Has no_signs h.las
 -- as a key
 
 pub if_key_runs : {src : List ℕ} (c : Setting src) (st : List Frame) (f : Record) (lv : Levels) (p q : Spot) (h : IfAt c (frame.Key f ∷ st) lv place.Key p) →
-    run c (in_words (frame.Key f ∷ st) lv place.Key no_signs h.last) (one kind.Colon q) ≡ Some (value_begun st f (if_key src (Some (at p))) (Some (at p)) (at q))
+    run c (in_words (frame.Key f ∷ st) lv place.Key no_signs h.last) (one kind.Colon q) ≡ Some (value_beginning st f (if_key src (Some (at p))) (Some (at p)) (at q))
 if_key_runs {src = src} c st f lv p q h =
-    ap (λ a. next_of (word_read c.wanted src c.names (frame.Key f ∷ st) lv place.Key no_signs a (token kind.Colon q))) (c.words.ends h.last (named_as.path (if_path c p)) (token kind.Colon q) refl h.ends)
+    ap (λ a. next_of (word_reading c.wanted src c.names (frame.Key f ∷ st) lv place.Key no_signs a (token kind.Colon q))) (c.words.ends h.last (named_as.path (if_path c p)) (token kind.Colon q) refl h.ends)
 
 -- as the beginning of a conditional
 
@@ -67,13 +67,13 @@ is_no_join : (k : TokenKind) → begins_guard k ≡ true → joins_words k ≡ f
 is_no_join kind.ColonColon e = absurd (cc)
 is_no_join _ e = refl
 
-is_no_key : (src : List ℕ) (names : Machine Lexeme WordsState Named) (st : List Frame) (lv : Levels) (l : Option Extent) (t : Lexeme) (k : TokenKind) → begins_guard k ≡ true →
-    key_or_guard src names st lv l t (operator_of k) ≡ guard_begun src names st lv l t
+is_no_key : (src : List ℕ) (names : Machine Lexeme WordsState NameOrEntity) (st : List Frame) (lv : Levels) (l : Option Extent) (t : Lexeme) (k : TokenKind) → begins_guard k ≡ true →
+    key_or_guard src names st lv l t (operator_of k) ≡ guard_beginning src names st lv l t
 is_no_key src names st lv l t kind.Colon e = absurd (cc)
 is_no_key src names st lv l t _ e = refl
 
 if_begins : {src : List ℕ} (c : Setting src) (st : List Frame) (lv : Levels) (l : Option Extent) (t : Lexeme) (pl : Place) → is_first pl ≡ true → begins_guard t.kind ≡ true →
-    if_alone c.wanted src c.names st lv pl l t ≡ guard_begun src c.names st lv l t
+    if_alone c.wanted src c.names st lv pl l t ≡ guard_beginning src c.names st lv l t
 if_begins c st lv l t place.Expr e f = refl
 if_begins c st lv l t place.Item e f = refl
 if_begins {src = src} c st lv l t place.Key e f = is_no_key src c.names st lv l t t.kind f
@@ -98,7 +98,7 @@ end_of {src = src} c (Some s) = last_operand src c.names [] s.mode
 guard_on : {src : List ℕ} (c : Setting src) (st : List Frame) (lv : Levels) (pl : Place) (p : Spot) (h : IfAt c st lv pl p) (t : Lexeme) → is_first pl ≡ true → begins_guard t.kind ≡ true →
     from c (in_words st lv pl no_signs h.last) t ≡ from c (Some (opening (guard_frame lv.branches p ∷ st) [] place.Expr)) t
 guard_on {src = src} c st lv pl p h t e f =
-    ap (λ a. next_of (word_read c.wanted src c.names st lv pl no_signs a t)) (c.words.ends h.last (named_as.path (if_path c p)) t (is_no_join t.kind f) h.ends)
+    ap (λ a. next_of (word_reading c.wanted src c.names st lv pl no_signs a t)) (c.words.ends h.last (named_as.path (if_path c p)) t (is_no_join t.kind f) h.ends)
     ∙ ap (λ o. next_of o) (if_begins c st lv (Some (at p)) t pl e f)
 
 -- the tokens of a guard go on behind `if` as they do where it begins

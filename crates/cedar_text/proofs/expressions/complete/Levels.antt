@@ -23,12 +23,12 @@ use Rattle.cedar_text.specs.declared.text_to_cst.expression.state.Place.TheVaria
 use Rattle.cedar_text.specs.declared.text_to_cst.expression.state.Mode.{Mode}
 use Rattle.cedar_text.specs.declared.text_to_cst.expression.state.Reach.{Reach}
 use Rattle.cedar_syntax.specs.declared.reading.extent.Extent.{Extent}
-use Rattle.cedar_syntax.specs.Place.{join, extent, placed}
+use Rattle.cedar_syntax.specs.Place.{joint_extent, extent, placed}
 use Rattle.cedar_syntax.specs.Tokens.{Spot, one}
 use Rattle.cedar_syntax.specs.Trees.{Cell, expr_of, if_of, or_of, and_of}
-use Rattle.cedar_text.specs.machines.Closing.{ranged, Plain, linked, onward, unary_at, made_mult, made_add, made_and, made_or, made_expr, marked, related, branched, whole, levels_of, fresh}
+use Rattle.cedar_text.specs.machines.Closing.{ranged_tree, Plain, plain_chain, onward, unary_at, made_mult, made_add, made_and, made_or, made_expr, marked_chain, relation_with_sum, with_branches, whole, levels_of, fresh}
 use Rattle.cedar_text.specs.machines.ExpressionStates.{state, opening, reach_of}
-use Rattle.cedar_text.specs.machines.Having.{conjoined, disjoined, and_had, or_had, branch_of, ended_by}
+use Rattle.cedar_text.specs.machines.Having.{conjunction_beginning, disjunction_beginning, and_had, or_had, branch_of, frame_ending}
 use Rattle.cedar_syntax.specs.declared.reading.class.Closing.TheVariants as closing
 use Rattle.cedar_text.proofs.expressions.complete.Runs.{extent-append, at, Setting, next_of, run, two, three, StandsAt, met, Joins, an_if, all_joins, is_first}
 use Rattle.cedar_text.proofs.expressions.complete.Words.{closed}
@@ -49,7 +49,7 @@ pub record AndAt {src : List ℕ} (c : Setting src) (st : List Frame) (lv : Leve
   pub m : Option (Pending Unary MultOp)
   pub md : Mode
   pub last : Operand
-  pub is : P (linked src a (related src r (made_add (marked src s (made_mult (marked src m (unary_at src last)))))))
+  pub is : P (plain_chain src a (relation_with_sum src r (made_add (marked_chain src s (made_mult (marked_chain src m (unary_at src last)))))))
   pub joins : Joins (reach_of c.wanted st last)
   pub at_it : StandsAt c st (at_and lv a r s m) md last
   pub goes : Goes c st (at_and lv None None None None) pl ts (at_and lv a r s m) md
@@ -62,7 +62,7 @@ pub record OrAt {src : List ℕ} (c : Setting src) (st : List Frame) (lv : Level
   pub m : Option (Pending Unary MultOp)
   pub md : Mode
   pub last : Operand
-  pub is : P (linked src o (made_and (linked src a (related src r (made_add (marked src s (made_mult (marked src m (unary_at src last)))))))))
+  pub is : P (plain_chain src o (made_and (plain_chain src a (relation_with_sum src r (made_add (marked_chain src s (made_mult (marked_chain src m (unary_at src last)))))))))
   pub joins : Joins (reach_of c.wanted st last)
   pub at_it : StandsAt c st (at_or lv o a r s m) md last
   pub goes : Goes c st (at_or lv None None None None None) pl ts (at_or lv o a r s m) md
@@ -71,19 +71,19 @@ pub record ExprAt {src : List ℕ} (c : Setting src) (st : List Frame) (bs : Lis
   pub levels : Levels
   pub md : Mode
   pub last : Operand
-  pub is : whole src levels last ≡ branched src bs (closed ts x)
+  pub is : whole src levels last ≡ with_branches src bs (closed ts x)
   pub at_it : StandsAt c st levels md last
   pub goes : run c (Some (opening st bs pl)) ts ≡ Some (state st levels md)
 
 -- `&&`
 
-conjoins : (src : List ℕ) (st : List Frame) (lv : Levels) (u : Operand) (e : Extent) {r : Reach} → Joins r → next_of (and_had src st lv u r e) ≡ Some (conjoined src st lv u e)
+conjoins : (src : List ℕ) (st : List Frame) (lv : Levels) (u : Operand) (e : Extent) {r : Reach} → Joins r → next_of (and_had src st lv u r e) ≡ Some (conjunction_beginning src st lv u e)
 conjoins src st lv u e an_if = refl
 conjoins src st lv u e all_joins = refl
 
 pub one_relations : {src : List ℕ} (c : Setting src) (st : List Frame) (lv : Levels) (pl : Place) (ts : List Lexeme) (x : Relation) →
     RelationAt c st (at_and lv None None None None) pl ts x → AndAt c st lv pl ts (λ q. q ≡ chain ts (placed src ts x) [])
-one_relations {src = src} c st lv pl ts x h = record { a = None; r = h.r; s = h.s; m = h.m; md = h.md; last = h.last; is = ap (λ y. linked src None y) h.is; joins = h.joins; at_it = h.at_it; goes = h.goes }
+one_relations {src = src} c st lv pl ts x h = record { a = None; r = h.r; s = h.s; m = h.m; md = h.md; last = h.last; is = ap (λ y. plain_chain src None y) h.is; joins = h.joins; at_it = h.at_it; goes = h.goes }
 
 pub more_relations : {src : List ℕ} (c : Setting src) (st : List Frame) (lv : Levels) (pl : Place) (ts us : List Lexeme) (p : Spot) (x : Cell Relation) (y : Relation) (xs : List (Cell Relation)) →
     AndAt c st lv pl ts (λ q. q ≡ chain ts x xs) → ((w : Levels) → RelationAt c st w place.Operand us y) →
@@ -99,7 +99,7 @@ more_relations {src = src} c st lv pl ts us p x y xs h g =
       m = w.m;
       md = w.md;
       last = w.last;
-      is = ap (λ z. linked src begun z) w.is ∙ linked_more src ts us kind.AndAnd p x y xs;
+      is = ap (λ z. plain_chain src begun z) w.is ∙ linked_more src ts us kind.AndAnd p x y xs;
       joins = w.joins;
       at_it = w.at_it;
       goes = three c (begin_at st (at_and lv None None None None) pl) _ (begin_at st (at_and lv begun None None None) place.Operand) _ ts (one kind.AndAnd p) us h.goes
@@ -109,13 +109,13 @@ more_relations {src = src} c st lv pl ts us p x y xs h g =
 
 -- `||`
 
-disjoins : (src : List ℕ) (st : List Frame) (lv : Levels) (u : Operand) (e : Extent) {r : Reach} → Joins r → next_of (or_had src st lv u r e) ≡ Some (disjoined src st lv u e)
+disjoins : (src : List ℕ) (st : List Frame) (lv : Levels) (u : Operand) (e : Extent) {r : Reach} → Joins r → next_of (or_had src st lv u r e) ≡ Some (disjunction_beginning src st lv u e)
 disjoins src st lv u e an_if = refl
 disjoins src st lv u e all_joins = refl
 
 pub one_ands : {src : List ℕ} (c : Setting src) (st : List Frame) (lv : Levels) (pl : Place) (ts : List Lexeme) (x : And) →
     AndAt c st (at_or lv None None None None None) pl ts (λ q. made_and q ≡ closed ts x) → OrAt c st lv pl ts (λ q. q ≡ chain ts (placed src ts x) [])
-one_ands {src = src} c st lv pl ts x h = record { o = None; a = h.a; r = h.r; s = h.s; m = h.m; md = h.md; last = h.last; is = ap (λ y. linked src None y) h.is; joins = h.joins; at_it = h.at_it; goes = h.goes }
+one_ands {src = src} c st lv pl ts x h = record { o = None; a = h.a; r = h.r; s = h.s; m = h.m; md = h.md; last = h.last; is = ap (λ y. plain_chain src None y) h.is; joins = h.joins; at_it = h.at_it; goes = h.goes }
 
 pub more_ands : {src : List ℕ} (c : Setting src) (st : List Frame) (lv : Levels) (pl : Place) (ts us : List Lexeme) (p : Spot) (x : Cell And) (y : And) (xs : List (Cell And)) →
     OrAt c st lv pl ts (λ q. q ≡ chain ts x xs) → ((w : Levels) → AndAt c st w place.Operand us (λ q. made_and q ≡ closed us y)) →
@@ -132,7 +132,7 @@ more_ands {src = src} c st lv pl ts us p x y xs h g =
       m = w.m;
       md = w.md;
       last = w.last;
-      is = ap (λ z. linked src begun z) w.is ∙ linked_more src ts us kind.OrOr p x y xs;
+      is = ap (λ z. plain_chain src begun z) w.is ∙ linked_more src ts us kind.OrOr p x y xs;
       joins = w.joins;
       at_it = w.at_it;
       goes = three c (begin_at st (at_or lv None None None None None) pl) _ (begin_at st (at_or lv begun None None None None) place.Operand) _ ts (one kind.OrOr p) us h.goes
@@ -148,13 +148,13 @@ or_exprs {src = src} c st bs pl ts x h = record {
   levels = at_or (fresh bs) h.o h.a h.r h.s h.m;
   md = h.md;
   last = h.last;
-  is = ap (λ y. branched src bs (made_expr src y)) h.is;
+  is = ap (λ y. with_branches src bs (made_expr src y)) h.is;
   at_it = h.at_it;
   goes = h.goes;
 }
 
 if_extent : (ts us vs : List Lexeme) (l m n : Spot) →
-    join (join (join (join (join (Some (at l)) (extent ts)) (Some (at m))) (extent us)) (Some (at n))) (extent vs) ≡ extent (one kind.If l ++ ts ++ one kind.Then m ++ us ++ one kind.Else n ++ vs)
+    joint_extent (joint_extent (joint_extent (joint_extent (joint_extent (Some (at l)) (extent ts)) (Some (at m))) (extent us)) (Some (at n))) (extent vs) ≡ extent (one kind.If l ++ ts ++ one kind.Then m ++ us ++ one kind.Else n ++ vs)
 if_extent ts us vs l m n =
     rw (extent-append (one kind.If l ++ ts ++ one kind.Then m ++ us ++ one kind.Else n) vs, extent-append (one kind.If l ++ ts ++ one kind.Then m ++ us) (one kind.Else n), extent-append (one kind.If l ++ ts ++ one kind.Then m) us, extent-append (one kind.If l ++ ts) (one kind.Then m), extent-append (one kind.If l) ts)
 
@@ -169,7 +169,7 @@ pub if_exprs : {src : List ℕ} (c : Setting src) (st : List Frame) (bs : List B
     ((f : Frame) → ExprAt c (f ∷ st) [] place.Expr ts x) → ((f : Frame) → ExprAt c (f ∷ st) [] place.Expr us y) → ((b : Branch) → ExprAt c st (b ∷ bs) place.Expr vs z) →
     ExprAt c st bs pl (one kind.If l ++ ts ++ one kind.Then m ++ us ++ one kind.Else n ++ vs) (if_of (placed src ts x) (placed src us y) (placed src vs z))
 if_exprs {src = src} c st bs pl ts us vs l m n x y z e g h k =
-    let q : Option Extent = join (join (Some (at l)) (extent ts)) (Some (at m)) in
+    let q : Option Extent = joint_extent (joint_extent (Some (at l)) (extent ts)) (Some (at m)) in
     let yes : Yes = record { branches = bs; guard = placed src ts x; extent = q } in
     let b : Branch = branch_of src yes (closed us y) (at n) in
     let in_guard = guard_frame bs l ∷ st in
@@ -181,12 +181,12 @@ if_exprs {src = src} c st bs pl ts us vs l m n x y z e g h k =
       levels = w.levels;
       md = w.md;
       last = w.last;
-      is = w.is ∙ ap (λ q. branched src bs (ranged q (if_of (placed src ts x) (placed src us y) (placed src vs z)))) (if_extent ts us vs l m n);
+      is = w.is ∙ ap (λ q. with_branches src bs (ranged_tree q (if_of (placed src ts x) (placed src us y) (placed src vs z)))) (if_extent ts us vs l m n);
       at_it = w.at_it;
       goes = three c (Some (opening st bs pl)) _ (Some (opening st (b ∷ bs) place.Expr)) _ (one kind.If l ++ ts ++ one kind.Then m ++ us) (one kind.Else n) vs
           (three c (Some (opening st bs pl)) _ (Some (opening in_yes [] place.Expr)) _ (one kind.If l ++ ts) (one kind.Then m) us (guard_at c st bs pl ts l x e i)
-          (met c in_guard i.levels i.md i.last kind.Then m i.at_it refl ∙ ap (λ o. next_of (ended_by src in_guard o closing.Then (at m))) i.is) j.goes)
-          (met c in_yes j.levels j.md j.last kind.Else n j.at_it refl ∙ ap (λ o. next_of (ended_by src in_yes o closing.Else (at n))) j.is) w.goes;
+          (met c in_guard i.levels i.md i.last kind.Then m i.at_it refl ∙ ap (λ o. next_of (frame_ending src in_guard o closing.Then (at m))) i.is) j.goes)
+          (met c in_yes j.levels j.md j.last kind.Else n j.at_it refl ∙ ap (λ o. next_of (frame_ending src in_yes o closing.Else (at n))) j.is) w.goes;
     }
 
 -- the tree of a chain

@@ -26,23 +26,23 @@ use Rattle.cedar_text.specs.declared.text_to_cst.expression.state.Mode.TheVarian
 use Rattle.cedar_text.specs.declared.text_to_cst.expression.state.Reach.{Reach}
 use Rattle.cedar_text.specs.declared.text_to_cst.expression.state.Reach.TheVariants as reach
 use Rattle.cedar_syntax.specs.declared.reading.extent.Extent.{Extent}
-use Rattle.cedar_syntax.specs.Place.{join, extent, node_at, placed}
+use Rattle.cedar_syntax.specs.Place.{joint_extent, extent, node_at, placed}
 use Rattle.cedar_syntax.specs.Tokens.{Spot, one}
 use Rattle.cedar_syntax.specs.Trees.{Cell, unary_of, member_of, bangs_of, dashes_of}
 use Rattle.cedar_syntax.specs.LooseWords.{ReadsAny, any}
 use Rattle.cedar_syntax.specs.LooseExpressions.{ReadsSigns, one_sign, more_signs}
-use Rattle.cedar_text.specs.machines.Closing.{ranged, unary_at, signs_of, no_signs, operand_with, accessed}
+use Rattle.cedar_text.specs.machines.Closing.{ranged_tree, unary_at, signs_of, no_signs, operand_with, with_access}
 use Rattle.cedar_text.specs.machines.ExpressionStates.{state, wants, has_operand, around, edge, reach_of}
-use Rattle.cedar_syntax.specs.machines.Classes.{signed}
-use Rattle.cedar_text.specs.machines.Wanting.{after_signs, sign_read}
-use Rattle.cedar_text.specs.machines.Having.{access_begun, access_had, field_read}
+use Rattle.cedar_syntax.specs.machines.Classes.{with_sign}
+use Rattle.cedar_text.specs.machines.Wanting.{after_signs, sign_reading}
+use Rattle.cedar_text.specs.machines.Having.{access_beginning, access_had, field_reading}
 use Rattle.cedar_text.proofs.expressions.complete.Runs.{join-assoc, join-none, extent-append, at, bang_more, dash_more, Setting, next_of, run, two, StandsAt, stands, met, Accesses, if_accessed, sum_accessed, all_accessed, is_alone}
 use Rattle.cedar_text.proofs.expressions.complete.Words.{closed, PrimaryAt}
 
 -- an operand without accesses, and some accesses behind it
 pub record AccessesAt {src : List ℕ} (c : Setting src) (st : List Frame) (lv : Levels) (md : Mode) (sg : Signs) (x : Cell Primary) (e : Option Extent) (b : Bool) (ts : List Lexeme) (xs : List (Cell MemAccess)) : Type 0 where
   pub after : Mode
-  pub at_it : StandsAt c st lv after (operand_with sg x xs (join e (extent ts)) b)
+  pub at_it : StandsAt c st lv after (operand_with sg x xs (joint_extent e (extent ts)) b)
   pub goes : run c (Some (state st lv md)) ts ≡ Some (state st lv after)
 
 pub no_accesses : {src : List ℕ} (c : Setting src) (st : List Frame) (lv : Levels) (md : Mode) (sg : Signs) (x : Cell Primary) (e : Option Extent) (b : Bool) → StandsAt c st lv md (operand_with sg x [] e b) →
@@ -52,20 +52,20 @@ no_accesses c st lv md sg x e b h = record { after = md; at_it = subst (λ q. St
 -- one access, behind any operand that it may stand behind
 abbrev pub AccessRuns : {src : List ℕ} → Setting src → List Lexeme → MemAccess → Type 0
 AccessRuns {src = src} c ts y = (st : List Frame) (lv : Levels) (md : Mode) (m : Operand) → StandsAt c st lv md m → Accesses (reach_of c.wanted st m) →
-    run c (Some (state st lv md)) ts ≡ Some (has_operand st lv (accessed src m (closed ts y)))
+    run c (Some (state st lv md)) ts ≡ Some (has_operand st lv (with_access src m (closed ts y)))
 
 pub more_accesses : {src : List ℕ} (c : Setting src) (st : List Frame) (lv : Levels) (md : Mode) (sg : Signs) (x : Cell Primary) (e : Option Extent) (b : Bool) (ts us : List Lexeme) (xs : List (Cell MemAccess)) (y : MemAccess) →
     Accesses (cond b reach.If (edge c.wanted st)) → AccessesAt c st lv md sg x e b ts xs → AccessRuns c us y → AccessesAt c st lv md sg x e b (ts ++ us) (xs ++ placed src us y ∷ [])
 more_accesses {src = src} c st lv md sg x e b ts us xs y a h g =
-    let m : Operand = operand_with sg x (xs ++ placed src us y ∷ []) (join e (extent (ts ++ us))) b in
+    let m : Operand = operand_with sg x (xs ++ placed src us y ∷ []) (joint_extent e (extent (ts ++ us))) b in
     record {
       after = mode.Have m;
       at_it = stands c st lv m;
-      goes = two c (Some (state st lv md)) _ _ ts us h.goes (g st lv h.after (operand_with sg x xs (join e (extent ts)) b) h.at_it a)
-          ∙ ap (λ q. Some (has_operand st lv (operand_with sg x (xs ++ placed src us y ∷ []) q b))) (join-assoc e (extent ts) (extent us) ∙ ap (λ q. join e q) (sym (extent-append ts us)));
+      goes = two c (Some (state st lv md)) _ _ ts us h.goes (g st lv h.after (operand_with sg x xs (joint_extent e (extent ts)) b) h.at_it a)
+          ∙ ap (λ q. Some (has_operand st lv (operand_with sg x (xs ++ placed src us y ∷ []) q b))) (join-assoc e (extent ts) (extent us) ∙ ap (λ q. joint_extent e q) (sym (extent-append ts us)));
     }
 
-pub begins_access : (st : List Frame) (lv : Levels) (m : Operand) (a : Access) (e : Extent) {r : Reach} → Accesses r → next_of (access_had st lv m r a e) ≡ Some (access_begun st lv m a e)
+pub begins_access : (st : List Frame) (lv : Levels) (m : Operand) (a : Access) (e : Extent) {r : Reach} → Accesses r → next_of (access_had st lv m r a e) ≡ Some (access_beginning st lv m a e)
 begins_access st lv m a e if_accessed = refl
 begins_access st lv m a e sum_accessed = refl
 begins_access st lv m a e all_accessed = refl
@@ -73,13 +73,13 @@ begins_access st lv m a e all_accessed = refl
 pub field_runs : {src : List ℕ} (c : Setting src) {ts : List Lexeme} {i : Ident} (p : Spot) → ReadsAny ts i → AccessRuns c (one kind.Dot p ++ ts) (access.Field (placed src ts i))
 field_runs {src = src} c p (any {k = k} {i = i} q e) st lv md m h a =
     two c (Some (state st lv md)) (Some (state st lv (mode.Field m (at p)))) _ (one kind.Dot p) (one k q) (met c st lv md m kind.Dot p h refl ∙ begins_access st lv m opens.Dot (at p) a)
-    (ap (λ o. next_of (field_read src st lv m (at p) o (at q))) e)
+    (ap (λ o. next_of (field_reading src st lv m (at p) o (at q))) e)
 
 -- from an open bracket to its end
 pub around_is : (ts : List Lexeme) (j k : TokenKind) (l m : Spot) → around (at l) (at m) ≡ extent (one j l ++ ts ++ one k m)
-around_is ts j k l m = inside (extent ts) ∙ sym (extent-append (one j l ++ ts) (one k m) ∙ ap (λ q. join q (Some (at m))) (extent-append (one j l) ts))
+around_is ts j k l m = inside (extent ts) ∙ sym (extent-append (one j l ++ ts) (one k m) ∙ ap (λ q. joint_extent q (Some (at m))) (extent-append (one j l) ts))
   where
-    inside : (e : Option Extent) → around (at l) (at m) ≡ join (join (Some (at l)) e) (Some (at m))
+    inside : (e : Option Extent) → around (at l) (at m) ≡ joint_extent (joint_extent (Some (at l)) e) (Some (at m))
     inside None = refl
     inside (Some a) = refl
 
@@ -88,7 +88,7 @@ around_is ts j k l m = inside (extent ts) ∙ sym (extent-append (one j l ++ ts)
 pub record MemberAt {src : List ℕ} (c : Setting src) (st : List Frame) (lv : Levels) (pl : Place) (sg : Signs) (ts : List Lexeme) (x : Member) : Type 0 where
   pub md : Mode
   pub last : Operand
-  pub is : unary_at src last ≡ ranged (join sg.extent (extent ts)) (unary_of sg.op (placed src ts x))
+  pub is : unary_at src last ≡ ranged_tree (joint_extent sg.extent (extent ts)) (unary_of sg.op (placed src ts x))
   pub free : last.is_if ≡ false
   pub at_it : StandsAt c st lv md last
   pub goes : run c (Some (state st lv (mode.Want pl sg))) ts ≡ Some (state st lv md)
@@ -97,8 +97,8 @@ pub members : {src : List ℕ} (c : Setting src) (st : List Frame) (lv : Levels)
     AccessesAt c st lv h.md sg (placed src ts x) (extent ts) false us xs → MemberAt c st lv pl sg (ts ++ us) (member_of (placed src ts x) xs)
 members {src = src} c st lv pl sg ts us x xs h g = record {
   md = g.after;
-  last = operand_with sg (placed src ts x) xs (join (extent ts) (extent us)) false;
-  is = ap (λ q. ranged (join sg.extent q) (unary_of sg.op (node_at src q (member_of (placed src ts x) xs)))) (sym (extent-append ts us));
+  last = operand_with sg (placed src ts x) xs (joint_extent (extent ts) (extent us)) false;
+  is = ap (λ q. ranged_tree (joint_extent sg.extent q) (unary_of sg.op (node_at src q (member_of (placed src ts x) xs)))) (sym (extent-append ts us));
   free = refl;
   at_it = g.at_it;
   goes = two c (Some (state st lv (mode.Want pl sg))) _ _ ts us h.goes g.goes;
@@ -106,7 +106,7 @@ members {src = src} c st lv pl sg ts us x xs h g = record {
 
 -- signs
 
-sign_taken : (st : List Frame) (lv : Levels) (sg : Signs) (s : Sign) (e : Extent) (pl : Place) → is_alone pl ≡ false → sign_read st lv pl sg s e ≡ after_signs st lv sg.extent (signed sg.op s) e
+sign_taken : (st : List Frame) (lv : Levels) (sg : Signs) (s : Sign) (e : Extent) (pl : Place) → is_alone pl ≡ false → sign_reading st lv pl sg s e ≡ after_signs st lv sg.extent (with_sign sg.op s) e
 sign_taken st lv sg s e place.Expr f = refl
 sign_taken st lv sg s e place.Item f = refl
 sign_taken st lv sg s e place.Key f = refl
@@ -150,7 +150,7 @@ pub signeds : {src : List ℕ} (c : Setting src) (st : List Frame) (lv : Levels)
 signeds {src = src} c st lv pl ts us o x e h = record {
   md = h.md;
   last = h.last;
-  is = h.is ∙ ap (λ q. ranged q (unary_of (Some o) (placed src us x))) (sym (extent-append ts us));
+  is = h.is ∙ ap (λ q. ranged_tree q (unary_of (Some o) (placed src us x))) (sym (extent-append ts us));
   free = h.free;
   at_it = h.at_it;
   goes = two c (Some (state st lv (wants pl))) _ _ ts us e h.goes;

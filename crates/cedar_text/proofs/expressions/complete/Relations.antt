@@ -28,13 +28,13 @@ use Rattle.cedar_text.specs.declared.text_to_cst.expression.state.Mode.{Mode}
 use Rattle.cedar_text.specs.declared.text_to_cst.expression.state.Mode.TheVariants as mode
 use Rattle.cedar_text.specs.declared.text_to_cst.expression.state.Reach.TheVariants as reach
 use Rattle.cedar_syntax.specs.declared.reading.extent.Extent.{Extent}
-use Rattle.cedar_syntax.specs.Place.{join, extent, node_at, placed}
+use Rattle.cedar_syntax.specs.Place.{joint_extent, extent, node_at, placed}
 use Rattle.cedar_syntax.specs.Tokens.{Spot, one}
 use Rattle.cedar_syntax.specs.Trees.{Cell, common_of, has_of, like_of, is_of, add_of, mult_of, unary_of, member_of}
 use Rattle.cedar_syntax.specs.LooseExpressions.{ReadsRelOp, less, less_eq, greater_eq, greater, not_eq, equal, within, single_eq, if_name, lone_add}
-use Rattle.cedar_text.specs.machines.Closing.{ranged, Marked, marked, pending, unary_at, made_mult, made_add, made_common, related, add_at, levels_of, no_signs, operand_with, if_operand}
+use Rattle.cedar_text.specs.machines.Closing.{ranged_tree, Marked, marked_chain, pending, unary_at, made_mult, made_add, made_common, relation_with_sum, add_at, levels_of, no_signs, operand_with, if_operand}
 use Rattle.cedar_text.specs.machines.ExpressionStates.{state, edge, reach_of}
-use Rattle.cedar_text.specs.machines.Having.{compared, compare_had, left_begun, before, side_of, side_place, sided, side_had}
+use Rattle.cedar_text.specs.machines.Having.{comparison_beginning, compare_had, left_beginning, before, side_of, side_place, side_beginning, side_had}
 use Rattle.cedar_text.proofs.expressions.complete.Runs.{chain_extent, extent-append, at, Setting, next_of, run, two, three, StandsAt, met, reaches, Joins, an_if, all_joins}
 use Rattle.cedar_text.proofs.expressions.complete.Words.{closed}
 use Rattle.cedar_text.proofs.expressions.complete.If.{if_runs, if_stands}
@@ -56,7 +56,7 @@ pub record CommonAt {src : List ℕ} (c : Setting src) (st : List Frame) (lv : L
   pub m : Option (Pending Unary MultOp)
   pub md : Mode
   pub last : Operand
-  pub is : P (marked src r (made_add (marked src s (made_mult (marked src m (unary_at src last))))))
+  pub is : P (marked_chain src r (made_add (marked_chain src s (made_mult (marked_chain src m (unary_at src last))))))
   pub free : last.is_if ≡ false
   pub at_it : StandsAt c st (at_relation lv (common_left r) s m) md last
   pub goes : Goes c st (at_relation lv None None None) pl ts (at_relation lv (common_left r) s m) md
@@ -68,7 +68,7 @@ pub record RelationAt {src : List ℕ} (c : Setting src) (st : List Frame) (lv :
   pub m : Option (Pending Unary MultOp)
   pub md : Mode
   pub last : Operand
-  pub is : related src r (made_add (marked src s (made_mult (marked src m (unary_at src last))))) ≡ closed ts x
+  pub is : relation_with_sum src r (made_add (marked_chain src s (made_mult (marked_chain src m (unary_at src last))))) ≡ closed ts x
   pub joins : Joins (reach_of c.wanted st last)
   pub at_it : StandsAt c st (at_relation lv r s m) md last
   pub goes : Goes c st (at_relation lv None None None) pl ts (at_relation lv r s m) md
@@ -79,7 +79,7 @@ whole_joins c st m f e = subst (λ r. Joins r) (sym (reaches c st m f ∙ e)) al
 -- comparisons
 
 compares_so : (src : List ℕ) (st : List Frame) (lv : Levels) (r : Option (Pending Add RelOp)) (x : Ranged Add) (o : RelOp) (e : Extent) →
-    next_of (compared src st lv (common_left r) x o e) ≡ Some (left_begun st lv (left.Common (pending (marked src r x) o e)) place.Operand)
+    next_of (comparison_beginning src st lv (common_left r) x o e) ≡ Some (left_beginning st lv (left.Common (pending (marked_chain src r x) o e)) place.Operand)
 compares_so src st lv None x o e = refl
 compares_so src st lv (Some p) x o e = refl
 
@@ -98,12 +98,12 @@ compare_runs c st lv md u p single_eq h = met c st lv md u kind.Eq p h refl
 
 -- of a whole expression
 compares : {src : List ℕ} (c : Setting src) (st : List Frame) (lv : Levels) (md : Mode) (u : Operand) (p : Spot) {k : TokenKind} {o : RelOp} → ReadsRelOp k o → StandsAt c st lv md u → u.is_if ≡ false → edge c.wanted st ≡ reach.Whole →
-    run c (Some (state st lv md)) (one k p) ≡ next_of (compared src st lv lv.relation (add_at src lv u) o (at p))
+    run c (Some (state st lv md)) (one k p) ≡ next_of (comparison_beginning src st lv lv.relation (add_at src lv u) o (at p))
 compares {src = src} c st lv md u p {o = o} r h f e = compare_runs c st lv md u p r h ∙ ap (λ q. next_of (compare_had src st lv u q o (at p))) (reaches c st u f ∙ e)
 
 pub one_adds : {src : List ℕ} (c : Setting src) (st : List Frame) (lv : Levels) (pl : Place) (ts : List Lexeme) (x : Add) →
     AddAt c st (at_relation lv None None None) pl ts (λ q. made_add q ≡ closed ts x) → CommonAt c st lv pl ts (λ q. q ≡ chain ts (placed src ts x) [])
-one_adds {src = src} c st lv pl ts x h = record { r = None; s = h.s; m = h.m; md = h.md; last = h.last; is = ap (λ y. marked src None y) h.is; free = h.free; at_it = h.at_it; goes = h.goes }
+one_adds {src = src} c st lv pl ts x h = record { r = None; s = h.s; m = h.m; md = h.md; last = h.last; is = ap (λ y. marked_chain src None y) h.is; free = h.free; at_it = h.at_it; goes = h.goes }
 
 pub more_adds : {src : List ℕ} (c : Setting src) (st : List Frame) (lv : Levels) (pl : Place) (ts us : List Lexeme) (k : TokenKind) (o : RelOp) (p : Spot) (x : Cell Add) (y : Add) (xs : List (RelOp × Cell Add)) → edge c.wanted st ≡ reach.Whole →
     CommonAt c st lv pl ts (λ q. q ≡ chain ts x xs) → ReadsRelOp k o → ((w : Levels) → AddAt c st w place.Operand us (λ q. made_add q ≡ closed us y)) →
@@ -118,7 +118,7 @@ more_adds {src = src} c st lv pl ts us k o p x y xs e h r g =
       m = w.m;
       md = w.md;
       last = w.last;
-      is = ap (λ z. marked src begun z) w.is ∙ marked_more src ts us k p x o y xs;
+      is = ap (λ z. marked_chain src begun z) w.is ∙ marked_more src ts us k p x o y xs;
       free = w.free;
       at_it = w.at_it;
       goes = three c (begin_at st (at_relation lv None None None) pl) _ (begin_at st (at_relation lv (common_left begun) None None) place.Operand) _ ts (one k p) us h.goes
@@ -126,7 +126,7 @@ more_adds {src = src} c st lv pl ts us k o p x y xs e h r g =
           ∙ ap (λ q. begin_at st (at_relation lv (Some (left.Common (pending q o (at p)))) None None) place.Operand) h.is) w.goes;
     }
 
-commonly : (src : List ℕ) (r : Option (Pending Add RelOp)) (x : Ranged Add) → related src (common_left r) x ≡ made_common (marked src r x)
+commonly : (src : List ℕ) (r : Option (Pending Add RelOp)) (x : Ranged Add) → relation_with_sum src (common_left r) x ≡ made_common (marked_chain src r x)
 commonly src None x = refl
 commonly src (Some p) x = refl
 
@@ -138,7 +138,7 @@ commons {src = src} c st lv pl ts x xs e h = record {
   m = h.m;
   md = h.md;
   last = h.last;
-  is = commonly src h.r (made_add (marked src h.s (made_mult (marked src h.m (unary_at src h.last))))) ∙ ap (λ q. made_common q) h.is;
+  is = commonly src h.r (made_add (marked_chain src h.s (made_mult (marked_chain src h.m (unary_at src h.last))))) ∙ ap (λ q. made_common q) h.is;
   joins = whole_joins c st h.last h.free e;
   at_it = h.at_it;
   goes = h.goes;
@@ -174,13 +174,13 @@ side_begins {src = src} c st lv pl ts x s p e h =
     let lv' = at_relation lv None h.s h.m in
     two c (begin_at st (at_relation lv None None None) pl) _ _ ts (one (side_kind s) p) h.goes
     (side_runs c st lv' h.md h.last p s h.at_it ∙ ap (λ q. next_of (side_had src st lv' h.last q s (at p))) (reaches c st h.last h.free ∙ e)
-    ∙ ap (λ y. next_of (sided src st lv' None y s (at p))) h.is)
+    ∙ ap (λ y. next_of (side_beginning src st lv' None y s (at p))) h.is)
 
 side_closed : (src : List ℕ) (ts us : List Lexeme) (x y : Add) (s : Side) (p : Spot) →
-    related src (Some (left_with src s ts x p)) (closed us y) ≡ closed (ts ++ one (side_kind s) p ++ us) (side_tree s (placed src ts x) (placed src us y))
-side_closed src ts us x y side.Has p = ap (λ q. ranged q (has_of (placed src ts x) (placed src us y))) (chain_extent ts us kind.Has p)
-side_closed src ts us x y side.Like p = ap (λ q. ranged q (like_of (placed src ts x) (placed src us y))) (chain_extent ts us kind.Like p)
-side_closed src ts us x y side.Is p = ap (λ q. ranged q (is_of (placed src ts x) (placed src us y) None)) (chain_extent ts us kind.Is p)
+    relation_with_sum src (Some (left_with src s ts x p)) (closed us y) ≡ closed (ts ++ one (side_kind s) p ++ us) (side_tree s (placed src ts x) (placed src us y))
+side_closed src ts us x y side.Has p = ap (λ q. ranged_tree q (has_of (placed src ts x) (placed src us y))) (chain_extent ts us kind.Has p)
+side_closed src ts us x y side.Like p = ap (λ q. ranged_tree q (like_of (placed src ts x) (placed src us y))) (chain_extent ts us kind.Like p)
+side_closed src ts us x y side.Is p = ap (λ q. ranged_tree q (is_of (placed src ts x) (placed src us y) None)) (chain_extent ts us kind.Is p)
 
 pub sides : {src : List ℕ} (c : Setting src) (st : List Frame) (lv : Levels) (pl : Place) (ts us : List Lexeme) (x y : Add) (s : Side) (p : Spot) → edge c.wanted st ≡ reach.Whole →
     AddAt c st (at_relation lv None None None) pl ts (λ q. made_add q ≡ closed ts x) → ((w : Levels) → AddAt c st w (side_place s) us (λ q. made_add q ≡ closed us y)) →
@@ -194,7 +194,7 @@ sides {src = src} c st lv pl ts us x y s p e h g =
       m = w.m;
       md = w.md;
       last = w.last;
-      is = ap (λ z. related src begun z) w.is ∙ side_closed src ts us x y s p;
+      is = ap (λ z. relation_with_sum src begun z) w.is ∙ side_closed src ts us x y s p;
       joins = whole_joins c st w.last w.free e;
       at_it = w.at_it;
       goes = two c (begin_at st (at_relation lv None None None) pl) (begin_at st (at_relation lv begun None None) (side_place s)) _ (ts ++ one (side_kind s) p) us (side_begins c st lv pl ts x s p e h) w.goes;
@@ -221,8 +221,8 @@ has_ifs {src = src} c st lv pl ts us x xs p q e h g =
       s = None;
       m = None;
       md = w.after;
-      last = operand_with no_signs (placed src (one kind.If q) (if_name src q)) xs (join (Some (at q)) (extent us)) true;
-      is = ap (λ z. related src begun (ranged z (lone_sum src z x'))) (sym (extent-append (one kind.If q) us)) ∙ side_closed src ts (one kind.If q ++ us) x (lone_add src (one kind.If q ++ us) x') side.Has p;
+      last = operand_with no_signs (placed src (one kind.If q) (if_name src q)) xs (joint_extent (Some (at q)) (extent us)) true;
+      is = ap (λ z. relation_with_sum src begun (ranged_tree z (lone_sum src z x'))) (sym (extent-append (one kind.If q) us)) ∙ side_closed src ts (one kind.If q ++ us) x (lone_add src (one kind.If q ++ us) x') side.Has p;
       joins = an_if;
       at_it = w.at_it;
       goes = two c (begin_at st (at_relation lv None None None) pl) (begin_at st lv' place.Has) _ (ts ++ one kind.Has p) (one kind.If q ++ us) (side_begins c st lv pl ts x side.Has p e h)
@@ -240,7 +240,7 @@ is_ins {src = src} c st lv pl ts us vs x y z p q e h g k =
     let i = g (at_relation lv first None None) in
     let lv' = at_relation lv first i.s i.m in
     let so_far : List Lexeme = ts ++ one kind.Is p ++ us in
-    let begun : Option Left = Some (left.IsIn (placed src ts x) (placed src us y) (join (join (join (extent ts) (Some (at p))) (extent us)) (Some (at q)))) in
+    let begun : Option Left = Some (left.IsIn (placed src ts x) (placed src us y) (joint_extent (joint_extent (joint_extent (extent ts) (Some (at p))) (extent us)) (Some (at q)))) in
     let w = k (at_relation lv begun None None) in
     record {
       r = begun;
@@ -248,12 +248,12 @@ is_ins {src = src} c st lv pl ts us vs x y z p q e h g k =
       m = w.m;
       md = w.md;
       last = w.last;
-      is = ap (λ o. related src begun o) w.is
-          ∙ ap (λ o. ranged (join (join o (Some (at q))) (extent vs)) (is_of (placed src ts x) (placed src us y) (Some (placed src vs z)))) (chain_extent ts us kind.Is p)
-          ∙ ap (λ o. ranged o (is_of (placed src ts x) (placed src us y) (Some (placed src vs z)))) (chain_extent so_far vs kind.In q);
+      is = ap (λ o. relation_with_sum src begun o) w.is
+          ∙ ap (λ o. ranged_tree (joint_extent (joint_extent o (Some (at q))) (extent vs)) (is_of (placed src ts x) (placed src us y) (Some (placed src vs z)))) (chain_extent ts us kind.Is p)
+          ∙ ap (λ o. ranged_tree o (is_of (placed src ts x) (placed src us y) (Some (placed src vs z)))) (chain_extent so_far vs kind.In q);
       joins = whole_joins c st w.last w.free e;
       at_it = w.at_it;
       goes = three c (begin_at st (at_relation lv None None None) pl) (Some (state st lv' i.md)) (begin_at st (at_relation lv begun None None) place.Operand) _ so_far (one kind.In q) vs
           (two c (begin_at st (at_relation lv None None None) pl) (begin_at st (at_relation lv first None None) place.Operand) _ (ts ++ one kind.Is p) us (side_begins c st lv pl ts x side.Is p e h) i.goes)
-          (compares c st lv' i.md i.last q within i.at_it i.free e ∙ ap (λ o. next_of (compared src st lv' first o rel.In (at q))) i.is) w.goes;
+          (compares c st lv' i.md i.last q within i.at_it i.free e ∙ ap (λ o. next_of (comparison_beginning src st lv' first o rel.In (at q))) i.is) w.goes;
     }

@@ -9,7 +9,7 @@ use Rattle.cedar_syntax.specs.declared.reading.class.Sign.TheVariants as sign
 pub use Rattle.cedar_syntax.proofs.machines.Laws.{some_is, none_some}
 pub use Rattle.cedar_syntax.proofs.machines.Extents.{join-assoc, extent-append, at}
 pub use Rattle.cedar_text.proofs.expressions.Basics.{chain_extent, bang_more, dash_more}
-use Rattle.cedar_text.specs.machines.Named.{Named}
+use Rattle.cedar_text.specs.machines.Named.{NameOrEntity}
 use Rattle.cedar_text.specs.declared.text_to_cst.state.WordsState.{WordsState}
 use Rattle.cedar_text.specs.declared.text_to_cst.expression.state.Levels.{Levels}
 use Rattle.cedar_text.specs.declared.text_to_cst.expression.state.Operand.{Operand}
@@ -25,19 +25,19 @@ use Rattle.cedar_text.specs.declared.text_to_cst.expression.state.Reach.TheVaria
 use Rattle.cedar_text.specs.machines.Advance.{Advance}
 use Rattle.cedar_text.specs.machines.Advance as advance
 use Rattle.cedar_syntax.specs.declared.reading.extent.Extent.{Extent}
-use Rattle.cedar_syntax.specs.Place.{join, extent_of, extent}
+use Rattle.cedar_syntax.specs.Place.{joint_extent, extent_of, extent}
 use Rattle.cedar_syntax.specs.Tokens.{Spot, one}
 use Rattle.cedar_syntax.specs.Trees.{bangs_of, dashes_of}
-use Rattle.cedar_syntax.specs.machines.Door.{Machine, taken, Door}
+use Rattle.cedar_syntax.specs.machines.Door.{Machine, answer_state, Door}
 use Rattle.cedar_text.specs.machines.Named.{ReadsNamed, joins_words, IsWords}
 use Rattle.cedar_text.specs.machines.ExpressionStates.{state, edge, reach_of}
-use Rattle.cedar_syntax.specs.machines.Classes.{signed}
+use Rattle.cedar_syntax.specs.machines.Classes.{with_sign}
 use Rattle.cedar_text.specs.machines.Having.{having}
-use Rattle.cedar_text.specs.machines.Expressions.{stepped, step_of, last_operand, answered}
+use Rattle.cedar_text.specs.machines.Expressions.{mode_step, step_of, last_operand, advance_answer}
 
 -- extents
 
-pub join-none : (a : Option Extent) → join a None ≡ a
+pub join-none : (a : Option Extent) → joint_extent a None ≡ a
 join-none None = refl
 join-none (Some a) = refl
 
@@ -45,7 +45,7 @@ join-none (Some a) = refl
 
 pub record Setting (src : List ℕ) : Type 0 where
   pub wanted : Wanted
-  pub names : Machine Lexeme WordsState Named
+  pub names : Machine Lexeme WordsState NameOrEntity
   pub door : Door names (ReadsNamed src)
   pub words : IsWords names
 
@@ -78,7 +78,7 @@ two c s a b ts us f g = run-append c s ts us ∙ ap (λ q. run c q us) f ∙ g
 pub three : {src : List ℕ} (c : Setting src) (s a b d : Option State) (ts us vs : List Lexeme) → run c s ts ≡ a → run c a us ≡ b → run c b vs ≡ d → run c s (ts ++ us ++ vs) ≡ d
 three c s a b d ts us vs f g h = two c s b d (ts ++ us) vs (two c s a b ts us f g) h
 
-pub taken_next : {T : Type 0} (o : Option T) (a : Advance) → taken (answered o a) ≡ next_of a
+pub taken_next : {T : Type 0} (o : Option T) (a : Advance) → answer_state (advance_answer o a) ≡ next_of a
 taken_next o (advance.next s) = refl
 taken_next (Some x) advance.not_taken = refl
 taken_next None advance.not_taken = refl
@@ -94,7 +94,7 @@ spot_of t = record { start = t.start; end = t.end; text = t.text }
 
 -- to stand at an operand: what follows, or the end, reads it as the last one
 pub record StandsAt {src : List ℕ} (c : Setting src) (st : List Frame) (lv : Levels) (md : Mode) (m : Operand) : Type 0 where
-  pub behind : (t : Lexeme) → joins_words t.kind ≡ false → stepped c.wanted src c.names st lv md t ≡ having c.wanted src st lv m t
+  pub behind : (t : Lexeme) → joins_words t.kind ≡ false → mode_step c.wanted src c.names st lv md t ≡ having c.wanted src st lv m t
   pub ends : last_operand src c.names [] md ≡ Some m
 
 pub stands : {src : List ℕ} (c : Setting src) (st : List Frame) (lv : Levels) (m : Operand) → StandsAt c st lv (mode.Have m) m

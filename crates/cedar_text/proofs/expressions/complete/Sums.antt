@@ -24,9 +24,9 @@ use Rattle.cedar_syntax.specs.Place.{extent, placed}
 use Rattle.cedar_syntax.specs.Tokens.{Spot, one}
 use Rattle.cedar_syntax.specs.Trees.{Cell, add_of, mult_of}
 use Rattle.cedar_syntax.specs.LooseExpressions.{ReadsAddOp, plus, minus, ReadsMultOp, times, divide, modulo}
-use Rattle.cedar_text.specs.machines.Closing.{Marked, linked, marked, onward, pending, unary_at, made_mult, made_add, levels_of}
+use Rattle.cedar_text.specs.machines.Closing.{Marked, plain_chain, marked_chain, onward, pending, unary_at, made_mult, made_add, levels_of}
 use Rattle.cedar_text.specs.machines.ExpressionStates.{state, wants, edge, reach_of}
-use Rattle.cedar_text.specs.machines.Having.{multiplied, summed, multiply_had, sum_had}
+use Rattle.cedar_text.specs.machines.Having.{product_beginning, sum_beginning, multiply_had, sum_had}
 use Rattle.cedar_text.proofs.expressions.complete.Runs.{chain_extent, at, Setting, next_of, run, three, StandsAt, met, Sums, a_sum, a_whole, reaches}
 use Rattle.cedar_text.proofs.expressions.complete.Words.{closed}
 use Rattle.cedar_text.proofs.expressions.complete.Members.{UnaryAt}
@@ -36,11 +36,11 @@ abbrev pub chain : {T I : Type 0} → List Lexeme → Cell T → List I → Chai
 chain ts x xs = record { initial = x; extended = xs; extent = extent ts }
 
 pub linked_more : {T : Type 0} (src : List ℕ) (ts us : List Lexeme) (k : TokenKind) (p : Spot) (x : Cell T) (y : T) (xs : List (Cell T)) →
-    linked src (Some (onward (chain ts x xs) (at p))) (closed us y) ≡ chain (ts ++ one k p ++ us) x (xs ++ placed src us y ∷ [])
+    plain_chain src (Some (onward (chain ts x xs) (at p))) (closed us y) ≡ chain (ts ++ one k p ++ us) x (xs ++ placed src us y ∷ [])
 linked_more src ts us k p x y xs = ap (λ q. record { initial = x; extended = xs ++ placed src us y ∷ []; extent = q }) (chain_extent ts us k p)
 
 pub marked_more : {T O : Type 0} (src : List ℕ) (ts us : List Lexeme) (k : TokenKind) (p : Spot) (x : Cell T) (o : O) (y : T) (xs : List (O × Cell T)) →
-    marked src (Some (pending (chain ts x xs) o (at p))) (closed us y) ≡ chain (ts ++ one k p ++ us) x (xs ++ (o, placed src us y) ∷ [])
+    marked_chain src (Some (pending (chain ts x xs) o (at p))) (closed us y) ≡ chain (ts ++ one k p ++ us) x (xs ++ (o, placed src us y) ∷ [])
 marked_more src ts us k p x o y xs = ap (λ q. record { initial = x; extended = xs ++ (o, placed src us y) ∷ []; extent = q }) (chain_extent ts us k p)
 
 abbrev pub at_mult : Levels → Option (Pending Unary MultOp) → Levels
@@ -59,7 +59,7 @@ pub record MultAt {src : List ℕ} (c : Setting src) (st : List Frame) (lv : Lev
   pub m : Option (Pending Unary MultOp)
   pub md : Mode
   pub last : Operand
-  pub is : P (marked src m (unary_at src last))
+  pub is : P (marked_chain src m (unary_at src last))
   pub free : last.is_if ≡ false
   pub at_it : StandsAt c st (at_mult lv m) md last
   pub goes : Goes c st (at_mult lv None) pl ts (at_mult lv m) md
@@ -69,7 +69,7 @@ pub record AddAt {src : List ℕ} (c : Setting src) (st : List Frame) (lv : Leve
   pub m : Option (Pending Unary MultOp)
   pub md : Mode
   pub last : Operand
-  pub is : P (marked src s (made_mult (marked src m (unary_at src last))))
+  pub is : P (marked_chain src s (made_mult (marked_chain src m (unary_at src last))))
   pub free : last.is_if ≡ false
   pub at_it : StandsAt c st (at_add lv s m) md last
   pub goes : Goes c st (at_add lv None None) pl ts (at_add lv s m) md
@@ -79,19 +79,19 @@ sums_of c st m e s = subst (λ r. Sums r) (sym (reaches c st m e)) s
 
 -- products
 
-multiplies : (src : List ℕ) (st : List Frame) (lv : Levels) (u : Operand) (o : MultOp) (e : Extent) {r : Reach} → Sums r → next_of (multiply_had src st lv u r o e) ≡ Some (multiplied src st lv u o e)
+multiplies : (src : List ℕ) (st : List Frame) (lv : Levels) (u : Operand) (o : MultOp) (e : Extent) {r : Reach} → Sums r → next_of (multiply_had src st lv u r o e) ≡ Some (product_beginning src st lv u o e)
 multiplies src st lv u o e a_sum = refl
 multiplies src st lv u o e a_whole = refl
 
 multiply_runs : {src : List ℕ} (c : Setting src) (st : List Frame) (lv : Levels) (md : Mode) (u : Operand) (p : Spot) {k : TokenKind} {o : MultOp} → ReadsMultOp k o → StandsAt c st lv md u → Sums (reach_of c.wanted st u) →
-    run c (Some (state st lv md)) (one k p) ≡ Some (multiplied src st lv u o (at p))
+    run c (Some (state st lv md)) (one k p) ≡ Some (product_beginning src st lv u o (at p))
 multiply_runs {src = src} c st lv md u p times h s = met c st lv md u kind.Star p h refl ∙ multiplies src st lv u product.Times (at p) s
 multiply_runs {src = src} c st lv md u p divide h s = met c st lv md u kind.Slash p h refl ∙ multiplies src st lv u product.Divide (at p) s
 multiply_runs {src = src} c st lv md u p modulo h s = met c st lv md u kind.Percent p h refl ∙ multiplies src st lv u product.Mod (at p) s
 
 pub one_unaries : {src : List ℕ} (c : Setting src) (st : List Frame) (lv : Levels) (pl : Place) (ts : List Lexeme) (x : Unary) →
     UnaryAt c st (at_mult lv None) pl ts x → MultAt c st lv pl ts (λ q. q ≡ chain ts (placed src ts x) [])
-one_unaries {src = src} c st lv pl ts x h = record { m = None; md = h.md; last = h.last; is = ap (λ y. marked src None y) h.is; free = h.free; at_it = h.at_it; goes = h.goes }
+one_unaries {src = src} c st lv pl ts x h = record { m = None; md = h.md; last = h.last; is = ap (λ y. marked_chain src None y) h.is; free = h.free; at_it = h.at_it; goes = h.goes }
 
 pub more_unaries : {src : List ℕ} (c : Setting src) (st : List Frame) (lv : Levels) (pl : Place) (ts us : List Lexeme) (k : TokenKind) (o : MultOp) (p : Spot) (x : Cell Unary) (y : Unary) (xs : List (MultOp × Cell Unary)) → Sums (edge c.wanted st) →
     MultAt c st lv pl ts (λ q. q ≡ chain ts x xs) → ReadsMultOp k o → ((w : Levels) → UnaryAt c st w place.Operand us y) →
@@ -103,7 +103,7 @@ more_unaries {src = src} c st lv pl ts us k o p x y xs e h r g =
       m = begun;
       md = w.md;
       last = w.last;
-      is = ap (λ z. marked src begun z) w.is ∙ marked_more src ts us k p x o y xs;
+      is = ap (λ z. marked_chain src begun z) w.is ∙ marked_more src ts us k p x o y xs;
       free = w.free;
       at_it = w.at_it;
       goes = three c (begin_at st (at_mult lv None) pl) _ (begin_at st (at_mult lv begun) place.Operand) _ ts (one k p) us h.goes
@@ -112,18 +112,18 @@ more_unaries {src = src} c st lv pl ts us k o p x y xs e h r g =
 
 -- sums
 
-sums_up : (src : List ℕ) (st : List Frame) (lv : Levels) (u : Operand) (o : AddOp) (e : Extent) {r : Reach} → Sums r → next_of (sum_had src st lv u r o e) ≡ Some (summed src st lv u o e)
+sums_up : (src : List ℕ) (st : List Frame) (lv : Levels) (u : Operand) (o : AddOp) (e : Extent) {r : Reach} → Sums r → next_of (sum_had src st lv u r o e) ≡ Some (sum_beginning src st lv u o e)
 sums_up src st lv u o e a_sum = refl
 sums_up src st lv u o e a_whole = refl
 
 sum_runs : {src : List ℕ} (c : Setting src) (st : List Frame) (lv : Levels) (md : Mode) (u : Operand) (p : Spot) {k : TokenKind} {o : AddOp} → ReadsAddOp k o → StandsAt c st lv md u → Sums (reach_of c.wanted st u) →
-    run c (Some (state st lv md)) (one k p) ≡ Some (summed src st lv u o (at p))
+    run c (Some (state st lv md)) (one k p) ≡ Some (sum_beginning src st lv u o (at p))
 sum_runs {src = src} c st lv md u p plus h s = met c st lv md u kind.Plus p h refl ∙ sums_up src st lv u sum.Plus (at p) s
 sum_runs {src = src} c st lv md u p minus h s = met c st lv md u kind.Minus p h refl ∙ sums_up src st lv u sum.Minus (at p) s
 
 pub one_mults : {src : List ℕ} (c : Setting src) (st : List Frame) (lv : Levels) (pl : Place) (ts : List Lexeme) (x : Mult) →
     MultAt c st (at_add lv None None) pl ts (λ q. made_mult q ≡ closed ts x) → AddAt c st lv pl ts (λ q. q ≡ chain ts (placed src ts x) [])
-one_mults {src = src} c st lv pl ts x h = record { s = None; m = h.m; md = h.md; last = h.last; is = ap (λ y. marked src None y) h.is; free = h.free; at_it = h.at_it; goes = h.goes }
+one_mults {src = src} c st lv pl ts x h = record { s = None; m = h.m; md = h.md; last = h.last; is = ap (λ y. marked_chain src None y) h.is; free = h.free; at_it = h.at_it; goes = h.goes }
 
 pub more_mults : {src : List ℕ} (c : Setting src) (st : List Frame) (lv : Levels) (pl : Place) (ts us : List Lexeme) (k : TokenKind) (o : AddOp) (p : Spot) (x : Cell Mult) (y : Mult) (xs : List (AddOp × Cell Mult)) → Sums (edge c.wanted st) →
     AddAt c st lv pl ts (λ q. q ≡ chain ts x xs) → ReadsAddOp k o → ((w : Levels) → MultAt c st w place.Operand us (λ q. made_mult q ≡ closed us y)) →
@@ -136,7 +136,7 @@ more_mults {src = src} c st lv pl ts us k o p x y xs e h r g =
       m = w.m;
       md = w.md;
       last = w.last;
-      is = ap (λ z. marked src begun z) w.is ∙ marked_more src ts us k p x o y xs;
+      is = ap (λ z. marked_chain src begun z) w.is ∙ marked_more src ts us k p x o y xs;
       free = w.free;
       at_it = w.at_it;
       goes = three c (begin_at st (at_add lv None None) pl) _ (begin_at st (at_add lv begun None) place.Operand) _ ts (one k p) us h.goes

@@ -4,7 +4,7 @@ use Rattle.cedar_lexer.specs.Token.{Lexeme}
 use Rattle.cedar_lexer.specs.declared.token.TokenKind.{TokenKind}
 use Rattle.cedar_lexer.specs.declared.token.TokenKind.TheVariants as kind
 use Rattle.cedar_syntax.specs.declared.cst.Primary.TheVariants as primary
-use Rattle.cedar_text.specs.machines.Named.{Named}
+use Rattle.cedar_text.specs.machines.Named.{NameOrEntity}
 use Rattle.cedar_text.specs.machines.Named as named_as
 use Rattle.cedar_text.specs.declared.text_to_cst.state.WordsState.{WordsState}
 use Rattle.cedar_text.specs.declared.text_to_cst.expression.state.Levels.{Levels}
@@ -21,10 +21,10 @@ use Rattle.cedar_text.specs.declared.text_to_cst.expression.state.Alone.TheVaria
 use Rattle.cedar_syntax.specs.Tokens.{Spot, one}
 use Rattle.cedar_syntax.specs.machines.Door.{Machine, Completed, Door, option_image}
 use Rattle.cedar_text.specs.machines.Named.{ReadsNamed, joins_words, IsWords}
-use Rattle.cedar_text.specs.machines.Closing.{ranged, node_of, operand_of, whole, add_at}
+use Rattle.cedar_text.specs.machines.Closing.{ranged_tree, node_of, operand_of, whole, add_at}
 use Rattle.cedar_text.specs.machines.ExpressionStates.{state}
 use Rattle.cedar_text.specs.machines.Having.{having}
-use Rattle.cedar_text.specs.machines.Expressions.{alone_of, alone_read, alone_at_end, name_at, step_of, last_operand, expr_at_end, sum_at_end, primary_at_end, expressions, sums, primaries}
+use Rattle.cedar_text.specs.machines.Expressions.{alone_of, alone_reading, alone_at_end, name_at, step_of, last_operand, expr_at_end, sum_at_end, primary_at_end, expressions, sums, primaries}
 use Rattle.cedar_text.proofs.expressions.complete.Runs.{Setting, next_of, run, two, token, StandsAt, stands, met, taken_next}
 use Rattle.cedar_text.proofs.expressions.complete.Words.{held, words_stand, further_word}
 use Rattle.cedar_text.proofs.expressions.complete.Complete.{goes_as, expression_setting, sum_setting, primary_setting}
@@ -78,16 +78,16 @@ stands_ends c (frame.Yes f ∷ st) lv md m h =
 
 -- words can always come to an operand: a path goes on to one of more than one word, which is never `if` alone
 
-words_end : {src : List ℕ} (c : Setting src) (st : List Frame) (lv : Levels) (pl : Place) (sg : Signs) (s : WordsState) (x : Named) → c.names.finish s ≡ Some x → Ends c (state st lv (mode.Word pl sg s))
+words_end : {src : List ℕ} (c : Setting src) (st : List Frame) (lv : Levels) (pl : Place) (sg : Signs) (s : WordsState) (x : NameOrEntity) → c.names.finish s ≡ Some x → Ends c (state st lv (mode.Word pl sg s))
 words_end {src = src} c st lv pl sg s (named_as.entity x) e =
-    stands_ends c st lv (mode.Word pl sg s) _ (words_stand c st lv pl sg s (named_as.entity x) (operand_of src sg (ranged x.extent (primary.Ref x.tree))) e (λ t. refl) refl)
+    stands_ends c st lv (mode.Word pl sg s) _ (words_stand c st lv pl sg s (named_as.entity x) (operand_of src sg (ranged_tree x.extent (primary.Ref x.tree))) e (λ t. refl) refl)
 words_end {src = src} c st lv pl sg s (named_as.path x) e =
     let l = c.words.longer s x spot spot e in
     let f : alone_of l.longer.tree.path l.longer.tree.name ≡ alone.Name = ap (λ q. alone_of q l.longer.tree.name) l.joined ∙ further_word l.before l.word l.longer.tree.name in
     after c _ (state st lv (mode.Word pl sg l.last)) (one kind.ColonColon spot ++ one kind.Identifier spot) (held c st lv pl sg (one kind.ColonColon spot ++ one kind.Identifier spot) s l.last l.goes)
     (stands_ends c st lv (mode.Word pl sg l.last) _
     (words_stand c st lv pl sg l.last (named_as.path l.longer) (operand_of src sg (name_at src l.longer)) l.ends
-    (λ t. ap (λ a. alone_read c.wanted src c.names st lv pl sg l.longer a t) f) (ap (λ a. alone_at_end src pl sg l.longer a) f)))
+    (λ t. ap (λ a. alone_reading c.wanted src c.names st lv pl sg l.longer a t) f) (ap (λ a. alone_at_end src pl sg l.longer a) f)))
 
 -- each mode
 
@@ -101,7 +101,7 @@ mode_ends c st lv (mode.Have m) = stands_ends c st lv (mode.Have m) m (stands c 
 
 -- the three machines
 
-pub expressions_viable : (src : List ℕ) (names : Machine Lexeme WordsState Named) → Door names (ReadsNamed src) → IsWords names → (s : State) → Completed (expressions src names) s
+pub expressions_viable : (src : List ℕ) (names : Machine Lexeme WordsState NameOrEntity) → Door names (ReadsNamed src) → IsWords names → (s : State) → Completed (expressions src names) s
 expressions_viable src names d i s =
     let c = expression_setting src names d i in
     let h = mode_ends c s.stack s.levels s.mode in
@@ -113,7 +113,7 @@ expressions_viable src names d i s =
       ends = ap (λ o. option_image (λ m. whole src h.levels m) o) h.ends;
     }
 
-pub sums_viable : (src : List ℕ) (names : Machine Lexeme WordsState Named) → Door names (ReadsNamed src) → IsWords names → (s : State) → Completed (sums src names) s
+pub sums_viable : (src : List ℕ) (names : Machine Lexeme WordsState NameOrEntity) → Door names (ReadsNamed src) → IsWords names → (s : State) → Completed (sums src names) s
 sums_viable src names d i s =
     let c = sum_setting src names d i in
     let h = mode_ends c s.stack s.levels s.mode in
@@ -125,7 +125,7 @@ sums_viable src names d i s =
       ends = ap (λ o. option_image (λ m. add_at src h.levels m) o) h.ends;
     }
 
-pub primaries_viable : (src : List ℕ) (names : Machine Lexeme WordsState Named) → Door names (ReadsNamed src) → IsWords names → (s : State) → Completed (primaries src names) s
+pub primaries_viable : (src : List ℕ) (names : Machine Lexeme WordsState NameOrEntity) → Door names (ReadsNamed src) → IsWords names → (s : State) → Completed (primaries src names) s
 primaries_viable src names d i s =
     let c = primary_setting src names d i in
     let h = mode_ends c s.stack s.levels s.mode in

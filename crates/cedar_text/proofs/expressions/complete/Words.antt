@@ -14,7 +14,7 @@ use Rattle.cedar_syntax.specs.declared.cst.Ident.TheVariants as ident
 use Rattle.cedar_syntax.specs.declared.cst.Name.{Name}
 use Rattle.cedar_syntax.specs.declared.cst.Ref.{Ref}
 use Rattle.cedar_syntax.specs.declared.reading.class.Beginning.TheVariants as beginning
-use Rattle.cedar_text.specs.machines.Named.{Named}
+use Rattle.cedar_text.specs.machines.Named.{NameOrEntity}
 use Rattle.cedar_text.specs.machines.Named as named_as
 use Rattle.cedar_text.specs.declared.text_to_cst.state.WordsState.{WordsState}
 use Rattle.cedar_text.specs.declared.text_to_cst.expression.state.Ranged.{Ranged}
@@ -32,29 +32,29 @@ use Rattle.cedar_syntax.specs.Tokens.{Spot, one, number_of, fits, any_of}
 use Rattle.cedar_syntax.specs.Trees.{Cell, name_of}
 use Rattle.cedar_syntax.specs.LooseWords.{ReadsLiteral, truth, falsity, number, string, any, ReadsPath, one_word, more_words, is_common, ReadsName, common, qualified, ReadsRef, uid, with_inits}
 use Rattle.cedar_syntax.specs.LooseExpressions.{ReadsSlot, principal_slot, resource_slot, other_slot}
-use Rattle.cedar_syntax.specs.machines.Door.{Answer, next, ended, refused, too_large, taken, steps}
+use Rattle.cedar_syntax.specs.machines.Door.{Answer, next, ended, refused, too_large, answer_state, steps}
 use Rattle.cedar_text.specs.machines.Named.{ReadsNamed, a_path, a_ref}
-use Rattle.cedar_text.specs.machines.Closing.{ranged, operand_of}
+use Rattle.cedar_text.specs.machines.Closing.{ranged_tree, operand_of}
 use Rattle.cedar_syntax.specs.machines.Classes.{class_or_word}
 use Rattle.cedar_text.specs.machines.ExpressionStates.{state}
-use Rattle.cedar_text.specs.machines.Wanting.{wanted_as, word_begun}
+use Rattle.cedar_text.specs.machines.Wanting.{wanted_token, word_beginning}
 use Rattle.cedar_text.specs.machines.Having.{having}
-use Rattle.cedar_text.specs.machines.Expressions.{word_alone, alone_of, alone_read, named_read, word_read, alone_at_end, named_at_end}
+use Rattle.cedar_text.specs.machines.Expressions.{word_alone, alone_of, alone_reading, name_reading, word_reading, alone_at_end, named_at_end}
 use Rattle.cedar_text.proofs.expressions.complete.Runs.{some_is, none_some, at, Setting, next_of, run, token, StandsAt, stands}
 use Rattle.cedar_syntax.proofs.machines.Laws.{steps-none}
 
 -- a tree and the extent of its tokens
 abbrev pub closed : {T : Type 0} → List Lexeme → T → Ranged T
-closed ts x = ranged (extent ts) x
+closed ts x = ranged_tree (extent ts) x
 
 -- pending words
 
 abbrev pub in_words : List Frame → Levels → Place → Signs → WordsState → Option State
 in_words st lv pl sg s = Some (state st lv (mode.Word pl sg s))
 
-held_by : {src : List ℕ} (c : Setting src) (st : List Frame) (lv : Levels) (pl : Place) (sg : Signs) (t : Lexeme) (ts : List Lexeme) (r : WordsState) (a : Answer WordsState Named) →
-    ((s : WordsState) → steps c.names (Some s) ts ≡ Some r → run c (in_words st lv pl sg s) ts ≡ in_words st lv pl sg r) → steps c.names (taken a) ts ≡ Some r →
-    run c (next_of (word_read c.wanted src c.names st lv pl sg a t)) ts ≡ in_words st lv pl sg r
+held_by : {src : List ℕ} (c : Setting src) (st : List Frame) (lv : Levels) (pl : Place) (sg : Signs) (t : Lexeme) (ts : List Lexeme) (r : WordsState) (a : Answer WordsState NameOrEntity) →
+    ((s : WordsState) → steps c.names (Some s) ts ≡ Some r → run c (in_words st lv pl sg s) ts ≡ in_words st lv pl sg r) → steps c.names (answer_state a) ts ≡ Some r →
+    run c (next_of (word_reading c.wanted src c.names st lv pl sg a t)) ts ≡ in_words st lv pl sg r
 held_by c st lv pl sg t ts r (next s) f e = f s e
 held_by c st lv pl sg t ts r (ended x) f e = absurd (none_some refl (sym (steps-none c.names ts) ∙ e))
 held_by c st lv pl sg t ts r refused f e = absurd (none_some refl (sym (steps-none c.names ts) ∙ e))
@@ -68,8 +68,8 @@ held c st lv pl sg (t ∷ ts) s r e = held_by c st lv pl sg t ts r (c.names.step
 
 -- the first word
 
-begun_by : {src : List ℕ} (c : Setting src) (st : List Frame) (lv : Levels) (pl : Place) (sg : Signs) (ts : List Lexeme) (r : WordsState) (a : Answer WordsState Named) → steps c.names (taken a) ts ≡ Some r →
-    run c (next_of (word_begun st lv pl sg a)) ts ≡ in_words st lv pl sg r
+begun_by : {src : List ℕ} (c : Setting src) (st : List Frame) (lv : Levels) (pl : Place) (sg : Signs) (ts : List Lexeme) (r : WordsState) (a : Answer WordsState NameOrEntity) → steps c.names (answer_state a) ts ≡ Some r →
+    run c (next_of (word_beginning st lv pl sg a)) ts ≡ in_words st lv pl sg r
 begun_by c st lv pl sg ts r (next s) e = held c st lv pl sg ts s r e
 begun_by c st lv pl sg ts r (ended x) e = absurd (none_some refl (sym (steps-none c.names ts) ∙ e))
 begun_by c st lv pl sg ts r refused e = absurd (none_some refl (sym (steps-none c.names ts) ∙ e))
@@ -79,7 +79,7 @@ pub begun : {src : List ℕ} (c : Setting src) (st : List Frame) (lv : Levels) (
     steps c.names (Some c.names.start) (t ∷ ts) ≡ Some r → run c (Some (state st lv (mode.Want pl sg))) (t ∷ ts) ≡ in_words st lv pl sg r
 begun {src = src} c st lv pl sg t ts i r e f =
     let a = c.names.step c.names.start t in
-    ap (λ o. run c (next_of (wanted_as src st lv pl sg (class_or_word t.kind t.text o) a (extent_of t) t.text)) ts) e ∙ begun_by c st lv pl sg ts r a f
+    ap (λ o. run c (next_of (wanted_token src st lv pl sg (class_or_word t.kind t.text o) a (extent_of t) t.text)) ts) e ∙ begun_by c st lv pl sg ts r a f
 
 record BeginsAsWord (ts : List Lexeme) : Type 0 where
   first : Lexeme
@@ -101,16 +101,16 @@ ref_begins (with_inits {ts = ts} {us = us} p l m r s) =
     more_behind (ts ++ one kind.ColonColon p ++ one kind.OpenBrace l ++ us) (one kind.CloseBrace m)
     (more_behind (ts ++ one kind.ColonColon p ++ one kind.OpenBrace l) us (more_behind (ts ++ one kind.ColonColon p) (one kind.OpenBrace l) (more_behind ts (one kind.ColonColon p) (path_begins r))))
 
-named_begins : {src : List ℕ} {ts : List Lexeme} {x : Named} → ReadsNamed src ts x → BeginsAsWord ts
+named_begins : {src : List ℕ} {ts : List Lexeme} {x : NameOrEntity} → ReadsNamed src ts x → BeginsAsWord ts
 named_begins (a_path r) = path_begins r
 named_begins (a_ref r) = ref_begins r
 
-pub record WordsAt {src : List ℕ} (c : Setting src) (st : List Frame) (lv : Levels) (pl : Place) (sg : Signs) (ts : List Lexeme) (x : Named) : Type 0 where
+pub record WordsAt {src : List ℕ} (c : Setting src) (st : List Frame) (lv : Levels) (pl : Place) (sg : Signs) (ts : List Lexeme) (x : NameOrEntity) : Type 0 where
   pub last : WordsState
   pub ends : c.names.finish last ≡ Some x
   pub goes : run c (Some (state st lv (mode.Want pl sg))) ts ≡ in_words st lv pl sg last
 
-pub words_run : {src : List ℕ} (c : Setting src) (st : List Frame) (lv : Levels) (pl : Place) (sg : Signs) (ts : List Lexeme) (x : Named) → ReadsNamed src ts x → WordsAt c st lv pl sg ts x
+pub words_run : {src : List ℕ} (c : Setting src) (st : List Frame) (lv : Levels) (pl : Place) (sg : Signs) (ts : List Lexeme) (x : NameOrEntity) → ReadsNamed src ts x → WordsAt c st lv pl sg ts x
 words_run c st lv pl sg ts x r =
     let h = c.door.complete ts x r in
     let f = named_begins r in
@@ -123,10 +123,10 @@ words_run c st lv pl sg ts x r =
 
 -- the operand that words are
 
-pub words_stand : {src : List ℕ} (c : Setting src) (st : List Frame) (lv : Levels) (pl : Place) (sg : Signs) (s : WordsState) (x : Named) (m : Operand) → c.names.finish s ≡ Some x →
-    ((t : Lexeme) → named_read c.wanted src c.names st lv pl sg x t ≡ having c.wanted src st lv m t) → named_at_end src pl sg (Some x) ≡ Some m → StandsAt c st lv (mode.Word pl sg s) m
+pub words_stand : {src : List ℕ} (c : Setting src) (st : List Frame) (lv : Levels) (pl : Place) (sg : Signs) (s : WordsState) (x : NameOrEntity) (m : Operand) → c.names.finish s ≡ Some x →
+    ((t : Lexeme) → name_reading c.wanted src c.names st lv pl sg x t ≡ having c.wanted src st lv m t) → named_at_end src pl sg (Some x) ≡ Some m → StandsAt c st lv (mode.Word pl sg s) m
 words_stand {src = src} c st lv pl sg s x m e f g = record {
-  behind = λ t h. ap (λ a. word_read c.wanted src c.names st lv pl sg a t) (c.words.ends s x t h e) ∙ f t;
+  behind = λ t h. ap (λ a. word_reading c.wanted src c.names st lv pl sg a t) (c.words.ends s x t h e) ∙ f t;
   ends = ap (λ o. named_at_end src pl sg o) e ∙ g;
 }
 
@@ -141,8 +141,8 @@ pub had_at : {src : List ℕ} (c : Setting src) (st : List Frame) (lv : Levels) 
     run c (Some (state st lv (mode.Want pl sg))) ts ≡ Some (state st lv (mode.Have (operand_of src sg (closed ts x)))) → PrimaryAt c st lv pl sg ts x
 had_at {src = src} c st lv pl sg ts x e = record { md = mode.Have (operand_of src sg (closed ts x)); at_it = stands c st lv (operand_of src sg (closed ts x)); goes = e }
 
-pending_at : {src : List ℕ} (c : Setting src) (st : List Frame) (lv : Levels) (pl : Place) (sg : Signs) (ts : List Lexeme) (n : Named) (x : Primary) → ReadsNamed src ts n →
-    ((t : Lexeme) → named_read c.wanted src c.names st lv pl sg n t ≡ having c.wanted src st lv (operand_of src sg (closed ts x)) t) →
+pending_at : {src : List ℕ} (c : Setting src) (st : List Frame) (lv : Levels) (pl : Place) (sg : Signs) (ts : List Lexeme) (n : NameOrEntity) (x : Primary) → ReadsNamed src ts n →
+    ((t : Lexeme) → name_reading c.wanted src c.names st lv pl sg n t ≡ having c.wanted src st lv (operand_of src sg (closed ts x)) t) →
     named_at_end src pl sg (Some n) ≡ Some (operand_of src sg (closed ts x)) → PrimaryAt c st lv pl sg ts x
 pending_at {src = src} c st lv pl sg ts n x r f g =
     let h = words_run c st lv pl sg ts n r in
@@ -154,7 +154,7 @@ number_runs : {src : List ℕ} (c : Setting src) (st : List Frame) (lv : Levels)
     PrimaryAt c st lv pl sg (one kind.Number p) (primary.Literal (placed src (one kind.Number p) (literal.Num (number_of p.text))))
 number_runs {src = src} c st lv pl sg p e =
     had_at c st lv pl sg (one kind.Number p) (primary.Literal (placed src (one kind.Number p) (literal.Num (number_of p.text))))
-    (ap (λ b. next_of (wanted_as src st lv pl sg b (c.names.step c.names.start (token kind.Number p)) (at p) p.text)) (ap (λ b. cond b (beginning.Number (number_of p.text)) beginning.TooLarge) e))
+    (ap (λ b. next_of (wanted_token src st lv pl sg b (c.names.step c.names.start (token kind.Number p)) (at p) p.text)) (ap (λ b. cond b (beginning.Number (number_of p.text)) beginning.TooLarge) e))
 
 pub literal_runs : {src : List ℕ} (c : Setting src) {ts : List Lexeme} {x : Literal} → ReadsLiteral src ts x → (st : List Frame) (lv : Levels) (pl : Place) (sg : Signs) →
     PrimaryAt c st lv pl sg ts (primary.Literal (placed src ts x))
@@ -188,7 +188,7 @@ name_at_it : {src : List ℕ} (c : Setting src) (st : List Frame) (lv : Levels) 
 name_at_it {src = src} c st lv pl sg ts xs x r e =
     let n : Ranged Name = closed ts (name_of xs x) in
     pending_at c st lv pl sg ts (named_as.path n) (primary.Name (placed src ts (name_of xs x))) (a_path r)
-    (λ t. ap (λ a. alone_read c.wanted src c.names st lv pl sg n a t) e) (ap (λ a. alone_at_end src pl sg n a) e)
+    (λ t. ap (λ a. alone_reading c.wanted src c.names st lv pl sg n a t) e) (ap (λ a. alone_at_end src pl sg n a) e)
 
 pub name_runs : {src : List ℕ} (c : Setting src) {ts : List Lexeme} {x : Name} → ReadsName src ts x → (st : List Frame) (lv : Levels) (pl : Place) (sg : Signs) →
     PrimaryAt c st lv pl sg ts (primary.Name (placed src ts x))
@@ -198,4 +198,4 @@ name_runs {src = src} c (qualified {ts = ts} {us = us} {xs = xs} {x = x} {i = i}
 
 pub ref_runs : {src : List ℕ} (c : Setting src) {ts : List Lexeme} {x : Ref} → ReadsRef src ts x → (st : List Frame) (lv : Levels) (pl : Place) (sg : Signs) →
     PrimaryAt c st lv pl sg ts (primary.Ref (placed src ts x))
-ref_runs {src = src} c {ts = ts} {x = x} r st lv pl sg = pending_at c st lv pl sg ts (named_as.entity (ranged (extent ts) (placed src ts x))) (primary.Ref (placed src ts x)) (a_ref r) (λ t. refl) refl
+ref_runs {src = src} c {ts = ts} {x = x} r st lv pl sg = pending_at c st lv pl sg ts (named_as.entity (ranged_tree (extent ts) (placed src ts x))) (primary.Ref (placed src ts x)) (a_ref r) (λ t. refl) refl

@@ -52,9 +52,9 @@ use Rattle.cedar_text.specs.machines.Advance as advance
 use Rattle.cedar_syntax.specs.declared.reading.extent.Extent.{Extent}
 use Rattle.cedar_syntax.specs.machines.Classes.{operator_of}
 use Rattle.cedar_text.specs.machines.ExpressionStates.{edge}
-use Rattle.cedar_syntax.specs.machines.Classes.{signed}
-use Rattle.cedar_text.specs.machines.Wanting.{after_signs, sign_read, list_ended, items_ended, keys_ended, set_ends, call_ends, record_ends}
-use Rattle.cedar_text.specs.machines.Having.{is_within, compared, sided, access_begun, paren_ended, set_ended, call_ended, index_ended, key_ended, value_ended, guard_ended, yes_ended, ended_by, had, having}
+use Rattle.cedar_syntax.specs.machines.Classes.{with_sign}
+use Rattle.cedar_text.specs.machines.Wanting.{after_signs, sign_reading, list_ending, items_ending, keys_ending, set_ends, call_ends, record_ends}
+use Rattle.cedar_text.specs.machines.Having.{is_within, comparison_beginning, side_beginning, access_beginning, paren_ending, set_ending, call_ending, index_ending, key_ending, value_ending, guard_ending, yes_ending, frame_ending, had, having}
 use Rattle.cedar_text.specs.machines.ExpressionShapes.{wants, Shape, shape, signed_shape, sign_shape, list_end, items_end, keys_end, access_shape, within_shape, compare_shape, side_shape, paren_shape, set_shape, call_shape, index_shape, key_shape, value_shape, guard_shape, yes_shape, ended_shape, had_step, edge_shape, reach_shape, having_shape, left_shape, stack_shape, op_sign, shape_of}
 
 -- what a step makes of a state has the shape that the kind makes of the state's shape
@@ -65,42 +65,42 @@ Alike f advance.too_large o = is_some o ≡ true
 
 -- what ends an expression in brackets
 
-paren_alike : {W : Type 0} (w : WordsState → W) (src : List ℕ) (st : List Frame) (f : Paren) (x : Ranged Expr) (c : Closing) (e : Extent) → Alike w (paren_ended src st f x c e) (paren_shape (stack_shape st) (left_shape f.outer.relation) c)
+paren_alike : {W : Type 0} (w : WordsState → W) (src : List ℕ) (st : List Frame) (f : Paren) (x : Ranged Expr) (c : Closing) (e : Extent) → Alike w (paren_ending src st f x c e) (paren_shape (stack_shape st) (left_shape f.outer.relation) c)
 paren_alike w src st f x closing.Paren e = refl
 paren_alike w src st f x _ e = refl
 
-set_alike : {W : Type 0} (w : WordsState → W) (src : List ℕ) (st : List Frame) (f : Set) (x : Ranged Expr) (c : Closing) (e : Extent) → Alike w (set_ended src st f x c e) (set_shape (stack_shape st) (left_shape f.outer.relation) c)
+set_alike : {W : Type 0} (w : WordsState → W) (src : List ℕ) (st : List Frame) (f : Set) (x : Ranged Expr) (c : Closing) (e : Extent) → Alike w (set_ending src st f x c e) (set_shape (stack_shape st) (left_shape f.outer.relation) c)
 set_alike w src st f x closing.Comma e = refl
 set_alike w src st f x closing.Bracket e = refl
 set_alike w src st f x _ e = refl
 
-call_alike : {W : Type 0} (w : WordsState → W) (src : List ℕ) (st : List Frame) (f : Call) (x : Ranged Expr) (c : Closing) (e : Extent) → Alike w (call_ended src st f x c e) (call_shape (stack_shape st) (left_shape f.outer.relation) f.operand.is_if c)
+call_alike : {W : Type 0} (w : WordsState → W) (src : List ℕ) (st : List Frame) (f : Call) (x : Ranged Expr) (c : Closing) (e : Extent) → Alike w (call_ending src st f x c e) (call_shape (stack_shape st) (left_shape f.outer.relation) f.operand.is_if c)
 call_alike w src st f x closing.Comma e = refl
 call_alike w src st f x closing.Paren e = refl
 call_alike w src st f x _ e = refl
 
-index_alike : {W : Type 0} (w : WordsState → W) (src : List ℕ) (st : List Frame) (f : Index) (x : Ranged Expr) (c : Closing) (e : Extent) → Alike w (index_ended src st f x c e) (index_shape (stack_shape st) (left_shape f.outer.relation) f.operand.is_if c)
+index_alike : {W : Type 0} (w : WordsState → W) (src : List ℕ) (st : List Frame) (f : Index) (x : Ranged Expr) (c : Closing) (e : Extent) → Alike w (index_ending src st f x c e) (index_shape (stack_shape st) (left_shape f.outer.relation) f.operand.is_if c)
 index_alike w src st f x closing.Bracket e = refl
 index_alike w src st f x _ e = refl
 
-key_alike : {W : Type 0} (w : WordsState → W) (src : List ℕ) (st : List Frame) (f : Record) (x : Ranged Expr) (c : Closing) (e : Extent) → Alike w (key_ended src st f x c e) (key_shape (stack_shape st) (left_shape f.outer.relation) c)
+key_alike : {W : Type 0} (w : WordsState → W) (src : List ℕ) (st : List Frame) (f : Record) (x : Ranged Expr) (c : Closing) (e : Extent) → Alike w (key_ending src st f x c e) (key_shape (stack_shape st) (left_shape f.outer.relation) c)
 key_alike w src st f x closing.Colon e = refl
 key_alike w src st f x _ e = refl
 
-value_alike : {W : Type 0} (w : WordsState → W) (src : List ℕ) (st : List Frame) (f : Value) (x : Ranged Expr) (c : Closing) (e : Extent) → Alike w (value_ended src st f x c e) (value_shape (stack_shape st) (left_shape f.pairs.outer.relation) c)
+value_alike : {W : Type 0} (w : WordsState → W) (src : List ℕ) (st : List Frame) (f : Value) (x : Ranged Expr) (c : Closing) (e : Extent) → Alike w (value_ending src st f x c e) (value_shape (stack_shape st) (left_shape f.pairs.outer.relation) c)
 value_alike w src st f x closing.Comma e = refl
 value_alike w src st f x closing.Brace e = refl
 value_alike w src st f x _ e = refl
 
-guard_alike : {W : Type 0} (w : WordsState → W) (src : List ℕ) (st : List Frame) (f : Guard) (x : Ranged Expr) (c : Closing) (e : Extent) → Alike w (guard_ended src st f x c e) (guard_shape (stack_shape st) c)
+guard_alike : {W : Type 0} (w : WordsState → W) (src : List ℕ) (st : List Frame) (f : Guard) (x : Ranged Expr) (c : Closing) (e : Extent) → Alike w (guard_ending src st f x c e) (guard_shape (stack_shape st) c)
 guard_alike w src st f x closing.Then e = refl
 guard_alike w src st f x _ e = refl
 
-yes_alike : {W : Type 0} (w : WordsState → W) (src : List ℕ) (st : List Frame) (f : Yes) (x : Ranged Expr) (c : Closing) (e : Extent) → Alike w (yes_ended src st f x c e) (yes_shape (stack_shape st) c)
+yes_alike : {W : Type 0} (w : WordsState → W) (src : List ℕ) (st : List Frame) (f : Yes) (x : Ranged Expr) (c : Closing) (e : Extent) → Alike w (yes_ending src st f x c e) (yes_shape (stack_shape st) c)
 yes_alike w src st f x closing.Else e = refl
 yes_alike w src st f x _ e = refl
 
-ended_alike : {W : Type 0} (w : WordsState → W) (src : List ℕ) (st : List Frame) (x : Ranged Expr) (c : Closing) (e : Extent) → Alike w (ended_by src st x c e) (ended_shape (stack_shape st) c)
+ended_alike : {W : Type 0} (w : WordsState → W) (src : List ℕ) (st : List Frame) (x : Ranged Expr) (c : Closing) (e : Extent) → Alike w (frame_ending src st x c e) (ended_shape (stack_shape st) c)
 ended_alike w src [] x c e = refl
 ended_alike w src (frame.Paren f ∷ st) x c e = paren_alike w src st f x c e
 ended_alike w src (frame.Set f ∷ st) x c e = set_alike w src st f x c e
@@ -113,7 +113,7 @@ ended_alike w src (frame.Yes f ∷ st) x c e = yes_alike w src st f x c e
 
 -- operators
 
-access_alike : {W : Type 0} (w : WordsState → W) (st : List Frame) (lv : Levels) (m : Operand) (a : Access) (e : Extent) → Alike w (advance.next (access_begun st lv m a e)) (access_shape (stack_shape st) (left_shape lv.relation) m.is_if a)
+access_alike : {W : Type 0} (w : WordsState → W) (st : List Frame) (lv : Levels) (m : Operand) (a : Access) (e : Extent) → Alike w (advance.next (access_beginning st lv m a e)) (access_shape (stack_shape st) (left_shape lv.relation) m.is_if a)
 access_alike w st lv m opens.Dot e = refl
 access_alike w st lv m opens.Paren e = refl
 access_alike w st lv m opens.Bracket e = refl
@@ -122,7 +122,7 @@ within_alike : {W : Type 0} (w : WordsState → W) (src : List ℕ) (st : List F
 within_alike w src st lv y x rel.In e = refl
 within_alike w src st lv y x _ e = refl
 
-compared_alike : {W : Type 0} (w : WordsState → W) (src : List ℕ) (st : List Frame) (lv : Levels) (l : Option Left) (x : Ranged Add) (o : RelOp) (e : Extent) → Alike w (compared src st lv l x o e) (compare_shape (stack_shape st) (left_shape l) o)
+compared_alike : {W : Type 0} (w : WordsState → W) (src : List ℕ) (st : List Frame) (lv : Levels) (l : Option Left) (x : Ranged Add) (o : RelOp) (e : Extent) → Alike w (comparison_beginning src st lv l x o e) (compare_shape (stack_shape st) (left_shape l) o)
 compared_alike w src st lv None x o e = refl
 compared_alike w src st lv (Some (left.Common p)) x o e = refl
 compared_alike w src st lv (Some (left.Is y)) x o e = within_alike w src st lv y x o e
@@ -130,7 +130,7 @@ compared_alike w src st lv (Some (left.Has y)) x o e = refl
 compared_alike w src st lv (Some (left.Like y)) x o e = refl
 compared_alike w src st lv (Some (left.IsIn y z l)) x o e = refl
 
-sided_alike : {W : Type 0} (w : WordsState → W) (src : List ℕ) (st : List Frame) (lv : Levels) (l : Option Left) (x : Ranged Add) (s : Side) (e : Extent) → Alike w (sided src st lv l x s e) (side_shape (stack_shape st) (left_shape l) s)
+sided_alike : {W : Type 0} (w : WordsState → W) (src : List ℕ) (st : List Frame) (lv : Levels) (l : Option Left) (x : Ranged Add) (s : Side) (e : Extent) → Alike w (side_beginning src st lv l x s e) (side_shape (stack_shape st) (left_shape l) s)
 sided_alike w src st lv None x side.Has e = refl
 sided_alike w src st lv None x side.Like e = refl
 sided_alike w src st lv None x side.Is e = refl
@@ -197,7 +197,7 @@ dash_sign : (b : Bool) (n : ℕ) → op_sign (Some (cond b (neg.Dash n) neg.Over
 dash_sign true n = refl
 dash_sign false n = refl
 
-signs_alike : {W : Type 0} (w : WordsState → W) (st : List Frame) (lv : Levels) (l : Option Extent) (o : Option NegOp) (s : Sign) (e : Extent) → Alike w (after_signs st lv l (signed o s) e) (signed_shape (stack_shape st) (left_shape lv.relation) (op_sign o) s)
+signs_alike : {W : Type 0} (w : WordsState → W) (st : List Frame) (lv : Levels) (l : Option Extent) (o : Option NegOp) (s : Sign) (e : Extent) → Alike w (after_signs st lv l (with_sign o s) e) (signed_shape (stack_shape st) (left_shape lv.relation) (op_sign o) s)
 signs_alike w st lv l None sign.Bang e = refl
 signs_alike w st lv l None sign.Dash e = refl
 signs_alike w st lv l (Some (neg.Bang n)) sign.Bang e = ap (λ q. Some (shape (stack_shape st) (left_shape lv.relation) (wants place.Operand q))) (sym (bang_sign _ (n + 1)))
@@ -209,7 +209,7 @@ signs_alike w st lv l (Some (neg.Dash n)) sign.Dash e = ap (λ q. Some (shape (s
 signs_alike w st lv l (Some neg.OverDash) sign.Bang e = refl
 signs_alike w st lv l (Some neg.OverDash) sign.Dash e = refl
 
-pub sign_alike : {W : Type 0} (w : WordsState → W) (st : List Frame) (lv : Levels) (p : Place) (sg : Signs) (s : Sign) (e : Extent) → Alike w (sign_read st lv p sg s e) (sign_shape (stack_shape st) (left_shape lv.relation) p (op_sign sg.op) s)
+pub sign_alike : {W : Type 0} (w : WordsState → W) (st : List Frame) (lv : Levels) (p : Place) (sg : Signs) (s : Sign) (e : Extent) → Alike w (sign_reading st lv p sg s e) (sign_shape (stack_shape st) (left_shape lv.relation) p (op_sign sg.op) s)
 sign_alike w st lv place.Primary sg s e = refl
 sign_alike w st lv place.Expr sg s e = signs_alike w st lv sg.extent sg.op s e
 sign_alike w st lv place.Item sg s e = signs_alike w st lv sg.extent sg.op s e
@@ -234,16 +234,16 @@ record_ends_alike w src [] e = refl
 record_ends_alike w src (frame.Key f ∷ st) e = refl
 record_ends_alike w src (_ ∷ st) e = refl
 
-items_alike : {W : Type 0} (w : WordsState → W) (src : List ℕ) (st : List Frame) (c : Closing) (e : Extent) → Alike w (items_ended src st c e) (items_end (stack_shape st) c)
+items_alike : {W : Type 0} (w : WordsState → W) (src : List ℕ) (st : List Frame) (c : Closing) (e : Extent) → Alike w (items_ending src st c e) (items_end (stack_shape st) c)
 items_alike w src st closing.Bracket e = set_ends_alike w src st e
 items_alike w src st closing.Paren e = call_ends_alike w src st e
 items_alike w src st _ e = refl
 
-keys_alike : {W : Type 0} (w : WordsState → W) (src : List ℕ) (st : List Frame) (c : Closing) (e : Extent) → Alike w (keys_ended src st c e) (keys_end (stack_shape st) c)
+keys_alike : {W : Type 0} (w : WordsState → W) (src : List ℕ) (st : List Frame) (c : Closing) (e : Extent) → Alike w (keys_ending src st c e) (keys_end (stack_shape st) c)
 keys_alike w src st closing.Brace e = record_ends_alike w src st e
 keys_alike w src st _ e = refl
 
-pub list_alike : {W : Type 0} (w : WordsState → W) (src : List ℕ) (st : List Frame) (p : Place) (c : Closing) (e : Extent) → Alike w (list_ended src st p c e) (list_end (stack_shape st) p c)
+pub list_alike : {W : Type 0} (w : WordsState → W) (src : List ℕ) (st : List Frame) (p : Place) (c : Closing) (e : Extent) → Alike w (list_ending src st p c e) (list_end (stack_shape st) p c)
 list_alike w src st place.Item c e = items_alike w src st c e
 list_alike w src st place.Key c e = keys_alike w src st c e
 list_alike w src st place.Expr c e = refl

@@ -15,7 +15,7 @@ use Rattle.cedar_syntax.specs.declared.cst.Unary.{Unary}
 use Rattle.cedar_syntax.specs.declared.cst.MemAccess.{MemAccess}
 use Rattle.cedar_syntax.specs.declared.cst.Primary.{Primary}
 use Rattle.cedar_syntax.specs.declared.cst.RecInit.{RecInit}
-use Rattle.cedar_text.specs.machines.Named.{Named}
+use Rattle.cedar_text.specs.machines.Named.{NameOrEntity}
 use Rattle.cedar_text.specs.declared.text_to_cst.state.WordsState.{WordsState}
 use Rattle.cedar_text.specs.declared.text_to_cst.expression.state.Ranged.{Ranged}
 use Rattle.cedar_text.specs.declared.text_to_cst.expression.state.Chain.{Chain}
@@ -48,7 +48,7 @@ use Rattle.cedar_syntax.specs.Tokens.{Spot, one}
 use Rattle.cedar_syntax.specs.Trees.{Cell, member_of, bangs_of, dashes_of}
 use Rattle.cedar_syntax.specs.LooseExpressions.{ReadsRelOp, ReadsAddOp, ReadsMultOp, ReadsSigns, if_name, lone_expr, ReadsExpr, ReadsAnds, ReadsRelations, ReadsAdds, ReadsAdd, ReadsMults, ReadsUnaries, ReadsAccesses, ReadsPrimary, ReadsExprItems, ReadsInitItems}
 pub use Rattle.cedar_syntax.proofs.machines.Extents.{at}
-use Rattle.cedar_text.specs.machines.Closing.{ranged, Plain, onward, pending, levels_of, fresh, signs_of, no_signs, operand_with, operand_of}
+use Rattle.cedar_text.specs.machines.Closing.{ranged_tree, Plain, onward, pending, levels_of, fresh, signs_of, no_signs, operand_with, operand_of}
 use Rattle.cedar_syntax.specs.machines.Door.{Machine, Comes}
 use Rattle.cedar_text.specs.machines.ExpressionStates.{state, edge}
 use Rattle.cedar_text.specs.machines.Wanting.{set_with, record_with}
@@ -56,7 +56,7 @@ use Rattle.cedar_text.specs.machines.Having.{before}
 
 -- a tree and the extent of its tokens
 abbrev pub closed : {T : Type 0} → List Lexeme → T → Ranged T
-closed ts x = ranged (extent ts) x
+closed ts x = ranged_tree (extent ts) x
 
 -- a chain that reads some tokens
 abbrev pub chain : {T I : Type 0} → List Lexeme → Cell T → List I → Chain T I
@@ -205,7 +205,7 @@ pub data Wants (src : List ℕ) (w : Wanted) : List Lexeme → List Frame → Le
   at_operand : {us : List Lexeme} {st : List Frame} {lv : Levels} {sg : Signs} → Opens src (edge w st) us lv sg → Wants src w us st lv place.Operand sg
   at_primary : edge w [] ≡ reach.Primary → Wants src w [] [] (fresh []) place.Primary no_signs
 
-pub data Begun (src : List ℕ) (names : Machine Lexeme WordsState Named) (w : Wanted) : List Lexeme → State → Type 0 where
+pub data Begun (src : List ℕ) (names : Machine Lexeme WordsState NameOrEntity) (w : Wanted) : List Lexeme → State → Type 0 where
   is_wanting : {ts us : List Lexeme} {st : List Frame} {lv : Levels} {p : Place} {sg : Signs} → BegunStack src w ts st → Wants src w us st lv p sg →
       Begun src names w (ts ++ us) (state st lv (mode.Want p sg))
   is_worded : {ts us : List Lexeme} (vs : List Lexeme) {st : List Frame} {lv : Levels} {p : Place} {sg : Signs} {s : WordsState} → BegunStack src w ts st → Wants src w us st lv p sg → Comes names vs s →

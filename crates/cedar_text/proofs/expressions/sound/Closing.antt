@@ -24,31 +24,31 @@ use Rattle.cedar_text.specs.declared.text_to_cst.expression.state.Left.TheVarian
 use Rattle.cedar_text.specs.declared.text_to_cst.expression.state.Levels.{Levels}
 use Rattle.cedar_text.specs.declared.text_to_cst.expression.state.Operand.{Operand}
 use Rattle.cedar_syntax.specs.declared.reading.extent.Extent.{Extent}
-use Rattle.cedar_syntax.specs.Place.{join, extent, placed}
+use Rattle.cedar_syntax.specs.Place.{joint_extent, extent, placed}
 use Rattle.cedar_syntax.specs.Tokens.{Spot, one}
 use Rattle.cedar_syntax.specs.Trees.{Cell, if_of, unary_of}
 use Rattle.cedar_syntax.specs.LooseExpressions.{ReadsRelOp, ReadsAddOp, ReadsMultOp, ReadsExpr, or_expr, if_expr, ReadsOr, or, ReadsAnds, one_and, more_and, ReadsAnd, and, ReadsRelations, one_relation, more_relation, ReadsRelation, common, has, has_if, like, is, is_in, ReadsAdds, one_add, more_add, ReadsAdd, add, ReadsMults, one_mult, more_mult, ReadsMult, mult, ReadsUnaries, one_unary, more_unary, ReadsUnary, plain, banged, dashed, member}
-use Rattle.cedar_text.specs.machines.Closing.{ranged, Plain, Marked, linked, marked, onward, pending, unary_at, made_mult, made_add, made_common, related, made_and, made_or, made_expr, branched, add_at, whole, levels_of, fresh}
+use Rattle.cedar_text.specs.machines.Closing.{ranged_tree, Plain, Marked, plain_chain, marked_chain, onward, pending, unary_at, made_mult, made_add, made_common, relation_with_sum, made_and, made_or, made_expr, with_branches, add_at, whole, levels_of, fresh}
 use Rattle.cedar_text.specs.machines.Having.{before}
 use Rattle.cedar_text.proofs.expressions.Basics.{extent-append, chain_extent}
 use Rattle.cedar_text.proofs.expressions.sound.Begun.{at, closed, chain, Reading, reads, Chained, chained, BegunMult, no_mult, begun_mult, BegunAdd, no_add, begun_add, BegunLeft, no_left, comparing, having_field, being_like, being, being_in, BegunAnd, no_and, begun_and, BegunOr, no_or, begun_or, BegunBranches, no_branch, branch, BegunSum, in_sum, BegunLevels, levels, BegunHas, has_begun, no_sign, begun_bangs, begun_dashes, BegunOperand, begun_operand, BegunIf, begun_if}
 
 pub linked_more : {T : Type 0} (src : List ℕ) (ts us : List Lexeme) (k : TokenKind) (p : Spot) (x : Cell T) (y : T) (xs : List (Cell T)) →
-    linked src (Some (onward (chain ts x xs) (at p))) (closed us y) ≡ chain (ts ++ one k p ++ us) x (xs ++ placed src us y ∷ [])
+    plain_chain src (Some (onward (chain ts x xs) (at p))) (closed us y) ≡ chain (ts ++ one k p ++ us) x (xs ++ placed src us y ∷ [])
 linked_more src ts us k p x y xs = ap (λ q. record { initial = x; extended = xs ++ placed src us y ∷ []; extent = q }) (chain_extent ts us k p)
 
 pub marked_more : {T O : Type 0} (src : List ℕ) (ts us : List Lexeme) (k : TokenKind) (p : Spot) (x : Cell T) (o : O) (y : T) (xs : List (O × Cell T)) →
-    marked src (Some (pending (chain ts x xs) o (at p))) (closed us y) ≡ chain (ts ++ one k p ++ us) x (xs ++ (o, placed src us y) ∷ [])
+    marked_chain src (Some (pending (chain ts x xs) o (at p))) (closed us y) ≡ chain (ts ++ one k p ++ us) x (xs ++ (o, placed src us y) ∷ [])
 marked_more src ts us k p x o y xs = ap (λ q. record { initial = x; extended = xs ++ (o, placed src us y) ∷ []; extent = q }) (chain_extent ts us k p)
 
 -- a tree elsewhere than where its tokens are
-pub at_extent : {T : Type 0} {R : List Lexeme → T → Type 0} {ts : List Lexeme} {x : T} (e : Option Extent) → extent ts ≡ e → R ts x → Reading R ts (ranged e x)
-at_extent {R = R} {ts = ts} {x = x} e q r = subst (λ z. Reading R ts (ranged z x)) q (reads r)
+pub at_extent : {T : Type 0} {R : List Lexeme → T → Type 0} {ts : List Lexeme} {x : T} (e : Option Extent) → extent ts ≡ e → R ts x → Reading R ts (ranged_tree e x)
+at_extent {R = R} {ts = ts} {x = x} e q r = subst (λ z. Reading R ts (ranged_tree z x)) q (reads r)
 
 -- a level and one more operand
 
 pub mult_link : {src : List ℕ} {ts us : List Lexeme} {m : Option (Pending Unary MultOp)} {x : Ranged Unary} → BegunMult src ts m → Reading (ReadsUnary src) us x →
-    Chained (ReadsUnaries src) (ts ++ us) (marked src m x)
+    Chained (ReadsUnaries src) (ts ++ us) (marked_chain src m x)
 mult_link no_mult (reads r) = chained (one_unary r)
 mult_link {src = src} (begun_mult {ts = ts} {k = k} {o = o} {x = x} {xs = xs} p b w) (reads {ts = us} {x = y} r) =
     subst (λ c. Chained (ReadsUnaries src) (ts ++ one k p ++ us) c) (sym (marked_more src ts us k p x o y xs)) (chained (more_unary p b w r))
@@ -61,7 +61,7 @@ pub mult_onward : {src : List ℕ} {ts : List Lexeme} {c : Marked Unary MultOp} 
 mult_onward p (chained r) w = begun_mult p r w
 
 pub add_link : {src : List ℕ} {ts us : List Lexeme} {s : Option (Pending Mult AddOp)} {x : Ranged Mult} → BegunAdd src ts s → Reading (ReadsMult src) us x →
-    Chained (ReadsMults src) (ts ++ us) (marked src s x)
+    Chained (ReadsMults src) (ts ++ us) (marked_chain src s x)
 add_link no_add (reads r) = chained (one_mult r)
 add_link {src = src} (begun_add {ts = ts} {k = k} {o = o} {x = x} {xs = xs} p b w) (reads {ts = us} {x = y} r) =
     subst (λ c. Chained (ReadsMults src) (ts ++ one k p ++ us) c) (sym (marked_more src ts us k p x o y xs)) (chained (more_mult p b w r))
@@ -76,7 +76,7 @@ add_onward p (chained r) w = begun_add p r w
 -- relations
 
 abbrev Compared : List ℕ → List Lexeme → Option (Pending Add RelOp) → Type 0
-Compared src ts q = (us : List Lexeme) (x : Ranged Add) → Reading (ReadsAdd src) us x → Chained (ReadsAdds src) (ts ++ us) (marked src q x)
+Compared src ts q = (us : List Lexeme) (x : Ranged Add) → Reading (ReadsAdd src) us x → Chained (ReadsAdds src) (ts ++ us) (marked_chain src q x)
 
 pub compare_first : {src : List ℕ} → Compared src [] None
 compare_first us x (reads r) = chained (one_add r)
@@ -93,7 +93,7 @@ pub compare_onward : {src : List ℕ} {ts : List Lexeme} {c : Marked Add RelOp} 
     BegunLeft src (ts ++ one k p) (Some (left.Common (pending c o (at p))))
 compare_onward p (chained r) w = comparing p r w
 
-pub relation_close : {src : List ℕ} {ts us : List Lexeme} {q : Option Left} {x : Ranged Add} → BegunLeft src ts q → Reading (ReadsAdd src) us x → Reading (ReadsRelation src) (ts ++ us) (related src q x)
+pub relation_close : {src : List ℕ} {ts us : List Lexeme} {q : Option Left} {x : Ranged Add} → BegunLeft src ts q → Reading (ReadsAdd src) us x → Reading (ReadsRelation src) (ts ++ us) (relation_with_sum src q x)
 relation_close no_left r = common_close (compare_first _ _ r)
 relation_close (comparing p b w) r = common_close (compare_more p b w _ _ r)
 relation_close (having_field {ts = ts} p b) (reads {ts = us} r) = at_extent _ (sym (chain_extent ts us kind.Has p)) (has p b r)
@@ -102,7 +102,7 @@ relation_close (being {ts = ts} p b) (reads {ts = us} r) = at_extent _ (sym (cha
 relation_close (being_in {ts = ts} {us = us} p q b c) (reads {ts = vs} r) = at_extent _ (extent-append (ts ++ one kind.Is p ++ us ++ one kind.In q) vs) (is_in p q b c r)
 
 pub and_link : {src : List ℕ} {ts us : List Lexeme} {a : Option (Plain Relation)} {x : Ranged Relation} → BegunAnd src ts a → Reading (ReadsRelation src) us x →
-    Chained (ReadsRelations src) (ts ++ us) (linked src a x)
+    Chained (ReadsRelations src) (ts ++ us) (plain_chain src a x)
 and_link no_and (reads r) = chained (one_relation r)
 and_link {src = src} (begun_and {ts = ts} {x = x} {xs = xs} p b) (reads {ts = us} {x = y} r) =
     subst (λ c. Chained (ReadsRelations src) (ts ++ one kind.AndAnd p ++ us) c) (sym (linked_more src ts us kind.AndAnd p x y xs)) (chained (more_relation p b r))
@@ -114,7 +114,7 @@ pub and_onward : {src : List ℕ} {ts : List Lexeme} {c : Plain Relation} (p : S
 and_onward p (chained r) = begun_and p r
 
 pub or_link : {src : List ℕ} {ts us : List Lexeme} {o : Option (Plain And)} {x : Ranged And} → BegunOr src ts o → Reading (ReadsAnd src) us x →
-    Chained (ReadsAnds src) (ts ++ us) (linked src o x)
+    Chained (ReadsAnds src) (ts ++ us) (plain_chain src o x)
 or_link no_or (reads r) = chained (one_and r)
 or_link {src = src} (begun_or {ts = ts} {x = x} {xs = xs} p b) (reads {ts = us} {x = y} r) =
     subst (λ c. Chained (ReadsAnds src) (ts ++ one kind.OrOr p ++ us) c) (sym (linked_more src ts us kind.OrOr p x y xs)) (chained (more_and p b r))
@@ -128,18 +128,18 @@ or_onward p (chained r) = begun_or p r
 pub expr_close : {src : List ℕ} {ts : List Lexeme} {x : Ranged Or} → Reading (ReadsOr src) ts x → Reading (ReadsExpr src) ts (made_expr src x)
 expr_close (reads r) = reads (or_expr r)
 
-pub branches_close : {src : List ℕ} {ts us : List Lexeme} {bs : List Branch} {x : Ranged Expr} → BegunBranches src ts bs → Reading (ReadsExpr src) us x → Reading (ReadsExpr src) (ts ++ us) (branched src bs x)
+pub branches_close : {src : List ℕ} {ts us : List Lexeme} {bs : List Branch} {x : Ranged Expr} → BegunBranches src ts bs → Reading (ReadsExpr src) us x → Reading (ReadsExpr src) (ts ++ us) (with_branches src bs x)
 branches_close no_branch r = r
 branches_close {src = src} (branch {ts = ts} {us = us} {vs = vs} {bs = bs} {c = c} {x = x} l m n b g y) (reads {ts = ws} {x = z} r) =
     let whole_if : List Lexeme = one kind.If l ++ us ++ one kind.Then m ++ vs ++ one kind.Else n in
-    subst (λ w. Reading (ReadsExpr src) w (branched src bs (ranged (join (extent whole_if) (extent ws)) (if_of (placed src us c) (placed src vs x) (placed src ws z)))))
+    subst (λ w. Reading (ReadsExpr src) w (with_branches src bs (ranged_tree (joint_extent (extent whole_if) (extent ws)) (if_of (placed src us c) (placed src vs x) (placed src ws z)))))
     (simp append_assoc)
     (branches_close b (at_extent _ (extent-append whole_if ws) (if_expr l m n g y r)))
 
 -- an operand
 
 abbrev signed_at : List ℕ → List Lexeme → List Lexeme → Option NegOp → Member → Ranged Unary
-signed_at src ts us o x = ranged (join (extent ts) (extent us)) (unary_of o (placed src us x))
+signed_at src ts us o x = ranged_tree (joint_extent (extent ts) (extent us)) (unary_of o (placed src us x))
 
 pub operand_close : {src : List ℕ} {ts : List Lexeme} {m : Operand} → BegunOperand src ts m → Reading (ReadsUnary src) ts (unary_at src m)
 operand_close (begun_operand no_sign r a) = reads (plain (member r a))
@@ -152,7 +152,7 @@ sum_close {src = src} {m = q} (in_sum {s = s} {m = m} f g) u =
 
 -- the word `if` right of `has`, with its accesses
 if_relation : {src : List ℕ} {ts us : List Lexeme} {x : Add} {m : Operand} (p : Spot) → ReadsAdd src ts x → BegunIf src us m →
-    Reading (ReadsRelation src) ((ts ++ one kind.Has p) ++ us) (related src (Some (left.Has (before src (closed ts x) (at p)))) (add_at src (fresh []) m))
+    Reading (ReadsRelation src) ((ts ++ one kind.Has p) ++ us) (relation_with_sum src (Some (left.Has (before src (closed ts x) (at p)))) (add_at src (fresh []) m))
 if_relation {ts = ts} p b (begun_if {vs = vs} q a) = at_extent _ (sym (chain_extent ts (one kind.If q ++ vs) kind.Has p)) (has_if p q b a)
 
 pub whole_close : {src : List ℕ} {ts us : List Lexeme} {lv : Levels} {m : Operand} → BegunLevels src ts lv → BegunOperand src us m → Reading (ReadsExpr src) (ts ++ us) (whole src lv m)

@@ -12,7 +12,7 @@ use Rattle.cedar_syntax.specs.declared.cst.Relation.{Relation}
 use Rattle.cedar_syntax.specs.declared.cst.Add.{Add}
 use Rattle.cedar_syntax.specs.declared.cst.MultOp.{MultOp}
 use Rattle.cedar_syntax.specs.declared.cst.Primary.{Primary}
-use Rattle.cedar_text.specs.machines.Named.{Named}
+use Rattle.cedar_text.specs.machines.Named.{NameOrEntity}
 use Rattle.cedar_text.specs.declared.text_to_cst.state.WordsState.{WordsState}
 use Rattle.cedar_text.specs.declared.text_to_cst.expression.state.Branch.{Branch}
 use Rattle.cedar_text.specs.declared.text_to_cst.expression.state.Left.{Left}
@@ -32,10 +32,10 @@ use Rattle.cedar_text.specs.machines.Advance as advance
 use Rattle.cedar_syntax.specs.Place.{extent, placed}
 use Rattle.cedar_syntax.specs.Tokens.{Spot, one}
 use Rattle.cedar_syntax.specs.LooseExpressions.{ReadsAddOp, ReadsMultOp, ReadsRelation, has_if, ReadsAdd, no_access, ReadsPrimary}
-use Rattle.cedar_text.specs.machines.Closing.{Plain, linked, marked, onward, pending, unary_at, made_mult, related, add_at, relation_at, and_at, levels_of, fresh, no_signs, operand_with, operand_of}
+use Rattle.cedar_text.specs.machines.Closing.{Plain, plain_chain, marked_chain, onward, pending, unary_at, made_mult, relation_with_sum, add_at, relation_at, and_at, levels_of, fresh, no_signs, operand_with, operand_of}
 use Rattle.cedar_syntax.specs.machines.Door.{Machine, next, too_large}
 use Rattle.cedar_text.specs.machines.ExpressionStates.{opening, going_on, has_primary, edge}
-use Rattle.cedar_text.specs.machines.Having.{multiplied, summed, before, conjoined, disjoined, multiply_had, sum_had, and_had, or_had}
+use Rattle.cedar_text.specs.machines.Having.{product_beginning, sum_beginning, before, conjunction_beginning, disjunction_beginning, multiply_had, sum_had, and_had, or_had}
 use Rattle.cedar_text.proofs.expressions.Basics.{chain_extent}
 use Rattle.cedar_text.proofs.expressions.sound.Begun.{at, closed, Reading, no_mult, no_add, BegunLeft, no_left, BegunAnd, no_and, BegunOr, BegunBranches, no_branch, BegunSum, in_sum, BegunLevels, levels, BegunHas, has_begun, BegunSigns, no_sign, BegunOperand, begun_operand, BegunIf, begun_if, Opens, opens_whole, opens_sum, Leads, leads, leads_primary, whole_longer, sum_longer, if_longer, Holds, holds, holds_primary, BegunStack, Wants, at_expr, at_item, at_key, at_has, at_operand, at_primary, Begun, is_wanting, is_had}
 use Rattle.cedar_text.proofs.expressions.sound.Closing.{at_extent, mult_link, mult_close, mult_onward, add_link, add_close, add_onward, relation_close, and_link, and_close, and_onward, or_link, or_onward, operand_close, has_levels, fresh_levels}
@@ -45,13 +45,13 @@ kept (advance.next s) = Some s
 kept advance.not_taken = None
 kept advance.too_large = None
 
-abbrev pub After : List ℕ → Machine Lexeme WordsState Named → Wanted → List Lexeme → Advance → Type 0
+abbrev pub After : List ℕ → Machine Lexeme WordsState NameOrEntity → Wanted → List Lexeme → Advance → Type 0
 After src names w ts o = IfSome (kept o) (λ s. Begun src names w ts s)
 
-pub moved : {src : List ℕ} {names : Machine Lexeme WordsState Named} {w : Wanted} {ts us : List Lexeme} {s : State} → ts ≡ us → Begun src names w ts s → Begun src names w us s
+pub moved : {src : List ℕ} {names : Machine Lexeme WordsState NameOrEntity} {w : Wanted} {ts us : List Lexeme} {s : State} → ts ≡ us → Begun src names w ts s → Begun src names w us s
 moved {src = src} {names = names} {w = w} {s = s} e h = subst (λ q. Begun src names w q s) e h
 
-pub after_moved : (src : List ℕ) (names : Machine Lexeme WordsState Named) (w : Wanted) {ts us : List Lexeme} (o : Advance) → ts ≡ us → After src names w ts o → After src names w us o
+pub after_moved : (src : List ℕ) (names : Machine Lexeme WordsState NameOrEntity) (w : Wanted) {ts us : List Lexeme} (o : Advance) → ts ≡ us → After src names w ts o → After src names w us o
 after_moved src names w o e h = subst (λ q. After src names w q o) e h
 
 -- an operand without accesses
@@ -83,51 +83,51 @@ wants_leads {src = src} (at_primary e) = subst (λ r. Leads src r [] (fresh []) 
 
 -- states
 
-pub is_primary_had : {src : List ℕ} {names : Machine Lexeme WordsState Named} {w : Wanted} {ts us vs : List Lexeme} {st : List Frame} {lv : Levels} {sg : Signs} {x : Primary} →
+pub is_primary_had : {src : List ℕ} {names : Machine Lexeme WordsState NameOrEntity} {w : Wanted} {ts us vs : List Lexeme} {st : List Frame} {lv : Levels} {sg : Signs} {x : Primary} →
     BegunStack src w ts st → Leads src (edge w st) us lv sg → ReadsPrimary src vs x → Begun src names w (ts ++ (us ++ vs)) (has_primary src st lv sg (closed vs x))
 is_primary_had a b r = is_had a (leads_to b r)
 
-pub opens_expr : {src : List ℕ} {names : Machine Lexeme WordsState Named} {w : Wanted} {ts us : List Lexeme} {st : List Frame} {bs : List Branch} → edge w st ≡ reach.Whole → BegunStack src w ts st → BegunBranches src us bs →
+pub opens_expr : {src : List ℕ} {names : Machine Lexeme WordsState NameOrEntity} {w : Wanted} {ts us : List Lexeme} {st : List Frame} {bs : List Branch} → edge w st ≡ reach.Whole → BegunStack src w ts st → BegunBranches src us bs →
     Begun src names w (ts ++ us) (opening st bs place.Expr)
 opens_expr e a b = is_wanting a (at_expr e b)
 
-pub opens_in : {src : List ℕ} {names : Machine Lexeme WordsState Named} {w : Wanted} {ts : List Lexeme} {f : Frame} {st : List Frame} → BegunStack src w ts (f ∷ st) → Begun src names w ts (opening (f ∷ st) [] place.Expr)
+pub opens_in : {src : List ℕ} {names : Machine Lexeme WordsState NameOrEntity} {w : Wanted} {ts : List Lexeme} {f : Frame} {st : List Frame} → BegunStack src w ts (f ∷ st) → Begun src names w ts (opening (f ∷ st) [] place.Expr)
 opens_in {ts = ts} a = moved (append-nil ts) (opens_expr refl a no_branch)
 
-pub opens_item : {src : List ℕ} {names : Machine Lexeme WordsState Named} {w : Wanted} {ts : List Lexeme} {f : Frame} {st : List Frame} → BegunStack src w ts (f ∷ st) → Begun src names w ts (opening (f ∷ st) [] place.Item)
+pub opens_item : {src : List ℕ} {names : Machine Lexeme WordsState NameOrEntity} {w : Wanted} {ts : List Lexeme} {f : Frame} {st : List Frame} → BegunStack src w ts (f ∷ st) → Begun src names w ts (opening (f ∷ st) [] place.Item)
 opens_item {ts = ts} a = moved (append-nil ts) (is_wanting a at_item)
 
-pub opens_key : {src : List ℕ} {names : Machine Lexeme WordsState Named} {w : Wanted} {ts : List Lexeme} {f : Frame} {st : List Frame} → BegunStack src w ts (f ∷ st) → Begun src names w ts (opening (f ∷ st) [] place.Key)
+pub opens_key : {src : List ℕ} {names : Machine Lexeme WordsState NameOrEntity} {w : Wanted} {ts : List Lexeme} {f : Frame} {st : List Frame} → BegunStack src w ts (f ∷ st) → Begun src names w ts (opening (f ∷ st) [] place.Key)
 opens_key {ts = ts} a = moved (append-nil ts) (is_wanting a at_key)
 
-pub goes_on : {src : List ℕ} {names : Machine Lexeme WordsState Named} {w : Wanted} {ts us : List Lexeme} {st : List Frame} {lv : Levels} (r : Reach) → edge w st ≡ r → BegunStack src w ts st → Opens src r us lv no_signs →
+pub goes_on : {src : List ℕ} {names : Machine Lexeme WordsState NameOrEntity} {w : Wanted} {ts us : List Lexeme} {st : List Frame} {lv : Levels} (r : Reach) → edge w st ≡ r → BegunStack src w ts st → Opens src r us lv no_signs →
     Begun src names w (ts ++ us) (going_on st lv)
 goes_on {src = src} {us = us} {lv = lv} r e a o = is_wanting a (at_operand (subst (λ q. Opens src q us lv no_signs) (sym e) o))
 
 -- operators behind an operand
 
 multiply_levels : {src : List ℕ} {us vs : List Lexeme} {lv : Levels} {m : Operand} {k : TokenKind} {o : MultOp} (p : Spot) → BegunLevels src us lv → BegunOperand src vs m → ReadsMultOp k o →
-    BegunLevels src ((us ++ vs) ++ one k p) (multiplied src [] lv m o (at p)).levels
+    BegunLevels src ((us ++ vs) ++ one k p) (product_beginning src [] lv m o (at p)).levels
 multiply_levels {src = src} {m = q} {o = w} p (levels {bs = bs} {o = o} {a = a} {r = r} {s = s} {m = m} b c d e f g) u k =
-    subst (λ z. BegunLevels src z (levels_of bs o a r s (Some (pending (marked src m (unary_at src q)) w (at p))))) (simp append_assoc)
+    subst (λ z. BegunLevels src z (levels_of bs o a r s (Some (pending (marked_chain src m (unary_at src q)) w (at p))))) (simp append_assoc)
     (levels b c d e f (mult_onward p (mult_link g (operand_close u)) k))
 
 multiply_sum : {src : List ℕ} {us vs : List Lexeme} {lv : Levels} {m : Operand} {k : TokenKind} {o : MultOp} (p : Spot) → BegunSum src us lv → BegunOperand src vs m → ReadsMultOp k o →
-    BegunSum src ((us ++ vs) ++ one k p) (multiplied src [] lv m o (at p)).levels
+    BegunSum src ((us ++ vs) ++ one k p) (product_beginning src [] lv m o (at p)).levels
 multiply_sum {src = src} {m = q} {o = w} p (in_sum {s = s} {m = m} f g) u k =
-    subst (λ z. BegunSum src z (levels_of [] None None None s (Some (pending (marked src m (unary_at src q)) w (at p))))) (simp append_assoc)
+    subst (λ z. BegunSum src z (levels_of [] None None None s (Some (pending (marked_chain src m (unary_at src q)) w (at p))))) (simp append_assoc)
     (in_sum f (mult_onward p (mult_link g (operand_close u)) k))
 
 sum_levels_more : {src : List ℕ} {us vs : List Lexeme} {lv : Levels} {m : Operand} {k : TokenKind} {o : AddOp} (p : Spot) → BegunLevels src us lv → BegunOperand src vs m → ReadsAddOp k o →
-    BegunLevels src ((us ++ vs) ++ one k p) (summed src [] lv m o (at p)).levels
+    BegunLevels src ((us ++ vs) ++ one k p) (sum_beginning src [] lv m o (at p)).levels
 sum_levels_more {src = src} {m = q} {o = w} p (levels {bs = bs} {o = o} {a = a} {r = r} {s = s} {m = m} b c d e f g) u k =
-    subst (λ z. BegunLevels src z (levels_of bs o a r (Some (pending (marked src s (made_mult (marked src m (unary_at src q)))) w (at p))) None)) (simp (append-nil, append_assoc))
+    subst (λ z. BegunLevels src z (levels_of bs o a r (Some (pending (marked_chain src s (made_mult (marked_chain src m (unary_at src q)))) w (at p))) None)) (simp (append-nil, append_assoc))
     (levels b c d e (add_onward p (add_link f (mult_close (mult_link g (operand_close u)))) k) no_mult)
 
 sum_more : {src : List ℕ} {us vs : List Lexeme} {lv : Levels} {m : Operand} {k : TokenKind} {o : AddOp} (p : Spot) → BegunSum src us lv → BegunOperand src vs m → ReadsAddOp k o →
-    BegunSum src ((us ++ vs) ++ one k p) (summed src [] lv m o (at p)).levels
+    BegunSum src ((us ++ vs) ++ one k p) (sum_beginning src [] lv m o (at p)).levels
 sum_more {src = src} {m = q} {o = w} p (in_sum {s = s} {m = m} f g) u k =
-    subst (λ z. BegunSum src z (levels_of [] None None None (Some (pending (marked src s (made_mult (marked src m (unary_at src q)))) w (at p))) None)) (simp (append-nil, append_assoc))
+    subst (λ z. BegunSum src z (levels_of [] None None None (Some (pending (marked_chain src s (made_mult (marked_chain src m (unary_at src q)))) w (at p))) None)) (simp (append-nil, append_assoc))
     (in_sum (add_onward p (add_link f (mult_close (mult_link g (operand_close u)))) k) no_mult)
 
 -- what a relation's left side becomes
@@ -137,60 +137,60 @@ left_levels {src = src} {ts = ts} {us = us} {vs = vs} {ws = ws} {bs = bs} {o = o
     subst (λ z. BegunLevels src z (levels_of bs o a (Some l) None None)) (simp append-nil) (levels b c d e no_add no_mult)
 
 and_levels : {src : List ℕ} {us vs : List Lexeme} {lv : Levels} {m : Operand} (p : Spot) → BegunLevels src us lv → BegunOperand src vs m →
-    BegunLevels src ((us ++ vs) ++ one kind.AndAnd p) (conjoined src [] lv m (at p)).levels
+    BegunLevels src ((us ++ vs) ++ one kind.AndAnd p) (conjunction_beginning src [] lv m (at p)).levels
 and_levels {src = src} {m = q} p (levels {bs = bs} {o = o} {a = a} {r = r} {s = s} {m = m} b c d e f g) u =
-    subst (λ z. BegunLevels src z (levels_of bs o (Some (onward (linked src a (relation_at src (levels_of bs o a r s m) q)) (at p))) None None None)) (simp (append-nil, append_assoc))
+    subst (λ z. BegunLevels src z (levels_of bs o (Some (onward (plain_chain src a (relation_at src (levels_of bs o a r s m) q)) (at p))) None None None)) (simp (append-nil, append_assoc))
     (levels b c (and_onward p (and_link d (relation_close e (add_close (add_link f (mult_close (mult_link g (operand_close u)))))))) no_left no_add no_mult)
 
 or_levels : {src : List ℕ} {us vs : List Lexeme} {lv : Levels} {m : Operand} (p : Spot) → BegunLevels src us lv → BegunOperand src vs m →
-    BegunLevels src ((us ++ vs) ++ one kind.OrOr p) (disjoined src [] lv m (at p)).levels
+    BegunLevels src ((us ++ vs) ++ one kind.OrOr p) (disjunction_beginning src [] lv m (at p)).levels
 or_levels {src = src} {m = q} p (levels {bs = bs} {o = o} {a = a} {r = r} {s = s} {m = m} b c d e f g) u =
-    subst (λ z. BegunLevels src z (levels_of bs (Some (onward (linked src o (and_at src (levels_of bs o a r s m) q)) (at p))) None None None None)) (simp (append-nil, append_assoc))
+    subst (λ z. BegunLevels src z (levels_of bs (Some (onward (plain_chain src o (and_at src (levels_of bs o a r s m) q)) (at p))) None None None None)) (simp (append-nil, append_assoc))
     (levels b (or_onward p (or_link c (and_close (and_link d (relation_close e (add_close (add_link f (mult_close (mult_link g (operand_close u)))))))))) no_and no_left no_add no_mult)
 
 -- the same behind `if` right of `has`: the relation ends with it
 
 pub if_relation_close : {src : List ℕ} {ts us : List Lexeme} {x : Add} {m : Operand} (p : Spot) → ReadsAdd src ts x → BegunIf src us m →
-    Reading (ReadsRelation src) ((ts ++ one kind.Has p) ++ us) (related src (Some (left.Has (before src (closed ts x) (at p)))) (add_at src (fresh []) m))
+    Reading (ReadsRelation src) ((ts ++ one kind.Has p) ++ us) (relation_with_sum src (Some (left.Has (before src (closed ts x) (at p)))) (add_at src (fresh []) m))
 if_relation_close {ts = ts} p b (begun_if {vs = vs} q a) = at_extent _ (sym (chain_extent ts (one kind.If q ++ vs) kind.Has p)) (has_if p q b a)
 
 if_and_levels : {src : List ℕ} {us vs : List Lexeme} {lv : Levels} {m : Operand} (p : Spot) → BegunHas src us lv → BegunIf src vs m →
-    BegunLevels src ((us ++ vs) ++ one kind.AndAnd p) (conjoined src [] lv m (at p)).levels
+    BegunLevels src ((us ++ vs) ++ one kind.AndAnd p) (conjunction_beginning src [] lv m (at p)).levels
 if_and_levels {src = src} {m = q} p (has_begun {ws = ws} {bs = bs} {o = o} {a = a} {x = x} i b c d e) u =
-    subst (λ z. BegunLevels src z (levels_of bs o (Some (onward (linked src a (relation_at src (levels_of bs o a (Some (left.Has (before src (closed ws x) (at i)))) None None) q)) (at p))) None None None)) (simp (append-nil, append_assoc))
+    subst (λ z. BegunLevels src z (levels_of bs o (Some (onward (plain_chain src a (relation_at src (levels_of bs o a (Some (left.Has (before src (closed ws x) (at i)))) None None) q)) (at p))) None None None)) (simp (append-nil, append_assoc))
     (levels b c (and_onward p (and_link d (if_relation_close i e u))) no_left no_add no_mult)
 
 if_or_levels : {src : List ℕ} {us vs : List Lexeme} {lv : Levels} {m : Operand} (p : Spot) → BegunHas src us lv → BegunIf src vs m →
-    BegunLevels src ((us ++ vs) ++ one kind.OrOr p) (disjoined src [] lv m (at p)).levels
+    BegunLevels src ((us ++ vs) ++ one kind.OrOr p) (disjunction_beginning src [] lv m (at p)).levels
 if_or_levels {src = src} {m = q} p (has_begun {ws = ws} {bs = bs} {o = o} {a = a} {x = x} i b c d e) u =
-    subst (λ z. BegunLevels src z (levels_of bs (Some (onward (linked src o (and_at src (levels_of bs o a (Some (left.Has (before src (closed ws x) (at i)))) None None) q)) (at p))) None None None None)) (simp (append-nil, append_assoc))
+    subst (λ z. BegunLevels src z (levels_of bs (Some (onward (plain_chain src o (and_at src (levels_of bs o a (Some (left.Has (before src (closed ws x) (at i)))) None None) q)) (at p))) None None None None)) (simp (append-nil, append_assoc))
     (levels b (or_onward p (or_link c (and_close (and_link d (if_relation_close i e u))))) no_and no_left no_add no_mult)
 
 -- one token more: an operator
 
 pub multiply_begun : {src : List ℕ} {w : Wanted} {ts us : List Lexeme} {st : List Frame} {r : Reach} {lv : Levels} {m : Operand} {k : TokenKind} {o : MultOp} (p : Spot) →
-    edge w st ≡ r → BegunStack src w ts st → Holds src r us lv m → ReadsMultOp k o → (names : Machine Lexeme WordsState Named) → After src names w (ts ++ (us ++ one k p)) (multiply_had src st lv m (cond m.is_if reach.If r) o (at p))
+    edge w st ≡ r → BegunStack src w ts st → Holds src r us lv m → ReadsMultOp k o → (names : Machine Lexeme WordsState NameOrEntity) → After src names w (ts ++ (us ++ one k p)) (multiply_had src st lv m (cond m.is_if reach.If r) o (at p))
 multiply_begun p e a (holds (whole_longer b (begun_operand x y z))) k names = goes_on reach.Whole e a (unsigned_whole (multiply_levels p b (begun_operand x y z) k))
 multiply_begun p e a (holds (sum_longer b (begun_operand x y z))) k names = goes_on reach.Sum e a (unsigned_sum (multiply_sum p b (begun_operand x y z) k))
 multiply_begun p e a (holds (if_longer b (begun_if q c))) k names = tt
 multiply_begun p e a (holds_primary b) k names = tt
 
 pub sum_begun : {src : List ℕ} {w : Wanted} {ts us : List Lexeme} {st : List Frame} {r : Reach} {lv : Levels} {m : Operand} {k : TokenKind} {o : AddOp} (p : Spot) →
-    edge w st ≡ r → BegunStack src w ts st → Holds src r us lv m → ReadsAddOp k o → (names : Machine Lexeme WordsState Named) → After src names w (ts ++ (us ++ one k p)) (sum_had src st lv m (cond m.is_if reach.If r) o (at p))
+    edge w st ≡ r → BegunStack src w ts st → Holds src r us lv m → ReadsAddOp k o → (names : Machine Lexeme WordsState NameOrEntity) → After src names w (ts ++ (us ++ one k p)) (sum_had src st lv m (cond m.is_if reach.If r) o (at p))
 sum_begun p e a (holds (whole_longer b (begun_operand x y z))) k names = goes_on reach.Whole e a (unsigned_whole (sum_levels_more p b (begun_operand x y z) k))
 sum_begun p e a (holds (sum_longer b (begun_operand x y z))) k names = goes_on reach.Sum e a (unsigned_sum (sum_more p b (begun_operand x y z) k))
 sum_begun p e a (holds (if_longer b (begun_if q c))) k names = tt
 sum_begun p e a (holds_primary b) k names = tt
 
 pub and_begun : {src : List ℕ} {w : Wanted} {ts us : List Lexeme} {st : List Frame} {r : Reach} {lv : Levels} {m : Operand} (p : Spot) →
-    edge w st ≡ r → BegunStack src w ts st → Holds src r us lv m → (names : Machine Lexeme WordsState Named) → After src names w (ts ++ (us ++ one kind.AndAnd p)) (and_had src st lv m (cond m.is_if reach.If r) (at p))
+    edge w st ≡ r → BegunStack src w ts st → Holds src r us lv m → (names : Machine Lexeme WordsState NameOrEntity) → After src names w (ts ++ (us ++ one kind.AndAnd p)) (and_had src st lv m (cond m.is_if reach.If r) (at p))
 and_begun p e a (holds (whole_longer b (begun_operand x y z))) names = goes_on reach.Whole e a (unsigned_whole (and_levels p b (begun_operand x y z)))
 and_begun p e a (holds (sum_longer b (begun_operand x y z))) names = tt
 and_begun p e a (holds (if_longer b (begun_if q c))) names = goes_on reach.Whole e a (unsigned_whole (if_and_levels p b (begun_if q c)))
 and_begun p e a (holds_primary b) names = tt
 
 pub or_begun : {src : List ℕ} {w : Wanted} {ts us : List Lexeme} {st : List Frame} {r : Reach} {lv : Levels} {m : Operand} (p : Spot) →
-    edge w st ≡ r → BegunStack src w ts st → Holds src r us lv m → (names : Machine Lexeme WordsState Named) → After src names w (ts ++ (us ++ one kind.OrOr p)) (or_had src st lv m (cond m.is_if reach.If r) (at p))
+    edge w st ≡ r → BegunStack src w ts st → Holds src r us lv m → (names : Machine Lexeme WordsState NameOrEntity) → After src names w (ts ++ (us ++ one kind.OrOr p)) (or_had src st lv m (cond m.is_if reach.If r) (at p))
 or_begun p e a (holds (whole_longer b (begun_operand x y z))) names = goes_on reach.Whole e a (unsigned_whole (or_levels p b (begun_operand x y z)))
 or_begun p e a (holds (sum_longer b (begun_operand x y z))) names = tt
 or_begun p e a (holds (if_longer b (begun_if q c))) names = goes_on reach.Whole e a (unsigned_whole (if_or_levels p b (begun_if q c)))

@@ -11,7 +11,7 @@ use Rattle.cedar_syntax.specs.declared.reading.class.Beginning.TheVariants as be
 use Rattle.cedar_syntax.specs.declared.reading.class.Closing.TheVariants as closing
 use Rattle.cedar_syntax.specs.declared.reading.class.Access.{Access}
 use Rattle.cedar_syntax.specs.declared.reading.class.Access.TheVariants as opens
-use Rattle.cedar_text.specs.machines.Named.{Named}
+use Rattle.cedar_text.specs.machines.Named.{NameOrEntity}
 use Rattle.cedar_text.specs.declared.text_to_cst.state.WordsState.{WordsState}
 use Rattle.cedar_text.specs.declared.text_to_cst.expression.state.Levels.{Levels}
 use Rattle.cedar_text.specs.declared.text_to_cst.expression.state.Signs.{Signs}
@@ -23,7 +23,7 @@ use Rattle.cedar_text.specs.declared.text_to_cst.expression.state.Wanted.{Wanted
 use Rattle.cedar_text.specs.declared.text_to_cst.expression.state.Reach.{Reach}
 use Rattle.cedar_text.specs.declared.text_to_cst.expression.state.Reach.TheVariants as reach
 use Rattle.cedar_syntax.specs.declared.reading.extent.Extent.{Extent}
-use Rattle.cedar_syntax.specs.Place.{join, extent}
+use Rattle.cedar_syntax.specs.Place.{joint_extent, extent}
 use Rattle.cedar_syntax.specs.Tokens.{Spot, one, fits, number_of}
 use Rattle.cedar_syntax.specs.Trees.{bangs_of, dashes_of}
 use Rattle.cedar_syntax.specs.LooseExpressions.{less, less_eq, greater_eq, greater, not_eq, equal, within, single_eq, plus, minus, times, divide, modulo, one_sign, more_signs, principal_slot, resource_slot, other_slot, literally, slotted}
@@ -32,9 +32,9 @@ use Rattle.cedar_text.specs.machines.Closing.{signs_of}
 use Rattle.cedar_syntax.specs.machines.Door.{Machine, Answer, next, ended, refused, too_large, Comes}
 use Rattle.cedar_syntax.specs.machines.Classes.{number_class, class_of, operator_of}
 use Rattle.cedar_text.specs.machines.ExpressionStates.{edge}
-use Rattle.cedar_syntax.specs.machines.Classes.{signed}
-use Rattle.cedar_text.specs.machines.Wanting.{after_signs, sign_read, list_ended, word_begun, wanted_as}
-use Rattle.cedar_text.specs.machines.Having.{access_begun, access_had, had}
+use Rattle.cedar_syntax.specs.machines.Classes.{with_sign}
+use Rattle.cedar_text.specs.machines.Wanting.{after_signs, sign_reading, list_ending, word_beginning, wanted_token}
+use Rattle.cedar_text.specs.machines.Having.{access_beginning, access_had, had}
 use Rattle.cedar_text.proofs.expressions.Basics.{extent-append, bang_more, dash_more, bang_dash, dash_bang}
 use Rattle.cedar_text.proofs.expressions.sound.Begun.{at, no_branch, BegunSigns, no_sign, begun_bangs, begun_dashes, begun_operand, begun_if, Opens, opens_whole, opens_sum, Longer, whole_longer, sum_longer, if_longer, Holds, holds, holds_primary, no_expr_yet, no_init_yet, BegunStack, in_paren, in_set, in_call, in_index, in_key, Wants, at_expr, at_item, at_key, at_has, at_operand, at_primary, Begun, is_wanting, is_worded, is_dotted}
 use Rattle.cedar_text.proofs.expressions.sound.Closing.{has_levels, fresh_levels}
@@ -47,22 +47,22 @@ use Rattle.cedar_text.proofs.expressions.sound.Brackets.{holds_whole, items_begu
 back : {src : List ℕ} {r : Reach} {us : List Lexeme} {lv : Levels} {m : Operand} (w : Wanted) (st : List Frame) → edge w st ≡ r → Longer src r us lv m → Longer src (edge w st) us lv m
 back {src = src} {us = us} {lv = lv} {m = m} w st e h = subst (λ q. Longer src q us lv m) (sym e) h
 
-abbrev AccessGoes : List ℕ → Machine Lexeme WordsState Named → Wanted → List Lexeme → List Lexeme → List Frame → Levels → Operand → Access → TokenKind → Spot → Type 0
-AccessGoes src names w ts us st lv m a k p = Begun src names w (ts ++ (us ++ one k p)) (access_begun st lv m a (at p))
+abbrev AccessGoes : List ℕ → Machine Lexeme WordsState NameOrEntity → Wanted → List Lexeme → List Lexeme → List Frame → Levels → Operand → Access → TokenKind → Spot → Type 0
+AccessGoes src names w ts us st lv m a k p = Begun src names w (ts ++ (us ++ one k p)) (access_beginning st lv m a (at p))
 
-dot_goes : {src : List ℕ} {w : Wanted} {ts us : List Lexeme} {st : List Frame} {lv : Levels} {m : Operand} (p : Spot) → BegunStack src w ts st → Longer src (edge w st) us lv m → (names : Machine Lexeme WordsState Named) →
+dot_goes : {src : List ℕ} {w : Wanted} {ts us : List Lexeme} {st : List Frame} {lv : Levels} {m : Operand} (p : Spot) → BegunStack src w ts st → Longer src (edge w st) us lv m → (names : Machine Lexeme WordsState NameOrEntity) →
     AccessGoes src names w ts us st lv m opens.Dot kind.Dot p
 dot_goes p a h names = is_dotted p a h
 
-call_goes : {src : List ℕ} {w : Wanted} {ts us : List Lexeme} {st : List Frame} {lv : Levels} {m : Operand} (p : Spot) → BegunStack src w ts st → Longer src (edge w st) us lv m → (names : Machine Lexeme WordsState Named) →
+call_goes : {src : List ℕ} {w : Wanted} {ts us : List Lexeme} {st : List Frame} {lv : Levels} {m : Operand} (p : Spot) → BegunStack src w ts st → Longer src (edge w st) us lv m → (names : Machine Lexeme WordsState NameOrEntity) →
     AccessGoes src names w ts us st lv m opens.Paren kind.OpenParen p
 call_goes p a h names = opens_item (in_call p a h no_expr_yet)
 
-index_goes : {src : List ℕ} {w : Wanted} {ts us : List Lexeme} {st : List Frame} {lv : Levels} {m : Operand} (p : Spot) → BegunStack src w ts st → Longer src (edge w st) us lv m → (names : Machine Lexeme WordsState Named) →
+index_goes : {src : List ℕ} {w : Wanted} {ts us : List Lexeme} {st : List Frame} {lv : Levels} {m : Operand} (p : Spot) → BegunStack src w ts st → Longer src (edge w st) us lv m → (names : Machine Lexeme WordsState NameOrEntity) →
     AccessGoes src names w ts us st lv m opens.Bracket kind.OpenBracket p
 index_goes p a h names = opens_in (in_index p a h)
 
-access_had_begun : {src : List ℕ} {us : List Lexeme} {r : Reach} {lv : Levels} {m : Operand} (w : Wanted) (ts : List Lexeme) (st : List Frame) (a : Access) (k : TokenKind) (p : Spot) → edge w st ≡ r → (names : Machine Lexeme WordsState Named) →
+access_had_begun : {src : List ℕ} {us : List Lexeme} {r : Reach} {lv : Levels} {m : Operand} (w : Wanted) (ts : List Lexeme) (st : List Frame) (a : Access) (k : TokenKind) (p : Spot) → edge w st ≡ r → (names : Machine Lexeme WordsState NameOrEntity) →
     (Longer src (edge w st) us lv m → AccessGoes src names w ts us st lv m a k p) → Holds src r us lv m → After src names w (ts ++ (us ++ one k p)) (access_had st lv m (cond m.is_if reach.If r) a (at p))
 access_had_begun w ts st a k p e names go (holds (whole_longer b (begun_operand x y z))) = go (back w st e (whole_longer b (begun_operand x y z)))
 access_had_begun w ts st a k p e names go (holds (sum_longer b (begun_operand x y z))) = go (back w st e (sum_longer b (begun_operand x y z)))
@@ -71,7 +71,7 @@ access_had_begun w ts st a k p e names go (holds_primary b) = tt
 
 -- one token more behind an operand
 pub had_begun : {src : List ℕ} {w : Wanted} {ts us : List Lexeme} {st : List Frame} {r : Reach} {lv : Levels} {m : Operand} → edge w st ≡ r → BegunStack src w ts st → Holds src r us lv m →
-    (k : TokenKind) (p : Spot) (names : Machine Lexeme WordsState Named) → After src names w (ts ++ (us ++ one k p)) (had src st lv m (cond m.is_if reach.If r) (operator_of k) (at p))
+    (k : TokenKind) (p : Spot) (names : Machine Lexeme WordsState NameOrEntity) → After src names w (ts ++ (us ++ one k p)) (had src st lv m (cond m.is_if reach.If r) (operator_of k) (at p))
 had_begun {w = w} {ts = ts} {st = st} e a h kind.Dot p names = access_had_begun w ts st opens.Dot kind.Dot p e names (λ l. dot_goes p a l names) h
 had_begun {w = w} {ts = ts} {st = st} e a h kind.OpenParen p names = access_had_begun w ts st opens.Paren kind.OpenParen p e names (λ l. call_goes p a l names) h
 had_begun {w = w} {ts = ts} {st = st} e a h kind.OpenBracket p names = access_had_begun w ts st opens.Bracket kind.OpenBracket p e names (λ l. index_goes p a l names) h
@@ -105,43 +105,43 @@ had_begun e a h _ p names = tt
 -- signs
 
 abbrev MoreSigns : List Lexeme → Signs → TokenKind → Sign → Spot → Type 0
-MoreSigns ts sg k s p = IfSome (signed sg.op s) (λ o. BegunSigns (ts ++ one k p) (signs_of (Some o) (join sg.extent (Some (at p)))))
+MoreSigns ts sg k s p = IfSome (with_sign sg.op s) (λ o. BegunSigns (ts ++ one k p) (signs_of (Some o) (joint_extent sg.extent (Some (at p)))))
 
 bang_signs : {ts : List Lexeme} {sg : Signs} → BegunSigns ts sg → (p : Spot) → MoreSigns ts sg kind.Bang sign.Bang p
 bang_signs no_sign p = begun_bangs (one_sign p)
 bang_signs (begun_bangs {ts = ts} {n = n} r) p =
-    subst (λ o. IfSome o (λ o. BegunSigns (ts ++ one kind.Bang p) (signs_of (Some o) (join (extent ts) (Some (at p)))))) (sym (bang_more n))
+    subst (λ o. IfSome o (λ o. BegunSigns (ts ++ one kind.Bang p) (signs_of (Some o) (joint_extent (extent ts) (Some (at p)))))) (sym (bang_more n))
     (subst (λ q. BegunSigns (ts ++ one kind.Bang p) (signs_of (Some (bangs_of (n + 1))) q)) (extent-append ts (one kind.Bang p)) (begun_bangs (more_signs p r)))
 bang_signs (begun_dashes {ts = ts} {n = n} r) p =
-    subst (λ o. IfSome o (λ o. BegunSigns (ts ++ one kind.Bang p) (signs_of (Some o) (join (extent ts) (Some (at p)))))) (sym (dash_bang n)) tt
+    subst (λ o. IfSome o (λ o. BegunSigns (ts ++ one kind.Bang p) (signs_of (Some o) (joint_extent (extent ts) (Some (at p)))))) (sym (dash_bang n)) tt
 
 dash_signs : {ts : List Lexeme} {sg : Signs} → BegunSigns ts sg → (p : Spot) → MoreSigns ts sg kind.Minus sign.Dash p
 dash_signs no_sign p = begun_dashes (one_sign p)
 dash_signs (begun_dashes {ts = ts} {n = n} r) p =
-    subst (λ o. IfSome o (λ o. BegunSigns (ts ++ one kind.Minus p) (signs_of (Some o) (join (extent ts) (Some (at p)))))) (sym (dash_more n))
+    subst (λ o. IfSome o (λ o. BegunSigns (ts ++ one kind.Minus p) (signs_of (Some o) (joint_extent (extent ts) (Some (at p)))))) (sym (dash_more n))
     (subst (λ q. BegunSigns (ts ++ one kind.Minus p) (signs_of (Some (dashes_of (n + 1))) q)) (extent-append ts (one kind.Minus p)) (begun_dashes (more_signs p r)))
 dash_signs (begun_bangs {ts = ts} {n = n} r) p =
-    subst (λ o. IfSome o (λ o. BegunSigns (ts ++ one kind.Minus p) (signs_of (Some o) (join (extent ts) (Some (at p)))))) (sym (bang_dash n)) tt
+    subst (λ o. IfSome o (λ o. BegunSigns (ts ++ one kind.Minus p) (signs_of (Some o) (joint_extent (extent ts) (Some (at p)))))) (sym (bang_dash n)) tt
 
 after_sign : {src : List ℕ} {w : Wanted} {ts : List Lexeme} {st : List Frame} {lv : Levels} (us vs : List Lexeme) (k : TokenKind) (r : Reach) (p : Spot) (l : Option Extent) (o : Option NegOp) → edge w st ≡ r → BegunStack src w ts st →
     ((sg : Signs) → BegunSigns (vs ++ one k p) sg → Opens src r (us ++ (vs ++ one k p)) lv sg) →
-    IfSome o (λ o. BegunSigns (vs ++ one k p) (signs_of (Some o) (join l (Some (at p))))) → (names : Machine Lexeme WordsState Named) → After src names w (ts ++ ((us ++ vs) ++ one k p)) (after_signs st lv l o (at p))
+    IfSome o (λ o. BegunSigns (vs ++ one k p) (signs_of (Some o) (joint_extent l (Some (at p))))) → (names : Machine Lexeme WordsState NameOrEntity) → After src names w (ts ++ ((us ++ vs) ++ one k p)) (after_signs st lv l o (at p))
 after_sign us vs k r p l None e a f h names = tt
 after_sign {src = src} {lv = lv} us vs k r p l (Some o) e a f h names =
-    moved (simp append_assoc) (is_wanting a (at_operand (subst (λ q. Opens src q (us ++ (vs ++ one k p)) lv (signs_of (Some o) (join l (Some (at p))))) (sym e) (f (signs_of (Some o) (join l (Some (at p)))) h))))
+    moved (simp append_assoc) (is_wanting a (at_operand (subst (λ q. Opens src q (us ++ (vs ++ one k p)) lv (signs_of (Some o) (joint_extent l (Some (at p))))) (sym e) (f (signs_of (Some o) (joint_extent l (Some (at p)))) h))))
 
-opens_bang : {src : List ℕ} {w : Wanted} {ts us : List Lexeme} {st : List Frame} {lv : Levels} {r : Reach} {sg : Signs} (p : Spot) → edge w st ≡ r → BegunStack src w ts st → Opens src r us lv sg → (names : Machine Lexeme WordsState Named) →
-    After src names w (ts ++ (us ++ one kind.Bang p)) (after_signs st lv sg.extent (signed sg.op sign.Bang) (at p))
-opens_bang {sg = sg} p e a (opens_whole {ts = us} {us = vs} b c) names = after_sign us vs kind.Bang reach.Whole p sg.extent (signed sg.op sign.Bang) e a (λ sg h. opens_whole b h) (bang_signs c p) names
-opens_bang {sg = sg} p e a (opens_sum {ts = us} {us = vs} b c) names = after_sign us vs kind.Bang reach.Sum p sg.extent (signed sg.op sign.Bang) e a (λ sg h. opens_sum b h) (bang_signs c p) names
+opens_bang : {src : List ℕ} {w : Wanted} {ts us : List Lexeme} {st : List Frame} {lv : Levels} {r : Reach} {sg : Signs} (p : Spot) → edge w st ≡ r → BegunStack src w ts st → Opens src r us lv sg → (names : Machine Lexeme WordsState NameOrEntity) →
+    After src names w (ts ++ (us ++ one kind.Bang p)) (after_signs st lv sg.extent (with_sign sg.op sign.Bang) (at p))
+opens_bang {sg = sg} p e a (opens_whole {ts = us} {us = vs} b c) names = after_sign us vs kind.Bang reach.Whole p sg.extent (with_sign sg.op sign.Bang) e a (λ sg h. opens_whole b h) (bang_signs c p) names
+opens_bang {sg = sg} p e a (opens_sum {ts = us} {us = vs} b c) names = after_sign us vs kind.Bang reach.Sum p sg.extent (with_sign sg.op sign.Bang) e a (λ sg h. opens_sum b h) (bang_signs c p) names
 
-opens_dash : {src : List ℕ} {w : Wanted} {ts us : List Lexeme} {st : List Frame} {lv : Levels} {r : Reach} {sg : Signs} (p : Spot) → edge w st ≡ r → BegunStack src w ts st → Opens src r us lv sg → (names : Machine Lexeme WordsState Named) →
-    After src names w (ts ++ (us ++ one kind.Minus p)) (after_signs st lv sg.extent (signed sg.op sign.Dash) (at p))
-opens_dash {sg = sg} p e a (opens_whole {ts = us} {us = vs} b c) names = after_sign us vs kind.Minus reach.Whole p sg.extent (signed sg.op sign.Dash) e a (λ sg h. opens_whole b h) (dash_signs c p) names
-opens_dash {sg = sg} p e a (opens_sum {ts = us} {us = vs} b c) names = after_sign us vs kind.Minus reach.Sum p sg.extent (signed sg.op sign.Dash) e a (λ sg h. opens_sum b h) (dash_signs c p) names
+opens_dash : {src : List ℕ} {w : Wanted} {ts us : List Lexeme} {st : List Frame} {lv : Levels} {r : Reach} {sg : Signs} (p : Spot) → edge w st ≡ r → BegunStack src w ts st → Opens src r us lv sg → (names : Machine Lexeme WordsState NameOrEntity) →
+    After src names w (ts ++ (us ++ one kind.Minus p)) (after_signs st lv sg.extent (with_sign sg.op sign.Dash) (at p))
+opens_dash {sg = sg} p e a (opens_whole {ts = us} {us = vs} b c) names = after_sign us vs kind.Minus reach.Whole p sg.extent (with_sign sg.op sign.Dash) e a (λ sg h. opens_whole b h) (dash_signs c p) names
+opens_dash {sg = sg} p e a (opens_sum {ts = us} {us = vs} b c) names = after_sign us vs kind.Minus reach.Sum p sg.extent (with_sign sg.op sign.Dash) e a (λ sg h. opens_sum b h) (dash_signs c p) names
 
-bang_begun : {src : List ℕ} {w : Wanted} {ts us : List Lexeme} {st : List Frame} {lv : Levels} {pl : Place} {sg : Signs} (p : Spot) → BegunStack src w ts st → Wants src w us st lv pl sg → (names : Machine Lexeme WordsState Named) →
-    After src names w (ts ++ (us ++ one kind.Bang p)) (sign_read st lv pl sg sign.Bang (at p))
+bang_begun : {src : List ℕ} {w : Wanted} {ts us : List Lexeme} {st : List Frame} {lv : Levels} {pl : Place} {sg : Signs} (p : Spot) → BegunStack src w ts st → Wants src w us st lv pl sg → (names : Machine Lexeme WordsState NameOrEntity) →
+    After src names w (ts ++ (us ++ one kind.Bang p)) (sign_reading st lv pl sg sign.Bang (at p))
 bang_begun p a (at_expr e b) names = opens_bang p e a (unsigned_whole (fresh_levels b)) names
 bang_begun p a at_item names = opens_bang p refl a (unsigned_whole (fresh_levels no_branch)) names
 bang_begun p a at_key names = opens_bang p refl a (unsigned_whole (fresh_levels no_branch)) names
@@ -149,8 +149,8 @@ bang_begun p a (at_has e b) names = opens_bang p e a (unsigned_whole (has_levels
 bang_begun p a (at_operand o) names = opens_bang p refl a o names
 bang_begun p a (at_primary e) names = tt
 
-dash_begun : {src : List ℕ} {w : Wanted} {ts us : List Lexeme} {st : List Frame} {lv : Levels} {pl : Place} {sg : Signs} (p : Spot) → BegunStack src w ts st → Wants src w us st lv pl sg → (names : Machine Lexeme WordsState Named) →
-    After src names w (ts ++ (us ++ one kind.Minus p)) (sign_read st lv pl sg sign.Dash (at p))
+dash_begun : {src : List ℕ} {w : Wanted} {ts us : List Lexeme} {st : List Frame} {lv : Levels} {pl : Place} {sg : Signs} (p : Spot) → BegunStack src w ts st → Wants src w us st lv pl sg → (names : Machine Lexeme WordsState NameOrEntity) →
+    After src names w (ts ++ (us ++ one kind.Minus p)) (sign_reading st lv pl sg sign.Dash (at p))
 dash_begun p a (at_expr e b) names = opens_dash p e a (unsigned_whole (fresh_levels b)) names
 dash_begun p a at_item names = opens_dash p refl a (unsigned_whole (fresh_levels no_branch)) names
 dash_begun p a at_key names = opens_dash p refl a (unsigned_whole (fresh_levels no_branch)) names
@@ -160,8 +160,8 @@ dash_begun p a (at_primary e) names = tt
 
 -- a list that ends before an item
 
-end_paren : {src : List ℕ} {w : Wanted} {ts us : List Lexeme} {st : List Frame} {lv : Levels} {pl : Place} {sg : Signs} (p : Spot) → BegunStack src w ts st → Wants src w us st lv pl sg → (names : Machine Lexeme WordsState Named) →
-    After src names w (ts ++ (us ++ one kind.CloseParen p)) (list_ended src st pl closing.Paren (at p))
+end_paren : {src : List ℕ} {w : Wanted} {ts us : List Lexeme} {st : List Frame} {lv : Levels} {pl : Place} {sg : Signs} (p : Spot) → BegunStack src w ts st → Wants src w us st lv pl sg → (names : Machine Lexeme WordsState NameOrEntity) →
+    After src names w (ts ++ (us ++ one kind.CloseParen p)) (list_ending src st pl closing.Paren (at p))
 end_paren p a at_item names = call_begun p a names
 end_paren p a (at_expr e b) names = tt
 end_paren p a at_key names = tt
@@ -169,8 +169,8 @@ end_paren p a (at_has e b) names = tt
 end_paren p a (at_operand o) names = tt
 end_paren p a (at_primary e) names = tt
 
-end_bracket : {src : List ℕ} {w : Wanted} {ts us : List Lexeme} {st : List Frame} {lv : Levels} {pl : Place} {sg : Signs} (p : Spot) → BegunStack src w ts st → Wants src w us st lv pl sg → (names : Machine Lexeme WordsState Named) →
-    After src names w (ts ++ (us ++ one kind.CloseBracket p)) (list_ended src st pl closing.Bracket (at p))
+end_bracket : {src : List ℕ} {w : Wanted} {ts us : List Lexeme} {st : List Frame} {lv : Levels} {pl : Place} {sg : Signs} (p : Spot) → BegunStack src w ts st → Wants src w us st lv pl sg → (names : Machine Lexeme WordsState NameOrEntity) →
+    After src names w (ts ++ (us ++ one kind.CloseBracket p)) (list_ending src st pl closing.Bracket (at p))
 end_bracket p a at_item names = items_begun p a names
 end_bracket p a (at_expr e b) names = tt
 end_bracket p a at_key names = tt
@@ -178,8 +178,8 @@ end_bracket p a (at_has e b) names = tt
 end_bracket p a (at_operand o) names = tt
 end_bracket p a (at_primary e) names = tt
 
-end_brace : {src : List ℕ} {w : Wanted} {ts us : List Lexeme} {st : List Frame} {lv : Levels} {pl : Place} {sg : Signs} (p : Spot) → BegunStack src w ts st → Wants src w us st lv pl sg → (names : Machine Lexeme WordsState Named) →
-    After src names w (ts ++ (us ++ one kind.CloseBrace p)) (list_ended src st pl closing.Brace (at p))
+end_brace : {src : List ℕ} {w : Wanted} {ts us : List Lexeme} {st : List Frame} {lv : Levels} {pl : Place} {sg : Signs} (p : Spot) → BegunStack src w ts st → Wants src w us st lv pl sg → (names : Machine Lexeme WordsState NameOrEntity) →
+    After src names w (ts ++ (us ++ one kind.CloseBrace p)) (list_ending src st pl closing.Brace (at p))
 end_brace p a at_key names = keys_begun p a names
 end_brace p a (at_expr e b) names = tt
 end_brace p a at_item names = tt
@@ -189,24 +189,24 @@ end_brace p a (at_primary e) names = tt
 
 -- one token more where an operand is wanted
 
-begun_word : {src : List ℕ} {w : Wanted} {ts us : List Lexeme} {st : List Frame} {lv : Levels} {pl : Place} {sg : Signs} (names : Machine Lexeme WordsState Named) (vs : List Lexeme) (a : Answer WordsState Named) → ((s : WordsState) → a ≡ next s → Comes names vs s) →
-    BegunStack src w ts st → Wants src w us st lv pl sg → After src names w (ts ++ (us ++ vs)) (word_begun st lv pl sg a)
+begun_word : {src : List ℕ} {w : Wanted} {ts us : List Lexeme} {st : List Frame} {lv : Levels} {pl : Place} {sg : Signs} (names : Machine Lexeme WordsState NameOrEntity) (vs : List Lexeme) (a : Answer WordsState NameOrEntity) → ((s : WordsState) → a ≡ next s → Comes names vs s) →
+    BegunStack src w ts st → Wants src w us st lv pl sg → After src names w (ts ++ (us ++ vs)) (word_beginning st lv pl sg a)
 begun_word names vs (next s) f a b = is_worded vs a b (f s refl)
 begun_word names vs (ended x) f a b = tt
 begun_word names vs refused f a b = tt
 begun_word names vs too_large f a b = tt
 
-number_begun : {src : List ℕ} {w : Wanted} {ts us : List Lexeme} {st : List Frame} {lv : Levels} {pl : Place} {sg : Signs} (p : Spot) → BegunStack src w ts st → Wants src w us st lv pl sg → (names : Machine Lexeme WordsState Named) (a : Answer WordsState Named) →
-    After src names w (ts ++ (us ++ one kind.Number p)) (wanted_as src st lv pl sg (number_class p.text) a (at p) p.text)
+number_begun : {src : List ℕ} {w : Wanted} {ts us : List Lexeme} {st : List Frame} {lv : Levels} {pl : Place} {sg : Signs} (p : Spot) → BegunStack src w ts st → Wants src w us st lv pl sg → (names : Machine Lexeme WordsState NameOrEntity) (a : Answer WordsState NameOrEntity) →
+    After src names w (ts ++ (us ++ one kind.Number p)) (wanted_token src st lv pl sg (number_class p.text) a (at p) p.text)
 number_begun {src = src} {w = w} {ts = ts} {us = us} {st = st} {lv = lv} {pl = pl} {sg = sg} p a b names q = go (fits p.text) refl
   where
-    go : (t : Bool) → fits p.text ≡ t → After src names w (ts ++ (us ++ one kind.Number p)) (wanted_as src st lv pl sg (cond t (beginning.Number (number_of p.text)) beginning.TooLarge) q (at p) p.text)
+    go : (t : Bool) → fits p.text ≡ t → After src names w (ts ++ (us ++ one kind.Number p)) (wanted_token src st lv pl sg (cond t (beginning.Number (number_of p.text)) beginning.TooLarge) q (at p) p.text)
     go true e = is_primary_had a (wants_leads b) (literally (number p e))
     go false e = tt
 
 pub wanted_begun : {src : List ℕ} {w : Wanted} {ts us : List Lexeme} {st : List Frame} {lv : Levels} {pl : Place} {sg : Signs} → BegunStack src w ts st → Wants src w us st lv pl sg →
-    (names : Machine Lexeme WordsState Named) (k : TokenKind) (p : Spot) (q : Answer WordsState Named) → ((s : WordsState) → q ≡ next s → Comes names (one k p) s) →
-    After src names w (ts ++ (us ++ one k p)) (wanted_as src st lv pl sg (class_of k p.text) q (at p) p.text)
+    (names : Machine Lexeme WordsState NameOrEntity) (k : TokenKind) (p : Spot) (q : Answer WordsState NameOrEntity) → ((s : WordsState) → q ≡ next s → Comes names (one k p) s) →
+    After src names w (ts ++ (us ++ one k p)) (wanted_token src st lv pl sg (class_of k p.text) q (at p) p.text)
 wanted_begun a b names kind.True p q f = begun_word names (one kind.True p) q f a b
 wanted_begun a b names kind.False p q f = begun_word names (one kind.False p) q f a b
 wanted_begun a b names kind.If p q f = begun_word names (one kind.If p) q f a b

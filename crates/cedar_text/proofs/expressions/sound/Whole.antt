@@ -9,7 +9,7 @@ use Rattle.cedar_syntax.specs.declared.cst.Add.{Add}
 use Rattle.cedar_syntax.specs.declared.cst.Primary.{Primary}
 use Rattle.cedar_syntax.specs.declared.cst.Ident.{Ident}
 use Rattle.cedar_syntax.specs.declared.cst.Ident.TheVariants as ident
-use Rattle.cedar_text.specs.machines.Named.{Named}
+use Rattle.cedar_text.specs.machines.Named.{NameOrEntity}
 use Rattle.cedar_text.specs.declared.text_to_cst.state.WordsState.{WordsState}
 use Rattle.cedar_text.specs.declared.text_to_cst.expression.state.Ranged.{Ranged}
 use Rattle.cedar_text.specs.declared.text_to_cst.expression.state.Levels.{Levels}
@@ -31,10 +31,10 @@ use Rattle.cedar_syntax.specs.Trees.{Cell, name_of}
 use Rattle.cedar_syntax.specs.LooseExpressions.{ReadsExpr, ReadsAdd, no_access, ReadsPrimary, literally, referred, named}
 use Rattle.cedar_syntax.specs.LooseWords.{common as common_name, truth, falsity, any, one_word, more_words, qualified}
 use Rattle.cedar_text.specs.machines.Closing.{add_at, whole, if_operand}
-use Rattle.cedar_syntax.specs.machines.Door.{Machine, next, too_large, Comes, steps, taken, Door, option_image}
+use Rattle.cedar_syntax.specs.machines.Door.{Machine, next, too_large, Comes, steps, answer_state, Door, option_image}
 use Rattle.cedar_text.specs.machines.Named.{ReadsNamed, a_path, a_ref}
 use Rattle.cedar_text.specs.machines.ExpressionStates.{opening, alone_reach, edge}
-use Rattle.cedar_text.specs.machines.Expressions.{word_alone, step_of, if_at_end, alone_at_end, named_at_end, last_operand, expr_at_end, sum_at_end, primary_at_end, answered, expressions, sums, primaries}
+use Rattle.cedar_text.specs.machines.Expressions.{word_alone, step_of, if_at_end, alone_at_end, named_at_end, last_operand, expr_at_end, sum_at_end, primary_at_end, advance_answer, expressions, sums, primaries}
 use Rattle.cedar_text.proofs.expressions.sound.Begun.{at, closed, Reading, no_mult, no_add, no_branch, in_sum, levels, begun_if, whole_longer, sum_longer, if_longer, Holds, holds, holds_primary, bottom, in_paren, in_set, in_call, in_index, in_key, in_value, in_guard, in_yes, Wants, at_expr, at_item, at_key, at_has, at_operand, at_primary, Begun, is_wanting, is_worded, is_dotted, is_had}
 use Rattle.cedar_text.proofs.expressions.sound.Closing.{sum_close}
 use Rattle.cedar_text.proofs.expressions.sound.Operators.{kept, moved, leads_to, unsigned_sum, wants_leads, opens_expr}
@@ -64,7 +64,7 @@ alone_last {src = src} {w = w} {us = us} {st = st} {lv = lv} {pl = pl} {sg = sg}
     subst (λ j. AloneLast src w us st lv pl sg j p ident.If) (sym (if_kind k p.text e)) (if_at_last p b)
 alone_last k p _ e b = leads_to (wants_leads b) (named (common_name (any p e) refl))
 
-named_last : {src : List ℕ} {w : Wanted} {us vs : List Lexeme} {st : List Frame} {lv : Levels} {pl : Place} {sg : Signs} {x : Named} → Wants src w us st lv pl sg → ReadsNamed src vs x →
+named_last : {src : List ℕ} {w : Wanted} {us vs : List Lexeme} {st : List Frame} {lv : Levels} {pl : Place} {sg : Signs} {x : NameOrEntity} → Wants src w us st lv pl sg → ReadsNamed src vs x →
     IfSome (named_at_end src pl sg (Some x)) (λ m. Holds src (edge w st) (us ++ vs) lv m)
 named_last b (a_ref r) = leads_to (wants_leads b) (referred r)
 named_last b (a_path (one_word (any {k = k} {i = i} p e))) = alone_last k p i e b
@@ -76,7 +76,7 @@ words_last : {src : List ℕ} {w : Wanted} {us : List Lexeme} {st : List Frame} 
     IfSome (named_at_end src pl sg (names.finish s)) (λ m. Holds src (edge w st) (us ++ vs) lv m)
 words_last {src = src} {w = w} {us = us} {st = st} {lv = lv} {pl = pl} {sg = sg} names d vs s b c = go (names.finish s) refl
   where
-    go : (o : Option Named) → names.finish s ≡ o → IfSome (named_at_end src pl sg o) (λ m. Holds src (edge w st) (us ++ vs) lv m)
+    go : (o : Option NameOrEntity) → names.finish s ≡ o → IfSome (named_at_end src pl sg o) (λ m. Holds src (edge w st) (us ++ vs) lv m)
     go None e = tt
     go (Some x) e = named_last b (d.sound vs s x c e)
 
@@ -123,7 +123,7 @@ last_begun names d (is_dotted i (in_yes l m e a x y) b) = tt
 
 -- a run over tokens
 
-taken_is_kept : {T : Type 0} (o : Option T) (a : Advance) → taken (answered o a) ≡ kept a
+taken_is_kept : {T : Type 0} (o : Option T) (a : Advance) → answer_state (advance_answer o a) ≡ kept a
 taken_is_kept o (advance.next s) = refl
 taken_is_kept None advance.not_taken = refl
 taken_is_kept (Some x) advance.not_taken = refl
@@ -136,13 +136,13 @@ run_on src names w m ts u us r None i g go = absurd (none_some refl (sym (steps-
 run_on src names w m ts u us r (Some q) i g go = moved (append_assoc ts (u ∷ []) us) (go q i g)
 
 -- any machine whose steps are these
-run_begun : {src : List ℕ} {w : Wanted} {T : Type 0} (names : Names) → Door names (ReadsNamed src) → (m : Machine Lexeme State T) → ((s : State) (t : Lexeme) → taken (m.step s t) ≡ kept (step_of w src names s t)) →
+run_begun : {src : List ℕ} {w : Wanted} {T : Type 0} (names : Names) → Door names (ReadsNamed src) → (m : Machine Lexeme State T) → ((s : State) (t : Lexeme) → answer_state (m.step s t) ≡ kept (step_of w src names s t)) →
     (ts us : List Lexeme) (s r : State) → Begun src names w ts s → steps m (Some s) us ≡ Some r → Begun src names w (ts ++ us) r
 run_begun {src = src} {w = w} names d m f ts [] s r h e = moved (sym (append-nil ts)) (subst (λ q. Begun src names w ts q) (some_is e) h)
 run_begun {src = src} {w = w} names d m f ts (u ∷ us) s r h e =
     run_on src names w m ts u us r (kept (step_of w src names s u)) (step_begun names d h u) (ap (λ q. steps m q us) (sym (f s u)) ∙ e) (λ q i g. run_begun names d m f (ts ++ u ∷ []) us q r i g)
 
-last_of : {src : List ℕ} {w : Wanted} {T : Type 0} (names : Names) (d : Door names (ReadsNamed src)) (m : Machine Lexeme State T) (f : (s : State) (t : Lexeme) → taken (m.step s t) ≡ kept (step_of w src names s t)) (ts : List Lexeme) (s : State) →
+last_of : {src : List ℕ} {w : Wanted} {T : Type 0} (names : Names) (d : Door names (ReadsNamed src)) (m : Machine Lexeme State T) (f : (s : State) (t : Lexeme) → answer_state (m.step s t) ≡ kept (step_of w src names s t)) (ts : List Lexeme) (s : State) →
     Begun src names w [] m.start → Comes m ts s → Last src names w ts s
 last_of names d m f ts s b c = last_begun names d (run_begun names d m f [] ts m.start s b c)
 

@@ -5,7 +5,7 @@ ghost use Rattle.cedar_syntax.specs.machines.Door.{Answer, is_some, is_taken};
 ghost use Rattle.cedar_syntax.specs.machines.Classes.{operator_of};
 ghost use Rattle.cedar_text.specs.machines.NamedShapes.{named_shapes};
 ghost use Rattle.cedar_text.specs.machines.WordShapes.{WordsShape, WordsKind, words_shape};
-ghost use Rattle.cedar_text.specs.machines.ExpressionShapes.{FrameShape, LeftShape, left_shape, frame_shape, stack_shape, op_sign, has_access, has_sum, has_relation, has_and, compare_shape, side_shape, ended_shape, had_step, having_shape, signed_shape, sign_shape, guard_begins, if_key_shape, list_end, wanted_shape, wanting_shape, key_or_guard_shape, if_shape, after_words, word_shape, mode_shape, step_shape, if_ends, words_end, ends};
+ghost use Rattle.cedar_text.specs.machines.ExpressionShapes.{FrameShape, LeftShape, left_shape, frame_shape, stack_shape, op_sign, has_access, has_sum, has_relation, has_and, compare_shape, side_shape, ended_shape, had_step, having_shape, signed_shape, sign_shape, guard_begins, if_key_shape, list_end, wanted_shape, wanting_shape, key_or_guard_shape, if_shape, after_words, word_shape, mode_shape, step_shape, if_ends, words_can_end, ends};
 
 use crate::text_to_cst::expression::state::{Frame, Gap, Left, Mode, Place, Reach, State, Wanted};
 use crate::text_to_cst::expression::words::{self, Goes, begins_words};
@@ -367,7 +367,7 @@ fn if_ends(place: Place, is_if: bool) -> bool
 
 /// Whether words that are begun may end a tree.
 fn words_end(place: Place, words: &WordsState) -> bool
-    ensures { result ≡ words_end named_shapes place
+    ensures { result ≡ words_can_end named_shapes place
         (named_shapes.machine.finish (words_shape words.now)) }
 {
     match words::ends(words) {

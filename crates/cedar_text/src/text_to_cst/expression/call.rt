@@ -6,9 +6,9 @@ ghost use Rattle.cedar_syntax.specs.Tokens.{any_of};
 ghost use Rattle.cedar_syntax.specs.declared.reading.class.Access.TheVariants as opens;
 ghost use Rattle.cedar_syntax.specs.declared.reading.class.Closing.TheVariants as closing;
 ghost use Rattle.cedar_text.specs.machines.Advance as advance;
-ghost use Rattle.cedar_text.specs.machines.Closing.{accessed};
-ghost use Rattle.cedar_text.specs.machines.Wanting.{call_closed};
-ghost use Rattle.cedar_text.specs.machines.Having.{call_more, call_ended, index_ended, access_begun, access_had, field_read};
+ghost use Rattle.cedar_text.specs.machines.Closing.{with_access};
+ghost use Rattle.cedar_text.specs.machines.Wanting.{call_closing};
+ghost use Rattle.cedar_text.specs.machines.Having.{call_more, call_ending, index_ending, access_beginning, access_had, field_reading};
 ghost use Rattle.cedar_text.specs.machines.Stepped.{advance_of};
 
 use crate::text_to_cst::expression::begin::fresh_levels;
@@ -32,7 +32,8 @@ use std::mem;
 impl Operand {
     /// One access more.
     fn with(self, ground: Ground<'_>, access: Ranged<MemAccess>) -> Result<Operand, AllocError>
-        ensures { IfOk result (λ longer. longer ≡ accessed ground.entry.source.now self access) }
+        ensures { IfOk result (λ longer. longer
+            ≡ with_access ground.entry.source.now self access) }
     {
         let mut operand = self;
         let extent = joined(operand.extent, access.extent);
@@ -62,7 +63,7 @@ impl State {
         opened: Extent,
     ) -> Result<Taken, AllocError>
         ensures { IfOk result (λ taken. advance_of taken self.new
-            ≡ advance.next (access_begun self.old.stack self.old.levels operand opens.Paren
+            ≡ advance.next (access_beginning self.old.stack self.old.levels operand opens.Paren
             opened)) }
     {
         let outer = mem::replace(&mut self.levels, fresh_levels(Stack::new(alloc)));
@@ -83,7 +84,7 @@ impl State {
         opened: Extent,
     ) -> Result<Taken, AllocError>
         ensures { IfOk result (λ taken. advance_of taken self.new
-            ≡ advance.next (access_begun self.old.stack self.old.levels operand opens.Bracket
+            ≡ advance.next (access_beginning self.old.stack self.old.levels operand opens.Bracket
             opened)) }
     {
         let outer = mem::replace(&mut self.levels, fresh_levels(Stack::new(alloc)));
@@ -103,7 +104,7 @@ impl State {
         mark: Mark<Access>,
     ) -> Result<Taken, AllocError>
         ensures { IfOk result (λ taken. advance_of taken self.new
-            ≡ advance.next (access_begun self.old.stack self.old.levels operand mark.op
+            ≡ advance.next (access_beginning self.old.stack self.old.levels operand mark.op
             mark.extent)) }
     {
         match mark.op {
@@ -142,7 +143,7 @@ impl State {
         end: Extent,
     ) -> Result<Taken, AllocError>
         ensures { IfOk result (λ taken. advance_of taken self.new
-            ≡ advance.next (call_closed ground.entry.source.now self.old.stack frame end)) }
+            ≡ advance.next (call_closing ground.entry.source.now self.old.stack frame end)) }
     {
         let Call {
             outer,
@@ -165,7 +166,7 @@ impl State {
         mark: Mark<Closing>,
     ) -> Result<Taken, AllocError>
         ensures { IfOk result (λ taken. advance_of taken self.new
-            ≡ call_ended ground.entry.source.now self.old.stack frame item mark.op mark.extent) }
+            ≡ call_ending ground.entry.source.now self.old.stack frame item mark.op mark.extent) }
     {
         match mark.op {
             Closing::Comma => {
@@ -190,7 +191,7 @@ impl State {
         end: Extent,
     ) -> Result<Taken, AllocError>
         ensures { IfOk result (λ taken. advance_of taken self.new
-            ≡ index_ended ground.entry.source.now self.old.stack frame item closing.Bracket end) }
+            ≡ index_ending ground.entry.source.now self.old.stack frame item closing.Bracket end) }
     {
         let Index {
             outer,
@@ -212,7 +213,7 @@ impl State {
         mark: Mark<Closing>,
     ) -> Result<Taken, AllocError>
         ensures { IfOk result (λ taken. advance_of taken self.new
-            ≡ index_ended ground.entry.source.now self.old.stack frame item mark.op mark.extent) }
+            ≡ index_ending ground.entry.source.now self.old.stack frame item mark.op mark.extent) }
     {
         match mark.op {
             Closing::Bracket => self.close_index(ground, frame, item, mark.extent),
@@ -234,7 +235,7 @@ impl State {
         field: Mark<Ident>,
     ) -> Result<Taken, AllocError>
         ensures { IfOk result (λ taken. advance_of taken self.new
-            ≡ field_read ground.entry.source.now self.old.stack self.old.levels operand dot
+            ≡ field_reading ground.entry.source.now self.old.stack self.old.levels operand dot
             (Some field.op) field.extent) }
     {
         let extent = around(dot, field.extent);
@@ -253,7 +254,7 @@ impl State {
         token: Token<'_>,
     ) -> Result<Taken, AllocError>
         ensures { IfOk result (λ taken. advance_of taken self.new
-            ≡ field_read ground.entry.source.now self.old.stack self.old.levels operand dot
+            ≡ field_reading ground.entry.source.now self.old.stack self.old.levels operand dot
             (any_of token.entry.kind token.entry.text.now) (extent_of (lexeme_of token.entry))) }
     {
         match as_ident(ground.alloc, token.kind, token.text)? {

@@ -1,6 +1,6 @@
 //! One level of operators: its operands so far, and one more.
 ghost use Rattle.std.specs.Prelude.{◌≡◌, Some, None, IfOk, OnOk};
-ghost use Rattle.cedar_text.specs.machines.Closing.{begun_chain, longer, onward, pending, linked, marked};
+ghost use Rattle.cedar_text.specs.machines.Closing.{begun_chain, longer, onward, pending, plain_chain, marked_chain};
 
 use crate::text_to_cst::expression::state::{Chain, Mark, Pending, Ranged};
 use crate::text_to_cst::ground::Ground;
@@ -46,7 +46,7 @@ impl<T: Drop, O: Drop + Copy> Pending<T, O> {
     /// One more operand.
     #[inline(always)]
     fn link(&mut self, ground: Ground<'_>, item: Ranged<T>) -> Result<(), AllocError>
-        ensures chain { OnOk result (self.new.chain ≡ marked ground.entry.source.now
+        ensures chain { OnOk result (self.new.chain ≡ marked_chain ground.entry.source.now
             (Some self.old) item) }
     {
         let extent = item.extent;
@@ -62,7 +62,7 @@ impl<T: Drop, O: Drop + Copy> Pending<T, O> {
         mark: Mark<O>,
     ) -> Result<(), AllocError>
         ensures { OnOk result
-            (self.new ≡ pending (marked ground.entry.source.now
+            (self.new ≡ pending (marked_chain ground.entry.source.now
             (Some self.old) item) mark.op mark.extent) }
     {
         self.link(ground, item)?;
@@ -78,7 +78,8 @@ impl<T: Drop, O: Drop + Copy> Pending<T, O> {
         ground: Ground<'_>,
         item: Ranged<T>,
     ) -> Result<Chain<T, (O, Node<Option<T>>)>, AllocError>
-        ensures { IfOk result (λ chain. chain ≡ marked ground.entry.source.now (Some self) item) }
+        ensures { IfOk result (λ chain. chain ≡ marked_chain ground.entry.source.now (Some self)
+            item) }
     {
         let Pending { mut chain, op } = self;
         let extent = item.extent;
@@ -95,7 +96,7 @@ pub fn begin_pending<T: Drop, O: Drop + Copy>(
     mark: Mark<O>,
 ) -> Result<Pending<T, O>, AllocError>
     ensures { IfOk result (λ begun. begun ≡ pending
-        (marked ground.entry.source.now None item) mark.op mark.extent) }
+        (marked_chain ground.entry.source.now None item) mark.op mark.extent) }
 {
     let mut chain = Chain::begin(ground, item)?;
     chain.go_on(mark.extent);
@@ -113,7 +114,7 @@ pub fn push_pending<T: Drop, O: Drop + Copy>(
 ) -> Result<(), AllocError>
     ensures { OnOk result
         (slot.new ≡ Some (pending
-        (marked ground.entry.source.now slot.old item) mark.op mark.extent)) }
+        (marked_chain ground.entry.source.now slot.old item) mark.op mark.extent)) }
 {
     match slot {
         Some(level) => level.as_mut().push(ground, item, mark),
@@ -132,7 +133,7 @@ pub fn close_pending<T: Drop, O: Drop + Copy>(
     begun: Option<Boxed<Pending<T, O>>>,
     item: Ranged<T>,
 ) -> Result<Chain<T, (O, Node<Option<T>>)>, AllocError>
-    ensures { IfOk result (λ chain. chain ≡ marked ground.entry.source.now begun item) }
+    ensures { IfOk result (λ chain. chain ≡ marked_chain ground.entry.source.now begun item) }
 {
     match begun {
         Some(level) => level.into_inner().close(ground, item),
@@ -144,7 +145,8 @@ impl<T: Drop> Chain<T, Node<Option<T>>> {
     /// One more operand of a level that has one operator.
     #[inline(always)]
     fn link(&mut self, ground: Ground<'_>, item: Ranged<T>) -> Result<(), AllocError>
-        ensures { OnOk result (self.new ≡ linked ground.entry.source.now (Some self.old) item) }
+        ensures { OnOk result (self.new ≡ plain_chain ground.entry.source.now (Some self.old)
+            item) }
     {
         let extent = item.extent;
         self.extend(ground.node_of(item)?, extent)
@@ -159,7 +161,8 @@ impl<T: Drop> Chain<T, Node<Option<T>>> {
         operator: Extent,
     ) -> Result<(), AllocError>
         ensures { OnOk result
-            (self.new ≡ onward (linked ground.entry.source.now (Some self.old) item) operator) }
+            (self.new ≡ onward (plain_chain ground.entry.source.now (Some self.old) item)
+            operator) }
     {
         self.link(ground, item)?;
         self.go_on(operator);
@@ -176,7 +179,7 @@ pub fn push_plain<T: Drop>(
     operator: Extent,
 ) -> Result<(), AllocError>
     ensures { OnOk result
-        (slot.new ≡ Some (onward (linked ground.entry.source.now slot.old item) operator)) }
+        (slot.new ≡ Some (onward (plain_chain ground.entry.source.now slot.old item) operator)) }
 {
     match slot {
         Some(level) => level.as_mut().push(ground, item, operator),
@@ -196,7 +199,7 @@ pub fn close_plain<T: Drop>(
     begun: Option<Boxed<Chain<T, Node<Option<T>>>>>,
     item: Ranged<T>,
 ) -> Result<Chain<T, Node<Option<T>>>, AllocError>
-    ensures { IfOk result (λ chain. chain ≡ linked ground.entry.source.now begun item) }
+    ensures { IfOk result (λ chain. chain ≡ plain_chain ground.entry.source.now begun item) }
 {
     match begun {
         Some(level) => {

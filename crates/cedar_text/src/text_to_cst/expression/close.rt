@@ -1,9 +1,9 @@
 //! Closes what is begun: a level is taken out of its slot, and becomes a tree with its last operand.
 ghost use Rattle.std.specs.Prelude.{◌≡◌, [], None, Some, IfOk, OnOk, IsTrue};
-ghost use Rattle.cedar_text.specs.machines.Closing.{unary_at, mult_at, add_at, relation_at, and_at, or_at, related, made_expr, branched, whole, levels_of};
+ghost use Rattle.cedar_text.specs.machines.Closing.{unary_at, mult_at, add_at, relation_at, and_at, or_at, relation_with_sum, made_expr, with_branches, whole, levels_of};
 ghost use Rattle.cedar_syntax.specs.Trees.{if_of};
-ghost use Rattle.cedar_syntax.specs.Place.{join};
-ghost use Rattle.cedar_text.specs.machines.Closing.{ranged, node_of, made_common};
+ghost use Rattle.cedar_syntax.specs.Place.{joint_extent};
+ghost use Rattle.cedar_text.specs.machines.Closing.{ranged_tree, node_of, made_common};
 ghost use Rattle.cedar_text.specs.declared.text_to_cst.expression.state.Left.TheVariants as left;
 
 use crate::text_to_cst::expression::alone::{alone_add, alone_expr, alone_relation};
@@ -59,7 +59,7 @@ fn as_common(chain: Chain<Add, (RelOp, Node<Option<Add>>)>) -> Ranged<Relation>
 impl Left {
     /// The relation that ends with this sum.
     fn close(self, ground: Ground<'_>, item: Ranged<Add>) -> Result<Ranged<Relation>, AllocError>
-        ensures { IfOk result (λ relation. relation ≡ related ground.entry.source.now
+        ensures { IfOk result (λ relation. relation ≡ relation_with_sum ground.entry.source.now
             (Some self) item) }
     {
         match self {
@@ -98,7 +98,7 @@ fn close_has(
     behind: Ranged<Node<Option<Add>>>,
     item: Ranged<Add>,
 ) -> Result<Ranged<Relation>, AllocError>
-    ensures { IfOk result (λ relation. relation ≡ related ground.entry.source.now
+    ensures { IfOk result (λ relation. relation ≡ relation_with_sum ground.entry.source.now
         (Some (left.Has behind)) item) }
 {
     let extent = joined(behind.extent, item.extent);
@@ -116,7 +116,7 @@ fn close_like(
     behind: Ranged<Node<Option<Add>>>,
     item: Ranged<Add>,
 ) -> Result<Ranged<Relation>, AllocError>
-    ensures { IfOk result (λ relation. relation ≡ related ground.entry.source.now
+    ensures { IfOk result (λ relation. relation ≡ relation_with_sum ground.entry.source.now
         (Some (left.Like behind)) item) }
 {
     let extent = joined(behind.extent, item.extent);
@@ -134,7 +134,7 @@ fn close_is(
     behind: Ranged<Node<Option<Add>>>,
     item: Ranged<Add>,
 ) -> Result<Ranged<Relation>, AllocError>
-    ensures { IfOk result (λ relation. relation ≡ related ground.entry.source.now
+    ensures { IfOk result (λ relation. relation ≡ relation_with_sum ground.entry.source.now
         (Some (left.Is behind)) item) }
 {
     let extent = joined(behind.extent, item.extent);
@@ -167,7 +167,7 @@ fn close_is_in(
     entity_type: Node<Option<Add>>,
     item: Ranged<Add>,
 ) -> Result<Ranged<Relation>, AllocError>
-    ensures { IfOk result (λ relation. relation ≡ related ground.entry.source.now
+    ensures { IfOk result (λ relation. relation ≡ relation_with_sum ground.entry.source.now
         (Some (left.IsIn behind.tree entity_type behind.extent)) item) }
 {
     let Ranged {
@@ -202,7 +202,7 @@ fn close_branch(
     branch: Branch,
     item: Ranged<Expr>,
 ) -> Result<Ranged<Expr>, AllocError>
-    ensures { IfOk result (λ expr. expr ≡ ranged (join branch.extent item.extent)
+    ensures { IfOk result (λ expr. expr ≡ ranged_tree (joint_extent branch.extent item.extent)
         (if_of branch.guard branch.yes (node_of ground.entry.source.now item))) }
 {
     let Branch { guard, yes, extent } = branch;
@@ -222,7 +222,7 @@ fn close_branches(
     item: Ranged<Expr>,
 ) -> Result<Ranged<Expr>, AllocError>
     ensures closed { IfOk result
-        (λ expr. expr ≡ branched ground.entry.source.now branches.old item) }
+        (λ expr. expr ≡ with_branches ground.entry.source.now branches.old item) }
     ensures after { OnOk result (branches.new ≡ []) }
 {
     let mut item = item;
@@ -321,7 +321,7 @@ impl Levels {
         item: Ranged<Add>,
     ) -> Result<Ranged<Relation>, AllocError>
         ensures closed { IfOk result (λ closed. closed
-            ≡ related ground.entry.source.now self.old.relation item) }
+            ≡ relation_with_sum ground.entry.source.now self.old.relation item) }
         ensures after { OnOk result
             (self.new ≡ levels_of self.old.branches self.old.or self.old.and None self.old.add
             self.old.mult) }

@@ -1,7 +1,7 @@
 //! `if`, `then` and `else`.
 ghost use Rattle.std.specs.Prelude.{◌≡◌, IfOk};
 ghost use Rattle.cedar_syntax.specs.declared.reading.class.Closing.TheVariants as closing;
-ghost use Rattle.cedar_text.specs.machines.Having.{guard_ended, branch_of, yes_ended};
+ghost use Rattle.cedar_text.specs.machines.Having.{guard_ending, branch_of, yes_ending};
 ghost use Rattle.cedar_text.specs.machines.Stepped.{advance_of};
 
 use crate::text_to_cst::expression::state::{
@@ -23,7 +23,7 @@ impl State {
         word: Extent,
     ) -> Result<Taken, AllocError>
         ensures { IfOk result (λ taken. advance_of taken self.new
-            ≡ guard_ended ground.entry.source.now self.old.stack frame item closing.Then word) }
+            ≡ guard_ending ground.entry.source.now self.old.stack frame item closing.Then word) }
     {
         let Guard { branches, opened } = frame;
         let extent = joined(joined(opened, item.extent), Some(word));
@@ -44,7 +44,7 @@ impl State {
         mark: Mark<Closing>,
     ) -> Result<Taken, AllocError>
         ensures { IfOk result (λ taken. advance_of taken self.new
-            ≡ guard_ended ground.entry.source.now self.old.stack frame item mark.op mark.extent) }
+            ≡ guard_ending ground.entry.source.now self.old.stack frame item mark.op mark.extent) }
     {
         match mark.op {
             Closing::Then => self.close_guard(ground, frame, item, mark.extent),
@@ -66,7 +66,7 @@ impl State {
         word: Extent,
     ) -> Result<Taken, AllocError>
         ensures { IfOk result (λ taken. advance_of taken self.new
-            ≡ yes_ended ground.entry.source.now self.old.stack frame item closing.Else word) }
+            ≡ yes_ending ground.entry.source.now self.old.stack frame item closing.Else word) }
     {
         let Yes {
             mut branches,
@@ -89,7 +89,7 @@ impl State {
         mark: Mark<Closing>,
     ) -> Result<Taken, AllocError>
         ensures { IfOk result (λ taken. advance_of taken self.new
-            ≡ yes_ended ground.entry.source.now self.old.stack frame item mark.op mark.extent) }
+            ≡ yes_ending ground.entry.source.now self.old.stack frame item mark.op mark.extent) }
     {
         match mark.op {
             Closing::Else => self.close_yes(ground, frame, item, mark.extent),

@@ -4,7 +4,7 @@ ghost use Rattle.cedar_lexer.specs.Token.{lexeme_of};
 ghost use Rattle.cedar_text.specs.declared.text_to_cst.expression.state.Reach.TheVariants as reach;
 ghost use Rattle.cedar_text.specs.machines.Closing.{whole};
 ghost use Rattle.cedar_text.specs.machines.ExpressionStates.{alone_reach, edge, reach_of};
-ghost use Rattle.cedar_text.specs.machines.Having.{ended_by, had, having};
+ghost use Rattle.cedar_text.specs.machines.Having.{frame_ending, had, having};
 ghost use Rattle.cedar_text.specs.machines.Stepped.{advance_of};
 
 use crate::text_to_cst::expression::state::{
@@ -57,7 +57,7 @@ impl State {
         mark: Mark<Closing>,
     ) -> Result<Taken, AllocError>
         ensures { IfOk result (λ taken. advance_of taken self.new
-            ≡ ended_by ground.entry.source.now self.old.stack item mark.op mark.extent) }
+            ≡ frame_ending ground.entry.source.now self.old.stack item mark.op mark.extent) }
     {
         match self.stack.pop() {
             None => Ok(Taken::refuse(item)),
@@ -80,7 +80,7 @@ impl State {
         mark: Mark<Closing>,
     ) -> Result<Taken, AllocError>
         ensures { IfOk result (λ taken. advance_of taken self.new
-            ≡ ended_by ground.entry.source.now self.old.stack
+            ≡ frame_ending ground.entry.source.now self.old.stack
             (whole ground.entry.source.now self.old.levels operand) mark.op mark.extent) }
     {
         let item = self.levels.close(ground, operand)?;

@@ -5,12 +5,12 @@ ghost use Rattle.cedar_syntax.specs.WrittenTokens.{IsWritten};
 ghost use Rattle.cedar_text.specs.declared.text_to_cst.expression.state.State.{State};
 ghost use Rattle.cedar_text.specs.contracts.text_to_cst.expression.state.State as states;
 ghost use Rattle.cedar_text.specs.machines.ExpressionShapes.{shape_of};
-ghost use Rattle.cedar_syntax.specs.machines.Judged.{answer_of, taken_as};
+ghost use Rattle.cedar_syntax.specs.machines.Judged.{answer_of, take_answer};
 ghost use Rattle.cedar_text.specs.machines.NamedShapes.{named_shapes};
-ghost use Rattle.cedar_text.specs.machines.Outlooks.{foreseen, outcome, outlook_of};
+ghost use Rattle.cedar_text.specs.machines.Outlooks.{foreseen, bare_answer, outlook_of};
 ghost use Rattle.cedar_text.specs.machines.Whole.{shapes_by};
 ghost use Rattle.cedar_text.specs.machines.WholeExpressions.{whole_expressions, whole_sums, expression_allows, sum_allows};
-ghost use Rattle.cedar_text.specs.machines.Words.{ended_with};
+ghost use Rattle.cedar_text.specs.machines.Words.{end_or_refusal};
 ghost use Rattle.cedar_text.specs.machines.WordShapes.{words_shape};
 
 use crate::text_to_cst::expression::allow::begins_operand;
@@ -44,7 +44,7 @@ impl Model for SumState {
 
 /// A token that is allowed was taken, or is a number that doesn't fit.
 fn as_taken<T: Drop>(fits: bool) -> Taken<T>
-    ensures { (s : State) → answer_of result s ≡ taken_as fits s }
+    ensures { (s : State) → answer_of result s ≡ take_answer fits s }
 {
     if fits { Taken::Next } else { Taken::TooLarge }
 }
@@ -67,7 +67,7 @@ impl State {
     fn end_expr(&mut self, ground: Ground<'_>) -> Result<Taken<Node<Option<Expr>>>, AllocError>
         requires { IsTrue (expression_allows self.old None) }
         ensures { IfOk result (λ taken. answer_of taken self.new
-            ≡ ended_with ((whole_expressions ground.entry.source.now).finish self.old)) }
+            ≡ end_or_refusal ((whole_expressions ground.entry.source.now).finish self.old)) }
     {
         let whole = mem::replace(self, State::start(ground.alloc, Wanted::Expr));
         Ok(Taken::Ended(whole.finish_expr(ground.source)?))
@@ -77,7 +77,7 @@ impl State {
     fn end_sum(&mut self, ground: Ground<'_>) -> Result<Taken<Node<Option<Add>>>, AllocError>
         requires { IsTrue (sum_allows self.old None) }
         ensures { IfOk result (λ taken. answer_of taken self.new
-            ≡ ended_with ((whole_sums ground.entry.source.now).finish self.old)) }
+            ≡ end_or_refusal ((whole_sums ground.entry.source.now).finish self.old)) }
     {
         let whole = mem::replace(self, State::start(ground.alloc, Wanted::Sum));
         Ok(Taken::Ended(whole.finish_sum(ground.source)?))
@@ -123,7 +123,7 @@ impl State {
 
     /// What is done with a token of this kind.
     pub fn foresees(&self, wanted: Wanted, kind: TokenKind) -> Outlook
-        ensures { foreseen result ≡ outcome ((shapes_by wanted named_shapes).step
+        ensures { foreseen result ≡ bare_answer ((shapes_by wanted named_shapes).step
             (shape_of words_shape self.now) kind) }
     {
         outlook(self.takes(wanted, kind), self.ends())

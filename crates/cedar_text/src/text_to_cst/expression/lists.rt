@@ -1,6 +1,6 @@
 //! What ends a list where an item may begin.
 ghost use Rattle.std.specs.Prelude.{◌≡◌, IfOk};
-ghost use Rattle.cedar_text.specs.machines.Wanting.{set_ends, call_ends, record_ends, items_ended, keys_ended, list_ended};
+ghost use Rattle.cedar_text.specs.machines.Wanting.{set_ends, call_ends, record_ends, items_ending, keys_ending, list_ending};
 ghost use Rattle.cedar_text.specs.machines.Stepped.{advance_of};
 
 use crate::text_to_cst::expression::state::{Frame, Mark, Place, State, Taken};
@@ -46,7 +46,7 @@ impl State {
     /// What ends a list of expressions.
     fn end_items(&mut self, ground: Ground<'_>, mark: Mark<Closing>) -> Result<Taken, AllocError>
         ensures { IfOk result (λ taken. advance_of taken self.new
-            ≡ items_ended ground.entry.source.now self.old.stack mark.op mark.extent) }
+            ≡ items_ending ground.entry.source.now self.old.stack mark.op mark.extent) }
     {
         match mark.op {
             Closing::Bracket => self.end_elements(ground, mark.extent),
@@ -60,7 +60,7 @@ impl State {
     /// What ends a record.
     fn end_keys(&mut self, ground: Ground<'_>, mark: Mark<Closing>) -> Result<Taken, AllocError>
         ensures { IfOk result (λ taken. advance_of taken self.new
-            ≡ keys_ended ground.entry.source.now self.old.stack mark.op mark.extent) }
+            ≡ keys_ending ground.entry.source.now self.old.stack mark.op mark.extent) }
     {
         match mark.op {
             Closing::Brace => self.end_pairs(ground, mark.extent),
@@ -81,7 +81,7 @@ impl State {
         mark: Mark<Closing>,
     ) -> Result<Taken, AllocError>
         ensures { IfOk result (λ taken. advance_of taken self.new
-            ≡ list_ended ground.entry.source.now self.old.stack place mark.op mark.extent) }
+            ≡ list_ending ground.entry.source.now self.old.stack place mark.op mark.extent) }
     {
         match place {
             Place::Item => self.end_items(ground, mark),

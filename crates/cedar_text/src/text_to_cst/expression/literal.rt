@@ -2,7 +2,7 @@
 ghost use Rattle.std.specs.Prelude.{◌≡◌, IfOk};
 ghost use Rattle.cedar_lexer.specs.declared.token.TokenKind.TheVariants as kind;
 ghost use Rattle.cedar_syntax.specs.WrittenTokens.{Written};
-ghost use Rattle.cedar_text.specs.machines.Wanting.{literal_at, string_at, slot_of, slot_at};
+ghost use Rattle.cedar_text.specs.machines.Wanting.{literal_at, string_at, slot_of_token, slot_at};
 
 use crate::text_to_cst::expression::state::Ranged;
 use crate::text_to_cst::ground::Ground;
@@ -42,7 +42,7 @@ pub fn string_at(
 
 /// What slot a token is.
 fn slot_of(alloc: Global, slot: SlotToken, text: &str) -> Result<Slot, AllocError>
-    ensures { IfOk result (λ tree. tree ≡ slot_of slot text.now) }
+    ensures { IfOk result (λ tree. tree ≡ slot_of_token slot text.now) }
 {
     match slot {
         SlotToken::Principal => Ok(Slot::Principal),
@@ -59,7 +59,7 @@ pub fn slot_at(
     text: &str,
 ) -> Result<Ranged<Primary>, AllocError>
     ensures { IfOk result (λ item. item ≡ slot_at ground.entry.source.now extent
-        (slot_of slot text.now)) }
+        (slot_of_token slot text.now)) }
 {
     let tree = slot_of(ground.alloc, slot, text)?;
     let tree = Primary::Slot(ground.node_at(extent, tree)?);

@@ -2,8 +2,8 @@
 ghost use Rattle.std.specs.Prelude.{◌≡◌, Some, None, OnOk, IfOk};
 ghost use Rattle.cedar_text.specs.machines.Advance as advance;
 ghost use Rattle.cedar_text.specs.declared.text_to_cst.expression.state.Reach.TheVariants as reach;
-ghost use Rattle.cedar_text.specs.machines.Closing.{marked, linked, unary_at, mult_at, add_at, relation_at, and_at, onward, pending};
-ghost use Rattle.cedar_text.specs.machines.Having.{multiplied, summed, conjoined, disjoined, multiply_had, sum_had, and_had, or_had};
+ghost use Rattle.cedar_text.specs.machines.Closing.{marked_chain, plain_chain, unary_at, mult_at, add_at, relation_at, and_at, onward, pending};
+ghost use Rattle.cedar_text.specs.machines.Having.{product_beginning, sum_beginning, conjunction_beginning, disjunction_beginning, multiply_had, sum_had, and_had, or_had};
 ghost use Rattle.cedar_text.specs.machines.Stepped.{advance_of};
 
 use crate::text_to_cst::expression::begin::want_at;
@@ -25,8 +25,8 @@ impl State {
         mark: Mark<MultOp>,
     ) -> Result<Taken, AllocError>
         ensures { IfOk result (λ taken. advance_of taken self.new
-            ≡ advance.next (multiplied ground.entry.source.now self.old.stack self.old.levels
-            operand mark.op mark.extent)) }
+            ≡ advance.next (product_beginning ground.entry.source.now self.old.stack
+            self.old.levels operand mark.op mark.extent)) }
     {
         let unary = close_unary(ground, operand)?;
         push_pending(ground, &mut self.levels.mult, unary, mark)?;
@@ -42,8 +42,8 @@ impl State {
         mark: Mark<AddOp>,
     ) -> Result<Taken, AllocError>
         ensures { IfOk result (λ taken. advance_of taken self.new
-            ≡ advance.next (summed ground.entry.source.now self.old.stack self.old.levels operand
-            mark.op mark.extent)) }
+            ≡ advance.next (sum_beginning ground.entry.source.now self.old.stack self.old.levels
+            operand mark.op mark.extent)) }
     {
         let mult = self.levels.close_mult(ground, operand)?;
         push_pending(ground, &mut self.levels.add, mult, mark)?;
@@ -59,8 +59,8 @@ impl State {
         operator: Extent,
     ) -> Result<Taken, AllocError>
         ensures { IfOk result (λ taken. advance_of taken self.new
-            ≡ advance.next (conjoined ground.entry.source.now self.old.stack self.old.levels
-            operand operator)) }
+            ≡ advance.next (conjunction_beginning ground.entry.source.now self.old.stack
+            self.old.levels operand operator)) }
     {
         let relation = self.levels.close_relation(ground, operand)?;
         push_plain(ground, &mut self.levels.and, relation, operator)?;
@@ -76,8 +76,8 @@ impl State {
         operator: Extent,
     ) -> Result<Taken, AllocError>
         ensures { IfOk result (λ taken. advance_of taken self.new
-            ≡ advance.next (disjoined ground.entry.source.now self.old.stack self.old.levels
-            operand operator)) }
+            ≡ advance.next (disjunction_beginning ground.entry.source.now self.old.stack
+            self.old.levels operand operator)) }
     {
         let and = self.levels.close_and(ground, operand)?;
         push_plain(ground, &mut self.levels.or, and, operator)?;

@@ -2,10 +2,10 @@
 ghost use Rattle.std.specs.Prelude.{◌≡◌, IfOk};
 ghost use Rattle.cedar_syntax.specs.declared.reading.class.Closing.TheVariants as closing;
 ghost use Rattle.cedar_text.specs.machines.Advance as advance;
-ghost use Rattle.cedar_text.specs.machines.Closing.{ranged, node_of};
+ghost use Rattle.cedar_text.specs.machines.Closing.{ranged_tree, node_of};
 ghost use Rattle.cedar_text.specs.machines.ExpressionStates.{around};
-ghost use Rattle.cedar_text.specs.machines.Wanting.{paren_opened};
-ghost use Rattle.cedar_text.specs.machines.Having.{paren_ended};
+ghost use Rattle.cedar_text.specs.machines.Wanting.{paren_opening};
+ghost use Rattle.cedar_text.specs.machines.Having.{paren_ending};
 ghost use Rattle.cedar_text.specs.machines.Stepped.{advance_of};
 
 use crate::text_to_cst::expression::begin::fresh_levels;
@@ -37,7 +37,7 @@ impl State {
         opened: Extent,
     ) -> Result<Taken, AllocError>
         ensures { IfOk result (λ taken. advance_of taken self.new
-            ≡ advance.next (paren_opened self.old.stack self.old.levels signs opened)) }
+            ≡ advance.next (paren_opening self.old.stack self.old.levels signs opened)) }
     {
         let outer = mem::replace(&mut self.levels, fresh_levels(Stack::new(alloc)));
         let frame = Paren {
@@ -57,7 +57,7 @@ impl State {
         end: Extent,
     ) -> Result<Taken, AllocError>
         ensures { IfOk result (λ taken. advance_of taken self.new
-            ≡ paren_ended ground.entry.source.now self.old.stack frame item closing.Paren end) }
+            ≡ paren_ending ground.entry.source.now self.old.stack frame item closing.Paren end) }
     {
         let Paren {
             outer,
@@ -79,7 +79,7 @@ impl State {
         mark: Mark<Closing>,
     ) -> Result<Taken, AllocError>
         ensures { IfOk result (λ taken. advance_of taken self.new
-            ≡ paren_ended ground.entry.source.now self.old.stack frame item mark.op mark.extent) }
+            ≡ paren_ending ground.entry.source.now self.old.stack frame item mark.op mark.extent) }
     {
         match mark.op {
             Closing::Paren => self.close_paren(ground, frame, item, mark.extent),

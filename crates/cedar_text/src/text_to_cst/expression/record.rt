@@ -2,8 +2,8 @@
 ghost use Rattle.std.specs.Prelude.{◌≡◌, IfOk};
 ghost use Rattle.cedar_syntax.specs.declared.reading.class.Closing.TheVariants as closing;
 ghost use Rattle.cedar_text.specs.machines.Advance as advance;
-ghost use Rattle.cedar_text.specs.machines.Wanting.{record_opened, record_closed};
-ghost use Rattle.cedar_text.specs.machines.Having.{value_begun, key_ended, record_more, value_ended};
+ghost use Rattle.cedar_text.specs.machines.Wanting.{record_opening, record_closing};
+ghost use Rattle.cedar_text.specs.machines.Having.{value_beginning, key_ending, record_more, value_ending};
 ghost use Rattle.cedar_text.specs.machines.Stepped.{advance_of};
 
 use crate::text_to_cst::expression::begin::fresh_levels;
@@ -48,7 +48,7 @@ impl State {
         opened: Extent,
     ) -> Result<Taken, AllocError>
         ensures { IfOk result (λ taken. advance_of taken self.new
-            ≡ advance.next (record_opened self.old.stack self.old.levels signs opened)) }
+            ≡ advance.next (record_opening self.old.stack self.old.levels signs opened)) }
     {
         let outer = mem::replace(&mut self.levels, fresh_levels(Stack::new(alloc)));
         let frame = Record {
@@ -68,7 +68,7 @@ impl State {
         end: Extent,
     ) -> Result<Taken, AllocError>
         ensures { IfOk result (λ taken. advance_of taken self.new
-            ≡ advance.next (record_closed ground.entry.source.now self.old.stack frame end)) }
+            ≡ advance.next (record_closing ground.entry.source.now self.old.stack frame end)) }
     {
         let Record {
             outer,
@@ -91,7 +91,7 @@ impl State {
         colon: Extent,
     ) -> Result<Taken, AllocError>
         ensures { IfOk result (λ taken. advance_of taken self.new
-            ≡ advance.next (value_begun self.old.stack pairs key.tree key.extent colon)) }
+            ≡ advance.next (value_beginning self.old.stack pairs key.tree key.extent colon)) }
     {
         let extent = joined(key.extent, Some(colon));
         let frame = Value {
@@ -111,7 +111,7 @@ impl State {
         colon: Extent,
     ) -> Result<Taken, AllocError>
         ensures { IfOk result (λ taken. advance_of taken self.new
-            ≡ key_ended ground.entry.source.now self.old.stack frame item closing.Colon colon) }
+            ≡ key_ending ground.entry.source.now self.old.stack frame item closing.Colon colon) }
     {
         let extent = item.extent;
         let tree = ground.node_of(item)?;
@@ -127,7 +127,7 @@ impl State {
         mark: Mark<Closing>,
     ) -> Result<Taken, AllocError>
         ensures { IfOk result (λ taken. advance_of taken self.new
-            ≡ key_ended ground.entry.source.now self.old.stack frame item mark.op mark.extent) }
+            ≡ key_ending ground.entry.source.now self.old.stack frame item mark.op mark.extent) }
     {
         match mark.op {
             Closing::Colon => self.close_key(ground, frame, item, mark.extent),
@@ -149,7 +149,7 @@ impl State {
         mark: Mark<Closing>,
     ) -> Result<Taken, AllocError>
         ensures { IfOk result (λ taken. advance_of taken self.new
-            ≡ value_ended ground.entry.source.now self.old.stack frame item mark.op mark.extent) }
+            ≡ value_ending ground.entry.source.now self.old.stack frame item mark.op mark.extent) }
     {
         match mark.op {
             Closing::Comma => {

@@ -4,7 +4,7 @@ ghost use Rattle.cedar_syntax.specs.declared.cst.RelOp.TheVariants as rel;
 ghost use Rattle.cedar_text.specs.declared.text_to_cst.expression.state.Left.TheVariants as left;
 ghost use Rattle.cedar_text.specs.machines.Advance as advance;
 ghost use Rattle.cedar_text.specs.machines.Closing.{add_at};
-ghost use Rattle.cedar_text.specs.machines.Having.{left_begun, before, is_within, compared, side_of, side_place, sided, compare_had, side_had};
+ghost use Rattle.cedar_text.specs.machines.Having.{left_beginning, before, is_within, comparison_beginning, side_of, side_place, side_beginning, compare_had, side_had};
 ghost use Rattle.cedar_text.specs.machines.Stepped.{advance_of};
 
 use crate::text_to_cst::expression::begin::want_at;
@@ -62,7 +62,7 @@ impl State {
     /// The right side begins.
     fn begin_right(&mut self, alloc: Global, left: Left, place: Place) -> Result<Taken, AllocError>
         ensures { IfOk result (λ taken. advance_of taken self.new
-            ≡ advance.next (left_begun self.old.stack self.old.levels left place)) }
+            ≡ advance.next (left_beginning self.old.stack self.old.levels left place)) }
     {
         let left = Boxed::new(alloc, left)?;
         put(&mut self.levels.relation, Some(left));
@@ -81,7 +81,7 @@ impl State {
         mark: Mark<RelOp>,
     ) -> Result<Taken, AllocError>
         ensures { IfOk result (λ taken. advance_of taken self.new
-            ≡ compared ground.entry.source.now self.old.stack self.old.levels
+            ≡ comparison_beginning ground.entry.source.now self.old.stack self.old.levels
             (Some (left.Common begun)) item mark.op mark.extent) }
     {
         let mut begun = begun;
@@ -97,8 +97,8 @@ impl State {
         mark: Mark<RelOp>,
     ) -> Result<Taken, AllocError>
         ensures { IfOk result (λ taken. advance_of taken self.new
-            ≡ compared ground.entry.source.now self.old.stack self.old.levels None item mark.op
-            mark.extent) }
+            ≡ comparison_beginning ground.entry.source.now self.old.stack self.old.levels None item
+            mark.op mark.extent) }
     {
         let begun = begin_pending(ground, item, mark)?;
         self.begin_right(ground.alloc, Left::Common(begun), Place::Operand)
@@ -163,7 +163,7 @@ impl State {
         mark: Mark<RelOp>,
     ) -> Result<Taken, AllocError>
         ensures { IfOk result (λ taken. advance_of taken self.new
-            ≡ compared ground.entry.source.now self.old.stack self.old.levels
+            ≡ comparison_beginning ground.entry.source.now self.old.stack self.old.levels
             (Some begun) item mark.op mark.extent) }
     {
         match begun {
@@ -181,7 +181,7 @@ impl State {
         mark: Mark<RelOp>,
     ) -> Result<Taken, AllocError>
         ensures { IfOk result (λ taken. advance_of taken self.new
-            ≡ compared ground.entry.source.now self.old.stack self.old.levels
+            ≡ comparison_beginning ground.entry.source.now self.old.stack self.old.levels
             self.old.levels.relation
             (add_at ground.entry.source.now self.old.levels operand) mark.op mark.extent) }
     {
@@ -200,7 +200,7 @@ impl State {
         mark: Mark<Side>,
     ) -> Result<Taken, AllocError>
         ensures { IfOk result (λ taken. advance_of taken self.new
-            ≡ sided ground.entry.source.now self.old.stack self.old.levels
+            ≡ side_beginning ground.entry.source.now self.old.stack self.old.levels
             self.old.levels.relation
             (add_at ground.entry.source.now self.old.levels operand) mark.op mark.extent) }
     {
@@ -218,7 +218,7 @@ impl State {
         mark: Mark<Side>,
     ) -> Result<Taken, AllocError>
         ensures { IfOk result (λ taken. advance_of taken self.new
-            ≡ sided ground.entry.source.now self.old.stack self.old.levels None
+            ≡ side_beginning ground.entry.source.now self.old.stack self.old.levels None
             (add_at ground.entry.source.now self.old.levels operand) mark.op mark.extent) }
     {
         let item = self.levels.close_add(ground, operand)?;

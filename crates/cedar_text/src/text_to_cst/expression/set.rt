@@ -2,8 +2,8 @@
 ghost use Rattle.std.specs.Prelude.{◌≡◌, IfOk};
 ghost use Rattle.cedar_syntax.specs.declared.reading.class.Closing.TheVariants as closing;
 ghost use Rattle.cedar_text.specs.machines.Advance as advance;
-ghost use Rattle.cedar_text.specs.machines.Wanting.{set_opened, set_closed};
-ghost use Rattle.cedar_text.specs.machines.Having.{set_more, set_ended};
+ghost use Rattle.cedar_text.specs.machines.Wanting.{set_opening, set_closing};
+ghost use Rattle.cedar_text.specs.machines.Having.{set_more, set_ending};
 ghost use Rattle.cedar_text.specs.machines.Stepped.{advance_of};
 
 use crate::text_to_cst::expression::begin::fresh_levels;
@@ -39,7 +39,7 @@ impl State {
         opened: Extent,
     ) -> Result<Taken, AllocError>
         ensures { IfOk result (λ taken. advance_of taken self.new
-            ≡ advance.next (set_opened self.old.stack self.old.levels signs opened)) }
+            ≡ advance.next (set_opening self.old.stack self.old.levels signs opened)) }
     {
         let outer = mem::replace(&mut self.levels, fresh_levels(Stack::new(alloc)));
         let frame = Set {
@@ -59,7 +59,7 @@ impl State {
         end: Extent,
     ) -> Result<Taken, AllocError>
         ensures { IfOk result (λ taken. advance_of taken self.new
-            ≡ advance.next (set_closed ground.entry.source.now self.old.stack frame end)) }
+            ≡ advance.next (set_closing ground.entry.source.now self.old.stack frame end)) }
     {
         let Set {
             outer,
@@ -82,7 +82,7 @@ impl State {
         mark: Mark<Closing>,
     ) -> Result<Taken, AllocError>
         ensures { IfOk result (λ taken. advance_of taken self.new
-            ≡ set_ended ground.entry.source.now self.old.stack frame item mark.op mark.extent) }
+            ≡ set_ending ground.entry.source.now self.old.stack frame item mark.op mark.extent) }
     {
         match mark.op {
             Closing::Comma => {

@@ -1,7 +1,7 @@
 //! Signs before an operand.
 ghost use Rattle.std.specs.Prelude.{◌≡◌};
-ghost use Rattle.cedar_syntax.specs.machines.Classes.{signed};
-ghost use Rattle.cedar_text.specs.machines.Wanting.{after_signs, sign_read};
+ghost use Rattle.cedar_syntax.specs.machines.Classes.{with_sign};
+ghost use Rattle.cedar_text.specs.machines.Wanting.{after_signs, sign_reading};
 ghost use Rattle.cedar_text.specs.machines.Stepped.{advance_of};
 
 use crate::text_to_cst::expression::state::{Gap, Mode, Place, Signs, State, Taken};
@@ -34,7 +34,7 @@ impl State {
     /// One sign more.
     pub fn read_sign(&mut self, gap: Gap, sign: Sign, extent: Extent) -> Taken
         ensures { advance_of result self.new
-            ≡ sign_read self.old.stack self.old.levels gap.place gap.signs sign extent }
+            ≡ sign_reading self.old.stack self.old.levels gap.place gap.signs sign extent }
     {
         match gap.place {
             Place::Primary => Taken::NotTaken,

@@ -2,7 +2,7 @@
 ghost use Rattle.std.specs.Prelude.{◌≡◌, IfOk};
 ghost use Rattle.cedar_lexer.specs.Token.{lexeme_of};
 ghost use Rattle.cedar_syntax.specs.WrittenTokens.{IsWritten};
-ghost use Rattle.cedar_text.specs.machines.Expressions.{stepped, step_of};
+ghost use Rattle.cedar_text.specs.machines.Expressions.{mode_step, step_of};
 ghost use Rattle.cedar_text.specs.machines.Named.{named_words};
 ghost use Rattle.cedar_text.specs.machines.Stepped.{advance_of};
 
@@ -24,7 +24,7 @@ impl State {
     ) -> Result<Taken, AllocError>
         requires { IsWritten (lexeme_of ahead.token) }
         ensures { IfOk result (λ taken. advance_of taken self.new
-            ≡ stepped ahead.entry.wanted ground.entry.source.now
+            ≡ mode_step ahead.entry.wanted ground.entry.source.now
             (named_words ground.entry.source.now) self.old.stack self.old.levels mode
             (lexeme_of ahead.entry.token)) }
     {

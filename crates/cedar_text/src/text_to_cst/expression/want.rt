@@ -8,7 +8,7 @@ ghost use Rattle.cedar_lexer.specs.declared.token.TokenKind.TheVariants as kind;
 ghost use Rattle.cedar_syntax.specs.WrittenTokens.{IsWritten, Written};
 ghost use Rattle.cedar_text.specs.machines.Advance as advance;
 ghost use Rattle.cedar_text.specs.machines.ExpressionStates.{has_primary};
-ghost use Rattle.cedar_text.specs.machines.Wanting.{literal_at, string_at, slot_at, slot_of, word_begun, wanted_as, wanting};
+ghost use Rattle.cedar_text.specs.machines.Wanting.{literal_at, string_at, slot_at, slot_of_token, word_beginning, wanted_token, wanting};
 ghost use Rattle.cedar_text.specs.machines.Named.{named_words};
 ghost use Rattle.cedar_text.specs.machines.Stepped.{advance_of};
 
@@ -34,7 +34,7 @@ impl State {
     ) -> Result<Taken, AllocError>
         requires { IsWritten (lexeme_of token) }
         ensures { IfOk result (λ taken. advance_of taken self.new
-            ≡ word_begun self.old.stack self.old.levels gap.place gap.signs
+            ≡ word_beginning self.old.stack self.old.levels gap.place gap.signs
             ((named_words ground.entry.source.now).step
             (named_words ground.entry.source.now).start (lexeme_of token.entry))) }
     {
@@ -105,7 +105,7 @@ impl State {
         ensures { IfOk result (λ taken. advance_of taken self.new
             ≡ advance.next (has_primary ground.entry.source.now self.old.stack self.old.levels
             signs (slot_at ground.entry.source.now (Some (extent_of (lexeme_of token.entry)))
-            (slot_of slot token.entry.text.now)))) }
+            (slot_of_token slot token.entry.text.now)))) }
     {
         let item = slot_at(ground, Some(token_extent(token)), slot, token.text)?;
         self.have_primary(ground, signs, item)
@@ -122,8 +122,8 @@ impl State {
         requires written { IsWritten (lexeme_of token) }
         requires text { IsBeginningOf class token.text.now }
         ensures { IfOk result (λ taken. advance_of taken self.new
-            ≡ wanted_as ground.entry.source.now self.old.stack self.old.levels gap.place gap.signs
-            class ((named_words ground.entry.source.now).step
+            ≡ wanted_token ground.entry.source.now self.old.stack self.old.levels gap.place
+            gap.signs class ((named_words ground.entry.source.now).step
             (named_words ground.entry.source.now).start (lexeme_of token.entry))
             (extent_of (lexeme_of token.entry)) token.entry.text.now) }
     {

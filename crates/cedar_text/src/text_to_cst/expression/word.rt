@@ -6,11 +6,11 @@ ghost use Rattle.cedar_syntax.specs.declared.cst.Primary.TheVariants as primary;
 ghost use Rattle.cedar_syntax.specs.Place.{extent_of};
 ghost use Rattle.cedar_syntax.specs.WrittenTokens.{IsWritten};
 ghost use Rattle.cedar_syntax.specs.declared.reading.class.Operator.TheVariants as operator;
-ghost use Rattle.cedar_text.specs.machines.Closing.{ranged, node_of, no_signs, operand_of, if_primary, if_operand, if_key};
+ghost use Rattle.cedar_text.specs.machines.Closing.{ranged_tree, node_of, no_signs, operand_of, if_primary, if_operand, if_key};
 ghost use Rattle.cedar_text.specs.machines.Wanting.{literal_at};
 ghost use Rattle.cedar_text.specs.machines.Having.{having};
-ghost use Rattle.cedar_text.specs.machines.Expressions.{name_at, word_alone, alone_of, guard_begun, if_key_read, key_or_guard, if_alone, alone_read, named_read, word_read};
-ghost use Rattle.cedar_text.specs.machines.Named.{named_of, named_words};
+ghost use Rattle.cedar_text.specs.machines.Expressions.{name_at, word_alone, alone_of, guard_beginning, if_key_reading, key_or_guard, if_alone, alone_reading, name_reading, word_reading};
+ghost use Rattle.cedar_text.specs.machines.Named.{words_tree, named_words};
 ghost use Rattle.cedar_text.specs.machines.Stepped.{advance_of};
 
 use crate::text_to_cst::expression::begin::{fresh_levels, no_signs, operand_of};
@@ -52,7 +52,7 @@ pub fn name_at(ground: Ground<'_>, name: Ranged<Name>) -> Result<Ranged<Primary>
 
 /// An entity as an operand.
 pub fn ref_at(entity: Entity) -> Ranged<Primary>
-    ensures { result ≡ ranged (Some entity.extent) (primary.Ref entity.node) }
+    ensures { result ≡ ranged_tree (Some entity.extent) (primary.Ref entity.node) }
 {
     let Entity { node, extent } = entity;
     Ranged {
@@ -122,7 +122,7 @@ impl State {
     ) -> Result<Taken, AllocError>
         requires { IsWritten (lexeme_of token) }
         ensures { IfOk result (λ taken. advance_of taken self.new
-            ≡ guard_begun ground.entry.source.now
+            ≡ guard_beginning ground.entry.source.now
             (named_words ground.entry.source.now) self.old.stack self.old.levels opened
             (lexeme_of token.entry)) }
     {
@@ -144,7 +144,7 @@ impl State {
         colon: Extent,
     ) -> Result<Taken, AllocError>
         ensures { IfOk result (λ taken. advance_of taken self.new
-            ≡ if_key_read ground.entry.source.now self.old.stack extent colon) }
+            ≡ if_key_reading ground.entry.source.now self.old.stack extent colon) }
     {
         match self.stack.pop() {
             Some(Frame::Key(pairs)) => {
@@ -276,7 +276,7 @@ impl State {
     ) -> Result<Taken, AllocError>
         ensures { IfOk result (λ taken. advance_of taken self.new
             ≡ having ahead.entry.wanted ground.entry.source.now self.old.stack self.old.levels
-            (operand_of ground.entry.source.now signs (ranged (Some entity.extent)
+            (operand_of ground.entry.source.now signs (ranged_tree (Some entity.extent)
             (primary.Ref entity.node))) (lexeme_of ahead.entry.token)) }
     {
         self.have_item(ground, signs, ref_at(entity), ahead)
@@ -292,7 +292,7 @@ impl State {
     ) -> Result<Taken, AllocError>
         requires { IsWritten (lexeme_of ahead.token) }
         ensures { IfOk result (λ taken. advance_of taken self.new
-            ≡ alone_read ahead.entry.wanted ground.entry.source.now
+            ≡ alone_reading ahead.entry.wanted ground.entry.source.now
             (named_words ground.entry.source.now) self.old.stack self.old.levels gap.place
             gap.signs name (alone_of name.tree.path name.tree.name)
             (lexeme_of ahead.entry.token)) }
@@ -322,9 +322,9 @@ impl State {
     ) -> Result<Taken, AllocError>
         requires { IsWritten (lexeme_of ahead.token) }
         ensures { IfOk result (λ taken. advance_of taken self.new
-            ≡ named_read ahead.entry.wanted ground.entry.source.now
+            ≡ name_reading ahead.entry.wanted ground.entry.source.now
             (named_words ground.entry.source.now) self.old.stack self.old.levels gap.place
-            gap.signs (named_of ground.entry.source.now words) (lexeme_of ahead.entry.token)) }
+            gap.signs (words_tree ground.entry.source.now words) (lexeme_of ahead.entry.token)) }
     {
         match words {
             Words::Path(path) => self.read_path(ground, gap, path_name(ground, path)?, ahead),
@@ -342,7 +342,7 @@ impl State {
     ) -> Result<Taken, AllocError>
         requires { IsWritten (lexeme_of ahead.token) }
         ensures { IfOk result (λ taken. advance_of taken self.new
-            ≡ word_read ahead.entry.wanted ground.entry.source.now
+            ≡ word_reading ahead.entry.wanted ground.entry.source.now
             (named_words ground.entry.source.now) self.old.stack self.old.levels gap.place
             gap.signs ((named_words ground.entry.source.now).step words
             (lexeme_of ahead.entry.token)) (lexeme_of ahead.entry.token)) }

@@ -3,14 +3,14 @@ ghost use Rattle.std.specs.Prelude.{◌≡◌, ℕ, List, [], Some, IfOk};
 ghost use Rattle.cedar_lexer.specs.Token.{lexeme_of};
 ghost use Rattle.cedar_syntax.specs.Trees.{name_of};
 ghost use Rattle.cedar_syntax.specs.WrittenTokens.{IsWritten};
-ghost use Rattle.cedar_text.specs.machines.Closing.{ranged};
+ghost use Rattle.cedar_text.specs.machines.Closing.{ranged_tree};
 ghost use Rattle.cedar_syntax.specs.machines.Door.{is_taken};
 ghost use Rattle.cedar_text.specs.machines.Expressions.{alone_of, word_alone};
 ghost use Rattle.cedar_text.specs.machines.Named.{named_words};
 ghost use Rattle.cedar_text.specs.machines.NamedShapes.{is_condition, named_shapes};
 ghost use Rattle.cedar_text.specs.machines.Words.{word_node, path_extent, words_end};
 ghost use Rattle.cedar_text.specs.machines.WordShapes.{path_kind, words_shape};
-ghost use Rattle.cedar_text.specs.machines.WordsAhead.{goes_from, goes_of, ends_of, given_named};
+ghost use Rattle.cedar_text.specs.machines.WordsAhead.{goes_from, goes_of, ends_of, words_answer};
 
 use crate::text_to_cst::expression::state::{Alone, Ranged};
 use crate::text_to_cst::ground::Ground;
@@ -67,7 +67,7 @@ pub fn alone_of(name: &Name) -> Alone
 #[inline(always)]
 pub fn path_name(ground: Ground<'_>, path: Path) -> Result<Ranged<Name>, AllocError>
     ensures { IfOk result
-        (λ name. name ≡ ranged (Some (path_extent path))
+        (λ name. name ≡ ranged_tree (Some (path_extent path))
         (name_of path.before (word_node ground.entry.source.now path.last))) }
 {
     let Path {
@@ -98,7 +98,7 @@ pub fn step(
 ) -> Result<Taken<Words>, AllocError>
     requires { IsWritten (lexeme_of token) }
     ensures { IfOk result
-        (λ taken. given_named ground.entry.source.now taken words.new
+        (λ taken. words_answer ground.entry.source.now taken words.new
         ≡ (named_words ground.entry.source.now).step words.old (lexeme_of token.entry)) }
 {
     words.step(ground.alloc, ground.source, token)

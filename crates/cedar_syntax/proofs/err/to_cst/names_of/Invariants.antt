@@ -1,6 +1,6 @@
 use Rattle.std.proofs.Common.{◌≡◌, map, take}
-use Rattle.cedar_lexer.specs.Names.{name_of}
+use Rattle.cedar_lexer.specs.Names.{kind_name}
 use Rattle.cedar_syntax.proofs.err.to_cst.names_of.Given as goal
 
 abbrev pub invariant-loop-kind : goal.invariant-loop-kind
-invariant-loop-kind l = map (λ name. name.now) l.names.items ≡ map name_of (take l.kind-index l.kinds)
+invariant-loop-kind l = map (λ name. name.now) l.names.items ≡ map kind_name (take l.kind-index l.kinds)

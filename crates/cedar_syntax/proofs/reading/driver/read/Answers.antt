@@ -1,12 +1,12 @@
 use Rattle.std.proofs.Common.{refl, sym, ◌∙◌, ap}
-use Rattle.cedar_lexer.specs.LexerState.{beginning}
+use Rattle.cedar_lexer.specs.LexerState.{fresh_lexer}
 use Rattle.cedar_syntax.proofs.machines.Driving.{bad_start, passed_on, ahead_is, ahead_written, stops_at_token, stops_badly, fewer_at, one_more, concluded}
 use Rattle.cedar_syntax.proofs.reading.driver.read.Goals as goal
 
 pub returns-in_err-ahead : goal.returns-in_err-ahead
 returns-in_err-ahead g c =
     passed_on c.from_residual.result c.in_err-ahead.field-0.0 _ _ c.from_residual.ensures.1
-    (bad_start _ _ _ _ _ _ _ refl (c.new-lexer.ensures ∙ ap (λ t. beginning t) (sym c.requires)) c.in_err-ahead.ensures)
+    (bad_start _ _ _ _ _ _ _ refl (c.new-lexer.ensures ∙ ap (λ t. fresh_lexer t) (sym c.requires)) c.in_err-ahead.ensures)
 
 pub judge-requires : goal.judge-requires
 judge-requires g c = ahead_written (ahead_is c.loop-ahead.invariant c.in-Some.is)

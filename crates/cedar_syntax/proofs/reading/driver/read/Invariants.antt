@@ -1,4 +1,4 @@
-use Rattle.cedar_syntax.specs.machines.Judged.{Progress, tokens_left}
+use Rattle.cedar_syntax.specs.machines.Judged.{Progress, remaining_length}
 use Rattle.cedar_syntax.proofs.reading.driver.read.Given as goal
 
 -- the tokens before the one ahead are read
@@ -6,4 +6,4 @@ abbrev pub invariant-loop-ahead : goal.invariant-loop-ahead
 invariant-loop-ahead g l = Progress (g.E.Entry.machine l.source) l.source l.state l.end l.ahead l.lexer
 
 abbrev pub decreases-loop-ahead : goal.decreases-loop-ahead
-decreases-loop-ahead g l = tokens_left l.ahead l.lexer
+decreases-loop-ahead g l = remaining_length l.ahead l.lexer

@@ -2,7 +2,7 @@ use Rattle.std.proofs.Common.{sym, ◌∙◌}
 use Rattle.cedar_lexer.specs.Token.{lexeme_of}
 use Rattle.cedar_syntax.specs.machines.Judged.{answer_of}
 use Rattle.cedar_text.specs.machines.WholeExpressions.{whole_sums}
-use Rattle.cedar_text.specs.machines.Words.{ended_with}
+use Rattle.cedar_text.specs.machines.Words.{end_or_refusal}
 use Rattle.cedar_text.proofs.HeldParts.{ok_so, refused_if}
 use Rattle.cedar_text.proofs.machines.PolicyParts.{sum_not_taken, sums_end}
 use Rattle.cedar_text.proofs.text_to_cst.expression.state.State.read_sum.Goals as goal
@@ -12,7 +12,7 @@ returns-then-allows-2 c =
     let m = whole_sums c.args.ground.source.now in
     let s = c.args.self.now in
     let t = lexeme_of c.args.token in
-    ok_so c.end_sum.result (λ taken. answer_of taken c.end_sum.new.self) (ended_with (m.finish s)) (m.step s t)
+    ok_so c.end_sum.result (λ taken. answer_of taken c.end_sum.new.self) (end_or_refusal (m.finish s)) (m.step s t)
     (sum_not_taken c.args.ground.source.now s t (sym c.allows.ensures ∙ c.if-allows.false)) c.end_sum.ensures
 
 pub returns : goal.returns
