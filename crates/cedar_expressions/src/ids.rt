@@ -1,5 +1,5 @@
 //! Identifiers: any, those that are no reserved word, and those that may stand in a name.
-ghost use Rattle.std.specs.Prelude.{◌≡◌, ◌&&◌, MatchOption, MatchResult, false, true, not};
+ghost use Rattle.std.specs.Prelude.{◌≡◌, ◌&&◌, MatchOption, MatchResult, false, true};
 ghost use Rattle.std.specs.List.{list_all};
 ghost use Rattle.cedar_expressions.specs.Path.{begins_identifier, continues_identifier, is_identifier, is_reserved_word, is_valid_identifier, is_reserved_namespace, is_unreserved_identifier};
 

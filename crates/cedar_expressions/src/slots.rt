@@ -1,5 +1,5 @@
 //! The slots of an expression, from the left.
-ghost use Rattle.std.specs.Prelude.{◌≡◌, ◌++◌, IfOk, OnOk, map};
+ghost use Rattle.std.specs.Prelude.{◌≡◌, ◌++◌, IfOk, OnOk};
 ghost use Rattle.cedar_expressions.specs.Slots.{slots_in, slots_of_kind, slots_in_row, term_slots, pair_slots};
 
 use crate::{AddOp, Expr, ExprKind, Items, Place, Slot, Text};

@@ -1,5 +1,5 @@
 -- No slot stands in the condition of a template that a tree gives.
-use Rattle.std.proofs.Common.{◌≡◌, ℕ, Bool, true, false, List, [], ◌∷◌, ◌++◌, Option, Some, None, Ok, map, refl, sym, ap, ◌∙◌}
+use Rattle.std.proofs.Common.{◌≡◌, ℕ, List, [], ◌∷◌, ◌++◌, Option, Some, None, Ok, refl, sym, ap, ◌∙◌}
 use Rattle.std.specs.Option.{option_map}
 use Rattle.cedar_expressions.specs.declared.expr.Expr.{Expr}
 use Rattle.cedar_expressions.specs.Meaning.{expr_meaning, unplaced}
@@ -12,10 +12,9 @@ use Rattle.cedar_syntax.specs.declared.cst.Policy.TheVariants as trees
 use Rattle.cedar_syntax.specs.declared.loc.Loc.{Loc}
 use Rattle.cedar_syntax.specs.declared.node.Node.{Node}
 use Rattle.cedar_policy_parser.specs.Conditions.{clause, condition_of, condition_outcome, conditions_outcome, is_when, slots_outcome, without_slots}
-use Rattle.cedar_policy_parser.specs.Conversion.{with_first}
 use Rattle.cedar_policy_parser.specs.Extensions.{Extensions}
 use Rattle.cedar_policy_parser.specs.Names.{all_of, content_outcome}
-use Rattle.cedar_policy_parser.specs.Outcome.{Outcome, both, next}
+use Rattle.cedar_policy_parser.specs.Outcome.{both}
 use Rattle.cedar_policy_parser.specs.Policies as k
 use Rattle.cedar_policy_parser.specs.PolicyMeaning.{joint_condition, conjunction_value}
 use Rattle.cedar_policy_parser.specs.Scope.{scope_outcome}

@@ -11,7 +11,7 @@ use Rattle.cedar_syntax.specs.Forms.{access_form, listed_access, located, parts_
 use Rattle.cedar_syntax.specs.Located.{Form}
 use Rattle.cedar_syntax.proofs.FormLevels.{access_field, access_call, access_index}
 use Rattle.std.specs.Prelude.{Option, Some}
-use Rattle.cedar_policy_parser.specs.HasSide.{Attributes, field_form, field_of, fields_of, string_alone}
+use Rattle.cedar_policy_parser.specs.HasSide.{field_form, field_of, fields_of, string_alone}
 use Rattle.cedar_policy_parser.specs.Outcome.{Outcome, fault_outcome, next, invalid_has_rhs}
 use Rattle.cedar_policy_parser.specs.Names.{unreserved_ident}
 use Rattle.cedar_policy_parser.specs.Seen.{Refuses}

@@ -4,12 +4,12 @@ use Rattle.cedar_expressions.specs.Value.{Value}
 use Rattle.cedar_syntax.specs.declared.loc.Loc.{Loc}
 use Rattle.cedar_syntax.specs.Located as f
 use Rattle.cedar_syntax.specs.Located.{Parts}
-use Rattle.cedar_syntax.specs.Tree.{Level, Operator, disjunction, conjunction, relation, sum, product}
+use Rattle.cedar_syntax.specs.Tree.{Level, Operator, relation}
 use Rattle.cedar_policy_parser.specs.Conversion.{Part, chain_outcome, level_outcome, joint_outcome, operator_limit, expression_at, operands, with_part}
 use Rattle.cedar_policy_parser.specs.Extensions.{Extensions}
-use Rattle.cedar_policy_parser.specs.Held.{Held, expression, as_expression}
+use Rattle.cedar_policy_parser.specs.Held.{Held, as_expression}
 use Rattle.cedar_policy_parser.specs.Outcome.{NamedFault, Outcome, both, next}
-use Rattle.cedar_policy_parser.specs.Seen.{one_more, with_last}
+use Rattle.cedar_policy_parser.specs.Seen.{one_more}
 
 abbrev pub given_as : {X : Type 0} → X → Outcome X
 given_as x = Ok x

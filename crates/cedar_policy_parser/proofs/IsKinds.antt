@@ -1,7 +1,6 @@
 -- Which expressions `is` makes, by their kinds.
-use Rattle.std.proofs.Common.{◌≡◌, Bool, true, false, List, map, refl, ap, sym, ◌∙◌}
+use Rattle.std.proofs.Common.{◌≡◌, Bool, false, List, refl, ap, sym, ◌∙◌}
 use Rattle.cedar_expressions.specs.declared.operators.AddOp.{AddOp}
-use Rattle.cedar_expressions.specs.declared.operators.UnaryOp.{UnaryOp}
 use Rattle.cedar_expressions.specs.declared.operators.UnaryOp.TheVariants as operator
 use Rattle.cedar_expressions.specs.declared.text.Text.{Text}
 use Rattle.cedar_expressions.specs.declared.literal.Literal.{Literal}
@@ -10,7 +9,6 @@ use Rattle.cedar_expressions.specs.declared.literal.SlotId.{SlotId}
 use Rattle.cedar_expressions.specs.declared.expr.Expr.{Expr}
 use Rattle.cedar_expressions.specs.declared.expr.UnaryCall.{UnaryCall}
 use Rattle.cedar_expressions.specs.declared.expr.UnaryCall.TheVariants as unary
-use Rattle.cedar_expressions.specs.declared.expr.BinaryOp.{BinaryOp}
 use Rattle.cedar_expressions.specs.declared.expr.BinaryOp.TheVariants as between
 use Rattle.cedar_expressions.specs.declared.expr.BinaryCall.{BinaryCall}
 use Rattle.cedar_expressions.specs.declared.expr.BinaryCall.TheVariants as binary
@@ -22,7 +20,7 @@ use Rattle.cedar_expressions.specs.declared.expr.ExprKind.{ExprKind}
 use Rattle.cedar_expressions.specs.declared.expr.ExprKind.TheOpen.{ExprKind-F}
 use Rattle.cedar_expressions.specs.declared.expr.ExprKind.TheFolds.{fold-ExprKind, fold_out-Expr, fold-roll-ExprKind}
 use Rattle.cedar_expressions.specs.declared.expr.ExprKind.TheVariants as kind
-use Rattle.cedar_expressions.specs.Meaning.{AtPlace, kind_call, expr_call, operator_call, unary_call, between_call, binary_call, nary_call, list_call, expr_meaning}
+use Rattle.cedar_expressions.specs.Meaning.{AtPlace, kind_call, expr_call, unary_call, binary_call, nary_call, list_call, expr_meaning}
 use Rattle.cedar_expressions.specs.Value.{Value, Values}
 use Rattle.cedar_policy_parser.specs.Scope.{is_call, made_by_is}
 

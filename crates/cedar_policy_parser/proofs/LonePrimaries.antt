@@ -1,6 +1,5 @@
 -- The primary that each node is, of that which its part is.
 use Rattle.std.proofs.Common.{◌≡◌, List, [], ◌∷◌, map, Option, Some, None, Ok, refl, sym, ap, ◌∙◌, Bool, true, false, if◌then◌else◌}
-use Rattle.cedar_expressions.specs.declared.operators.AddOp.{AddOp}
 use Rattle.cedar_syntax.specs.declared.loc.Loc.{Loc}
 use Rattle.cedar_syntax.specs.declared.node.Node.{Node}
 use Rattle.cedar_syntax.specs.declared.cst.Expr.{Expr}
@@ -23,7 +22,7 @@ use Rattle.cedar_syntax.specs.declared.cst.Name.{Name}
 use Rattle.cedar_syntax.specs.declared.cst.Slot.{Slot}
 use Rattle.cedar_syntax.specs.declared.cst.Ref.{Ref}
 use Rattle.cedar_syntax.specs.declared.cst.RecInit.{RecInit}
-use Rattle.cedar_syntax.specs.Forms.{located, parts_of, expr_form, data_form, or_form, and_form, relation_form, add_form, mult_form, unary_form, member_form, primary_form, or_operand, and_operand, relation_operand, add_operand, mult_operand, listed_access, listed_expr, listed_init, typed_form}
+use Rattle.cedar_syntax.specs.Forms.{located, parts_of, expr_form, data_form, or_form, and_form, relation_form, add_form, mult_form, unary_form, member_form, primary_form, or_operand, and_operand, relation_operand, add_operand, mult_operand, listed_access, typed_form}
 use Rattle.cedar_syntax.specs.Located as f
 use Rattle.cedar_syntax.specs.Located.{Located, Form}
 use Rattle.cedar_syntax.specs.Tree.{Level, Operator, disjunction, conjunction, relation, sum, product}

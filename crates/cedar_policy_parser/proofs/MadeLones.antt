@@ -1,5 +1,5 @@
 -- The primary that each tree is which the loose grammar makes, wherever it stands.
-use Rattle.std.proofs.Common.{◌≡◌, ap, ◌∙◌, map, cond, List, [], ◌∷◌, Option, Some, None, Ok}
+use Rattle.std.proofs.Common.{◌≡◌, ap, ◌∙◌, map, cond, List, Option, Some, None}
 use Rattle.cedar_expressions.specs.declared.operators.AddOp.{AddOp}
 use Rattle.cedar_syntax.specs.declared.loc.Loc.{Loc}
 use Rattle.cedar_syntax.specs.declared.cst.MemAccess.{MemAccess}

@@ -1,6 +1,5 @@
 -- What each node gives, of what its parts give.
-use Rattle.std.proofs.Common.{◌≡◌, ℕ, List, [], ◌∷◌, map, Option, Some, None, refl, sym, ap, ◌∙◌, Ok, Err}
-use Rattle.cedar_expressions.specs.declared.operators.AddOp.{AddOp}
+use Rattle.std.proofs.Common.{◌≡◌, List, [], map, Option, Some, None, refl, ap, ◌∙◌, Ok, Err}
 use Rattle.cedar_syntax.specs.declared.loc.Loc.{Loc}
 use Rattle.cedar_syntax.specs.declared.node.Node.{Node}
 use Rattle.cedar_syntax.specs.declared.cst.RelOp.{RelOp}
@@ -27,7 +26,6 @@ use Rattle.cedar_syntax.specs.declared.cst.Slot.{Slot}
 use Rattle.cedar_syntax.specs.declared.cst.Ref.{Ref}
 use Rattle.cedar_syntax.specs.declared.cst.RecInit.{RecInit}
 use Rattle.cedar_syntax.specs.Forms.{located, parts_of, expr_form, data_form, or_form, and_form, relation_form, add_form, mult_form, unary_form, member_form, primary_form, access_form, init_form, or_operand, and_operand, relation_operand, add_operand, mult_operand, listed_access, listed_expr, listed_init, typed_form}
-use Rattle.cedar_syntax.specs.Located as f
 use Rattle.cedar_syntax.specs.Located.{Form}
 use Rattle.cedar_syntax.specs.Tree.{disjunction, conjunction, relation, sum, product}
 use Rattle.cedar_syntax.proofs.FormLevels.{expr_out, impl_out, data_or, data_if, or_out, and_out, relation_common, relation_has, relation_like, relation_typed, add_out, mult_out, unary_out, member_out, primary_literal, primary_ref, primary_name, primary_slot, primary_expr, primary_list, primary_inits, access_field, access_call, access_index, init_out}

@@ -10,11 +10,10 @@ use Rattle.cedar_syntax.specs.Forms.{parts_of}
 use Rattle.cedar_syntax.specs.Located.{Located, none}
 use Rattle.cedar_syntax.specs.Tree.{Operator}
 use Rattle.cedar_syntax.specs.Joined.{TellsBoth, WantsMemory}
-use Rattle.cedar_policy_parser.specs.Conversion.{Part, outcome, operands, with_part, factor, value_outcome}
+use Rattle.cedar_policy_parser.specs.Conversion.{Part, operands, with_part, factor, value_outcome}
 use Rattle.cedar_policy_parser.specs.Extensions.{Extensions}
-use Rattle.cedar_policy_parser.specs.Held.{as_expression}
 use Rattle.cedar_policy_parser.specs.Outcome.{Kind, Outcome, both, next, fault_outcome}
-use Rattle.cedar_policy_parser.specs.Seen.{Refuses, Gives, TellsAlone, named_faults, named_fault, one_more, with_last}
+use Rattle.cedar_policy_parser.specs.Seen.{Refuses, Gives, TellsAlone, named_faults, named_fault, one_more}
 use Rattle.cedar_policy_parser.proofs.Loops.{take_next, map_snoc}
 
 -- ---- faults

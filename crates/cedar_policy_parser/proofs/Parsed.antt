@@ -17,7 +17,7 @@ use Rattle.cedar_syntax.specs.Trees.{Cell}
 use Rattle.cedar_policy_parser.specs.Conversion.{Converts, value_outcome}
 use Rattle.cedar_policy_parser.specs.Extensions.{Extensions}
 use Rattle.cedar_policy_parser.specs.Outcome.{Outcome}
-use Rattle.cedar_policy_parser.specs.Refused.{TellsTree, RefusesText}
+use Rattle.cedar_policy_parser.specs.Refused.{RefusesText}
 use Rattle.cedar_policy_parser.specs.Seen.{Gives, Refuses}
 use Rattle.cedar_policy_parser.specs.Strict as m
 use Rattle.cedar_policy_parser.specs.Strict.{Means}

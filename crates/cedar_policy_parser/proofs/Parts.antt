@@ -1,5 +1,5 @@
 -- What is made of a first value and those behind operators.
-use Rattle.std.proofs.Common.{◌≡◌, ◌<◌, ◌≤◌, ℕ, Bool, true, false, List, [], ◌∷◌, map, length, Option, Ok, Err, refl, sym, ap, ◌∙◌, arith}
+use Rattle.std.proofs.Common.{◌≡◌, ◌<◌, ◌≤◌, ℕ, Bool, true, false, List, [], ◌∷◌, map, length, Option, Ok, Err, refl, ap, ◌∙◌, arith}
 use Rattle.cedar_expressions.specs.declared.operators.AddOp.{AddOp}
 use Rattle.cedar_expressions.specs.Keys.{repeats_key}
 use Rattle.cedar_expressions.specs.Value as v
@@ -9,7 +9,7 @@ use Rattle.cedar_syntax.specs.Forms.{parts_of}
 use Rattle.cedar_syntax.specs.Located.{Located, none}
 use Rattle.cedar_syntax.specs.Tree.{Operator, Level, disjunction, conjunction, relation, sum, product, add}
 use Rattle.cedar_policy_parser.specs.Conversion.{Part, bodies, sum_terms, level_outcome, joint_outcome, operator_limit, chain_outcome, keys, expression_at, record_outcome, set_value_outcome}
-use Rattle.cedar_policy_parser.specs.Held.{Held, expression, as_expression}
+use Rattle.cedar_policy_parser.specs.Held.{Held, as_expression}
 use Rattle.cedar_policy_parser.specs.Members.{call}
 use Rattle.cedar_policy_parser.specs.Outcome.{Outcome, fault_outcome, next, ambiguous_operators, expression_construction_error}
 

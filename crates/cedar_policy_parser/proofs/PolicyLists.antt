@@ -1,5 +1,5 @@
 -- Lists that the loops over annotations and faults make, one item more.
-use Rattle.std.proofs.Common.{◌≡◌, ◌+◌, ◌<◌, ◌∙◌, ℕ, Bool, true, false, cond, List, [], ◌∷◌, ◌++◌, filter, map, take, length, get_or, unwrap_or, string_bytes, Option, Some, None, Ok, refl, sym, ap, arith}
+use Rattle.std.proofs.Common.{◌≡◌, ◌+◌, ◌<◌, ◌∙◌, ℕ, Bool, true, false, cond, List, [], ◌∷◌, ◌++◌, filter, map, take, length, get_or, unwrap_or, string_bytes, Option, Ok, refl, sym, ap, arith}
 use Rattle.std.specs.List.{fold}
 use Rattle.std.specs.Option.{option_map, option_copied}
 use Rattle.std.specs.FinMap.{FinMap, empty, insert}

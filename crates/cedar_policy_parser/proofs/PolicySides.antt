@@ -1,6 +1,5 @@
 -- The slots of a template, and on which side it stands: a static policy has none.
 use Rattle.std.proofs.Common.{◌≡◌, ◌||◌, Bool, true, false, cond, List, [], ◌∷◌, ◌++◌, append-nil, Option, Some, None, Ok, Err, is_some, slice_get, refl, sym, ap, ◌∙◌}
-use Rattle.either.specs.declared.Either.{Either}
 use Rattle.either.specs.declared.Either.TheVariants.{Left, Right}
 use Rattle.cedar_expressions.specs.declared.literal.SlotId.{SlotId}
 use Rattle.cedar_expressions.specs.declared.literal.SlotId.TheVariants as ids
@@ -13,7 +12,7 @@ use Rattle.cedar_policy_store.specs.declared.static_policy.UnexpectedSlotError.T
 use Rattle.cedar_policy_store.specs.declared.template.Template.{Template}
 use Rattle.cedar_policy_store.specs.StaticPolicies.{IsFirstSlot}
 use Rattle.cedar_policy_store.specs.PlaceFree.{asks_for_slot, constraint_meaning, has_slot_in_scope}
-use Rattle.cedar_policy_store.specs.TemplateSlots.{at_most_one, constraint_slot, condition_slots, template_slots}
+use Rattle.cedar_policy_store.specs.TemplateSlots.{at_most_one, constraint_slot, template_slots}
 use Rattle.cedar_syntax.specs.declared.loc.Loc.{Loc}
 use Rattle.cedar_policy_parser.specs.Places.{place_within}
 use Rattle.cedar_policy_parser.specs.Outcome.{Outcome, NamedFault, fault_outcome, expected_static_policy}

@@ -13,7 +13,7 @@ use Rattle.cedar_syntax.specs.Pattern.{IsPattern, HasPatternFaults, pattern_faul
 use Rattle.cedar_syntax.specs.Piece.{Placed, IsLaidOut, IsUnescaped, HasEscapeFaults}
 use Rattle.cedar_syntax.proofs.Layouts.{laid_out, laid_once}
 use Rattle.cedar_policy_parser.specs.Held.{text_value}
-use Rattle.cedar_policy_parser.specs.Outcome.{Outcome, next}
+use Rattle.cedar_policy_parser.specs.Outcome.{next}
 use Rattle.cedar_policy_parser.specs.Strings.{layout, escape_faults, unescaped, string_faults, unless_faulty, text_outcome, pattern_outcome}
 
 layout_laid : (raw : List ℕ) → IsLaidOut raw (layout raw)

@@ -1,8 +1,6 @@
 -- What each primary refers to.
-use Rattle.std.proofs.Common.{◌≡◌, ◌<◌, ◌+◌, ℕ, List, [], ◌∷◌, ◌++◌, map, take, length, get_or, Option, Some, None, Ok, Err, refl, sym, ap, ◌∙◌, Bool, true, false}
-use Rattle.cedar_expressions.specs.declared.entity.EntityUID.{EntityUID}
+use Rattle.std.proofs.Common.{◌≡◌, ◌<◌, ◌+◌, ℕ, List, [], ◌∷◌, ◌++◌, map, take, length, get_or, Option, Some, None, Ok, refl, ap, ◌∙◌}
 use Rattle.cedar_expressions.specs.declared.literal.Var.{Var}
-use Rattle.cedar_syntax.specs.declared.loc.Loc.{Loc}
 use Rattle.cedar_syntax.specs.declared.node.Node.{Node}
 use Rattle.cedar_syntax.specs.declared.cst.Expr.{Expr}
 use Rattle.cedar_syntax.specs.declared.cst.Primary.{Primary}
@@ -12,13 +10,13 @@ use Rattle.cedar_syntax.specs.declared.cst.Name.{Name}
 use Rattle.cedar_syntax.specs.declared.cst.Slot.{Slot}
 use Rattle.cedar_syntax.specs.declared.cst.Ref.{Ref}
 use Rattle.cedar_syntax.specs.declared.cst.RecInit.{RecInit}
-use Rattle.cedar_syntax.specs.Forms.{located, parts_of, expr_form, primary_form, listed_expr}
+use Rattle.cedar_syntax.specs.Forms.{located, parts_of, primary_form, listed_expr}
 use Rattle.cedar_syntax.specs.Located.{Located, Form}
 use Rattle.cedar_syntax.specs.Tree.{Operator}
 use Rattle.cedar_syntax.proofs.FormLevels.{primary_literal, primary_ref, primary_name, primary_slot, primary_expr, primary_list, primary_inits}
 use Rattle.cedar_policy_parser.specs.Conversion.{with_first}
 use Rattle.cedar_policy_parser.specs.Entities.{entity_outcome}
-use Rattle.cedar_policy_parser.specs.Outcome.{Outcome, fault_outcome, both, next, empty_node, wrong_node, wrong_entity_argument}
+use Rattle.cedar_policy_parser.specs.Outcome.{fault_outcome, both, next, empty_node, wrong_node, wrong_entity_argument}
 use Rattle.cedar_policy_parser.specs.References.{RefKind, entities, entity_at, entity_form, single_outcome, literal_fault, lone_entity, referent_at, referred_form, several_outcome, own_slot_outcome}
 use Rattle.cedar_policy_parser.specs.Seen.{item_more}
 use Rattle.cedar_policy_parser.proofs.Gathered.{last, shifted}

@@ -1,7 +1,6 @@
 -- Sets of policies, one policy more.
-use Rattle.std.proofs.Common.{◌≡◌, ◌+◌, ◌<◌, ◌≤◌, ℕ, zero, suc, Bool, true, false, cond, List, [], ◌∷◌, ◌++◌, take, length, get_or, Option, Result, Ok, Err, refl, sym, ap, subst, ◌∙◌, arith}
-use Rattle.std.specs.FinMap.{empty, insert}
-use Rattle.std.specs.List.{fold}
+use Rattle.std.proofs.Common.{◌≡◌, ◌+◌, ◌<◌, ◌≤◌, ℕ, zero, suc, true, false, List, [], ◌∷◌, ◌++◌, take, length, get_or, Option, Result, Ok, Err, refl, sym, ap, subst, ◌∙◌, arith}
+use Rattle.std.specs.FinMap.{empty}
 use Rattle.either.specs.declared.Either.{Either}
 use Rattle.either.specs.declared.Either.TheVariants.{Left, Right}
 use Rattle.cedar_policy_store.specs.declared.template.Template.{Template}
@@ -17,7 +16,7 @@ use Rattle.cedar_policy_parser.specs.Extensions.{Extensions}
 use Rattle.cedar_policy_parser.specs.Outcome.{Outcome, both, next}
 use Rattle.cedar_policy_parser.specs.Policies as k
 use Rattle.cedar_policy_parser.specs.Policies.{IsAdded, TemplateParts, maps_with_policy, either_parts, set_view, meaning_of, scope_slots, parts_set_outcome, side_outcome, policy_side, template_parts, with_parts}
-use Rattle.cedar_policy_parser.specs.PolicyMeaning.{set_with_policy, no_policies, policy_id, with_policy}
+use Rattle.cedar_policy_parser.specs.PolicyMeaning.{set_with_policy, no_policies, policy_id}
 use Rattle.cedar_policy_parser.specs.Seen.{Gives, Refuses, item_more, empty_view, named_faults}
 use Rattle.cedar_policy_parser.proofs.Inverted.{ok_is}
 use Rattle.cedar_policy_parser.proofs.Loops.{take_next}

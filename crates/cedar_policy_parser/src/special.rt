@@ -1,7 +1,6 @@
 //! Expressions, and what is one but may be something else where it stands bare; refusals at a place.
 ghost use Rattle.std.specs.Prelude.{◌≡◌, IfOk, Ok};
 ghost use Rattle.std.specs.Option.{option_map};
-ghost use Rattle.cedar_expressions.specs.Value.{Value};
 ghost use Rattle.cedar_policy_parser.specs.Held.{Held, expression, as_expression};
 ghost use Rattle.cedar_policy_parser.specs.Outcome.{Outcome, arbitrary_variable, empty_node, next};
 ghost use Rattle.cedar_policy_parser.specs.Places.{bytes_of};

@@ -1,5 +1,5 @@
 //! Policies: templates and static policies.
-ghost use Rattle.std.specs.Prelude.{◌≡◌, ◌∷◌, ◌++◌, [], List, Option, IfOk, OnOk, string_bytes, unwrap_or};
+ghost use Rattle.std.specs.Prelude.{◌≡◌, ◌∷◌, ◌++◌, [], Option, IfOk, OnOk, string_bytes, unwrap_or};
 ghost use Rattle.std.specs.Option.{option_map};
 ghost use Rattle.cedar_expressions.specs.Placed.{marked_place};
 ghost use Rattle.cedar_syntax.specs.declared.cst.Policy.TheVariants as variants;

@@ -1,10 +1,10 @@
 -- Templates and sets are equal by `==` exactly if what they mean is, places aside.
-use Rattle.std.proofs.Common.{◌≡◌, ℕ, Bool, true, false, ◌&&◌, Decides, T, List, [], ◌∷◌, map, Option, Some, None, option_map, nat_eq, refl, sym, ap, ◌∙◌, true≢false, subst, cond}
+use Rattle.std.proofs.Common.{◌≡◌, ℕ, Bool, true, false, ◌&&◌, Decides, T, List, [], ◌∷◌, map, Option, Some, None, option_map, refl, sym, ap, ◌∙◌, true≢false, subst, cond}
 use Rattle.std.specs.Option.{option_eq}
 use Rattle.std.specs.Ordering.{is_lt, eq_by_cmp}
 use Rattle.std.specs.Cmp.{first_so}
 use Rattle.std.specs.Cmp.Lexicographic.{pointwise, pointwise_decides}
-use Rattle.std.specs.FinMap.{FinMap, from_sorted, entries, entries_sorted, entries-from_sorted, is_sorted, same_entries_map, find, get, get-entries}
+use Rattle.std.specs.FinMap.{FinMap, entries, entries_sorted, entries-from_sorted, is_sorted, same_entries_map, find, get, get-entries}
 use Rattle.std.specs.FinMap.Entries.{below_all}
 use Rattle.cedar_expressions.proofs.Deciding.{both, through, bare}
 use Rattle.cedar_expressions.proofs.EqualParts.{text, text_eq, entity_type}
@@ -12,7 +12,6 @@ use Rattle.cedar_expressions.proofs.EqualExprs.{equal_exprs}
 use Rattle.cedar_expressions.specs.declared.entity.EntityType.{EntityType}
 use Rattle.cedar_expressions.specs.declared.entity.EntityUID.{EntityUID}
 use Rattle.cedar_expressions.specs.declared.expr.Expr.{Expr}
-use Rattle.cedar_expressions.specs.contracts.entity.EidPartialEq.TheImpl as eid_eq
 use Rattle.cedar_expressions.specs.contracts.entity.EntityTypePartialEq.TheImpl as type_eq
 use Rattle.cedar_expressions.specs.contracts.entity.EntityUIDPartialEq.TheImpl as entity_eq
 use Rattle.cedar_expressions.specs.contracts.expr.ExprPartialEq.TheImpl as expr_eq
@@ -22,13 +21,9 @@ use Rattle.cedar_policy_store.specs.contracts.effect.Effect as effect
 use denote.Enum.Bare.{sameb}
 use Rattle.cedar_policy_store.specs.contracts.constraints.EntityReferencePartialEq.TheImpl as reference_eq
 use Rattle.cedar_policy_store.specs.contracts.constraints.PrincipalOrResourceConstraintPartialEq.TheImpl as constraint_eq
-use Rattle.cedar_policy_store.specs.contracts.constraints.PrincipalConstraintPartialEq.TheImpl as principal_eq
-use Rattle.cedar_policy_store.specs.contracts.constraints.ResourceConstraintPartialEq.TheImpl as resource_eq
 use Rattle.cedar_policy_store.specs.contracts.constraints.ActionConstraintPartialEq.TheImpl as action_eq
 use Rattle.cedar_policy_store.specs.contracts.template.TemplatePartialEq.TheImpl as template_eq
 use Rattle.cedar_policy_store.specs.declared.annotation.Annotation.{Annotation}
-use Rattle.cedar_policy_store.specs.declared.effect.Effect.{Effect}
-use Rattle.cedar_policy_store.specs.declared.effect.Effect.TheVariants.{Permit, Forbid}
 use Rattle.cedar_policy_store.specs.declared.constraints.EntityReference.{EntityReference}
 use Rattle.cedar_policy_store.specs.declared.constraints.EntityReference.TheVariants.{EUID, Slot}
 use Rattle.cedar_policy_store.specs.declared.constraints.PrincipalOrResourceConstraint.{PrincipalOrResourceConstraint}
@@ -38,7 +33,7 @@ use Rattle.cedar_policy_store.specs.declared.constraints.ActionConstraint.TheVar
 use Rattle.cedar_policy_store.specs.declared.template.Template.{Template}
 use Rattle.cedar_policy_store.specs.PolicyMaps.{PolicyMaps, same_maps_by}
 use Rattle.cedar_policy_store.specs.TextMap.{text_order, same_entry_by, same_map_by}
-use Rattle.cedar_policy_store.specs.PlaceFree.{Reference, entity, own_slot, Constraint, any, equal_to, inside, typed, typed_inside, at_value, with_values, reference_meaning, constraint_meaning, annotation_value, template_meaning, set_meaning}
+use Rattle.cedar_policy_store.specs.PlaceFree.{entity, equal_to, inside, typed, typed_inside, at_value, with_values, reference_meaning, constraint_meaning, annotation_value, template_meaning, set_meaning}
 
 -- maps with other values at their keys
 module _ {X Y : Type 0} (f : X → Y) where

@@ -1,12 +1,12 @@
 -- Trees of entries by text, and the finite maps that they are seen as.
-use Rattle.std.proofs.Common.{◌≡◌, ◌&&◌, ℕ, Bool, true, false, T, List, [], ◌∷◌, map, length, Option, Some, None, is_some, refl, sym, ap, ◌∙◌, subst, cond}
+use Rattle.std.proofs.Common.{◌≡◌, ◌&&◌, ℕ, Bool, true, false, T, List, [], ◌∷◌, length, Some, is_some, refl, sym, ap, ◌∙◌, subst, cond}
 use Rattle.std.specs.declared.cmp.Ordering.{Ordering}
 use Rattle.std.specs.declared.cmp.Ordering.TheVariants.{Less, Equal, Greater}
-use Rattle.std.specs.Ordering.{is_lt, nat_cmp, match_ordering}
-use Rattle.std.specs.List.{AllByRecursion, AllZip}
+use Rattle.std.specs.Ordering.{is_lt, match_ordering}
+use Rattle.std.specs.List.{AllByRecursion}
 use Rattle.std.specs.List.Sorted.{IsStrictlySortedBy}
-use Rattle.std.specs.Cmp.Lexicographic.{pointwise, slice_cmp, nat_list_cmp_total}
-use Rattle.std.specs.FinMap.{FinMap, from_sorted, find, put, is_sorted, entries, get, contains_key, insert, empty, len, values, same_entries_map, entries-from_sorted, entries-insert, get-entries, empty_of_len, len-entries, nat_cmp-IsAntisymmetric, slice_cmp-IsAntisymmetric}
+use Rattle.std.specs.Cmp.Lexicographic.{pointwise, nat_list_cmp_total}
+use Rattle.std.specs.FinMap.{from_sorted, find, put, is_sorted, entries, get, contains_key, insert, empty, len, values, same_entries_map, entries-from_sorted, entries-insert, get-entries, empty_of_len, len-entries, nat_cmp-IsAntisymmetric, slice_cmp-IsAntisymmetric}
 use Rattle.std.specs.FinMap.Entries.{below_all, by_order}
 use Rattle.std.specs.Map.{keys_of, values_of, lookup}
 use Rattle.std.specs.BTreeMap.{BTreeMap, IsOrdered, IsClone, is_at, insert_entry}

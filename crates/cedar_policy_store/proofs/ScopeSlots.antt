@@ -1,5 +1,5 @@
 -- A template whose condition has no slot is static exactly if its scope has none.
-use Rattle.std.proofs.Common.{◌≡◌, Bool, true, false, ◌||◌, List, [], ◌∷◌, ◌++◌, Option, Some, None, refl, sym, ap, ◌∙◌, true≢false}
+use Rattle.std.proofs.Common.{◌≡◌, Bool, true, false, ◌||◌, List, [], ◌∷◌, ◌++◌, refl, true≢false}
 use Rattle.cedar_expressions.specs.declared.literal.SlotId.{SlotId}
 use Rattle.cedar_expressions.specs.declared.literal.SlotId.TheVariants.{Principal, Resource}
 use Rattle.cedar_expressions.specs.declared.place.Slot.{Slot}

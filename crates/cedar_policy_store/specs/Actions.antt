@@ -1,5 +1,5 @@
 -- Entities of action types.
-use Rattle.std.specs.Prelude.{ℕ, List, [], ◌∷◌, Bool, not, filter, codes}
+use Rattle.std.specs.Prelude.{List, [], ◌∷◌, Bool, not, filter, codes}
 use Rattle.std.specs.Str.{bytes_eq}
 use Rattle.cedar_expressions.specs.declared.entity.EntityUID.{EntityUID}
 use Rattle.cedar_policy_store.specs.declared.constraints.ActionConstraint.{ActionConstraint}

@@ -1,6 +1,6 @@
 -- How policies and their parts are written. All of it but an effect's word, an id's own text and
 -- what a refusal says is this repository's own (docs/DECISIONS.md).
-use Rattle.std.specs.Prelude.{ℕ, List, [], ◌++◌, codes, length, Option, None, Some}
+use Rattle.std.specs.Prelude.{ℕ, List, ◌++◌, codes, length, Option, None, Some}
 use Rattle.std.specs.Fmt.{decimal}
 use Rattle.std.specs.FinMap.{FinMap, len}
 use Rattle.cedar_expressions.specs.Path.{name_text}

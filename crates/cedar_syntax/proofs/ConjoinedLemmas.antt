@@ -1,5 +1,5 @@
 -- A list as people write it, with its last text apart.
-use Rattle.std.proofs.Common.{◌≡◌, ℕ, refl, ap, sym, ◌∙◌, List, [], ◌∷◌, ◌++◌, append_assoc, codes, map, length, ◌==◌, true, false, true≢false}
+use Rattle.std.proofs.Common.{◌≡◌, ℕ, refl, ap, sym, ◌∙◌, List, [], ◌∷◌, ◌++◌, append_assoc, codes, map, length, ◌==◌, false, true≢false}
 use Rattle.std.specs.List.{flat_map}
 use Rattle.std.proofs.lemmas.List.{map-append}
 use Rattle.cedar_syntax.specs.Conjoined.{list_text, behind_commas}

@@ -4,7 +4,6 @@ use Rattle.std.proofs.lemmas.List.{append-nil}
 use Rattle.cedar_syntax.specs.ParseErrors.{faults_of}
 use Rattle.cedar_syntax.specs.declared.err.faults.Failure.{Failure}
 use Rattle.cedar_syntax.specs.declared.err.faults.Failure.TheVariants.{Memory, Errors}
-use Rattle.cedar_syntax.specs.declared.err.faults.ParseErrors.{ParseErrors}
 use Rattle.cedar_syntax.specs.Joined.{failures, IsJoined}
 
 -- a part that fails, and then parts whose joined failure this is

@@ -1,5 +1,5 @@
 -- Kept names, of texts as the code holds them.
-use Rattle.std.proofs.Common.{◌≡◌, ◌≢◌, ℕ, refl, ap, ap₂, sym, ◌∙◌, Bool, true, false, cond, not, ◌||◌, subst, true≢false, List, [], ◌∷◌, ◌++◌, map, filter, bytes_eq, Bor, Option, Some, None, codes, string_bytes, String, length, MatchOption}
+use Rattle.std.proofs.Common.{◌≡◌, ◌≢◌, ℕ, refl, ap, ap₂, sym, ◌∙◌, Bool, true, false, cond, not, ◌||◌, subst, true≢false, List, [], ◌∷◌, ◌++◌, map, filter, bytes_eq, Bor, Some, codes, string_bytes, String, length}
 use Rattle.std.proofs.lemmas.List.{nil_from_length}
 use Rattle.std.specs.List.{list_any, AllByRecursion}
 use Rattle.std.specs.BTreeSet.{BTreeSet, IsFromIterResult}
@@ -8,7 +8,7 @@ use Rattle.std.specs.Ordering.{nat_cmp, is_eq}
 use Rattle.std.specs.Cmp.Lexicographic.{nat_list_eq_equiv, slice_cmp}
 use Rattle.std.specs.List.Sorted.{IsStrictlySortedBy}
 use Rattle.std.proofs.lemmas.Map.Text.{is_eq-slice_cmp}
-use Rattle.cedar_syntax.specs.Kept.{TokenName, TokenRules, is_among, without, kept_token_names, AreInOrder, SaysExpected, expected_text, shown_name}
+use Rattle.cedar_syntax.specs.Kept.{TokenName, TokenRules, is_among, without, kept_token_names, AreInOrder, SaysExpected, shown_name}
 use Rattle.cedar_syntax.specs.Conjoined.{list_text}
 
 abbrev pub texts : List (Bor (List ℕ)) → List TokenName

@@ -1,11 +1,11 @@
 -- Prints in a row make one.
-use Rattle.std.proofs.Common.{◌≡◌, ℕ, Bool, true, false, ◌&&◌, List, [], ◌∷◌, ◌++◌, length, take, get_or, refl, ap, sym, ◌∙◌, subst, append_assoc, Result, Ok, Err, IfOk, ◌<◌, ◌≤◌, ◌+◌, drop, arith}
+use Rattle.std.proofs.Common.{◌≡◌, ℕ, Bool, true, false, ◌&&◌, List, [], ◌∷◌, ◌++◌, length, take, get_or, refl, ap, sym, ◌∙◌, subst, append_assoc, Result, Ok, Err, ◌<◌, ◌≤◌, ◌+◌, drop, arith}
 use Rattle.std.proofs.lemmas.List.{take_more, append-nil}
-use Rattle.std.specs.Fmt.{HasWritten, IsPlainFormatter}
+use Rattle.std.specs.Fmt.{IsPlainFormatter}
 use Rattle.std.proofs.Output.{has_written_append, has_written_of_eq, writes_in_calls_nil}
 use Rattle.std.specs.declared.fmt.Formatter.{Formatter}
 use Rattle.std.specs.declared.fmt.Error.{Error}
-use Rattle.cedar_syntax.specs.Printed.{Texts, spaced_tokens, tokens_text}
+use Rattle.cedar_syntax.specs.Printed.{Texts, spaced_tokens}
 use Rattle.cedar_syntax.specs.Printing.{is_none, text_from, HasPrinted, Prints, texts_behind_mark, in_row, between, texts_before_mark}
 
 pub spaced-append : (xs ys : Texts) → spaced_tokens (xs ++ ys) ≡ spaced_tokens xs ++ spaced_tokens ys

@@ -1,12 +1,12 @@
 -- A table of tokens as its rules, where its sets and its map were made of arrays.
-use Rattle.std.proofs.Common.{◌≡◌, ℕ, refl, ap, ap₂, sym, ◌∙◌, Bool, true, false, cond, not, ◌||◌, ◌&&◌, true≢false, List, [], ◌∷◌, map, bytes_eq, Bor, Option, Some, None, Result, IfOk}
+use Rattle.std.proofs.Common.{◌≡◌, ℕ, refl, ap, sym, ◌∙◌, Bool, true, false, cond, not, ◌||◌, ◌&&◌, true≢false, List, [], ◌∷◌, map, bytes_eq, Bor, Some, Result, IfOk}
 use Rattle.std.proofs.lemmas.Result.{IfOk-weaker}
 use Rattle.std.proofs.Math.Path.{fun_ext}
 use Rattle.std.specs.Option.{option_map}
 use Rattle.std.specs.List.{list_any, list_all, AllByRecursion, IsDistinct}
 use Rattle.std.specs.Cmp.{on_equiv, IsEquivalence}
 use Rattle.std.specs.Cmp.Lexicographic.{nat_list_eq_equiv}
-use Rattle.std.specs.Map.{lookup, keys_of, update_all}
+use Rattle.std.specs.Map.{lookup, keys_of}
 use Rattle.std.specs.HashMap as hash
 use Rattle.std.specs.HashMap.{HashMap}
 use Rattle.std.specs.HashSet as bag

@@ -1,7 +1,6 @@
 -- The printed tokens of each tree, by the tokens of its parts.
 use Rattle.std.proofs.Common.{◌≡◌, ℕ, refl, ap, sym, ◌∙◌, map, Option, Some, None, option_map, List, [], ◌∷◌, ◌++◌, append_assoc, codes}
 use Rattle.std.proofs.lemmas.List.{append-nil}
-use Rattle.cedar_expressions.specs.declared.operators.AddOp.{AddOp}
 use Rattle.cedar_syntax.specs.declared.node.Node.{Node}
 use Rattle.cedar_syntax.specs.declared.cst.Ident.{Ident}
 use Rattle.cedar_syntax.specs.declared.cst.Str.{Str}
@@ -11,14 +10,13 @@ use Rattle.cedar_syntax.specs.declared.cst.Name.{Name}
 use Rattle.cedar_syntax.specs.declared.cst.Slot.{Slot}
 use Rattle.cedar_syntax.specs.declared.cst.RefInit.{RefInit}
 use Rattle.cedar_syntax.specs.declared.cst.RelOp.{RelOp}
-use Rattle.cedar_syntax.specs.declared.cst.MultOp.{MultOp}
 use Rattle.cedar_syntax.specs.declared.cst.Policy.{Policy}
 use Rattle.cedar_syntax.specs.declared.cst.PolicyImpl.{PolicyImpl}
 use Rattle.cedar_syntax.specs.declared.cst.Policies.{Policies}
 use Rattle.cedar_syntax.specs.declared.cst.Annotation.{Annotation}
 use Rattle.cedar_syntax.specs.declared.cst.VariableDef.{VariableDef}
 use Rattle.cedar_syntax.specs.declared.cst.Cond.{Cond}
-use Rattle.cedar_syntax.specs.declared.cst.Expr.{Expr, out-Expr}
+use Rattle.cedar_syntax.specs.declared.cst.Expr.{Expr}
 use Rattle.cedar_syntax.specs.declared.cst.ExprData.{ExprData, out-ExprData}
 use Rattle.cedar_syntax.specs.declared.cst.MemAccess.{MemAccess, out-MemAccess}
 use Rattle.cedar_syntax.specs.declared.cst.Primary.{Primary, out-Primary}
@@ -31,7 +29,6 @@ use Rattle.cedar_syntax.specs.declared.cst.Mult.{Mult, out-Mult}
 use Rattle.cedar_syntax.specs.declared.cst.Or.{Or, out-Or}
 use Rattle.cedar_syntax.specs.declared.cst.RecInit.{RecInit}
 use Rattle.cedar_syntax.specs.declared.cst.Unary.{Unary, out-Unary}
-use Rattle.cedar_syntax.specs.declared.cst.Expr as E
 use Rattle.cedar_syntax.specs.declared.cst.Expr.TheVariants as EV
 use Rattle.cedar_syntax.specs.declared.cst.ExprData as D
 use Rattle.cedar_syntax.specs.declared.cst.MemAccess as M
@@ -39,7 +36,7 @@ use Rattle.cedar_syntax.specs.declared.cst.Primary as P
 use Rattle.cedar_syntax.specs.declared.cst.Relation as R
 use Rattle.cedar_syntax.specs.declared.cst.Ref.TheVariants as F
 use Rattle.cedar_syntax.specs.declared.cst.Policy.TheVariants as Q
-use Rattle.cedar_syntax.specs.Tree.{Tree, Rest, Operator, more, none, or_or, and_and, compare, add, multiply, beside}
+use Rattle.cedar_syntax.specs.Tree.{Tree, Operator, or_or, and_and, compare, add, multiply, beside}
 use Rattle.cedar_syntax.specs.Unplaced.{expr_tree, data_tree, access_tree, primary_tree, relation_tree, add_tree, and_tree, impl_tree, member_tree, mult_tree, or_tree, init_tree, unary_tree, ident_tree, str_tree, literal_tree, name_tree, slot_tree, ref_tree, ref_init_tree, annotation_tree, variable_def_tree, cond_tree, policy_impl_tree, policy_tree, policies_tree, or_missing, unplaced_node, tree_at, content, rest_behind, rest_of, optional, comparison_rest, condition_tree}
 use Rattle.cedar_syntax.specs.Printed.{Texts, printed, in_order, item_texts, each_behind, option_texts, operator_texts, rel_op_texts, add_op_texts, mult_op_texts, neg_op_texts, ident_texts, str_texts, path_texts, value_texts}
 use Rattle.cedar_syntax.specs.Printing.{texts_behind_mark, in_row, between, option_behind_mark, texts_before_mark, node_texts, pair_texts}

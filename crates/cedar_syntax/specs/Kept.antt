@@ -1,6 +1,6 @@
 -- Which of the expected kinds of token a fault shows, and how: by a table of names, as the Rust
 -- crate has it.
-use Rattle.std.specs.Prelude.{◌≡◌, ◌≢◌, ℕ, Bool, true, not, ◌&&◌, ◌==◌, List, [], ◌∷◌, ◌++◌, map, filter, codes, chars, encode_utf8_all, bytes_eq, Option, Some, None, unwrap_or, if◌then◌else◌, MatchOption}
+use Rattle.std.specs.Prelude.{◌≡◌, ◌≢◌, ℕ, Bool, true, not, ◌&&◌, ◌==◌, List, [], ◌∷◌, ◌++◌, map, filter, codes, chars, encode_utf8_all, bytes_eq, Option, unwrap_or, if◌then◌else◌, MatchOption}
 use Rattle.std.specs.Ordering.{nat_cmp}
 use Rattle.std.specs.Option.{option_map}
 use Rattle.std.specs.List.{list_any, list_all}

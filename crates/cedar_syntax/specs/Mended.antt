@@ -8,7 +8,7 @@ use Rattle.cedar_lexer.specs.declared.token.TokenKind.TheVariants as kind
 use Rattle.cedar_syntax.specs.declared.cst.Ident.{Ident}
 use Rattle.cedar_syntax.specs.Tokens.{Spot, one, fits}
 use Rattle.cedar_syntax.specs.LooseWords.{ReadsAny}
-use Rattle.cedar_syntax.specs.LoosePolicies.{ReadsBody, ReadsMany, ReadsPolicy}
+use Rattle.cedar_syntax.specs.LoosePolicies.{ReadsBody, ReadsPolicy}
 use Rattle.cedar_syntax.specs.Sentences.{kinds, HasTree, Starts, Allowed, IsFirstRefused, first}
 
 -- `R` is the rule of the whole text, and `W` says which tokens may stand before the policy that is

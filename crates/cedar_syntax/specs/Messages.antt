@@ -136,7 +136,8 @@ kind_message (kind.InvalidIsType lhs rhs) =
 kind_message (kind.WrongNode expected got suggestion) =
     codes "expected " ++ (expected.now ++ (codes ", found " ++ got))
 kind_message kind.AmbiguousOperators =
-    codes "multiple relational operators (>, ==, in, etc.) must be used with parentheses to make ordering explicit"
+    codes "multiple relational operators (>, ==, in, etc.) must be used with parentheses "
+    ++ codes "to make ordering explicit"
 kind_message kind.UnsupportedDivision = codes "division is not supported"
 kind_message kind.UnsupportedModulo = codes "remainder/modulo is not supported"
 kind_message (kind.ExpressionConstructionError fault) = duplicate_text fault

@@ -4,7 +4,7 @@ use Rattle.std.specs.Fmt.{HasWritten, IsPlainFormatter}
 use Rattle.std.specs.declared.fmt.Formatter.{Formatter}
 use Rattle.std.specs.declared.fmt.Error.{Error}
 use Rattle.cedar_syntax.specs.declared.node.Node.{Node}
-use Rattle.cedar_syntax.specs.Printed.{Texts, spaced_tokens, tokens_text, option_texts}
+use Rattle.cedar_syntax.specs.Printed.{Texts, spaced_tokens, tokens_text}
 
 abbrev pub is_none : Texts → Bool
 is_none [] = true

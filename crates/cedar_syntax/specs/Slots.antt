@@ -1,5 +1,5 @@
 -- Slots: which slot of a template a form is, and the variable of the scope that has it.
-use Rattle.std.specs.Prelude.{◌≡◌, ℕ, Bool, true, false, List, [], ◌∷◌, Option, Some, None, Result, Ok, MatchResult}
+use Rattle.std.specs.Prelude.{◌≡◌, ℕ, Bool, true, false, List, [], ◌∷◌, None, Result, Ok, MatchResult}
 use Rattle.cedar_expressions.specs.declared.literal.SlotId.{SlotId}
 use Rattle.cedar_expressions.specs.declared.literal.SlotId.TheVariants as ids
 use Rattle.cedar_expressions.specs.declared.literal.Var.{Var}

@@ -1,7 +1,6 @@
 //! A value with its place.
 ghost use Rattle.std.specs.Prelude.{◌≡◌, Some, None, Ok, Err, IfOk, IfErr, IsErr, IsNone, IsOkAnd, MatchOption};
 ghost use Rattle.std.specs.Option.{option_copied};
-ghost use Rattle.std.specs.Ordering.{on};
 ghost use Rattle.std.specs.Cmp.{on_per, on_equiv, on_po, on_total};
 
 use crate::copy::beside;

@@ -1,5 +1,5 @@
 //! Writes tokens with one space between two.
-ghost use Rattle.std.specs.Prelude.{◌≡◌, [], ◌∷◌, ◌++◌, codes, decimal, IfOk, List, ℕ, replicate};
+ghost use Rattle.std.specs.Prelude.{◌≡◌, [], ◌∷◌, ◌++◌, decimal, replicate};
 ghost use Rattle.cedar_syntax.specs.Printed.{Texts, option_texts, quoted_text};
 ghost use Rattle.cedar_syntax.specs.Printing.{Prints, texts_behind_mark, in_row, between, option_behind_mark, texts_before_mark, node_texts, pair_texts};
 

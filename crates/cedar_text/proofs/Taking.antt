@@ -1,5 +1,4 @@
 -- A token that the shape of a state allows is taken, or is a number that doesn't fit; and where the end is allowed, there is a tree.
-use Rattle.std.specs.Prelude.{◌⊎◌}
 use Rattle.std.proofs.Common.{◌≡◌, ℕ, List, Option, Some, None, Bool, true, false, refl, ap, sym, ◌∙◌, IsTrue}
 use Rattle.cedar_lexer.specs.Token.{Lexeme}
 use Rattle.cedar_text.specs.machines.Advance.{Advance}

@@ -1,6 +1,6 @@
 -- What the calls of words ask of the machine of words: their steps as named trees, how they go on, and
 -- what a whole text's machine answers beside the code.
-use Rattle.std.proofs.Common.{◌≡◌, ℕ, List, [], Option, Some, None, Bool, true, false, Result, Ok, Err, IfOk, refl, ap, sym, ◌∙◌, subst}
+use Rattle.std.proofs.Common.{◌≡◌, ℕ, List, [], Option, Some, None, Bool, true, false, Result, Ok, Err, IfOk, refl, ap, sym, ◌∙◌}
 use Rattle.cedar_lexer.specs.Token.{Lexeme}
 use Rattle.cedar_lexer.specs.declared.token.TokenKind.{TokenKind}
 use Rattle.cedar_text.specs.declared.text_to_cst.expression.state.State.{State}

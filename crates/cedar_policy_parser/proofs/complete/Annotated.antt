@@ -1,5 +1,5 @@
 -- Annotations whose keys are all different have trees that give them.
-use Rattle.std.proofs.Common.{◌≡◌, ℕ, Bool, true, false, ◌||◌, ◌&&◌, List, [], ◌∷◌, ◌++◌, map, Option, Some, None, Ok, unwrap_or, refl, sym, ap, ◌∙◌, codes}
+use Rattle.std.proofs.Common.{◌≡◌, ℕ, Bool, true, false, ◌||◌, ◌&&◌, List, [], ◌∷◌, ◌++◌, Option, Some, None, Ok, unwrap_or, refl, sym, ap, ◌∙◌}
 use Rattle.std.specs.List.{list_any}
 use Rattle.std.specs.Str.{bytes_eq}
 use Rattle.cedar_lexer.specs.Token.{Lexeme}
@@ -16,7 +16,6 @@ use Rattle.cedar_syntax.specs.LoosePolicies as l
 use Rattle.cedar_syntax.specs.LoosePolicies.{ReadsAnnotation, ReadsMany}
 use Rattle.cedar_syntax.specs.LooseWords as lw
 use Rattle.cedar_syntax.specs.LooseWords.{ReadsAny}
-use Rattle.cedar_syntax.specs.Piece.{IsUnescaped}
 use Rattle.cedar_syntax.specs.Place.{placed}
 use Rattle.cedar_syntax.specs.Tokens.{Spot, one, between_quotes}
 use Rattle.cedar_syntax.specs.Trees.{Cell, annotation_of}
@@ -30,7 +29,7 @@ use Rattle.cedar_policy_parser.specs.StrictWords as w
 use Rattle.cedar_policy_parser.proofs.Loops.{map_snoc}
 use Rattle.cedar_policy_parser.proofs.MappedValues.{fold_snoc}
 use Rattle.cedar_policy_parser.proofs.Quoted.{text_expected}
-use Rattle.cedar_policy_parser.proofs.sound.Annotated.{annotation_keys, text_in, texts}
+use Rattle.cedar_policy_parser.proofs.sound.Annotated.{text_in, texts}
 
 -- ---- keys
 

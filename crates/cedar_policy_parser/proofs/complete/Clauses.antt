@@ -1,5 +1,5 @@
 -- Conditions have trees that give them.
-use Rattle.std.proofs.Common.{◌≡◌, ℕ, List, [], ◌∷◌, ◌++◌, map, Option, Some, Ok, true, false, refl, sym, ap, ◌∙◌}
+use Rattle.std.proofs.Common.{◌≡◌, ℕ, List, [], ◌∷◌, ◌++◌, map, Option, Some, Ok, true, false, refl, ap, ◌∙◌}
 use Rattle.cedar_lexer.specs.Token.{Lexeme}
 use Rattle.cedar_lexer.specs.declared.token.TokenKind.TheVariants as kind
 use Rattle.cedar_expressions.specs.declared.place.Slot.{Slot}
@@ -14,9 +14,9 @@ use Rattle.cedar_syntax.specs.LoosePolicies as l
 use Rattle.cedar_syntax.specs.LoosePolicies.{ReadsCond, ReadsMany}
 use Rattle.cedar_syntax.specs.LooseWords as lw
 use Rattle.cedar_syntax.specs.Place.{placed}
-use Rattle.cedar_syntax.specs.Tokens.{Spot, one}
+use Rattle.cedar_syntax.specs.Tokens.{one}
 use Rattle.cedar_syntax.specs.Trees.{Cell, cond_of}
-use Rattle.cedar_policy_parser.specs.Conditions.{condition_of, condition_outcome, conditions_outcome, condition_slot_fault, slots_outcome, without_slots}
+use Rattle.cedar_policy_parser.specs.Conditions.{condition_of, condition_outcome, conditions_outcome, condition_slot_fault, without_slots}
 use Rattle.cedar_policy_parser.specs.Conversion.{value_outcome}
 use Rattle.cedar_policy_parser.specs.Extensions.{Extensions}
 use Rattle.cedar_policy_parser.specs.Names.{all_of}

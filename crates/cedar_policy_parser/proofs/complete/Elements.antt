@@ -1,5 +1,5 @@
 -- An element of a scope has a tree that asks for it.
-use Rattle.std.proofs.Common.{◌≡◌, ℕ, Bool, true, false, cond, ◌&&◌, List, [], ◌∷◌, ◌++◌, append-nil, append_assoc, Option, Some, None, Ok, Err, refl, sym, ap, ◌∙◌}
+use Rattle.std.proofs.Common.{◌≡◌, ℕ, Bool, true, false, ◌&&◌, List, [], ◌∷◌, ◌++◌, append-nil, append_assoc, Option, Some, None, Ok, refl, sym, ap, ◌∙◌}
 use Rattle.std.specs.List.{list_all}
 use Rattle.cedar_lexer.specs.Token.{Lexeme}
 use Rattle.cedar_lexer.specs.declared.token.TokenKind.{TokenKind}
@@ -39,7 +39,7 @@ use Rattle.cedar_policy_parser.specs.References.{entity_or_slot, one_or_multiple
 use Rattle.cedar_policy_parser.specs.Scope as s
 use Rattle.cedar_policy_parser.specs.StrictScope as z
 use Rattle.cedar_policy_parser.specs.StrictScope.{Asks, AsksAction}
-use Rattle.cedar_policy_parser.specs.StrictWords.{IsName, path_value}
+use Rattle.cedar_policy_parser.specs.StrictWords.{path_value}
 use Rattle.cedar_policy_parser.proofs.complete.Lone.{type_read}
 use Rattle.cedar_policy_parser.proofs.complete.Referred.{actions_read, reference_read, single_read}
 use Rattle.cedar_policy_parser.proofs.sound.Elements.{within_is}

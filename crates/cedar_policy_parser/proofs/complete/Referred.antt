@@ -1,5 +1,5 @@
 -- Entities, slots and sets of entities have a tree that refers to them.
-use Rattle.std.proofs.Common.{◌≡◌, ℕ, List, [], ◌∷◌, ◌++◌, map, Option, Some, None, Ok, Err, false, refl, sym, ap, ◌∙◌}
+use Rattle.std.proofs.Common.{◌≡◌, ℕ, List, [], ◌∷◌, ◌++◌, map, Option, Ok, Err, false, refl, sym, ap, ◌∙◌}
 use Rattle.cedar_lexer.specs.Token.{Lexeme}
 use Rattle.cedar_lexer.specs.declared.token.TokenKind.{TokenKind}
 use Rattle.cedar_lexer.specs.declared.token.TokenKind.TheVariants as kind
@@ -20,18 +20,15 @@ use Rattle.cedar_syntax.specs.declared.cst.Ref.{Ref}
 use Rattle.cedar_syntax.specs.declared.cst.Slot.{Slot}
 use Rattle.cedar_syntax.specs.declared.cst.Slot.TheVariants as slot
 use Rattle.cedar_syntax.specs.Forms.{located, parts_of, expr_form, primary_form, listed_expr}
-use Rattle.cedar_syntax.specs.Located.{Located, Form, at}
+use Rattle.cedar_syntax.specs.Located.{Form, at}
 use Rattle.cedar_syntax.proofs.FormLevels.{primary_ref, primary_slot, primary_list}
 use Rattle.cedar_syntax.specs.LooseExpressions as l
 use Rattle.cedar_syntax.specs.LooseExpressions.{ReadsExprs, ReadsExprItems, ReadsPrimary}
-use Rattle.cedar_syntax.specs.LooseWords as lw
-use Rattle.cedar_syntax.specs.LooseWords.{ReadsRef}
 use Rattle.cedar_syntax.specs.Place.{placed}
 use Rattle.cedar_syntax.specs.Tokens.{Spot, one}
 use Rattle.cedar_syntax.specs.Trees.{Cell}
 use Rattle.cedar_policy_parser.specs.declared.to_ref_or_refs.OneOrMultipleRefs.{OneOrMultipleRefs}
 use Rattle.cedar_policy_parser.specs.declared.to_ref_or_refs.OneOrMultipleRefs.TheVariants as refs
-use Rattle.cedar_policy_parser.specs.declared.to_ref_or_refs.SingleEntity.{SingleEntity}
 use Rattle.cedar_policy_parser.specs.Conversion.{Part, operands, outcome, set_value_outcome}
 use Rattle.cedar_policy_parser.specs.Entities.{entity_outcome}
 use Rattle.cedar_policy_parser.specs.Extensions.{Extensions}
@@ -44,13 +41,12 @@ use Rattle.cedar_policy_parser.specs.Seen.{item_more}
 use Rattle.cedar_policy_parser.specs.StrictScope as m
 use Rattle.cedar_policy_parser.specs.StrictScope.{AreActions, AreEntities, IsEntityAlone, IsEntityList, IsReference}
 use Rattle.cedar_policy_parser.specs.StrictWords.{IsEntity}
-use Rattle.cedar_policy_parser.proofs.Inverted.{ok_is}
 use Rattle.cedar_policy_parser.proofs.Loops.{map_snoc}
 use Rattle.cedar_policy_parser.proofs.Made.{gives_referred, gives_set, gives_slot}
 use Rattle.cedar_policy_parser.proofs.MadeLones as made
 use Rattle.cedar_policy_parser.proofs.ReferredNodes.{entities_snoc}
 use Rattle.cedar_policy_parser.proofs.complete.Lones.{LoneAs, alone_as, in_parentheses}
-use Rattle.cedar_policy_parser.proofs.complete.Words.{EntityRead, entity_read}
+use Rattle.cedar_policy_parser.proofs.complete.Words.{entity_read}
 use Rattle.cedar_policy_parser.proofs.sound.Referred.{SlotOf, principal, resource, uids_of}
 
 -- ---- primaries that are themselves

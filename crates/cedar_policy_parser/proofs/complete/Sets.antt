@@ -1,6 +1,5 @@
 -- Tokens that mean policies have a tree that is converted to them.
-use Rattle.std.proofs.Common.{◌≡◌, ◌+◌, ℕ, List, [], ◌∷◌, ◌++◌, map, length, Option, Some, Ok, refl, sym, ap, ◌∙◌}
-use Rattle.std.specs.FinMap.{FinMap}
+use Rattle.std.proofs.Common.{◌≡◌, ◌+◌, ℕ, List, [], ◌∷◌, ◌++◌, map, length, Option, Ok, refl, sym, ap, ◌∙◌}
 use Rattle.std.specs.List.{fold}
 use Rattle.cedar_lexer.specs.Token.{Lexeme}
 use Rattle.cedar_lexer.specs.declared.token.TokenKind.{TokenKind}
@@ -8,7 +7,6 @@ use Rattle.cedar_lexer.specs.declared.token.TokenKind.TheVariants as kind
 use Rattle.cedar_policy_store.specs.declared.constraints.ActionConstraint.{ActionConstraint}
 use Rattle.cedar_policy_store.specs.declared.effect.Effect.{Effect}
 use Rattle.cedar_policy_store.specs.PlaceFree as free
-use Rattle.cedar_policy_store.specs.TextMap.{text_order}
 use Rattle.cedar_syntax.specs.declared.loc.Loc.{Loc}
 use Rattle.cedar_syntax.specs.declared.cst.Ident.{Ident}
 use Rattle.cedar_syntax.specs.declared.cst.Ident.TheVariants as ident
@@ -37,7 +35,7 @@ use Rattle.cedar_policy_parser.proofs.Loops.{map_snoc}
 use Rattle.cedar_policy_parser.proofs.complete.Annotated.{annotations_read}
 use Rattle.cedar_policy_parser.proofs.complete.Clauses.{conditions_read}
 use Rattle.cedar_policy_parser.proofs.complete.Scopes.{scope_read}
-use Rattle.cedar_policy_parser.proofs.sound.Annotated.{kept_by_key, texts}
+use Rattle.cedar_policy_parser.proofs.sound.Annotated.{kept_by_key}
 use Rattle.cedar_policy_parser.proofs.sound.Sets.{folded_meanings, meant_length, given_many, numbered_snoc, value_of, zero-plus}
 
 -- ---- a policy

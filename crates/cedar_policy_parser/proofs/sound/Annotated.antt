@@ -1,5 +1,5 @@
 -- Annotations are held of their tokens, and their keys are all different.
-use Rattle.std.proofs.Common.{◌≡◌, ℕ, Bool, true, false, List, [], ◌∷◌, ◌++◌, map, Option, Some, None, Ok, Err, unwrap_or, refl, sym, ap, ◌∙◌, codes}
+use Rattle.std.proofs.Common.{◌≡◌, ℕ, false, List, [], ◌∷◌, ◌++◌, map, Option, Some, None, Ok, unwrap_or, refl, sym, ap, ◌∙◌, codes}
 use Rattle.std.specs.FinMap.{FinMap, empty, insert}
 use Rattle.std.specs.List.{fold}
 use Rattle.cedar_lexer.specs.Token.{Lexeme}
@@ -21,8 +21,8 @@ use Rattle.cedar_syntax.specs.LooseWords as lw
 use Rattle.cedar_syntax.specs.LooseWords.{ReadsAny}
 use Rattle.cedar_syntax.specs.Place.{placed}
 use Rattle.cedar_syntax.specs.Tokens.{Spot, one, any_of, between_quotes}
-use Rattle.cedar_syntax.specs.Trees.{Cell, annotation_of}
-use Rattle.cedar_policy_parser.specs.AnnotationKeys.{AnnotationContent, Gathering, annotation_at, annotation_map, annotation_outcome, gathering_with, gathering_with_node, gathering, has_key, with_annotation, kept_annotation, converted_key, empty_gathering, key_value_outcome, value_text_outcome, with_new_key}
+use Rattle.cedar_syntax.specs.Trees.{Cell}
+use Rattle.cedar_policy_parser.specs.AnnotationKeys.{AnnotationContent, annotation_at, annotation_map, annotation_outcome, gathering_with_node, gathering, has_key, with_annotation, kept_annotation, converted_key, empty_gathering, key_value_outcome, value_text_outcome, with_new_key}
 use Rattle.cedar_policy_parser.specs.Names.{any_ident, any_ident_of, content_outcome}
 use Rattle.cedar_policy_parser.specs.Outcome.{Outcome, both, next}
 use Rattle.cedar_policy_parser.specs.Seen.{item_more}

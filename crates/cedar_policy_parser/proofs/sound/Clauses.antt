@@ -1,14 +1,12 @@
 -- Conditions are held of their tokens.
-use Rattle.std.proofs.Common.{◌≡◌, ℕ, Bool, true, false, List, [], ◌∷◌, ◌++◌, map, Option, Some, None, Ok, Err, refl, sym, ap, ◌∙◌}
+use Rattle.std.proofs.Common.{◌≡◌, ℕ, Bool, true, false, List, [], ◌∷◌, ◌++◌, map, Option, Some, None, Ok, refl, sym, ap, ◌∙◌}
 use Rattle.cedar_lexer.specs.Token.{Lexeme}
 use Rattle.cedar_lexer.specs.declared.token.TokenKind.{TokenKind}
 use Rattle.cedar_lexer.specs.declared.token.TokenKind.TheVariants as kind
 use Rattle.cedar_expressions.specs.declared.place.Slot.{Slot}
-use Rattle.cedar_expressions.specs.Value as v
 use Rattle.cedar_expressions.specs.Value.{Value}
 use Rattle.cedar_syntax.specs.declared.loc.Loc.{Loc}
 use Rattle.cedar_syntax.specs.declared.cst.Cond.{Cond}
-use Rattle.cedar_syntax.specs.declared.cst.Expr.{Expr}
 use Rattle.cedar_syntax.specs.declared.cst.Ident.{Ident}
 use Rattle.cedar_syntax.specs.declared.cst.TheConstants.{SIGN_LIMIT}
 use Rattle.cedar_syntax.specs.LoosePolicies as l
@@ -20,8 +18,8 @@ use Rattle.cedar_syntax.specs.Tokens.{Spot, one, any_of}
 use Rattle.cedar_syntax.specs.Trees.{Cell}
 use Rattle.cedar_policy_parser.specs.Conditions.{clause, condition_of, condition_outcome, conditions_outcome, is_when, is_when_of, condition_value, condition_slot_fault, slots_outcome, without_slots}
 use Rattle.cedar_policy_parser.specs.Extensions.{Extensions}
-use Rattle.cedar_policy_parser.specs.Names.{all_of, content_outcome}
-use Rattle.cedar_policy_parser.specs.Outcome.{NamedFault, next}
+use Rattle.cedar_policy_parser.specs.Names.{content_outcome}
+use Rattle.cedar_policy_parser.specs.Outcome.{next}
 use Rattle.cedar_policy_parser.specs.Scope.{faults_outcome}
 use Rattle.cedar_policy_parser.specs.Strict.{Means, expression}
 use Rattle.cedar_policy_parser.specs.StrictPolicy as m

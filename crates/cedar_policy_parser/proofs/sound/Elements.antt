@@ -1,5 +1,5 @@
 -- An element of a scope is held of its tokens.
-use Rattle.std.proofs.Common.{◌≡◌, ℕ, Bool, true, false, cond, not, ◌&&◌, List, [], ◌∷◌, ◌++◌, append-nil, append_assoc, filter, Option, Some, None, Ok, Err, refl, sym, ap, ◌∙◌}
+use Rattle.std.proofs.Common.{◌≡◌, ℕ, Bool, true, false, cond, not, ◌&&◌, List, [], ◌∷◌, ◌++◌, append-nil, append_assoc, Option, Ok, refl, sym, ap, ◌∙◌}
 use Rattle.std.specs.List.{list_all}
 use Rattle.cedar_lexer.specs.Token.{Lexeme}
 use Rattle.cedar_lexer.specs.declared.token.TokenKind.{TokenKind}
@@ -16,7 +16,6 @@ use Rattle.cedar_policy_store.specs.declared.constraints.PrincipalOrResourceCons
 use Rattle.cedar_policy_store.specs.Actions.{is_action, but_actions, named_entities}
 use Rattle.cedar_policy_store.specs.PlaceFree.{constraint_meaning, reference_meaning as free_reference}
 use Rattle.cedar_syntax.specs.declared.loc.Loc.{Loc}
-use Rattle.cedar_syntax.specs.declared.node.Node.{Node}
 use Rattle.cedar_syntax.specs.declared.cst.Add.{Add}
 use Rattle.cedar_syntax.specs.declared.cst.Expr.{Expr}
 use Rattle.cedar_syntax.specs.declared.cst.Ident.{Ident}
@@ -38,7 +37,7 @@ use Rattle.cedar_policy_parser.specs.declared.to_ref_or_refs.OneOrMultipleRefs.{
 use Rattle.cedar_policy_parser.specs.declared.to_ref_or_refs.OneOrMultipleRefs.TheVariants as refs
 use Rattle.cedar_policy_parser.specs.Conversion.{outcome}
 use Rattle.cedar_policy_parser.specs.Extensions.{Extensions}
-use Rattle.cedar_policy_parser.specs.Held.{Held, as_entity_type}
+use Rattle.cedar_policy_parser.specs.Held.{as_entity_type}
 use Rattle.cedar_policy_parser.specs.Names.{content_outcome}
 use Rattle.cedar_policy_parser.specs.Outcome.{next, is_in_action_scope}
 use Rattle.cedar_policy_parser.specs.References.{entity_or_slot, one_or_multiple, referent_outcome, single_entity}

@@ -16,7 +16,6 @@ use Rattle.cedar_syntax.specs.declared.cst.MultOp.{MultOp}
 use Rattle.cedar_syntax.specs.declared.cst.NegOp.TheVariants as sign
 use Rattle.cedar_syntax.specs.declared.cst.Unary.{Unary}
 use Rattle.cedar_syntax.specs.declared.cst.Member.{Member}
-use Rattle.cedar_syntax.specs.declared.cst.MemAccess.{MemAccess}
 use Rattle.cedar_syntax.specs.declared.cst.Primary.{Primary}
 use Rattle.cedar_syntax.specs.declared.cst.Primary as P
 use Rattle.cedar_syntax.specs.declared.cst.Literal.{Literal}

@@ -1,5 +1,5 @@
 -- What stands right of a scope's operator is held of its tokens: an entity, a slot, or entities of a set.
-use Rattle.std.proofs.Common.{◌≡◌, ℕ, Bool, true, false, cond, List, [], ◌∷◌, ◌++◌, map, Option, Some, None, Ok, Err, refl, sym, ap, ◌∙◌}
+use Rattle.std.proofs.Common.{◌≡◌, ℕ, List, [], ◌∷◌, ◌++◌, map, Option, Ok, Err, sym, ap, ◌∙◌}
 use Rattle.cedar_lexer.specs.Token.{Lexeme}
 use Rattle.cedar_lexer.specs.declared.token.TokenKind.{TokenKind}
 use Rattle.cedar_lexer.specs.declared.token.TokenKind.TheVariants as kind
@@ -15,9 +15,7 @@ use Rattle.cedar_syntax.specs.declared.cst.Expr.{Expr}
 use Rattle.cedar_syntax.specs.declared.cst.Primary.{Primary}
 use Rattle.cedar_syntax.specs.declared.cst.Slot.{Slot}
 use Rattle.cedar_syntax.specs.Forms.{located, parts_of, expr_form, primary_form, listed_expr}
-use Rattle.cedar_syntax.specs.Located as f
-use Rattle.cedar_syntax.specs.Located.{Located, Form, at}
-use Rattle.cedar_syntax.specs.Slots.{matches}
+use Rattle.cedar_syntax.specs.Located.{Form, at}
 use Rattle.cedar_syntax.proofs.FormLevels.{primary_literal, primary_ref, primary_name, primary_slot, primary_expr, primary_list, primary_inits}
 use Rattle.cedar_syntax.specs.Place.{placed}
 use Rattle.cedar_syntax.specs.LooseExpressions as l
@@ -29,8 +27,8 @@ use Rattle.cedar_policy_parser.specs.declared.to_ref_or_refs.OneOrMultipleRefs.T
 use Rattle.cedar_policy_parser.specs.declared.to_ref_or_refs.SingleEntity.{SingleEntity}
 use Rattle.cedar_policy_parser.specs.Conversion.{with_first}
 use Rattle.cedar_policy_parser.specs.Entities.{entity_outcome}
-use Rattle.cedar_policy_parser.specs.Outcome.{NamedFault, Outcome, fault_outcome, both, next, wrong_node, wrong_entity_argument}
-use Rattle.cedar_policy_parser.specs.References.{RefKind, entities, entity_at, entity_form, single_outcome, entity_or_slot, form_fault, literal_fault, lone, lone_entity, of_variable, one_or_multiple, referent_outcome, referent_at, referred_form, several_outcome, single_entity, own_slot_outcome}
+use Rattle.cedar_policy_parser.specs.Outcome.{NamedFault, Outcome, both}
+use Rattle.cedar_policy_parser.specs.References.{RefKind, entities, entity_at, entity_form, entity_or_slot, lone, lone_entity, of_variable, one_or_multiple, referent_outcome, referent_at, referred_form, single_entity}
 use Rattle.cedar_policy_parser.specs.Places.{place_mark}
 use Rattle.cedar_policy_parser.specs.Seen.{item_more}
 use Rattle.cedar_policy_parser.specs.StrictScope as m
@@ -39,7 +37,7 @@ use Rattle.cedar_policy_parser.specs.StrictWords.{IsEntity}
 use Rattle.cedar_policy_parser.proofs.Inverted.{ok_is, next_ok, both_ok}
 use Rattle.cedar_policy_parser.proofs.Loops.{map_snoc}
 use Rattle.cedar_policy_parser.proofs.ReferredNodes.{entities_snoc}
-use Rattle.cedar_policy_parser.proofs.sound.Lones.{InParens, bare, wrapped, Lone, lone_expr}
+use Rattle.cedar_policy_parser.proofs.sound.Lones.{InParens, bare, wrapped, lone_expr}
 use Rattle.cedar_policy_parser.proofs.sound.Words.{entity_meant}
 
 never : {Y : Type 0} (fs : List NamedFault) (y : Y) (o : Outcome Y) → o ≡ Err fs → o ≡ Ok y → ⊥

@@ -1,5 +1,5 @@
 -- What a text's policies are converted to is what their tokens mean.
-use Rattle.std.proofs.Common.{◌≡◌, ◌+◌, ℕ, zero, suc, List, [], ◌∷◌, ◌++◌, append_assoc, map, length, Option, Some, None, Ok, Err, refl, sym, ap, ◌∙◌, arith, false}
+use Rattle.std.proofs.Common.{◌≡◌, ◌+◌, ℕ, zero, suc, List, [], ◌∷◌, ◌++◌, map, length, Option, Ok, refl, sym, ap, ◌∙◌, arith, false}
 use Rattle.std.specs.FinMap.{FinMap}
 use Rattle.std.specs.List.{fold}
 use Rattle.cedar_lexer.specs.Token.{Lexeme}

@@ -6,7 +6,7 @@ use Rattle.cedar_syntax.specs.declared.reading.mark.Mark.{Mark}
 use Rattle.cedar_syntax.specs.declared.reading.mark.Mark.TheVariants as mark
 use Rattle.cedar_syntax.specs.declared.reading.recovery.Way.{Way}
 use Rattle.cedar_syntax.specs.declared.reading.recovery.Way.TheVariants as way
-use Rattle.cedar_syntax.specs.machines.Recovery.{Recovery, Recovers, skip_step}
+use Rattle.cedar_syntax.specs.machines.Recovery.{Recovers, skip_step}
 use Rattle.cedar_syntax.specs.machines.Skipping.{skip, behind_skip}
 
 pub as_skipped : {S F : Type 0} (r : Recovers S F) (xs : List F) (w : Way) (s : S) (x : F) (t : Lexeme) (k : Mark) →

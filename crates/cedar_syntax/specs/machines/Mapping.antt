@@ -4,8 +4,6 @@ use Rattle.cedar_syntax.specs.declared.loc.Loc.{Loc}
 use Rattle.cedar_syntax.specs.declared.cst.Policy.{Policy}
 use Rattle.cedar_syntax.specs.declared.cst.Policies.{Policies}
 use Rattle.std.specs.Prelude.{ℕ}
-use Rattle.cedar_lexer.specs.Token.{Lexeme}
-use Rattle.cedar_syntax.specs.declared.reading.extent.Extent.{Extent}
 use Rattle.cedar_syntax.specs.Place.{loc_at}
 use Rattle.cedar_syntax.specs.Trees.{Cell, policies_of}
 use Rattle.cedar_syntax.specs.machines.Door.{Machine, Answer, next, ended, refused, too_large, option_image}

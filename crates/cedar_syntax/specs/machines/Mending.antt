@@ -1,6 +1,6 @@
 -- Runs of the parser that recovers, by what its states allow, and the faults that they tell of a
 -- text.
-use Rattle.std.specs.Prelude.{◌≡◌, ℕ, Bool, true, false, cond, List, [], ◌∷◌, ◌++◌, Option, Some, None, Result, Ok, Err}
+use Rattle.std.specs.Prelude.{◌≡◌, ℕ, Bool, false, cond, List, [], ◌∷◌, Option, Some, None, Result, Ok, Err}
 use Rattle.std.specs.Str.{IsUtf8}
 use Rattle.cedar_lexer.specs.Token.{Lexeme, lexeme_of}
 use Rattle.cedar_lexer.specs.LexerState.{LexerState, IsCutOrStop}
@@ -12,7 +12,6 @@ use Rattle.cedar_syntax.specs.ParseErrors.{faults_of}
 use Rattle.cedar_syntax.specs.declared.err.faults.Failure.{Failure}
 use Rattle.cedar_syntax.specs.declared.err.faults.Failure.TheVariants.{Memory, Errors}
 use Rattle.cedar_syntax.specs.declared.err.faults.ParseError.{ParseError}
-use Rattle.cedar_syntax.specs.declared.err.faults.ParseError.TheVariants.{ToCST}
 use Rattle.cedar_syntax.specs.declared.err.to_cst.RawFault.{RawFault}
 use Rattle.cedar_syntax.specs.declared.err.to_cst.RawFault.TheVariants as fault
 use Rattle.cedar_syntax.specs.declared.reading.expected.Narrowing.TheVariants as narrowing

@@ -1,5 +1,5 @@
 -- The parser that recovers in place, over any machine.
-use Rattle.std.specs.Prelude.{ℕ, Bool, true, false, List, [], ◌∷◌, ◌++◌, Option, Some, None}
+use Rattle.std.specs.Prelude.{ℕ, List, [], ◌∷◌, ◌++◌, Option, Some, None}
 use Rattle.cedar_lexer.specs.Token.{Lexeme}
 use Rattle.cedar_syntax.specs.declared.reading.mark.Mark.{Mark}
 use Rattle.cedar_syntax.specs.declared.reading.mark.Mark.TheVariants as mark

@@ -1,5 +1,5 @@
 //! Expected tokens as a fault tells them.
-ghost use Rattle.std.specs.Prelude.{◌≡◌, List, ℕ, not, filter, IfOk, codes, bytes_eq, true, map, string_bytes, ◌∷◌, []};
+ghost use Rattle.std.specs.Prelude.{◌≡◌, not, filter, IfOk, codes, bytes_eq, true, map, string_bytes, ◌∷◌, []};
 ghost use Rattle.std.specs.Option.{option_map};
 ghost use Rattle.std.proofs.Common.{Some};
 ghost use Rattle.std.specs.HashSet as bag;

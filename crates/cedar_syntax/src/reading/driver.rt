@@ -4,7 +4,7 @@ ghost use Rattle.cedar_lexer.specs.Token.{lexeme_of};
 ghost use Rattle.cedar_syntax.specs.WrittenTokens.{IsWritten};
 ghost use Rattle.cedar_syntax.specs.FirstFault.{unexpected_fault, early_at, large_at};
 ghost use Rattle.cedar_syntax.specs.machines.Door.{next};
-ghost use Rattle.cedar_syntax.specs.machines.Judged.{wanted_kinds, Progress, IsRead, FailsWith, GivesToken, StopsBadly, StopsAtToken, StopsAtEnd, IsStop};
+ghost use Rattle.cedar_syntax.specs.machines.Judged.{wanted_kinds, IsRead, FailsWith, GivesToken, StopsBadly, StopsAtToken, StopsAtEnd, IsStop};
 
 use crate::err::{Failure, ParseErrors, RawFault, ToCSTError};
 use crate::node::Node;

@@ -1,10 +1,10 @@
 -- What a step answers is right beside the tree that could end there, and of numbers.
 use Rattle.std.specs.Prelude.{cond}
 use Rattle.std.proofs.Common.{◌≡◌, ℕ, List, [], ◌∷◌, Option, Some, None, Bool, true, false, refl, sym, ◌∙◌, ap}
-use Rattle.cedar_syntax.specs.Place.{extent_of, extent}
+use Rattle.cedar_syntax.specs.Place.{extent_of}
 use Rattle.cedar_syntax.specs.Tokens.{fits, number_of, any_of}
 use Rattle.cedar_syntax.specs.Trees.{Cell}
-use Rattle.cedar_text.specs.machines.Closing.{ranged_tree, node_of, fresh, no_signs, operand_of, if_operand}
+use Rattle.cedar_text.specs.machines.Closing.{ranged_tree, fresh, no_signs, operand_of, if_operand}
 use Rattle.cedar_syntax.specs.machines.Door.{Machine, Answer, next, ended, refused, too_large, AnswersRightly}
 use Rattle.cedar_syntax.specs.machines.Classes.{number_class, class_of, operator_of}
 use Rattle.cedar_text.specs.machines.ExpressionStates.{reach_of}
@@ -16,23 +16,18 @@ use Rattle.cedar_lexer.specs.Token.{Lexeme}
 use Rattle.cedar_lexer.specs.declared.token.TokenKind.{TokenKind}
 use Rattle.cedar_lexer.specs.declared.token.TokenKind.TheVariants as kind
 use Rattle.cedar_syntax.specs.declared.cst.Expr.{Expr}
-use Rattle.cedar_syntax.specs.declared.cst.Or.{Or}
-use Rattle.cedar_syntax.specs.declared.cst.And.{And}
 use Rattle.cedar_syntax.specs.declared.cst.RelOp.{RelOp}
 use Rattle.cedar_syntax.specs.declared.cst.RelOp.TheVariants as rel
 use Rattle.cedar_syntax.specs.declared.cst.Add.{Add}
 use Rattle.cedar_syntax.specs.declared.cst.NegOp.{NegOp}
-use Rattle.cedar_syntax.specs.declared.cst.Primary.{Primary}
 use Rattle.cedar_syntax.specs.declared.cst.Primary.TheVariants as primary
 use Rattle.cedar_syntax.specs.declared.cst.Literal.TheVariants as literal
 use Rattle.cedar_syntax.specs.declared.cst.Name.{Name}
-use Rattle.cedar_syntax.specs.declared.cst.Ref.{Ref}
 use Rattle.cedar_syntax.specs.declared.reading.class.Sign.{Sign}
 use Rattle.cedar_syntax.specs.declared.reading.class.Sign.TheVariants as sign
 use Rattle.cedar_syntax.specs.declared.reading.class.Beginning.TheVariants as beginning
 use Rattle.cedar_syntax.specs.declared.reading.class.Closing.{Closing}
 use Rattle.cedar_syntax.specs.declared.reading.class.Closing.TheVariants as closing
-use Rattle.cedar_syntax.specs.declared.reading.class.Access.{Access}
 use Rattle.cedar_syntax.specs.declared.reading.class.Side.{Side}
 use Rattle.cedar_syntax.specs.declared.reading.class.Operator.{Operator}
 use Rattle.cedar_syntax.specs.declared.reading.class.Operator.TheVariants as operator
@@ -45,13 +40,6 @@ use Rattle.cedar_text.specs.declared.text_to_cst.expression.state.Left.TheVarian
 use Rattle.cedar_text.specs.declared.text_to_cst.expression.state.Levels.{Levels}
 use Rattle.cedar_text.specs.declared.text_to_cst.expression.state.Signs.{Signs}
 use Rattle.cedar_text.specs.declared.text_to_cst.expression.state.Operand.{Operand}
-use Rattle.cedar_text.specs.declared.text_to_cst.expression.state.Paren.{Paren}
-use Rattle.cedar_text.specs.declared.text_to_cst.expression.state.Set.{Set}
-use Rattle.cedar_text.specs.declared.text_to_cst.expression.state.Call.{Call}
-use Rattle.cedar_text.specs.declared.text_to_cst.expression.state.Index.{Index}
-use Rattle.cedar_text.specs.declared.text_to_cst.expression.state.Value.{Value}
-use Rattle.cedar_text.specs.declared.text_to_cst.expression.state.Guard.{Guard}
-use Rattle.cedar_text.specs.declared.text_to_cst.expression.state.Yes.{Yes}
 use Rattle.cedar_text.specs.declared.text_to_cst.expression.state.Frame.{Frame}
 use Rattle.cedar_text.specs.declared.text_to_cst.expression.state.Frame.TheVariants as frame
 use Rattle.cedar_text.specs.declared.text_to_cst.expression.state.Place.{Place}

@@ -1,13 +1,12 @@
 -- Extents, runs and signs, one step more.
 use Rattle.std.specs.Prelude.{cond, nat_le, nat_lt}
-use Rattle.std.proofs.Common.{◌≡◌, ℕ, ◌+◌, ◌≤◌, ◌<◌, List, [], ◌∷◌, ◌++◌, Option, Some, None, Bool, true, false, refl, sym, ◌∙◌, ap, arith}
+use Rattle.std.proofs.Common.{◌≡◌, ℕ, ◌+◌, ◌≤◌, ◌<◌, List, ◌++◌, Some, None, Bool, true, false, refl, sym, ap, arith}
 use Rattle.std.proofs.lemmas.Bool.{leb-true, leb-false, lt-leb, lt-ltb, le-ltb}
 use Rattle.cedar_lexer.specs.Token.{Lexeme}
 use Rattle.cedar_lexer.specs.declared.token.TokenKind.{TokenKind}
 use Rattle.cedar_syntax.specs.declared.cst.NegOp.TheVariants as neg
 use Rattle.cedar_syntax.specs.declared.reading.class.Sign.TheVariants as sign
-use Rattle.cedar_syntax.specs.declared.reading.extent.Extent.{Extent}
-use Rattle.cedar_syntax.specs.Place.{joint_extent, extent_of, extent}
+use Rattle.cedar_syntax.specs.Place.{joint_extent, extent}
 use Rattle.cedar_syntax.specs.Trees.{bangs_of, dashes_of}
 use Rattle.cedar_syntax.specs.Tokens.{Spot, one}
 use Rattle.cedar_syntax.specs.machines.Classes.{with_sign}

@@ -10,12 +10,12 @@ use Rattle.cedar_syntax.specs.declared.reading.mark.Mark.{Mark}
 use Rattle.cedar_syntax.specs.declared.reading.mark.Mark.TheVariants as mark
 use Rattle.cedar_text.specs.declared.text_to_cst.annotation.AnnotationState.{AnnotationState}
 use Rattle.cedar_text.specs.declared.text_to_cst.annotation.AnnotationState.TheVariants as annotation
-use Rattle.cedar_syntax.specs.Tokens.{Spot, one, any_of, fits}
+use Rattle.cedar_syntax.specs.Tokens.{Spot, one, any_of}
 use Rattle.cedar_syntax.specs.Place.{placed}
 use Rattle.cedar_syntax.specs.Trees.{Cell, annotation_of}
 use Rattle.cedar_syntax.specs.LooseWords.{ReadsAny, any}
 use Rattle.cedar_syntax.specs.LoosePolicies.{ReadsAnnotation, key_alone, with_value}
-use Rattle.cedar_syntax.specs.machines.Door.{Machine, Answer, next, ended, refused, too_large, answer_state, steps, Comes, RunsTo, Completed, AnswersRightly, Door, is_taken}
+use Rattle.cedar_syntax.specs.machines.Door.{Answer, ended, refused, answer_state, steps, RunsTo, Completed, AnswersRightly, Door, is_taken}
 use Rattle.cedar_syntax.specs.machines.Marks.{mark_of}
 use Rattle.cedar_text.specs.machines.Words.{string_node}
 use Rattle.cedar_text.specs.machines.Annotation.{at_start, at_key, behind_annotation_key, at_annotation_value, behind_value, annotation_step, annotation_end, annotations}

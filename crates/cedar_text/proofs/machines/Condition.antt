@@ -1,5 +1,5 @@
 -- The door of the machine of conditions, from the door of the machine of expressions that it holds. Nothing here knows which machine that is.
-use Rattle.std.proofs.Common.{◌≡◌, ℕ, List, [], ◌∷◌, ◌++◌, Option, Some, None, true, refl, sym, ◌∙◌, ap, subst, append_assoc, IfSome}
+use Rattle.std.proofs.Common.{◌≡◌, ℕ, List, [], ◌∷◌, ◌++◌, Option, Some, None, refl, ◌∙◌, ap, subst, append_assoc, IfSome}
 use Rattle.std.proofs.lemmas.List.{append-nil}
 use Rattle.cedar_lexer.specs.Token.{Lexeme}
 use Rattle.cedar_lexer.specs.declared.token.TokenKind.{TokenKind}
@@ -25,7 +25,7 @@ use Rattle.cedar_text.specs.machines.Words.{token_node}
 use Rattle.cedar_text.specs.machines.Condition.{at_word, behind_word, behind_body, at_body, in_body, condition_step, condition_end, conditions}
 use Rattle.cedar_syntax.proofs.machines.Laws.{some_is, then_steps, some_token}
 use Rattle.cedar_syntax.proofs.machines.Holding.{Holds, held, entered, one_more, kept}
-use Rattle.cedar_text.proofs.machines.Ending.{NotEmpty, EndsAt, Refuses, IsKind, spot_of, token_at}
+use Rattle.cedar_text.proofs.machines.Ending.{EndsAt, Refuses, IsKind, spot_of, token_at}
 use Rattle.cedar_syntax.proofs.machines.Marked.{IsMarked, open_brace, close_brace, marked, marked_fits, word_fits}
 
 -- complete

@@ -5,7 +5,6 @@ use Rattle.cedar_lexer.specs.declared.token.TokenKind.{TokenKind}
 use Rattle.cedar_syntax.specs.declared.cst.Ident.{Ident}
 use Rattle.cedar_syntax.specs.declared.reading.extent.Extent.{Extent}
 use Rattle.cedar_syntax.specs.Tokens.{Spot, any_of}
-use Rattle.cedar_syntax.specs.Place.{node_at}
 use Rattle.cedar_syntax.specs.Trees.{Cell}
 use Rattle.cedar_syntax.specs.machines.Door.{Machine, Answer, next, ended, refused, too_large, is_taken}
 use Rattle.cedar_text.specs.machines.Placing.{spanned_answer, node_if, placing}

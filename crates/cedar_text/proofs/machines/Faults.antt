@@ -1,25 +1,24 @@
 -- Recovery in place tells the faults of the mended tokens, and no others; and each list of tokens has its faults.
 use Rattle.std.specs.Prelude.{◌↔◌}
 use Rattle.std.proofs.lemmas.List.{append-nil}
-use Rattle.std.proofs.Common.{◌≡◌, ℕ, List, [], ◌∷◌, ◌++◌, Option, Some, None, Bool, true, false, refl, sym, ◌∙◌, ap, subst, append_assoc}
+use Rattle.std.proofs.Common.{◌≡◌, ℕ, List, [], ◌∷◌, ◌++◌, Option, Some, None, Bool, true, false, refl, sym, ◌∙◌, ap, subst}
 use Rattle.cedar_lexer.specs.Token.{Lexeme}
 use Rattle.cedar_lexer.specs.declared.token.TokenKind.{TokenKind}
 use Rattle.cedar_lexer.specs.declared.token.TokenKind.TheVariants as kind
 use Rattle.cedar_syntax.specs.declared.reading.recovery.Way.{Way}
 use Rattle.cedar_syntax.specs.declared.reading.recovery.Way.TheVariants as way
 use Rattle.cedar_syntax.specs.Tokens.{fits}
-use Rattle.cedar_syntax.specs.Sentences.{kinds, HasTree, Starts, Allowed, IsFirstRefused, first}
+use Rattle.cedar_syntax.specs.Sentences.{kinds, Allowed, IsFirstRefused, first}
 use Rattle.cedar_syntax.specs.Mended.{is_stop, Skips, Mended, head, Faults, no_fault, too_large, last_fault, more_faults}
 use Rattle.cedar_syntax.specs.machines.Door.{Machine, Answer, next, ended, refused, answer_state, steps, Comes, AnswersRightly, Door, is_taken, is_some, allows, Shapes}
 use Rattle.cedar_syntax.specs.machines.Door as door
-use Rattle.cedar_syntax.specs.machines.Marks.{mark_of}
 use Rattle.cedar_text.specs.machines.WordShapes.{no_tree}
-use Rattle.cedar_syntax.specs.machines.Recovery.{Recovers, Recovery, reading, skipping, stopped, skip_step, judgment, recovery_of_all, RunFaults, run_faults, told_reading, told_all}
-use Rattle.cedar_syntax.proofs.machines.Laws.{some_is, none_some, false_true, starts_from, comes, exactly, stops_at, ends_alike}
+use Rattle.cedar_syntax.specs.machines.Recovery.{Recovers, reading, skipping, stopped, judgment, RunFaults, run_faults, told_reading, told_all}
+use Rattle.cedar_syntax.proofs.machines.Laws.{false_true, starts_from, comes, exactly, stops_at, ends_alike}
 use Rattle.cedar_syntax.proofs.machines.Holding.{snoc_assoc, one_more}
 use Rattle.cedar_text.proofs.machines.Alike.{states_alike}
 use Rattle.cedar_text.proofs.machines.SequenceShapes.{IsShapeBy}
-use Rattle.cedar_text.proofs.machines.Recovery.{end_from, Recoverable, reads, stays, skips_on, braced, skips, skips_out, no_stop, fault_told, Search, found_none, found, search, StopAt, stop_at, Resumed, resumed}
+use Rattle.cedar_text.proofs.machines.Recovery.{end_from, Recoverable, reads, stays, skips_on, braced, skips, skips_out, no_stop, fault_told, Search, found_none, found, search, stop_at, Resumed, resumed}
 
 -- what a definition says of a fault, recovery tells
 

@@ -1,8 +1,8 @@
 -- What a machine answers to a token that its shapes don't take: the end of its tree, if there is one.
-use Rattle.std.proofs.Common.{◌≡◌, Bool, true, false, Option, Some, None, refl, sym, ◌∙◌, ap, subst}
+use Rattle.std.proofs.Common.{◌≡◌, Bool, true, false, Option, Some, sym, ◌∙◌, ap}
 use Rattle.cedar_lexer.specs.Token.{Lexeme}
 use Rattle.cedar_lexer.specs.declared.token.TokenKind.{TokenKind}
-use Rattle.cedar_syntax.specs.machines.Door.{Machine, Answer, next, ended, refused, too_large, is_some, is_taken, option_image, AnswersRightly, Door, IsShape, Shapes}
+use Rattle.cedar_syntax.specs.machines.Door.{Machine, Answer, next, ended, refused, too_large, is_some, is_taken, option_image, AnswersRightly, IsShape, Shapes}
 use Rattle.cedar_text.specs.machines.Words.{end_or_refusal}
 use Rattle.cedar_text.proofs.machines.Ending.{EndsAt, IsKind}
 

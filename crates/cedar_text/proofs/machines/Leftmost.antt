@@ -1,9 +1,9 @@
 -- The leftmost fault: the mended tokens up to the one behind which reading goes on begin a sentence, so each fault that is told of them stands behind it, and the
 -- one that was mended before.
-use Rattle.std.specs.Prelude.{◌⊎◌, IsTrue}
+use Rattle.std.specs.Prelude.{◌⊎◌}
 use Rattle.std.specs.List.{AllByRecursion}
 use Rattle.std.specs.Str.{IsUtf8}
-use Rattle.std.proofs.Common.{◌≡◌, ℕ, ◌<◌, ◌≤◌, List, [], ◌∷◌, ◌++◌, Option, Some, None, false, refl, sym, ◌∙◌, ap, subst, inl, inr, arith, append_assoc}
+use Rattle.std.proofs.Common.{◌≡◌, ℕ, ◌<◌, ◌≤◌, List, [], ◌∷◌, ◌++◌, Option, Some, None, refl, sym, ◌∙◌, ap, subst, inl, inr, arith, append_assoc}
 use Rattle.cedar_lexer.specs.Cut.{Cuts, StandInOrder}
 use Rattle.cedar_lexer.specs.LexerState.{IsCutOrStop}
 use Rattle.cedar_lexer.specs.Token.{Lexeme}
@@ -11,21 +11,20 @@ use Rattle.cedar_lexer.specs.declared.token.TokenKind.{TokenKind}
 use Rattle.cedar_lexer.specs.declared.token.TokenKind.TheVariants as kind
 use Rattle.cedar_lexer.proofs.Cuts.{one_end, nothing_at_end}
 use Rattle.cedar_lexer.proofs.Runs.{not_both, stand_in_order}
-use Rattle.cedar_syntax.specs.ParseErrors.{faults_of}
 use Rattle.cedar_syntax.specs.declared.err.faults.Failure.{Failure}
 use Rattle.cedar_syntax.specs.declared.err.faults.Failure.TheVariants.{Memory, Errors}
 use Rattle.cedar_syntax.specs.declared.err.faults.ParseError.{ParseError}
 use Rattle.cedar_syntax.specs.declared.err.to_cst.RawFault.{RawFault}
 use Rattle.cedar_syntax.specs.declared.reading.expected.Narrowing.{Narrowing}
 use Rattle.cedar_syntax.specs.declared.reading.expected.Narrowing.TheVariants as narrowing
-use Rattle.cedar_syntax.specs.Expected.{is_closer, IsNarrowed, Picks, no_kind, picked, passed, IsExpected, all_allowed, closers}
+use Rattle.cedar_syntax.specs.Expected.{IsNarrowed, Picks, no_kind, picked, passed, IsExpected, all_allowed, closers}
 use Rattle.cedar_syntax.specs.FirstFault.{tokens_end, FirstFault, unexpected, early_end, large_number, bad_place, IsFaultIn}
 use Rattle.cedar_syntax.specs.Grammar.{Rule, IsNodeOf}
 use Rattle.cedar_syntax.specs.Leftmost.{IsFitting, NumbersFit, start_of, IsBefore, StartsBefore, StandsLeftmost, HasLeftmost}
 use Rattle.cedar_syntax.specs.Mended.{Mended, to_brace, to_end, Faults, no_fault, too_large, last_fault, more_faults, stub_token, head}
 use Rattle.cedar_syntax.specs.MendedFaults.{fault_of, Unallowed, a_token, the_end, IsLarge, faults_with_last, FaultsOf, IsListed, IsFaultList, IsMendedRefusal}
-use Rattle.cedar_syntax.specs.Sentences.{kinds, HasTree, Starts, Allowed, IsFirstRefused, first}
-use Rattle.cedar_syntax.specs.Tokens.{Spot, one, fits}
+use Rattle.cedar_syntax.specs.Sentences.{kinds, Starts, Allowed, IsFirstRefused, first}
+use Rattle.cedar_syntax.specs.Tokens.{one}
 use Rattle.cedar_syntax.proofs.machines.Laws.{some_is, false_true, kinds-append}
 use Rattle.cedar_text.proofs.machines.Recovery.{end_from, end_from-append}
 use Rattle.cedar_text.proofs.machines.Telling.{end_is}

@@ -1,18 +1,16 @@
 -- A machine that only puts the tree of another in another way is recovered as that one is.
 use Rattle.std.specs.Prelude.{◌↔◌}
-use Rattle.std.proofs.Common.{◌≡◌, ℕ, List, [], ◌∷◌, ◌++◌, Option, Some, None, refl, sym, ◌∙◌, ap, subst}
+use Rattle.std.proofs.Common.{◌≡◌, ℕ, List, ◌++◌, Option, sym, ◌∙◌, ap}
 use Rattle.cedar_lexer.specs.Token.{Lexeme}
 use Rattle.cedar_lexer.specs.declared.token.TokenKind.{TokenKind}
 use Rattle.cedar_lexer.specs.declared.token.TokenKind.TheVariants as kind
-use Rattle.cedar_syntax.specs.declared.reading.recovery.Way.TheVariants as way
-use Rattle.cedar_syntax.specs.Tokens.{Spot, one}
+use Rattle.cedar_syntax.specs.Tokens.{one}
 use Rattle.cedar_syntax.specs.Sentences.{HasTree}
 use Rattle.cedar_syntax.specs.Mended.{InBraces, in_braces}
 use Rattle.cedar_syntax.specs.machines.Door.{Machine, Comes, Door, Shapes}
 use Rattle.cedar_syntax.specs.machines.Recovery.{Recovers}
 use Rattle.cedar_text.specs.machines.WordShapes.{no_tree}
-use Rattle.cedar_text.proofs.machines.Alike.{IsByShape}
-use Rattle.cedar_text.proofs.machines.Recovery.{end_from, Inside, Split, Comparable, Recoverable}
+use Rattle.cedar_text.proofs.machines.Recovery.{end_from, Comparable, Recoverable}
 
 -- the machine above holds a state of the one below, and comes to it by the same tokens
 pub record Holds {S T H Z : Type 0} (m : Machine Lexeme S T) (u : Machine Lexeme H Z) (held : H → S) : Type 0 where

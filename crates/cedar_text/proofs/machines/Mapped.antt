@@ -1,17 +1,16 @@
 -- The door, the shapes and the runs of a machine with another tree.
-use Rattle.std.proofs.Common.{◌≡◌, ℕ, List, [], ◌∷◌, ◌++◌, Option, Some, None, refl, sym, ◌∙◌, ap, subst}
+use Rattle.std.proofs.Common.{◌≡◌, ℕ, List, [], ◌∷◌, Option, Some, None, refl, sym, ◌∙◌, ap, subst}
 use Rattle.cedar_lexer.specs.Token.{Lexeme}
 use Rattle.cedar_lexer.specs.declared.token.TokenKind.{TokenKind}
 use Rattle.cedar_syntax.specs.declared.cst.Policy.{Policy}
 use Rattle.cedar_syntax.specs.declared.cst.Policies.{Policies}
 use Rattle.cedar_syntax.specs.declared.reading.extent.Extent.{Extent}
-use Rattle.cedar_text.specs.declared.text_to_cst.sequence.Spanned.{Spanned}
 use Rattle.cedar_syntax.specs.Grammar.{IsNodeOf}
 use Rattle.cedar_syntax.specs.LoosePolicies.{ReadsMany, ReadsPolicy, ReadsPolicies}
 use Rattle.cedar_syntax.specs.LoosePolicies as loose
-use Rattle.cedar_syntax.specs.Place.{joint_extent, extent_of, extent, loc_at, node_at, placed, placed_or_start}
+use Rattle.cedar_syntax.specs.Place.{joint_extent, extent_of, extent, loc_at, placed, placed_or_start}
 use Rattle.cedar_syntax.specs.Trees.{Cell, policies_of}
-use Rattle.cedar_syntax.specs.machines.Door.{Machine, Answer, next, ended, refused, too_large, answer_state, step_from, steps, Comes, RunsTo, AnswersRightly, Door, IsShape, option_image, Shapes}
+use Rattle.cedar_syntax.specs.machines.Door.{Machine, Answer, next, ended, refused, too_large, answer_state, step_from, steps, AnswersRightly, Door, IsShape, option_image, Shapes}
 use Rattle.cedar_syntax.specs.machines.Mapping.{mapped_answer, mapped_machine, loc_or_start, policies_node}
 use Rattle.cedar_text.specs.machines.Placing.{AsNode, as_node, spanned_state, placing}
 use Rattle.cedar_text.specs.machines.WordShapes.{no_tree}

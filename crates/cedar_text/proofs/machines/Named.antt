@@ -1,5 +1,5 @@
 -- The machine of words, with trees as the machine of expressions takes them: its door, how it ends and goes on, and its shapes.
-use Rattle.std.proofs.Common.{◌≡◌, ℕ, List, [], ◌∷◌, ◌++◌, Option, Some, None, Bool, true, false, refl, sym, ◌∙◌, ap, subst}
+use Rattle.std.proofs.Common.{◌≡◌, ℕ, List, [], ◌∷◌, ◌++◌, Option, Some, true, false, refl, sym, ◌∙◌, ap, subst}
 use Rattle.cedar_lexer.specs.Token.{Lexeme}
 use Rattle.cedar_lexer.specs.declared.token.TokenKind.{TokenKind}
 use Rattle.cedar_lexer.specs.declared.token.TokenKind.TheVariants as kind
@@ -11,7 +11,6 @@ use Rattle.cedar_syntax.specs.declared.reading.extent.Extent.{Extent}
 use Rattle.cedar_text.specs.declared.text_to_cst.expression.state.Alone.{Alone}
 use Rattle.cedar_text.specs.declared.text_to_cst.expression.state.Alone.TheVariants as alone
 use Rattle.cedar_text.specs.declared.text_to_cst.expression.state.Ranged.{Ranged}
-use Rattle.cedar_text.specs.declared.text_to_cst.state.Word.{Word}
 use Rattle.cedar_text.specs.declared.text_to_cst.state.Path.{Path}
 use Rattle.cedar_text.specs.declared.text_to_cst.state.PathState.TheVariants as path
 use Rattle.cedar_text.specs.declared.text_to_cst.state.Words.{Words}
@@ -23,13 +22,13 @@ use Rattle.cedar_syntax.specs.Place.{extent, node_at, placed}
 use Rattle.cedar_syntax.specs.Tokens.{Spot, one}
 use Rattle.cedar_syntax.specs.Trees.{Cell, name_of}
 use Rattle.cedar_text.specs.machines.Closing.{ranged_tree}
-use Rattle.cedar_syntax.specs.machines.Door.{Answer, next, ended, Door}
+use Rattle.cedar_syntax.specs.machines.Door.{ended, Door}
 use Rattle.cedar_text.specs.machines.Expressions.{alone_of}
 use Rattle.cedar_text.specs.machines.Named.{NameOrEntity, ReadsNamed, words_tree, named_words, joins_words, IsLonger, IsWords}
 use Rattle.cedar_text.specs.machines.Named as named
 use Rattle.cedar_text.specs.machines.NamedShapes.{is_if_alone, named_shapes}
-use Rattle.cedar_text.specs.machines.Words.{word_of, word_node, with_word, path_extent, path_had, entity_with_extent, as_words, kept_answer, words_machine, words_step, words_end}
-use Rattle.cedar_text.specs.machines.WordsRead.{ReadsWholePath, ReadsWords, a_path, an_entity}
+use Rattle.cedar_text.specs.machines.Words.{word_of, word_node, with_word, path_extent, path_had, entity_with_extent, as_words, kept_answer, words_machine}
+use Rattle.cedar_text.specs.machines.WordsRead.{ReadsWords, a_path, an_entity}
 use Rattle.cedar_text.specs.machines.WordShapes.{PathKind, truth, condition, a_name, ident_kind, kind_among, WordsShape, WordsKind, words_shape, words_kind, path_kind}
 use Rattle.cedar_text.specs.machines.WordShapes as shaped
 use Rattle.cedar_syntax.proofs.machines.Laws.{some_is, none_some}

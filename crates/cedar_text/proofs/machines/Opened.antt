@@ -2,7 +2,6 @@
 use Rattle.std.proofs.Common.{◌≡◌, ℕ, List, [], ◌∷◌, ◌++◌, Option, Some, None, refl, sym, ◌∙◌, ap, subst, append_assoc}
 use Rattle.std.proofs.lemmas.List.{append-nil}
 use Rattle.cedar_lexer.specs.Token.{Lexeme}
-use Rattle.cedar_lexer.specs.declared.token.TokenKind.{TokenKind}
 use Rattle.cedar_lexer.specs.declared.token.TokenKind.TheVariants as kind
 use Rattle.cedar_syntax.specs.declared.cst.Expr.{Expr}
 use Rattle.cedar_syntax.specs.declared.cst.Ident.{Ident}
@@ -13,21 +12,19 @@ use Rattle.cedar_syntax.specs.declared.cst.Policy.{Policy}
 use Rattle.cedar_syntax.specs.declared.reading.extent.Extent.{Extent}
 use Rattle.cedar_text.specs.declared.text_to_cst.condition.ConditionState.{ConditionState}
 use Rattle.cedar_text.specs.declared.text_to_cst.condition.ConditionState.TheVariants as condition
-use Rattle.cedar_text.specs.declared.text_to_cst.policy.PolicyState.{PolicyState}
 use Rattle.cedar_text.specs.declared.text_to_cst.policy.PolicyState.TheVariants as policy
 use Rattle.cedar_syntax.specs.declared.reading.recovery.Way.{Way}
 use Rattle.cedar_syntax.specs.declared.reading.recovery.Way.TheVariants as way
 use Rattle.cedar_text.specs.declared.text_to_cst.sequence.Spanned.{Spanned}
-use Rattle.cedar_text.specs.declared.text_to_cst.sequence.Sequence.{Sequence}
 use Rattle.cedar_syntax.specs.Tokens.{Spot, one}
 use Rattle.cedar_syntax.specs.Place.{joint_extent, extent, placed}
-use Rattle.cedar_syntax.specs.Trees.{Cell, policy_of}
+use Rattle.cedar_syntax.specs.Trees.{Cell}
 use Rattle.cedar_syntax.specs.LooseWords.{ReadsAny, any, ReadsList}
 use Rattle.cedar_syntax.specs.LooseExpressions.{ReadsExpr}
 use Rattle.cedar_syntax.specs.LoosePolicies.{ReadsMany, ReadsAnnotation, ReadsVariableDef, ReadsBody, no_body, body, ReadsCond, ReadsPolicy}
 use Rattle.cedar_syntax.specs.LoosePolicies as loose
 use Rattle.cedar_syntax.specs.Sentences.{HasTree, Starts}
-use Rattle.cedar_syntax.specs.machines.Door.{Machine, Answer, next, answer_state, steps, Comes, Door, IsOutside}
+use Rattle.cedar_syntax.specs.machines.Door.{Machine, answer_state, steps, Comes, Door}
 use Rattle.cedar_syntax.specs.machines.Marks.{mark_of}
 use Rattle.cedar_text.specs.machines.Placing.{AsNode, as_node, spanned_state, placing}
 use Rattle.cedar_text.specs.machines.Sequences.{sequence_end, many}
@@ -35,12 +32,12 @@ use Rattle.cedar_text.specs.machines.Scope.{PartMachines}
 use Rattle.cedar_text.specs.machines.Condition.{at_body, conditions}
 use Rattle.cedar_text.specs.machines.Policy.{policies}
 use Rattle.cedar_text.specs.machines.Policies.{ConditionsState, OnePolicy, sections, policy_machine, condition_way, begun_condition_way, policy_way}
-use Rattle.cedar_syntax.proofs.machines.Laws.{some_is, then_steps, starts_from, comes}
-use Rattle.cedar_syntax.proofs.machines.Holding.{Holds, held, entered}
-use Rattle.cedar_text.proofs.machines.Ending.{EndsAt, Begins, placed_ends, token_at}
+use Rattle.cedar_syntax.proofs.machines.Laws.{then_steps, starts_from, comes}
+use Rattle.cedar_syntax.proofs.machines.Holding.{held, entered}
+use Rattle.cedar_text.proofs.machines.Ending.{Begins, placed_ends, token_at}
 use Rattle.cedar_text.proofs.machines.Placing.{forth, back}
 use Rattle.cedar_text.proofs.machines.Sequences.{item_at, many_holds, many_next, ManyRead, is_between, is_begun, many_read}
-use Rattle.cedar_text.proofs.machines.Condition.{holds_body, BodyAt, body_runs, opened, ConditionRead, is_start, is_word, is_opened, is_body, is_closed, condition_read, condition_door, condition_ends}
+use Rattle.cedar_text.proofs.machines.Condition.{holds_body, body_runs, opened, ConditionRead, is_start, is_word, is_opened, is_body, is_closed, condition_read, condition_door, condition_ends}
 use Rattle.cedar_text.proofs.machines.Placing.{node_door}
 use Rattle.cedar_text.proofs.machines.Policy.{SectionDoors, holds_conditions, head_runs, PolicyRead, is_annotated, is_effect, is_scope, is_conditions, policy_read}
 use Rattle.cedar_text.proofs.machines.Policy as read

@@ -1,6 +1,6 @@
 -- What is foreseen of a kind says whether it may come next.
 use Rattle.std.specs.Prelude.{◌⊎◌}
-use Rattle.std.proofs.Common.{◌≡◌, Bool, true, false, Option, Some, None, inl, inr, refl, sym, ◌∙◌, ap}
+use Rattle.std.proofs.Common.{◌≡◌, true, false, Option, Some, inl, inr, refl, sym, ◌∙◌, ap}
 use Rattle.cedar_lexer.specs.declared.token.TokenKind.{TokenKind}
 use Rattle.cedar_text.specs.declared.text_to_cst.outlook.Outlook.{Outlook}
 use Rattle.cedar_text.specs.declared.text_to_cst.outlook.Outlook.TheVariants as outlook

@@ -1,12 +1,11 @@
 -- The door of a machine whose tree is put as a node, from that machine's own.
-use Rattle.std.proofs.Common.{◌≡◌, ℕ, List, [], ◌∷◌, ◌++◌, Option, Some, None, refl, sym, ◌∙◌, ap, subst}
+use Rattle.std.proofs.Common.{◌≡◌, ℕ, List, [], ◌∷◌, Option, Some, None, refl, sym, ◌∙◌, ap, subst}
 use Rattle.cedar_lexer.specs.Token.{Lexeme}
-use Rattle.cedar_lexer.specs.declared.token.TokenKind.{TokenKind}
 use Rattle.cedar_syntax.specs.declared.reading.extent.Extent.{Extent}
 use Rattle.cedar_text.specs.declared.text_to_cst.sequence.Spanned.{Spanned}
-use Rattle.cedar_syntax.specs.Place.{joint_extent, extent_of, extent, node_at, placed}
+use Rattle.cedar_syntax.specs.Place.{joint_extent, extent_of, extent, node_at}
 use Rattle.cedar_syntax.specs.Trees.{Cell}
-use Rattle.cedar_syntax.specs.machines.Door.{Machine, Answer, next, ended, refused, too_large, answer_state, steps, Comes, RunsTo, Completed, AnswersRightly, Door, IsOutside, IsShape, Shapes, is_some}
+use Rattle.cedar_syntax.specs.machines.Door.{Machine, Answer, next, ended, refused, too_large, answer_state, steps, RunsTo, AnswersRightly, Door}
 use Rattle.cedar_text.specs.machines.Placing.{AsNode, as_node, spanned_state, spanned_answer, node_if, placing}
 use Rattle.cedar_syntax.proofs.machines.Laws.{some_is, none_some, steps-none}
 

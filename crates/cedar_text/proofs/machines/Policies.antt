@@ -1,11 +1,9 @@
 -- The doors and shapes of one policy and of policies, from the doors of the machines of names, sums and expressions.
-use Rattle.std.proofs.Common.{◌≡◌, ℕ, List, Option, refl, sym, ap, subst}
-use Rattle.cedar_lexer.specs.Token.{Lexeme}
+use Rattle.std.proofs.Common.{◌≡◌, ℕ, List, refl, sym, ap, subst}
 use Rattle.cedar_lexer.specs.declared.token.TokenKind.{TokenKind}
 use Rattle.cedar_lexer.specs.declared.token.TokenKind.TheVariants as kind
-use Rattle.cedar_syntax.specs.declared.reading.mark.Mark.TheVariants as mark
 use Rattle.cedar_syntax.specs.LoosePolicies.{ReadsMany, ReadsAnnotation, ReadsVariableDef, ReadsCond, ReadsPolicy}
-use Rattle.cedar_syntax.specs.machines.Door.{Machine, Answer, ended, Door, IsOutside, Shapes}
+use Rattle.cedar_syntax.specs.machines.Door.{ended, Door, IsOutside, Shapes}
 use Rattle.cedar_syntax.specs.machines.Marks.{mark_of}
 use Rattle.cedar_text.specs.machines.Placing.{AsNode, placing}
 use Rattle.cedar_text.specs.machines.Sequences.{behind_item}
@@ -18,7 +16,7 @@ use Rattle.cedar_text.specs.machines.SequenceShapes.{spanned_shape, sequence_sha
 use Rattle.cedar_text.specs.machines.WordShapes.{no_tree}
 use Rattle.cedar_text.specs.machines.PolicyShapes.{annotation_shape, annotation_shapes, element_shape, PartShapes, element_shapes, condition_shape, condition_shapes}
 use Rattle.cedar_text.specs.machines.Policies.{sections, policy_machine, policies_machine, section_shapes, one_policy_shapes, all_policies_shapes, one_policy_shape, all_policies_shape}
-use Rattle.cedar_text.proofs.machines.Ending.{EndsAt, Refuses, Begins, IsWord, IsKind, placed_not_empty, placed_ends, placed_refuses, placed_ends_itself}
+use Rattle.cedar_text.proofs.machines.Ending.{Begins, IsWord, IsKind, placed_not_empty, placed_ends, placed_refuses, placed_ends_itself}
 use Rattle.cedar_text.proofs.machines.Placing.{node_door}
 use Rattle.cedar_text.proofs.machines.Sequences.{many_door, listed_door, many_ends, listed_ends}
 use Rattle.cedar_text.proofs.machines.Annotation.{annotation_door, annotation_ends_itself, annotation_ends_at_words, annotation_refuses_words}
@@ -26,7 +24,7 @@ use Rattle.cedar_text.proofs.machines.Scope.{PartDoors, element_door, IsBehindEl
 use Rattle.cedar_text.proofs.machines.Condition.{condition_door, condition_ends, condition_refuses}
 use Rattle.cedar_text.proofs.machines.Policy.{SectionDoors, policy_door, policy_ends}
 use Rattle.cedar_text.proofs.machines.SequenceShapes.{nodes_shaped, many_shaped, listed_shaped}
-use Rattle.cedar_text.proofs.machines.PolicyShapes.{annotations_shaped, PartsShaped, elements_shaped, conditions_shaped, SectionsShaped, policies_shaped}
+use Rattle.cedar_text.proofs.machines.PolicyShapes.{annotations_shaped, PartsShaped, elements_shaped, conditions_shaped, policies_shaped}
 
 -- what the parts show of themselves
 pub record Grounds {N S E : Type 0} (src : List ℕ) (m : PartMachines N S E) : Type 0 where

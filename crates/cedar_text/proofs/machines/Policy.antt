@@ -1,5 +1,5 @@
 -- The door of the machine of a policy, from the doors of the machines of its parts. Nothing here knows which machines those are.
-use Rattle.std.proofs.Common.{◌≡◌, ℕ, List, [], ◌∷◌, ◌++◌, Option, Some, None, refl, sym, ◌∙◌, ap, subst, append_assoc, IfSome}
+use Rattle.std.proofs.Common.{◌≡◌, ℕ, List, [], ◌∷◌, ◌++◌, Option, Some, None, refl, ◌∙◌, ap, subst, append_assoc, IfSome}
 use Rattle.std.proofs.lemmas.List.{append-nil}
 use Rattle.cedar_lexer.specs.Token.{Lexeme}
 use Rattle.cedar_lexer.specs.declared.token.TokenKind.{TokenKind}
@@ -20,7 +20,7 @@ use Rattle.cedar_syntax.specs.Trees.{Cell, policy_of}
 use Rattle.cedar_syntax.specs.LooseWords.{ReadsAny, any, ReadsList}
 use Rattle.cedar_syntax.specs.LoosePolicies.{ReadsMany, ReadsAnnotation, ReadsVariableDef, ReadsCond, ReadsPolicy}
 use Rattle.cedar_syntax.specs.LoosePolicies as loose
-use Rattle.cedar_syntax.specs.machines.Door.{Machine, Answer, next, ended, refused, too_large, answer_state, steps, Comes, RunsTo, Completed, AnswersRightly, Door, IsOutside}
+use Rattle.cedar_syntax.specs.machines.Door.{Answer, next, ended, refused, too_large, answer_state, steps, Comes, RunsTo, Completed, AnswersRightly, Door}
 use Rattle.cedar_syntax.specs.machines.Marks.{mark_of}
 use Rattle.cedar_text.specs.machines.Words.{token_node}
 use Rattle.cedar_text.specs.machines.Policy.{Sections, at_effect, in_annotations, behind_effect, behind_scope, in_scope, behind_conditions, in_conditions, policy_step, policy_end, policies}

@@ -1,15 +1,13 @@
 -- What the entries of one policy and of policies tell: all faults of their texts.
 use Rattle.std.specs.Prelude.{◌↔◌}
-use Rattle.std.proofs.Common.{◌≡◌, ℕ, List, [], ◌∷◌, ◌++◌, Option, Some, None, refl, sym, ◌∙◌, ap, subst}
+use Rattle.std.proofs.Common.{◌≡◌, ℕ, List, [], ◌∷◌, Option, Some, None, refl, sym, ◌∙◌, ap, subst}
 use Rattle.cedar_lexer.specs.Token.{Lexeme}
-use Rattle.cedar_lexer.specs.declared.token.TokenKind.{TokenKind}
 use Rattle.cedar_syntax.specs.declared.cst.Policy.{Policy}
 use Rattle.cedar_syntax.specs.declared.cst.Policies.{Policies}
 use Rattle.cedar_syntax.specs.declared.err.faults.Failure.{Failure}
 use Rattle.cedar_syntax.specs.declared.err.faults.ParseError.{ParseError}
 use Rattle.cedar_syntax.specs.declared.reading.expected.Narrowing.TheVariants as narrowing
 use Rattle.cedar_text.specs.declared.text_to_cst.policy.PolicyState.TheVariants as policy
-use Rattle.cedar_syntax.specs.declared.reading.recovery.Way.{Way}
 use Rattle.cedar_syntax.specs.declared.reading.recovery.Way.TheVariants as way
 use Rattle.cedar_text.specs.declared.text_to_cst.sequence.Spanned.{Spanned}
 use Rattle.cedar_text.specs.declared.text_to_cst.sequence.Sequence.{Sequence}
@@ -20,12 +18,12 @@ use Rattle.cedar_syntax.specs.MendedFaults.{fault_of, Unallowed, IsLarge, Polici
 use Rattle.cedar_syntax.specs.Place.{placed}
 use Rattle.cedar_syntax.specs.Sentences.{HasTree}
 use Rattle.cedar_syntax.specs.Trees.{Cell}
-use Rattle.cedar_syntax.specs.machines.Door.{Machine, Comes, Door, allows, Shapes}
+use Rattle.cedar_syntax.specs.machines.Door.{Machine, Door, allows, Shapes}
 use Rattle.cedar_syntax.specs.machines.Mapping.{mapped_machine, policies_node}
 use Rattle.cedar_syntax.specs.machines.Judged.{ReadsBy}
 use Rattle.cedar_syntax.specs.machines.Mending.{refused_fault, recovers_of, IsTold}
 use Rattle.cedar_text.specs.machines.Placing.{AsNode, as_node, spanned_state, placing}
-use Rattle.cedar_text.specs.machines.Policies.{OnePolicy, OnePolicyShape, policy_machine, policies_machine, one_policy_shapes, one_policy_shape, all_policies_shapes, all_policies_shape, policy_way, begun_policy_way, policy_closing, policy_ending, policies_closing, unknown_policy}
+use Rattle.cedar_text.specs.machines.Policies.{OnePolicy, policy_machine, policies_machine, one_policy_shapes, one_policy_shape, all_policies_shapes, all_policies_shape, policy_way, begun_policy_way, policy_closing, policy_ending, policies_closing, unknown_policy}
 use Rattle.cedar_text.specs.machines.PolicyShapes.{PartShapes}
 use Rattle.cedar_syntax.specs.machines.Recovery.{Recovers}
 use Rattle.cedar_text.specs.machines.Scope.{PartMachines}
@@ -39,7 +37,7 @@ use Rattle.cedar_text.proofs.machines.Placing.{node_door}
 use Rattle.cedar_text.proofs.machines.Policies.{Grounds, one_policy_door, one_policy_shaped, all_policies_door, all_policies_shaped}
 use Rattle.cedar_text.proofs.machines.PolicyRecovery.{one_recovers, all_recover}
 use Rattle.cedar_text.proofs.machines.PolicyShapes.{PartsShaped}
-use Rattle.cedar_text.proofs.machines.Recovery.{end_from, Recoverable}
+use Rattle.cedar_text.proofs.machines.Recovery.{Recoverable}
 use Rattle.cedar_text.proofs.machines.SequenceShapes.{nodes_shaped}
 use Rattle.cedar_text.proofs.machines.Telling.{refused_list, tells_exactly}
 

@@ -3,16 +3,13 @@ use Rattle.std.specs.Prelude.{◌↔◌}
 use Rattle.std.proofs.Common.{◌≡◌, ℕ, List, [], ◌∷◌, ◌++◌, Option, Some, None, Bool, true, false, refl, sym, ◌∙◌, ap, subst, append_assoc}
 use Rattle.std.proofs.lemmas.List.{append-nil}
 use Rattle.cedar_lexer.specs.Token.{Lexeme}
-use Rattle.cedar_lexer.specs.declared.token.TokenKind.{TokenKind}
 use Rattle.cedar_lexer.specs.declared.token.TokenKind.TheVariants as kind
-use Rattle.cedar_syntax.specs.declared.cst.Ident.{Ident}
 use Rattle.cedar_syntax.specs.declared.cst.Ident.TheVariants as ident
 use Rattle.cedar_syntax.specs.declared.cst.Cond.{Cond}
 use Rattle.cedar_syntax.specs.declared.cst.Policy.{Policy}
 use Rattle.cedar_syntax.specs.declared.reading.extent.Extent.{Extent}
 use Rattle.cedar_text.specs.declared.text_to_cst.condition.ConditionState.{ConditionState}
 use Rattle.cedar_text.specs.declared.text_to_cst.condition.ConditionState.TheVariants as condition
-use Rattle.cedar_text.specs.declared.text_to_cst.policy.PolicyState.{PolicyState}
 use Rattle.cedar_text.specs.declared.text_to_cst.policy.PolicyState.TheVariants as policy
 use Rattle.cedar_syntax.specs.declared.reading.recovery.Way.{Way}
 use Rattle.cedar_syntax.specs.declared.reading.recovery.Way.TheVariants as way
@@ -21,22 +18,20 @@ use Rattle.cedar_text.specs.declared.text_to_cst.sequence.Sequence.{Sequence}
 use Rattle.cedar_syntax.specs.Tokens.{Spot, one}
 use Rattle.cedar_syntax.specs.Place.{placed}
 use Rattle.cedar_syntax.specs.Trees.{Cell}
-use Rattle.cedar_syntax.specs.LooseWords.{ReadsAny, any, no_item}
+use Rattle.cedar_syntax.specs.LooseWords.{any, no_item}
 use Rattle.cedar_syntax.specs.LoosePolicies.{ReadsMany, none, more, ReadsPolicy}
 use Rattle.cedar_syntax.specs.LoosePolicies as loose
-use Rattle.cedar_syntax.specs.Sentences.{HasTree, Starts}
+use Rattle.cedar_syntax.specs.Sentences.{HasTree}
 use Rattle.cedar_syntax.specs.Mended.{InBraces, in_braces, IsBegun, stub_token}
-use Rattle.cedar_syntax.specs.machines.Door.{Machine, Answer, next, ended, refused, too_large, answer_state, steps, Comes, RunsTo, Door, Shapes, option_image}
-use Rattle.cedar_text.specs.machines.Placing.{AsNode, as_node, spanned_state, spanned_answer, node_if, placing}
+use Rattle.cedar_syntax.specs.machines.Door.{Machine, Answer, next, ended, refused, too_large, answer_state, steps, Comes, option_image}
+use Rattle.cedar_text.specs.machines.Placing.{AsNode, as_node, spanned_state, spanned_answer, node_if}
 use Rattle.cedar_text.specs.machines.Sequences.{sequence, many}
 use Rattle.cedar_text.specs.machines.Scope.{PartMachines}
 use Rattle.cedar_text.specs.machines.Policy.{policy_step, policy_end, policies}
 use Rattle.cedar_text.specs.machines.SequenceShapes.{spanned_shape, sequence_shape}
-use Rattle.cedar_text.specs.machines.WordShapes.{no_tree}
-use Rattle.cedar_text.specs.machines.PolicyShapes.{annotation_shape, element_shape, PartShapes, ConditionShape, no_condition, has_word, has_opened, has_body, whole_condition, condition_shape, PolicyShape, in_head, has_effect, in_parens, behind_parens, whole_policy, policy_shape}
-use Rattle.cedar_syntax.specs.machines.Recovery.{Recovers}
-use Rattle.cedar_text.specs.machines.Policies.{ConditionsState, OnePolicy, sections, policy_machine, policies_machine, OnePolicyShape, one_policy_shapes, all_policies_shapes, one_policy_shape, all_policies_shape, condition_way, begun_condition_way, policy_way, begun_policy_way}
-use Rattle.cedar_text.specs.machines.Policies.{closed_condition, condition_closing, closed_policy, policy_closing, policy_ending, policies_closing, policy_recovers, policies_recover}
+use Rattle.cedar_text.specs.machines.PolicyShapes.{PartShapes, ConditionShape, no_condition, has_word, has_opened, has_body, whole_condition, condition_shape, in_head, has_effect, in_parens, behind_parens, whole_policy}
+use Rattle.cedar_text.specs.machines.Policies.{OnePolicy, sections, policy_machine, policies_machine, OnePolicyShape, one_policy_shapes, all_policies_shapes, one_policy_shape, all_policies_shape, condition_way, begun_condition_way, policy_way, begun_policy_way}
+use Rattle.cedar_text.specs.machines.Policies.{closed_condition, condition_closing, closed_policy, policy_closing, policies_closing, policy_recovers, policies_recover}
 use Rattle.cedar_syntax.proofs.machines.Laws.{some_is, none_some, false_true, then_steps, rest_of_run, comes}
 use Rattle.cedar_syntax.proofs.machines.Holding.{snoc_assoc, entered}
 use Rattle.cedar_text.proofs.machines.Ending.{Begins, placed_ends}
@@ -44,8 +39,7 @@ use Rattle.cedar_text.proofs.machines.Sequences.{item_at, many_holds, many_next,
 use Rattle.cedar_text.proofs.machines.Policy.{policy_ends}
 use Rattle.cedar_text.proofs.machines.PolicyShapes.{PartsShaped}
 use Rattle.cedar_text.proofs.machines.Policies.{Grounds, one_policy_door, all_policies_door, one_policy_shaped, all_policies_shaped}
-use Rattle.cedar_text.proofs.machines.Opened.{OpenPolicy, whole_policy_of, Opening, opening_of, At, in_body, IsClosed, closed, behind_brace, OpenTokens, opened_by}
-use Rattle.cedar_text.proofs.machines.Alike.{IsByShape}
+use Rattle.cedar_text.proofs.machines.Opened.{OpenPolicy, whole_policy_of, opening_of, in_body, IsClosed, closed, behind_brace, OpenTokens, opened_by}
 use Rattle.cedar_text.proofs.machines.Recovery.{end_from, Inside, Split, Comparable, Recoverable}
 
 -- how a fault is left is told by the shape

@@ -1,5 +1,5 @@
 -- Shapes of a policy's parts go as their states do.
-use Rattle.std.proofs.Common.{◌≡◌, ℕ, List, [], Option, Some, None, Bool, true, false, refl, sym, ◌∙◌, ap, subst}
+use Rattle.std.proofs.Common.{◌≡◌, ℕ, List, Option, Some, None, true, refl, sym, ◌∙◌, ap, subst}
 use Rattle.cedar_lexer.specs.Token.{Lexeme}
 use Rattle.cedar_lexer.specs.declared.token.TokenKind.{TokenKind}
 use Rattle.cedar_lexer.specs.declared.token.TokenKind.TheVariants as kind
@@ -31,7 +31,7 @@ use Rattle.cedar_text.specs.machines.Scope.{at_variable, at_constraint, at_entit
 use Rattle.cedar_text.specs.machines.Condition.{at_word, behind_word, behind_body, at_body, in_body, condition_step, condition_end, conditions}
 use Rattle.cedar_text.specs.machines.Policy.{Sections, at_effect, in_annotations, behind_effect, behind_scope, in_scope, behind_conditions, in_conditions, policy_step, policy_end, policies}
 use Rattle.cedar_text.specs.machines.WordShapes.{no_tree}
-use Rattle.cedar_text.specs.machines.PolicyShapes.{is_word, is_relation, AnnotationShape, annotation_shape, start_shape, annotation_key_shape, behind_key_shape, annotation_value_shape, behind_value_shape, annotation_shape_step, annotation_shape_end, annotation_shapes}
+use Rattle.cedar_text.specs.machines.PolicyShapes.{is_word, annotation_shape, start_shape, annotation_key_shape, behind_key_shape, annotation_value_shape, behind_value_shape, annotation_shape_step, annotation_shape_end, annotation_shapes}
 use Rattle.cedar_text.specs.machines.PolicyShapes.{element_shape, PartShapes, variable_shape, constraint_shape, entity_shape, type_shape, in_type_shape, in_sum_shape, in_expression_shape, element_shape_step, element_shape_end, element_shapes}
 use Rattle.cedar_text.specs.machines.PolicyShapes.{condition_shape, condition_word_shape, behind_word_shape, behind_body_shape, at_body_shape, in_body_shape, condition_shape_step, condition_shape_end, condition_shapes}
 use Rattle.cedar_text.specs.machines.PolicyShapes.{in_head, policy_shape, SectionShapes, effect_shape, in_annotations_shape, behind_effect_shape, behind_scope_shape, in_scope_shape, behind_conditions_shape, in_conditions_shape, policy_shape_step, policy_shape_end, policy_shapes}

@@ -1,26 +1,24 @@
 -- Recovery in place tells the faults of the mended tokens, and no others.
 use Rattle.std.specs.Prelude.{◌↔◌}
-use Rattle.std.proofs.lemmas.List.{append-nil}
 use Rattle.std.proofs.Common.{◌≡◌, ℕ, List, [], ◌∷◌, ◌++◌, Option, Some, None, Bool, true, false, refl, sym, ◌∙◌, ap, subst, append_assoc}
 use Rattle.cedar_lexer.specs.Token.{Lexeme}
 use Rattle.cedar_lexer.specs.declared.token.TokenKind.{TokenKind}
 use Rattle.cedar_lexer.specs.declared.token.TokenKind.TheVariants as kind
-use Rattle.cedar_syntax.specs.declared.reading.mark.Mark.{Mark}
 use Rattle.cedar_syntax.specs.declared.reading.mark.Mark.TheVariants as mark
 use Rattle.cedar_syntax.specs.declared.reading.recovery.Way.{Way}
 use Rattle.cedar_syntax.specs.declared.reading.recovery.Way.TheVariants as way
-use Rattle.cedar_syntax.specs.Tokens.{Spot, one, fits}
-use Rattle.cedar_syntax.specs.Sentences.{kinds, HasTree, Starts, Allowed, IsFirstRefused, first}
-use Rattle.cedar_syntax.specs.Mended.{InBraces, Stands, inside, outside, is_stop, Skips, IsBegun, stub_token, Mended, to_brace, to_end, head, Faults, no_fault, too_large, last_fault, more_faults}
+use Rattle.cedar_syntax.specs.Tokens.{Spot, one}
+use Rattle.cedar_syntax.specs.Sentences.{first}
+use Rattle.cedar_syntax.specs.Mended.{InBraces, Stands, inside, outside, is_stop, Skips, IsBegun, stub_token, Mended, to_brace, to_end, head}
 use Rattle.cedar_syntax.specs.machines.Door.{Machine, Answer, next, ended, refused, answer_state, steps, Comes, AnswersRightly, Door, is_taken, is_some, allows, IsShape, Shapes}
 use Rattle.cedar_syntax.specs.machines.Door as door
 use Rattle.cedar_syntax.specs.machines.Marks.{mark_of}
 use Rattle.cedar_text.specs.machines.WordShapes.{no_tree}
-use Rattle.cedar_syntax.specs.machines.Recovery.{Recovers, Recovery, reading, skipping, stopped, skip_step, judgment, recovery_step, recovery_of_all, RunFaults, run_faults, told_reading, told_end, told_all}
-use Rattle.cedar_syntax.proofs.machines.Laws.{some_is, none_some, false_true, steps-none, then_steps, starts_from, comes, exactly, stops_at, ends_alike}
-use Rattle.cedar_syntax.proofs.machines.Holding.{snoc_assoc, one_more}
+use Rattle.cedar_syntax.specs.machines.Recovery.{Recovers, reading, skipping, stopped, skip_step, judgment, run_faults, told_reading, told_all}
+use Rattle.cedar_syntax.proofs.machines.Laws.{some_is, none_some, false_true, steps-none, ends_alike}
+use Rattle.cedar_syntax.proofs.machines.Holding.{snoc_assoc}
 use Rattle.cedar_text.proofs.machines.Ending.{spot_of, token_at}
-use Rattle.cedar_text.proofs.machines.Alike.{IsByShape, states_alike}
+use Rattle.cedar_text.proofs.machines.Alike.{IsByShape}
 use Rattle.cedar_text.proofs.machines.SequenceShapes.{IsShapeBy}
 
 -- where the last token ends

@@ -20,14 +20,14 @@ use Rattle.cedar_syntax.specs.Trees.{Cell, variable_def_of}
 use Rattle.cedar_syntax.specs.LooseWords.{ReadsAny, any, ReadsName}
 use Rattle.cedar_syntax.specs.LooseExpressions.{ReadsRelOp, less, less_eq, greater_eq, greater, not_eq, equal, within, single_eq, ReadsExpr, ReadsAdd}
 use Rattle.cedar_syntax.specs.LoosePolicies.{ReadsTypeName, no_type_name, type_name, ReadsEntityType, no_entity_type, entity_type, ReadsConstraint, no_constraint, constraint, ReadsVariableDef, variable_def}
-use Rattle.cedar_syntax.specs.machines.Door.{Machine, Answer, next, ended, refused, too_large, answer_state, steps, Comes, RunsTo, Completed, AnswersRightly, Door}
+use Rattle.cedar_syntax.specs.machines.Door.{Answer, next, ended, refused, too_large, answer_state, steps, Comes, RunsTo, Completed, AnswersRightly, Door}
 use Rattle.cedar_syntax.specs.machines.Marks.{mark_of, relation_of}
 use Rattle.cedar_text.specs.machines.Placing.{AsNode, as_node}
 use Rattle.cedar_syntax.specs.machines.Following.{IsParting, comma, close_paren, FollowsSum, operator, parting, FollowsName, is_word, as_sum}
 use Rattle.cedar_text.specs.machines.Scope.{at_variable, at_constraint, at_entity_type, at_type_name, in_type_name, in_entity_type, in_constraint, PartMachines, element_step, end_type_name, end_entity_type, end_constraint, element_end, elements}
 use Rattle.cedar_syntax.proofs.machines.Laws.{some_is, then_steps, some_token}
 use Rattle.cedar_syntax.proofs.machines.Holding.{Holds, held, one_more, kept}
-use Rattle.cedar_text.proofs.machines.Ending.{NotEmpty, EndsAt, Refuses, IsKind, spot_of, token_at}
+use Rattle.cedar_text.proofs.machines.Ending.{EndsAt, Refuses, IsKind, spot_of, token_at}
 use Rattle.cedar_syntax.proofs.machines.Marked.{IsMarked, at, open_paren, colon, semicolon, a_string, open_brace, close_brace, other, marked, marked_fits, word_fits, related_fits, IsRelated, related_by, unrelated, related}
 use Rattle.cedar_syntax.proofs.machines.Marked as marks
 

@@ -5,8 +5,6 @@ use Rattle.cedar_lexer.specs.declared.token.TokenKind.{TokenKind}
 use Rattle.cedar_syntax.specs.declared.reading.extent.Extent.{Extent}
 use Rattle.cedar_syntax.specs.declared.reading.mark.Mark.{Mark}
 use Rattle.cedar_syntax.specs.declared.reading.mark.Mark.TheVariants as mark
-use Rattle.cedar_text.specs.declared.text_to_cst.sequence.Sequence.{Sequence}
-use Rattle.cedar_syntax.specs.Trees.{Cell}
 use Rattle.cedar_syntax.specs.machines.Door.{Machine, Answer, next, ended, refused, too_large, is_taken, IsShape, option_image, Shapes}
 use Rattle.cedar_syntax.specs.machines.Marks.{mark_of}
 use Rattle.cedar_text.specs.machines.Placing.{spanned_answer, node_if, placing}

@@ -1,6 +1,5 @@
 -- The doors of the machines that read one item after the other, from the door of the machine of one item.
 use Rattle.std.proofs.Common.{◌≡◌, ℕ, List, [], ◌∷◌, ◌++◌, Option, Some, None, true, refl, sym, ◌∙◌, ap, subst, append_assoc, IfSome}
-use Rattle.std.proofs.lemmas.List.{append-nil}
 use Rattle.cedar_lexer.specs.Token.{Lexeme}
 use Rattle.cedar_lexer.specs.declared.token.TokenKind.{TokenKind}
 use Rattle.cedar_lexer.specs.declared.token.TokenKind.TheVariants as kind
@@ -19,7 +18,7 @@ use Rattle.cedar_text.specs.machines.Sequences.{sequence, item_beginning, items_
 use Rattle.cedar_syntax.proofs.machines.Laws.{some_is, none_some, then_steps}
 use Rattle.cedar_syntax.proofs.machines.Holding.{Holds, held, entered, one_more, kept}
 use Rattle.cedar_text.proofs.machines.Ending.{NotEmpty, EndsAt, Refuses, Begins, IsKind}
-use Rattle.cedar_syntax.proofs.machines.Marked.{IsMarked, comma, other, marked}
+use Rattle.cedar_syntax.proofs.machines.Marked.{IsMarked, comma, marked}
 
 abbrev pub item_at : {S T : Type 0} → List T → S → Sequence S T
 item_at xs s = sequence xs (Some s)

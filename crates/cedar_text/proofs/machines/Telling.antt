@@ -1,14 +1,12 @@
 -- What a run tells of a text is the list of its faults.
-use Rattle.std.specs.Prelude.{◌↔◌, IsTrue, cond}
-use Rattle.std.proofs.Common.{◌≡◌, ◌⊎◌, ℕ, List, [], ◌∷◌, ◌++◌, Option, Some, None, Bool, true, false, refl, sym, ◌∙◌, ap, subst, inl, inr}
+use Rattle.std.specs.Prelude.{◌↔◌, cond}
+use Rattle.std.proofs.Common.{◌≡◌, ℕ, List, [], ◌∷◌, Option, Some, None, Bool, true, false, refl, sym, ◌∙◌, ap, subst, inl, inr}
 use Rattle.cedar_lexer.specs.Token.{Lexeme}
-use Rattle.cedar_lexer.specs.LexerState.{IsCutOrStop}
 use Rattle.cedar_lexer.specs.declared.token.TokenKind.{TokenKind}
 use Rattle.cedar_syntax.specs.declared.err.faults.Failure.{Failure}
 use Rattle.cedar_syntax.specs.declared.err.faults.Failure.TheVariants.{Memory, Errors}
 use Rattle.cedar_syntax.specs.declared.err.faults.ParseError.{ParseError}
 use Rattle.cedar_syntax.specs.declared.reading.expected.Narrowing.TheVariants as narrowing
-use Rattle.cedar_syntax.specs.declared.reading.recovery.Way.{Way}
 use Rattle.cedar_syntax.specs.Expected.{IsExpected}
 use Rattle.cedar_syntax.specs.FirstFault.{end_at, tokens_end, unexpected_fault, early_at}
 use Rattle.cedar_syntax.specs.ParseErrors.{faults_of}
@@ -18,15 +16,15 @@ use Rattle.cedar_syntax.specs.MendedFaults.{fault_of, Unallowed, a_token, the_en
 use Rattle.cedar_syntax.specs.declared.reading.extent.Extent.{Extent}
 use Rattle.cedar_syntax.specs.Place.{joint_extent, extent_of, extent}
 use Rattle.cedar_syntax.specs.Sentences.{kinds}
-use Rattle.cedar_syntax.specs.machines.Door.{Machine, Answer, next, ended, refused, too_large, Comes, is_taken, is_some, allows, IsShape, Shapes, Door}
-use Rattle.cedar_syntax.specs.machines.Judged.{may_take, ReadsBy, wanted_kinds}
+use Rattle.cedar_syntax.specs.machines.Door.{Machine, Answer, next, ended, refused, too_large, Comes, is_taken, is_some, allows, Shapes, Door}
+use Rattle.cedar_syntax.specs.machines.Judged.{may_take, wanted_kinds}
 use Rattle.cedar_syntax.specs.machines.Marks.{mark_of}
-use Rattle.cedar_syntax.specs.machines.Mending.{refused_fault, bad_fault, judgment_by, recovery_step_by, recovery_of_all_by, last_of, met_faults, AreAllFaults, IsTold}
-use Rattle.cedar_syntax.specs.machines.Recovery.{Recovers, Recovery, reading, skipping, stopped, judgment, recovery_step, recovery_of_all, RunFaults, run_faults, told_reading, told_end}
+use Rattle.cedar_syntax.specs.machines.Mending.{refused_fault, bad_fault, judgment_by, recovery_step_by, recovery_of_all_by, met_faults, AreAllFaults, IsTold}
+use Rattle.cedar_syntax.specs.machines.Recovery.{Recovers, Recovery, reading, skipping, stopped, judgment, recovery_step, recovery_of_all, told_reading, told_end}
 use Rattle.cedar_text.specs.machines.WordShapes.{no_tree}
 use Rattle.cedar_text.proofs.machines.Entries.{may_take_shape}
 use Rattle.cedar_syntax.proofs.machines.Expected.{expected_is, one_list}
-use Rattle.cedar_text.proofs.machines.Faults.{HasFaults, has_faults, faults_exactly}
+use Rattle.cedar_text.proofs.machines.Faults.{has_faults, faults_exactly}
 use Rattle.cedar_syntax.proofs.machines.Laws.{exactly, ends_alike}
 use Rattle.cedar_text.proofs.machines.Recovery.{end_from, Recoverable}
 use Rattle.cedar_syntax.proofs.machines.Skipping.{as_skipped}

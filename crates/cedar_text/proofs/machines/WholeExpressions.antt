@@ -1,11 +1,10 @@
 -- Expressions and primaries as whole texts: their machines read by the rules of the grammar.
-use Rattle.std.proofs.Common.{◌≡◌, ℕ, List, [], ◌∷◌, ◌++◌, Option, Some, refl, sym, ◌∙◌, ap, subst}
+use Rattle.std.proofs.Common.{◌≡◌, ℕ, List, Some, refl, sym, ◌∙◌, ap, subst}
 use Rattle.cedar_lexer.specs.Token.{Lexeme}
 use Rattle.cedar_syntax.specs.declared.cst.Expr.{Expr}
 use Rattle.cedar_syntax.specs.declared.cst.Primary.{Primary}
 use Rattle.cedar_syntax.specs.Grammar.{IsNodeOf}
 use Rattle.cedar_syntax.specs.LooseExpressions.{ReadsExpr, ReadsPrimary}
-use Rattle.cedar_syntax.specs.Place.{extent, placed, placed_or_start}
 use Rattle.cedar_syntax.specs.Trees.{Cell}
 use Rattle.cedar_text.specs.machines.Closing.{node_of}
 use Rattle.cedar_syntax.specs.machines.Door.{Door, Shapes}
@@ -16,7 +15,6 @@ use Rattle.cedar_text.specs.machines.Named.{named_words}
 use Rattle.cedar_text.specs.machines.NamedShapes.{named_shapes}
 use Rattle.cedar_text.specs.machines.WholeExpressions.{whole_expressions, expression_allows, whole_primaries, primary_allows}
 use Rattle.cedar_text.specs.machines.WordShapes.{no_tree, words_shape}
-use Rattle.cedar_syntax.proofs.Lying.{Some_of}
 use Rattle.cedar_syntax.proofs.WordPlaces.{start_is}
 use Rattle.cedar_syntax.proofs.ExpressionTokens.{expr_some, primary_some}
 use Rattle.cedar_text.proofs.expressions.Doors.{expressions_door, primaries_door}

@@ -3,14 +3,12 @@ use Rattle.std.specs.Prelude.{ℕ, List, Option, Some, None}
 use Rattle.cedar_lexer.specs.Token.{Lexeme}
 use Rattle.cedar_syntax.specs.declared.cst.Ident.{Ident}
 use Rattle.cedar_syntax.specs.declared.cst.Str.{Str}
-use Rattle.cedar_syntax.specs.declared.cst.Str.TheVariants as str
 use Rattle.cedar_syntax.specs.declared.cst.Annotation.{Annotation}
 use Rattle.cedar_syntax.specs.declared.reading.mark.Mark.{Mark}
 use Rattle.cedar_syntax.specs.declared.reading.mark.Mark.TheVariants as mark
 use Rattle.cedar_text.specs.declared.text_to_cst.annotation.AnnotationState.{AnnotationState}
 use Rattle.cedar_text.specs.declared.text_to_cst.annotation.AnnotationState.TheVariants as annotation
-use Rattle.cedar_syntax.specs.Tokens.{any_of, between_quotes}
-use Rattle.cedar_syntax.specs.Place.{extent_of, node_at}
+use Rattle.cedar_syntax.specs.Tokens.{any_of}
 use Rattle.cedar_syntax.specs.Trees.{Cell, annotation_of}
 use Rattle.cedar_syntax.specs.machines.Door.{Machine, Answer, next, ended, refused}
 use Rattle.cedar_syntax.specs.machines.Marks.{mark_of}

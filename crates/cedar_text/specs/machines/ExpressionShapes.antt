@@ -2,15 +2,10 @@
 -- machine over kinds, without trees, over any shapes of words.
 use Rattle.std.specs.Prelude.{List, [], ◌∷◌, Option, Some, None, Bool, true, false}
 use Rattle.cedar_lexer.specs.declared.token.TokenKind.{TokenKind}
-use Rattle.cedar_syntax.specs.declared.cst.Expr.{Expr}
-use Rattle.cedar_syntax.specs.declared.cst.Or.{Or}
-use Rattle.cedar_syntax.specs.declared.cst.And.{And}
 use Rattle.cedar_syntax.specs.declared.cst.RelOp.{RelOp}
 use Rattle.cedar_syntax.specs.declared.cst.RelOp.TheVariants as rel
 use Rattle.cedar_syntax.specs.declared.cst.NegOp.{NegOp}
 use Rattle.cedar_syntax.specs.declared.cst.NegOp.TheVariants as neg
-use Rattle.cedar_syntax.specs.declared.cst.Primary.{Primary}
-use Rattle.cedar_syntax.specs.declared.cst.Slot.{Slot}
 use Rattle.cedar_syntax.specs.declared.cst.Ident.{Ident}
 use Rattle.cedar_syntax.specs.declared.reading.class.Sign.{Sign}
 use Rattle.cedar_syntax.specs.declared.reading.class.Sign.TheVariants as sign
@@ -27,14 +22,6 @@ use Rattle.cedar_syntax.specs.declared.reading.class.Operator.TheVariants as ope
 use Rattle.cedar_text.specs.declared.text_to_cst.state.WordsState.{WordsState}
 use Rattle.cedar_text.specs.declared.text_to_cst.expression.state.Left.{Left}
 use Rattle.cedar_text.specs.declared.text_to_cst.expression.state.Left.TheVariants as left
-use Rattle.cedar_text.specs.declared.text_to_cst.expression.state.Operand.{Operand}
-use Rattle.cedar_text.specs.declared.text_to_cst.expression.state.Paren.{Paren}
-use Rattle.cedar_text.specs.declared.text_to_cst.expression.state.Set.{Set}
-use Rattle.cedar_text.specs.declared.text_to_cst.expression.state.Call.{Call}
-use Rattle.cedar_text.specs.declared.text_to_cst.expression.state.Index.{Index}
-use Rattle.cedar_text.specs.declared.text_to_cst.expression.state.Value.{Value}
-use Rattle.cedar_text.specs.declared.text_to_cst.expression.state.Guard.{Guard}
-use Rattle.cedar_text.specs.declared.text_to_cst.expression.state.Yes.{Yes}
 use Rattle.cedar_text.specs.declared.text_to_cst.expression.state.Frame.{Frame}
 use Rattle.cedar_text.specs.declared.text_to_cst.expression.state.Frame.TheVariants as frame
 use Rattle.cedar_text.specs.declared.text_to_cst.expression.state.Place.{Place}

@@ -1,7 +1,6 @@
 -- The states of the machine of expressions, the classes of tokens that it tells apart, and how far
 -- an operand goes on.
 use Rattle.std.specs.Prelude.{ℕ, List, [], ◌∷◌, Option, Some, cond}
-use Rattle.cedar_syntax.specs.declared.cst.Expr.{Expr}
 use Rattle.cedar_syntax.specs.declared.cst.Primary.{Primary}
 use Rattle.cedar_text.specs.declared.text_to_cst.expression.state.Ranged.{Ranged}
 use Rattle.cedar_text.specs.declared.text_to_cst.expression.state.Branch.{Branch}

@@ -2,17 +2,13 @@
 -- in brackets.
 use Rattle.std.specs.Prelude.{ℕ, List, [], ◌∷◌, ◌++◌, Option, Some, None}
 use Rattle.cedar_lexer.specs.Token.{Lexeme}
-use Rattle.cedar_lexer.specs.declared.token.TokenKind.TheVariants as kind
 use Rattle.cedar_expressions.specs.declared.operators.AddOp.{AddOp}
 use Rattle.cedar_syntax.specs.declared.cst.Expr.{Expr}
-use Rattle.cedar_syntax.specs.declared.cst.Or.{Or}
-use Rattle.cedar_syntax.specs.declared.cst.And.{And}
 use Rattle.cedar_syntax.specs.declared.cst.RelOp.{RelOp}
 use Rattle.cedar_syntax.specs.declared.cst.RelOp.TheVariants as rel
 use Rattle.cedar_syntax.specs.declared.cst.Add.{Add}
 use Rattle.cedar_syntax.specs.declared.cst.MultOp.{MultOp}
 use Rattle.cedar_syntax.specs.declared.cst.MemAccess.TheVariants as access
-use Rattle.cedar_syntax.specs.declared.cst.Primary.{Primary}
 use Rattle.cedar_syntax.specs.declared.cst.Primary.TheVariants as primary
 use Rattle.cedar_syntax.specs.declared.cst.Ident.{Ident}
 use Rattle.cedar_syntax.specs.declared.reading.class.Closing.{Closing}
@@ -51,7 +47,6 @@ use Rattle.cedar_text.specs.machines.Advance as advance
 use Rattle.cedar_syntax.specs.declared.reading.extent.Extent.{Extent}
 use Rattle.cedar_syntax.specs.Place.{joint_extent, extent_of, node_at}
 use Rattle.cedar_syntax.specs.Trees.{Cell, rec_init_of}
-use Rattle.cedar_syntax.specs.machines.Door.{next}
 use Rattle.cedar_text.specs.machines.Closing.{ranged_tree, node_of, plain_chain, marked_chain, onward, pending, unary_at, mult_at, add_at, relation_at, and_at, whole, levels_of, with_access}
 use Rattle.cedar_syntax.specs.machines.Classes.{operator_of}
 use Rattle.cedar_text.specs.machines.ExpressionStates.{state, wants, opening, going_on, has_operand, has_primary, around, reach_of}

@@ -1,6 +1,6 @@
 -- The machine of expressions where an operand is wanted: literals, signs, open brackets, and lists
 -- that end before an item.
-use Rattle.std.specs.Prelude.{ℕ, ◌+◌, List, [], ◌∷◌, Option, Some, None}
+use Rattle.std.specs.Prelude.{ℕ, List, [], ◌∷◌, Option, Some, None}
 use Rattle.cedar_lexer.specs.Token.{Lexeme}
 use Rattle.cedar_syntax.specs.declared.cst.Expr.{Expr}
 use Rattle.cedar_syntax.specs.declared.cst.NegOp.{NegOp}
@@ -25,8 +25,6 @@ use Rattle.cedar_text.specs.declared.text_to_cst.state.WordsState.{WordsState}
 use Rattle.cedar_text.specs.declared.text_to_cst.expression.state.Ranged.{Ranged}
 use Rattle.cedar_text.specs.declared.text_to_cst.expression.state.Levels.{Levels}
 use Rattle.cedar_text.specs.declared.text_to_cst.expression.state.Signs.{Signs}
-use Rattle.cedar_text.specs.declared.text_to_cst.expression.state.Operand.{Operand}
-use Rattle.cedar_text.specs.declared.text_to_cst.expression.state.Paren.{Paren}
 use Rattle.cedar_text.specs.declared.text_to_cst.expression.state.Set.{Set}
 use Rattle.cedar_text.specs.declared.text_to_cst.expression.state.Call.{Call}
 use Rattle.cedar_text.specs.declared.text_to_cst.expression.state.Record.{Record}

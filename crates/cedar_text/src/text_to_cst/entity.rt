@@ -8,7 +8,7 @@ ghost use Rattle.cedar_syntax.specs.Tokens.{any_of};
 ghost use Rattle.cedar_syntax.specs.WrittenTokens.{IsWritten, Written};
 ghost use Rattle.cedar_syntax.specs.machines.Door.{allows, is_taken};
 ghost use Rattle.cedar_syntax.specs.machines.Judged.{answer_of};
-ghost use Rattle.cedar_text.specs.machines.Words.{as_words, path_beginning, path_words, words_more, words_step, entity_with_extent, uid_of, at_inits, inits_closing, wanted_item, key_had, with_value, string_literal, wanted_value, item_had, inits_step, path_node};
+ghost use Rattle.cedar_text.specs.machines.Words.{as_words, path_beginning, path_words, words_more, words_step, entity_with_extent, uid_of, at_inits, inits_closing, wanted_item, with_value, string_literal, wanted_value, inits_step, path_node};
 ghost use Rattle.cedar_text.specs.machines.WordShapes.{any_kind, more_shape, item_shape, init_shape, init_shape_step, words_shapes, words_shape};
 
 use crate::text_to_cst::literal::string_node;

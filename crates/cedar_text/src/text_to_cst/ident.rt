@@ -1,5 +1,5 @@
 //! One identifier as a whole text.
-ghost use Rattle.std.specs.Prelude.{◌≡◌, Some, IfOk};
+ghost use Rattle.std.specs.Prelude.{◌≡◌, Some};
 
 use crate::text_to_cst::state::{IdentState, Word};
 use crate::text_to_cst::words::word_node;

@@ -6,7 +6,7 @@ ghost use Rattle.cedar_syntax.specs.Tokens.{any_of};
 ghost use Rattle.cedar_syntax.specs.LooseWords.{is_common};
 ghost use Rattle.cedar_syntax.specs.machines.Door.{allows, is_some};
 ghost use Rattle.cedar_syntax.specs.machines.Judged.{answer_of};
-ghost use Rattle.cedar_text.specs.machines.Words.{one_word_path, with_word, path_extent, path_beginning, path_more, path_step, path_node};
+ghost use Rattle.cedar_text.specs.machines.Words.{one_word_path, with_word, path_beginning, path_more, path_step, path_node};
 ghost use Rattle.cedar_text.specs.machines.WordShapes.{path_kind, name_kind, path_shapes, path_shape};
 
 use crate::text_to_cst::state::{Path, PathState, Word};

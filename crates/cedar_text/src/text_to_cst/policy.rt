@@ -3,7 +3,6 @@ ghost use Rattle.std.specs.Prelude.{◌≡◌, [], None, IfOk};
 ghost use Rattle.cedar_lexer.specs.Token.{lexeme_of};
 ghost use Rattle.cedar_syntax.specs.Tokens.{any_of};
 ghost use Rattle.cedar_syntax.specs.Trees.{policy_of};
-ghost use Rattle.cedar_syntax.specs.WrittenTokens.{IsWritten};
 ghost use Rattle.cedar_text.specs.machines.Policy.{at_effect, behind_effect, behind_parts, scope_ending, conditions_ending, outside_sections, IsOutsideSections};
 ghost use Rattle.cedar_syntax.specs.machines.Judged.{answer_of};
 

@@ -1,4 +1,3 @@
-use Rattle.std.proofs.Common.{ap, sym, ◌∙◌}
 use Rattle.cedar_expressions.specs.Meaning.{unplaced}
 use Rattle.cedar_policy_parser.proofs.ConditionValues.{value_there}
 use Rattle.cedar_policy_parser.proofs.Outcomes.{passed_on, refused_next, wanting}

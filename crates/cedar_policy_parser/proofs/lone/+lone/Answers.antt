@@ -1,8 +1,5 @@
-use Rattle.std.proofs.Common.{◌≡◌, arith, sym, ◌∙◌, []}
+use Rattle.std.proofs.Common.{arith, sym, ◌∙◌}
 use Rattle.std.proofs.lemmas.Grind.{common_steps}
-use Rattle.cedar_syntax.specs.declared.cst.Or.{out-Or}
-use Rattle.cedar_syntax.specs.declared.cst.Add.{out-Add}
-use Rattle.cedar_syntax.specs.declared.cst.Mult.{out-Mult}
 use Rattle.cedar_syntax.specs.Forms.{expr_form, or_form, and_form, relation_form, add_form, mult_form, unary_form, member_form, primary_form}
 use Rattle.cedar_policy_parser.proofs.LonePrimaries as lone
 use Rattle.cedar_policy_parser.proofs.Outcomes.{gives_at, refuses}

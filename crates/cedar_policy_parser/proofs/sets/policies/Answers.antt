@@ -1,4 +1,4 @@
-use Rattle.std.proofs.Common.{◌<◌, [], length, take, arith}
+use Rattle.std.proofs.Common.{◌<◌, length, take, arith}
 use Rattle.cedar_policy_parser.specs.Extensions.{table_of}
 use Rattle.cedar_policy_parser.specs.Policies.{set_view, policies_from, template_outcome}
 use Rattle.cedar_policy_parser.specs.PolicyMeaning.{policy_id}

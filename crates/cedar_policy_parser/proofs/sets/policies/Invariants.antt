@@ -1,4 +1,4 @@
-use Rattle.std.proofs.Common.{List, take}
+use Rattle.std.proofs.Common.{take}
 use Rattle.cedar_policy_parser.specs.Extensions.{table_of}
 use Rattle.cedar_policy_parser.specs.Policies.{set_view, set_outcome}
 use Rattle.cedar_policy_parser.specs.Seen.{Gives}

@@ -1,4 +1,4 @@
-use Rattle.std.proofs.Common.{sym, ap, ◌∙◌, Ok, Err}
+use Rattle.std.proofs.Common.{sym, ap, ◌∙◌, Err}
 use Rattle.cedar_policy_parser.proofs.Quoted.{pattern_expected, pattern_faults_expected}
 use Rattle.cedar_policy_parser.proofs.strings.pattern_of.Goals as goal
 

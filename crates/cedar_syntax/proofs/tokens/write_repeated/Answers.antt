@@ -1,4 +1,4 @@
-use Rattle.std.proofs.Common.{subst, sym}
+use Rattle.std.proofs.Common.{subst}
 use Rattle.std.proofs.lemmas.List.{replicate_more}
 use Rattle.cedar_syntax.specs.Printed.{Texts}
 use Rattle.cedar_syntax.specs.Printing.{HasPrinted}

@@ -1,11 +1,8 @@
 -- The run of the machine of expressions over tokens, in whichever form it is wanted, and extents and signs, one step more.
-use Rattle.std.specs.Prelude.{cond, nat_le, nat_lt}
-use Rattle.std.proofs.Common.{◌≡◌, ℕ, ◌+◌, ◌≤◌, ◌<◌, List, [], ◌∷◌, ◌++◌, Option, Some, None, Bool, true, false, refl, sym, ◌∙◌, ap, arith}
-use Rattle.std.proofs.lemmas.Bool.{leb-true, leb-false, lt-leb, lt-ltb, le-ltb}
+use Rattle.std.specs.Prelude.{cond}
+use Rattle.std.proofs.Common.{◌≡◌, ℕ, List, [], ◌∷◌, ◌++◌, Option, Some, None, Bool, true, false, refl, sym, ◌∙◌, ap}
 use Rattle.cedar_lexer.specs.Token.{Lexeme}
 use Rattle.cedar_lexer.specs.declared.token.TokenKind.{TokenKind}
-use Rattle.cedar_syntax.specs.declared.cst.NegOp.TheVariants as neg
-use Rattle.cedar_syntax.specs.declared.reading.class.Sign.TheVariants as sign
 pub use Rattle.cedar_syntax.proofs.machines.Laws.{some_is, none_some}
 pub use Rattle.cedar_syntax.proofs.machines.Extents.{join-assoc, extent-append, at}
 pub use Rattle.cedar_text.proofs.expressions.Basics.{chain_extent, bang_more, dash_more}
@@ -25,13 +22,11 @@ use Rattle.cedar_text.specs.declared.text_to_cst.expression.state.Reach.TheVaria
 use Rattle.cedar_text.specs.machines.Advance.{Advance}
 use Rattle.cedar_text.specs.machines.Advance as advance
 use Rattle.cedar_syntax.specs.declared.reading.extent.Extent.{Extent}
-use Rattle.cedar_syntax.specs.Place.{joint_extent, extent_of, extent}
+use Rattle.cedar_syntax.specs.Place.{joint_extent}
 use Rattle.cedar_syntax.specs.Tokens.{Spot, one}
-use Rattle.cedar_syntax.specs.Trees.{bangs_of, dashes_of}
 use Rattle.cedar_syntax.specs.machines.Door.{Machine, answer_state, Door}
 use Rattle.cedar_text.specs.machines.Named.{ReadsNamed, joins_words, IsWords}
 use Rattle.cedar_text.specs.machines.ExpressionStates.{state, edge, reach_of}
-use Rattle.cedar_syntax.specs.machines.Classes.{with_sign}
 use Rattle.cedar_text.specs.machines.Having.{having}
 use Rattle.cedar_text.specs.machines.Expressions.{mode_step, step_of, last_operand, advance_answer}
 

@@ -21,7 +21,7 @@ use Rattle.cedar_text.specs.declared.text_to_cst.expression.state.Alone.TheVaria
 use Rattle.cedar_syntax.specs.Tokens.{Spot, one}
 use Rattle.cedar_syntax.specs.machines.Door.{Machine, Completed, Door, option_image}
 use Rattle.cedar_text.specs.machines.Named.{ReadsNamed, joins_words, IsWords}
-use Rattle.cedar_text.specs.machines.Closing.{ranged_tree, node_of, operand_of, whole, add_at}
+use Rattle.cedar_text.specs.machines.Closing.{ranged_tree, operand_of, whole, add_at}
 use Rattle.cedar_text.specs.machines.ExpressionStates.{state}
 use Rattle.cedar_text.specs.machines.Having.{having}
 use Rattle.cedar_text.specs.machines.Expressions.{alone_of, alone_reading, alone_at_end, name_at, step_of, last_operand, expr_at_end, sum_at_end, primary_at_end, expressions, sums, primaries}

@@ -1,20 +1,17 @@
 -- The shapes of expressions go as its states do.
 use Rattle.std.specs.Prelude.{cond}
 use Rattle.std.proofs.Common.{◌≡◌, ℕ, List, [], ◌∷◌, Option, Some, None, Bool, true, false, refl, sym, ◌∙◌, ap, subst}
-use Rattle.cedar_syntax.specs.Place.{extent_of, extent}
+use Rattle.cedar_syntax.specs.Place.{extent_of}
 use Rattle.cedar_syntax.specs.Tokens.{fits, number_of, any_of}
-use Rattle.cedar_text.specs.machines.Closing.{ranged_tree, node_of, fresh, no_signs, operand_of, if_operand}
+use Rattle.cedar_text.specs.machines.Closing.{ranged_tree, fresh, no_signs, operand_of, if_operand}
 use Rattle.cedar_text.specs.machines.WordShapes.{no_tree}
 use Rattle.cedar_syntax.specs.machines.Door.{Machine, Answer, next, ended, refused, too_large, Shapes, IsShape, is_some, option_image}
 use Rattle.cedar_lexer.specs.Token.{Lexeme}
 use Rattle.cedar_lexer.specs.declared.token.TokenKind.{TokenKind}
 use Rattle.cedar_lexer.specs.declared.token.TokenKind.TheVariants as kind
-use Rattle.cedar_syntax.specs.declared.cst.Expr.{Expr}
-use Rattle.cedar_syntax.specs.declared.cst.Primary.{Primary}
 use Rattle.cedar_syntax.specs.declared.cst.Primary.TheVariants as primary
 use Rattle.cedar_syntax.specs.declared.cst.Literal.TheVariants as literal
 use Rattle.cedar_syntax.specs.declared.cst.Name.{Name}
-use Rattle.cedar_syntax.specs.declared.cst.Ref.{Ref}
 use Rattle.cedar_syntax.specs.declared.reading.class.Sign.TheVariants as sign
 use Rattle.cedar_syntax.specs.declared.reading.class.Beginning.TheVariants as beginning
 use Rattle.cedar_syntax.specs.declared.reading.class.Closing.TheVariants as closing
@@ -27,7 +24,6 @@ use Rattle.cedar_text.specs.declared.text_to_cst.expression.state.Ranged.{Ranged
 use Rattle.cedar_text.specs.declared.text_to_cst.expression.state.Levels.{Levels}
 use Rattle.cedar_text.specs.declared.text_to_cst.expression.state.Signs.{Signs}
 use Rattle.cedar_text.specs.declared.text_to_cst.expression.state.Operand.{Operand}
-use Rattle.cedar_text.specs.declared.text_to_cst.expression.state.Paren.{Paren}
 use Rattle.cedar_text.specs.declared.text_to_cst.expression.state.Frame.{Frame}
 use Rattle.cedar_text.specs.declared.text_to_cst.expression.state.Frame.TheVariants as frame
 use Rattle.cedar_text.specs.declared.text_to_cst.expression.state.Place.{Place}

@@ -1,5 +1,5 @@
 -- What the machine has begun, and the tokens that it has read so far.
-use Rattle.std.proofs.Common.{◌≡◌, ℕ, ◌+◌, List, [], ◌∷◌, ◌++◌, Option, Some, None, true, false}
+use Rattle.std.proofs.Common.{◌≡◌, ℕ, List, [], ◌∷◌, ◌++◌, Option, Some, None, true, false}
 use Rattle.cedar_lexer.specs.Token.{Lexeme}
 use Rattle.cedar_lexer.specs.declared.token.TokenKind.{TokenKind}
 use Rattle.cedar_lexer.specs.declared.token.TokenKind.TheVariants as kind
@@ -26,13 +26,6 @@ use Rattle.cedar_text.specs.declared.text_to_cst.expression.state.Left.TheVarian
 use Rattle.cedar_text.specs.declared.text_to_cst.expression.state.Levels.{Levels}
 use Rattle.cedar_text.specs.declared.text_to_cst.expression.state.Signs.{Signs}
 use Rattle.cedar_text.specs.declared.text_to_cst.expression.state.Operand.{Operand}
-use Rattle.cedar_text.specs.declared.text_to_cst.expression.state.Paren.{Paren}
-use Rattle.cedar_text.specs.declared.text_to_cst.expression.state.Set.{Set}
-use Rattle.cedar_text.specs.declared.text_to_cst.expression.state.Call.{Call}
-use Rattle.cedar_text.specs.declared.text_to_cst.expression.state.Index.{Index}
-use Rattle.cedar_text.specs.declared.text_to_cst.expression.state.Value.{Value}
-use Rattle.cedar_text.specs.declared.text_to_cst.expression.state.Guard.{Guard}
-use Rattle.cedar_text.specs.declared.text_to_cst.expression.state.Yes.{Yes}
 use Rattle.cedar_text.specs.declared.text_to_cst.expression.state.Frame.{Frame}
 use Rattle.cedar_text.specs.declared.text_to_cst.expression.state.Frame.TheVariants as frame
 use Rattle.cedar_text.specs.declared.text_to_cst.expression.state.Place.{Place}
@@ -42,7 +35,6 @@ use Rattle.cedar_text.specs.declared.text_to_cst.expression.state.State.{State}
 use Rattle.cedar_text.specs.declared.text_to_cst.expression.state.Wanted.{Wanted}
 use Rattle.cedar_text.specs.declared.text_to_cst.expression.state.Reach.{Reach}
 use Rattle.cedar_text.specs.declared.text_to_cst.expression.state.Reach.TheVariants as reach
-use Rattle.cedar_syntax.specs.declared.reading.extent.Extent.{Extent}
 use Rattle.cedar_syntax.specs.Place.{extent, placed}
 use Rattle.cedar_syntax.specs.Tokens.{Spot, one}
 use Rattle.cedar_syntax.specs.Trees.{Cell, member_of, bangs_of, dashes_of}

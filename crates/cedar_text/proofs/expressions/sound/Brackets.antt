@@ -1,5 +1,5 @@
 -- What ends an expression in brackets, or a list.
-use Rattle.std.proofs.Common.{◌≡◌, ℕ, ◌+◌, List, [], ◌∷◌, ◌++◌, Option, Some, None, true, false, refl, sym, ◌∙◌, ap, subst, append_assoc}
+use Rattle.std.proofs.Common.{◌≡◌, ℕ, List, [], ◌∷◌, ◌++◌, Option, Some, None, true, false, refl, sym, ◌∙◌, ap, subst, append_assoc}
 use Rattle.cedar_lexer.specs.Token.{Lexeme}
 use Rattle.cedar_lexer.specs.declared.token.TokenKind.{TokenKind}
 use Rattle.cedar_lexer.specs.declared.token.TokenKind.TheVariants as kind
@@ -15,9 +15,6 @@ use Rattle.cedar_text.specs.declared.text_to_cst.expression.state.Ranged.{Ranged
 use Rattle.cedar_text.specs.declared.text_to_cst.expression.state.Levels.{Levels}
 use Rattle.cedar_text.specs.declared.text_to_cst.expression.state.Signs.{Signs}
 use Rattle.cedar_text.specs.declared.text_to_cst.expression.state.Operand.{Operand}
-use Rattle.cedar_text.specs.declared.text_to_cst.expression.state.Paren.{Paren}
-use Rattle.cedar_text.specs.declared.text_to_cst.expression.state.Value.{Value}
-use Rattle.cedar_text.specs.declared.text_to_cst.expression.state.Yes.{Yes}
 use Rattle.cedar_text.specs.declared.text_to_cst.expression.state.Frame.{Frame}
 use Rattle.cedar_text.specs.declared.text_to_cst.expression.state.Frame.TheVariants as frame
 use Rattle.cedar_text.specs.declared.text_to_cst.expression.state.Place.TheVariants as place

@@ -1,12 +1,11 @@
 -- One operator more behind an operand.
 use Rattle.std.specs.Prelude.{cond}
-use Rattle.std.proofs.Common.{◌≡◌, ℕ, ◌+◌, List, [], ◌∷◌, ◌++◌, Option, Some, None, false, refl, sym, subst, append_assoc, IfSome}
+use Rattle.std.proofs.Common.{◌≡◌, ℕ, List, [], ◌∷◌, ◌++◌, Option, Some, None, false, refl, sym, subst, append_assoc, IfSome}
 use Rattle.std.proofs.lemmas.List.{append-nil}
 use Rattle.cedar_lexer.specs.Token.{Lexeme}
 use Rattle.cedar_lexer.specs.declared.token.TokenKind.{TokenKind}
 use Rattle.cedar_lexer.specs.declared.token.TokenKind.TheVariants as kind
 use Rattle.cedar_expressions.specs.declared.operators.AddOp.{AddOp}
-use Rattle.cedar_syntax.specs.declared.cst.Expr.{Expr}
 use Rattle.cedar_syntax.specs.declared.cst.And.{And}
 use Rattle.cedar_syntax.specs.declared.cst.Relation.{Relation}
 use Rattle.cedar_syntax.specs.declared.cst.Add.{Add}
@@ -33,7 +32,7 @@ use Rattle.cedar_syntax.specs.Place.{extent, placed}
 use Rattle.cedar_syntax.specs.Tokens.{Spot, one}
 use Rattle.cedar_syntax.specs.LooseExpressions.{ReadsAddOp, ReadsMultOp, ReadsRelation, has_if, ReadsAdd, no_access, ReadsPrimary}
 use Rattle.cedar_text.specs.machines.Closing.{Plain, plain_chain, marked_chain, onward, pending, unary_at, made_mult, relation_with_sum, add_at, relation_at, and_at, levels_of, fresh, no_signs, operand_with, operand_of}
-use Rattle.cedar_syntax.specs.machines.Door.{Machine, next, too_large}
+use Rattle.cedar_syntax.specs.machines.Door.{Machine}
 use Rattle.cedar_text.specs.machines.ExpressionStates.{opening, going_on, has_primary, edge}
 use Rattle.cedar_text.specs.machines.Having.{product_beginning, sum_beginning, before, conjunction_beginning, disjunction_beginning, multiply_had, sum_had, and_had, or_had}
 use Rattle.cedar_text.proofs.expressions.Basics.{chain_extent}

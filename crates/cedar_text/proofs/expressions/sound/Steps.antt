@@ -1,12 +1,11 @@
 -- WordsState, and one token more whatever is begun.
-use Rattle.std.proofs.Common.{◌≡◌, ℕ, ◌+◌, List, [], ◌∷◌, ◌++◌, Option, Some, None, Bool, true, false, refl, sym, ◌∙◌, ap, subst, append_assoc}
+use Rattle.std.proofs.Common.{◌≡◌, ℕ, List, [], ◌∷◌, ◌++◌, Option, Some, None, Bool, true, false, refl, sym, ◌∙◌, ap, subst, append_assoc}
 use Rattle.cedar_lexer.specs.Token.{Lexeme}
 use Rattle.cedar_lexer.specs.declared.token.TokenKind.{TokenKind}
 use Rattle.cedar_lexer.specs.declared.token.TokenKind.TheVariants as kind
 use Rattle.cedar_syntax.specs.declared.cst.Primary.{Primary}
 use Rattle.cedar_syntax.specs.declared.cst.Ident.{Ident}
 use Rattle.cedar_syntax.specs.declared.cst.Ident.TheVariants as ident
-use Rattle.cedar_syntax.specs.declared.cst.Name.{Name}
 use Rattle.cedar_text.specs.machines.Named.{NameOrEntity}
 use Rattle.cedar_text.specs.declared.text_to_cst.state.WordsState.{WordsState}
 use Rattle.cedar_text.specs.declared.text_to_cst.expression.state.Branch.{Branch}
@@ -25,7 +24,7 @@ use Rattle.cedar_syntax.specs.Trees.{Cell, name_of}
 use Rattle.cedar_syntax.specs.LooseExpressions.{no_access, field, ReadsPrimary, literally, referred, named}
 use Rattle.cedar_syntax.specs.LooseWords.{common as common_name, truth, falsity, any, one_word, more_words, qualified}
 use Rattle.cedar_text.specs.machines.Closing.{fresh, operand_of, if_operand}
-use Rattle.cedar_syntax.specs.machines.Door.{Machine, Answer, next, ended, refused, too_large, Comes, steps, step_from, answer_state, Door, AnswersRightly}
+use Rattle.cedar_syntax.specs.machines.Door.{Machine, Answer, next, ended, refused, too_large, Comes, step_from, answer_state, Door, AnswersRightly}
 use Rattle.cedar_text.specs.machines.Named.{ReadsNamed, a_path, a_ref}
 use Rattle.cedar_syntax.specs.machines.Classes.{operator_of}
 use Rattle.cedar_text.specs.machines.ExpressionStates.{edge}
@@ -36,7 +35,7 @@ use Rattle.cedar_text.proofs.expressions.sound.Begun.{at, closed, BegunBranches,
 use Rattle.cedar_text.proofs.expressions.sound.Operators.{After, moved, after_moved, leads_to, wants_leads, opens_in}
 use Rattle.cedar_text.proofs.expressions.sound.Tokens.{had_begun, wanted_begun}
 use Rattle.cedar_text.proofs.expressions.sound.Brackets.{access_ends}
-use Rattle.cedar_syntax.proofs.machines.Laws.{steps-append, steps-none}
+use Rattle.cedar_syntax.proofs.machines.Laws.{steps-append}
 
 abbrev pub Names : Type 0
 Names = Machine Lexeme WordsState NameOrEntity

@@ -16,7 +16,6 @@ use Rattle.cedar_text.specs.declared.text_to_cst.state.WordsState.{WordsState}
 use Rattle.cedar_text.specs.declared.text_to_cst.expression.state.Levels.{Levels}
 use Rattle.cedar_text.specs.declared.text_to_cst.expression.state.Signs.{Signs}
 use Rattle.cedar_text.specs.declared.text_to_cst.expression.state.Operand.{Operand}
-use Rattle.cedar_text.specs.declared.text_to_cst.expression.state.Paren.{Paren}
 use Rattle.cedar_text.specs.declared.text_to_cst.expression.state.Frame.{Frame}
 use Rattle.cedar_text.specs.declared.text_to_cst.expression.state.Place.{Place}
 use Rattle.cedar_text.specs.declared.text_to_cst.expression.state.Wanted.{Wanted}

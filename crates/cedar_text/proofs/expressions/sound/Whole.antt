@@ -1,5 +1,5 @@
 -- What a whole run has read is a tree of the grammar.
-use Rattle.std.proofs.Common.{◌≡◌, ℕ, ◌+◌, List, [], ◌∷◌, ◌++◌, Option, Some, None, refl, sym, ◌∙◌, ap, subst, append_assoc, IfSome}
+use Rattle.std.proofs.Common.{◌≡◌, ℕ, List, [], ◌∷◌, ◌++◌, Option, Some, None, refl, sym, ◌∙◌, ap, subst, append_assoc, IfSome}
 use Rattle.std.proofs.lemmas.List.{append-nil}
 use Rattle.cedar_lexer.specs.Token.{Lexeme}
 use Rattle.cedar_lexer.specs.declared.token.TokenKind.{TokenKind}
@@ -31,16 +31,16 @@ use Rattle.cedar_syntax.specs.Trees.{Cell, name_of}
 use Rattle.cedar_syntax.specs.LooseExpressions.{ReadsExpr, ReadsAdd, no_access, ReadsPrimary, literally, referred, named}
 use Rattle.cedar_syntax.specs.LooseWords.{common as common_name, truth, falsity, any, one_word, more_words, qualified}
 use Rattle.cedar_text.specs.machines.Closing.{add_at, whole, if_operand}
-use Rattle.cedar_syntax.specs.machines.Door.{Machine, next, too_large, Comes, steps, answer_state, Door, option_image}
+use Rattle.cedar_syntax.specs.machines.Door.{Machine, Comes, steps, answer_state, Door, option_image}
 use Rattle.cedar_text.specs.machines.Named.{ReadsNamed, a_path, a_ref}
 use Rattle.cedar_text.specs.machines.ExpressionStates.{opening, alone_reach, edge}
 use Rattle.cedar_text.specs.machines.Expressions.{word_alone, step_of, if_at_end, alone_at_end, named_at_end, last_operand, expr_at_end, sum_at_end, primary_at_end, advance_answer, expressions, sums, primaries}
-use Rattle.cedar_text.proofs.expressions.sound.Begun.{at, closed, Reading, no_mult, no_add, no_branch, in_sum, levels, begun_if, whole_longer, sum_longer, if_longer, Holds, holds, holds_primary, bottom, in_paren, in_set, in_call, in_index, in_key, in_value, in_guard, in_yes, Wants, at_expr, at_item, at_key, at_has, at_operand, at_primary, Begun, is_wanting, is_worded, is_dotted, is_had}
+use Rattle.cedar_text.proofs.expressions.sound.Begun.{at, closed, Reading, no_mult, no_add, no_branch, in_sum, begun_if, whole_longer, sum_longer, if_longer, Holds, holds, holds_primary, bottom, in_paren, in_set, in_call, in_index, in_key, in_value, in_guard, in_yes, Wants, at_expr, at_item, at_key, at_has, at_operand, at_primary, Begun, is_wanting, is_worded, is_dotted, is_had}
 use Rattle.cedar_text.proofs.expressions.sound.Closing.{sum_close}
 use Rattle.cedar_text.proofs.expressions.sound.Operators.{kept, moved, leads_to, unsigned_sum, wants_leads, opens_expr}
 use Rattle.cedar_text.proofs.expressions.sound.Brackets.{holds_whole}
 use Rattle.cedar_text.proofs.expressions.sound.Steps.{Names, true_kind, false_kind, if_kind, path_name, step_begun}
-use Rattle.cedar_syntax.proofs.machines.Laws.{some_is, none_some, if_some, steps-none}
+use Rattle.cedar_syntax.proofs.machines.Laws.{some_is, none_some, steps-none}
 
 -- the last operand, with all that is begun before it
 

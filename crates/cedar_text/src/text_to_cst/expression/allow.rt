@@ -1,8 +1,7 @@
 //! What may come next, by the shape of the state alone: nothing is built.
-ghost use Rattle.std.specs.Prelude.{◌≡◌, [], ◌∷◌, List, Bool, None};
+ghost use Rattle.std.specs.Prelude.{◌≡◌, [], ◌∷◌, List, None};
 ghost use Rattle.cedar_text.specs.declared.text_to_cst.expression.state.Place.TheVariants as place;
 ghost use Rattle.cedar_syntax.specs.machines.Door.{Answer, is_some, is_taken};
-ghost use Rattle.cedar_syntax.specs.machines.Classes.{operator_of};
 ghost use Rattle.cedar_text.specs.machines.NamedShapes.{named_shapes};
 ghost use Rattle.cedar_text.specs.machines.WordShapes.{WordsShape, WordsKind, words_shape};
 ghost use Rattle.cedar_text.specs.machines.ExpressionShapes.{FrameShape, LeftShape, left_shape, frame_shape, stack_shape, op_sign, has_access, has_sum, has_relation, has_and, compare_shape, side_shape, ended_shape, had_step, having_shape, signed_shape, sign_shape, guard_begins, if_key_shape, list_end, wanted_shape, wanting_shape, key_or_guard_shape, if_shape, after_words, word_shape, mode_shape, step_shape, if_ends, words_can_end, ends};

@@ -1,5 +1,5 @@
 //! What a state becomes where something begins.
-ghost use Rattle.std.specs.Prelude.{◌≡◌, [], ◌∷◌, OnOk, IfOk};
+ghost use Rattle.std.specs.Prelude.{◌≡◌, [], ◌∷◌, IfOk};
 ghost use Rattle.cedar_text.specs.machines.Advance as advance;
 ghost use Rattle.cedar_text.specs.machines.Closing.{fresh, no_signs, operand_of};
 ghost use Rattle.cedar_text.specs.machines.ExpressionStates.{opening, wants, has_operand, has_primary};

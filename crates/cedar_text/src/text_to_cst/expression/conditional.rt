@@ -1,7 +1,7 @@
 //! `if`, `then` and `else`.
 ghost use Rattle.std.specs.Prelude.{◌≡◌, IfOk};
 ghost use Rattle.cedar_syntax.specs.declared.reading.class.Closing.TheVariants as closing;
-ghost use Rattle.cedar_text.specs.machines.Having.{guard_ending, branch_of, yes_ending};
+ghost use Rattle.cedar_text.specs.machines.Having.{guard_ending, yes_ending};
 ghost use Rattle.cedar_text.specs.machines.Stepped.{advance_of};
 
 use crate::text_to_cst::expression::state::{

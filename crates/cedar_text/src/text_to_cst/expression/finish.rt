@@ -1,6 +1,5 @@
 //! The tree at the end of the tokens, where there is one.
 ghost use Rattle.std.specs.Prelude.{◌≡◌, [], Some, IfOk};
-ghost use Rattle.cedar_syntax.specs.declared.cst.Literal.TheVariants as literal;
 ghost use Rattle.cedar_text.specs.machines.Closing.{operand_of};
 ghost use Rattle.cedar_text.specs.machines.Wanting.{literal_at};
 ghost use Rattle.cedar_text.specs.machines.Expressions.{alone_of, name_at, if_at_end, alone_at_end, named_at_end, last_operand, expr_at_end, sum_at_end, primary_at_end};

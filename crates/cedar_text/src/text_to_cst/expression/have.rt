@@ -3,7 +3,7 @@ ghost use Rattle.std.specs.Prelude.{◌≡◌, cond, IfOk};
 ghost use Rattle.cedar_lexer.specs.Token.{lexeme_of};
 ghost use Rattle.cedar_text.specs.declared.text_to_cst.expression.state.Reach.TheVariants as reach;
 ghost use Rattle.cedar_text.specs.machines.Closing.{whole};
-ghost use Rattle.cedar_text.specs.machines.ExpressionStates.{alone_reach, edge, reach_of};
+ghost use Rattle.cedar_text.specs.machines.ExpressionStates.{alone_reach, edge};
 ghost use Rattle.cedar_text.specs.machines.Having.{frame_ending, had, having};
 ghost use Rattle.cedar_text.specs.machines.Stepped.{advance_of};
 

@@ -1,8 +1,6 @@
 //! An operator behind an operand: it closes the levels that bind tighter, and goes on the level that is its own.
-ghost use Rattle.std.specs.Prelude.{◌≡◌, Some, None, OnOk, IfOk};
+ghost use Rattle.std.specs.Prelude.{◌≡◌, IfOk};
 ghost use Rattle.cedar_text.specs.machines.Advance as advance;
-ghost use Rattle.cedar_text.specs.declared.text_to_cst.expression.state.Reach.TheVariants as reach;
-ghost use Rattle.cedar_text.specs.machines.Closing.{marked_chain, plain_chain, unary_at, mult_at, add_at, relation_at, and_at, onward, pending};
 ghost use Rattle.cedar_text.specs.machines.Having.{product_beginning, sum_beginning, conjunction_beginning, disjunction_beginning, multiply_had, sum_had, and_had, or_had};
 ghost use Rattle.cedar_text.specs.machines.Stepped.{advance_of};
 

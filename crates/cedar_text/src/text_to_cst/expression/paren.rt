@@ -2,7 +2,7 @@
 ghost use Rattle.std.specs.Prelude.{◌≡◌, IfOk};
 ghost use Rattle.cedar_syntax.specs.declared.reading.class.Closing.TheVariants as closing;
 ghost use Rattle.cedar_text.specs.machines.Advance as advance;
-ghost use Rattle.cedar_text.specs.machines.Closing.{ranged_tree, node_of};
+ghost use Rattle.cedar_text.specs.machines.Closing.{node_of};
 ghost use Rattle.cedar_text.specs.machines.ExpressionStates.{around};
 ghost use Rattle.cedar_text.specs.machines.Wanting.{paren_opening};
 ghost use Rattle.cedar_text.specs.machines.Having.{paren_ending};

@@ -1,5 +1,5 @@
 //! Comparisons, and the words `has`, `like` and `is` behind a left side.
-ghost use Rattle.std.specs.Prelude.{◌≡◌, Some, None, OnOk, IfOk};
+ghost use Rattle.std.specs.Prelude.{◌≡◌, Some, None, IfOk};
 ghost use Rattle.cedar_syntax.specs.declared.cst.RelOp.TheVariants as rel;
 ghost use Rattle.cedar_text.specs.declared.text_to_cst.expression.state.Left.TheVariants as left;
 ghost use Rattle.cedar_text.specs.machines.Advance as advance;

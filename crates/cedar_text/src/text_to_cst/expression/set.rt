@@ -1,6 +1,5 @@
 //! A set in brackets.
 ghost use Rattle.std.specs.Prelude.{◌≡◌, IfOk};
-ghost use Rattle.cedar_syntax.specs.declared.reading.class.Closing.TheVariants as closing;
 ghost use Rattle.cedar_text.specs.machines.Advance as advance;
 ghost use Rattle.cedar_text.specs.machines.Wanting.{set_opening, set_closing};
 ghost use Rattle.cedar_text.specs.machines.Having.{set_more, set_ending};

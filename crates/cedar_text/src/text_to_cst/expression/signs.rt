@@ -1,6 +1,5 @@
 //! Signs before an operand.
 ghost use Rattle.std.specs.Prelude.{◌≡◌};
-ghost use Rattle.cedar_syntax.specs.machines.Classes.{with_sign};
 ghost use Rattle.cedar_text.specs.machines.Wanting.{after_signs, sign_reading};
 ghost use Rattle.cedar_text.specs.machines.Stepped.{advance_of};
 

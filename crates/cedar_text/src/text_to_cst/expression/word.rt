@@ -1,15 +1,12 @@
 //! What words are read as, once the token behind them is there.
-ghost use Rattle.std.specs.Prelude.{◌≡◌, [], Some, None, IfOk};
+ghost use Rattle.std.specs.Prelude.{◌≡◌, [], Some, IfOk};
 ghost use Rattle.cedar_lexer.specs.Token.{lexeme_of};
-ghost use Rattle.cedar_syntax.specs.declared.cst.Literal.TheVariants as literal;
 ghost use Rattle.cedar_syntax.specs.declared.cst.Primary.TheVariants as primary;
-ghost use Rattle.cedar_syntax.specs.Place.{extent_of};
 ghost use Rattle.cedar_syntax.specs.WrittenTokens.{IsWritten};
-ghost use Rattle.cedar_syntax.specs.declared.reading.class.Operator.TheVariants as operator;
 ghost use Rattle.cedar_text.specs.machines.Closing.{ranged_tree, node_of, no_signs, operand_of, if_primary, if_operand, if_key};
 ghost use Rattle.cedar_text.specs.machines.Wanting.{literal_at};
 ghost use Rattle.cedar_text.specs.machines.Having.{having};
-ghost use Rattle.cedar_text.specs.machines.Expressions.{name_at, word_alone, alone_of, guard_beginning, if_key_reading, key_or_guard, if_alone, alone_reading, name_reading, word_reading};
+ghost use Rattle.cedar_text.specs.machines.Expressions.{name_at, alone_of, guard_beginning, if_key_reading, key_or_guard, if_alone, alone_reading, name_reading, word_reading};
 ghost use Rattle.cedar_text.specs.machines.Named.{words_tree, named_words};
 ghost use Rattle.cedar_text.specs.machines.Stepped.{advance_of};
 

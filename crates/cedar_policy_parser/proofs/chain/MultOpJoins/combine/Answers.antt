@@ -1,4 +1,4 @@
-use Rattle.cedar_syntax.specs.Tree.{or_or, and_and, multiply}
+use Rattle.cedar_syntax.specs.Tree.{multiply}
 use Rattle.cedar_policy_parser.proofs.Outcomes.{gives_at}
 use Rattle.cedar_policy_parser.proofs.Parts.{mult_made}
 use Rattle.cedar_policy_parser.proofs.chain.MultOpJoins.combine.Goals as goal

@@ -1,4 +1,4 @@
-use Rattle.std.proofs.Common.{◌≡◌, sym, ap, ◌∙◌}
+use Rattle.std.proofs.Common.{sym, ap, ◌∙◌}
 use Rattle.std.specs.FinMap as map
 use Rattle.cedar_policy_store.proofs.MapsByText.{len-map_in}
 use Rattle.cedar_policy_store.proofs.policy_set.PolicySetDisplay.fmt.Goals as goal

@@ -1,8 +1,6 @@
-use Rattle.std.proofs.Common.{rules, ◌≡◌, ℕ, List, [], ◌∷◌, ◌++◌, map, codes, sym, ap, refl, subst, ◌∙◌}
+use Rattle.std.proofs.Common.{◌++◌, codes, sym, refl, ◌∙◌}
 use Rattle.std.proofs.Output.{has_written_append, has_written_of_eq}
-use Rattle.std.specs.List.{flat_map}
-use Rattle.std.specs.Fmt.{HasWritten, WritesOnOk}
-use Rattle.cedar_syntax.specs.Conjoined.{list_text}
+use Rattle.std.specs.Fmt.{HasWritten}
 use Rattle.cedar_syntax.proofs.ConjoinedLemmas.{conjoined-written}
 use Rattle.cedar_syntax.proofs.err.conjunction.write_list.Goals as goal
 

@@ -1,5 +1,4 @@
 use Rattle.std.proofs.Common.{codes}
-use Rattle.cedar_syntax.specs.Kept.{TokenRules}
 use Rattle.cedar_syntax.proofs.err.expected.policy_token_config.Goals as goal
 
 pub returns : goal.returns

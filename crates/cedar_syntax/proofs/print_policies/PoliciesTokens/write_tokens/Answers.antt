@@ -1,4 +1,4 @@
-use Rattle.cedar_syntax.proofs.Printing.{after, as_texts}
+use Rattle.cedar_syntax.proofs.Printing.{as_texts}
 use Rattle.cedar_syntax.proofs.Texts.{policies_texts}
 use Rattle.cedar_syntax.proofs.print_policies.PoliciesTokens.write_tokens.Goals as goal
 

@@ -1,4 +1,4 @@
-use Rattle.cedar_syntax.proofs.Printing.{after, as_texts}
+use Rattle.cedar_syntax.proofs.Printing.{as_texts}
 use Rattle.cedar_syntax.proofs.Texts.{policy_texts}
 use Rattle.cedar_syntax.proofs.print_policies.PolicyTokens.write_tokens.Goals as goal
 

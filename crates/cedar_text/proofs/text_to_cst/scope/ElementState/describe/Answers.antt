@@ -1,4 +1,4 @@
-use Rattle.std.proofs.Common.{◌≡◌, ◌∙◌, sym, ap}
+use Rattle.std.proofs.Common.{◌∙◌, sym, ap}
 use Rattle.cedar_lexer.specs.Token.{lexeme_of}
 use Rattle.std.specs.Prelude.{None}
 use Rattle.cedar_text.specs.machines.Scope.{at_entity_type}
