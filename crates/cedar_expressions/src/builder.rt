@@ -8,6 +8,7 @@ use std::alloc::{AllocError, Global};
 
 /// Makes expressions: each call makes one node, and takes the builder with its place.
 pub trait ExprBuilderInfallibleBuild: Drop {
+    /// What is made.
     type Expr: Drop;
 
     ghost use Rattle.cedar_expressions.specs.Value.{Value};

@@ -7,7 +7,7 @@ ghost use Rattle.cedar_policy_parser.specs.Conversion.{Converts};
 ghost use Rattle.cedar_policy_parser.specs.Refused.{TellsTree};
 ghost use Rattle.cedar_parse.specs.Ends.{IsMeant, IsVerdict, Streams, streams_at, Ends, Stops, StopsWriting, TellsEnd, status_of};
 ghost use Rattle.cedar_parse.specs.Streams.{reader_of, read_failure, writer_state};
-ghost use Rattle.cedar_parse.specs.Words.{AsksFor, AsksForNothing, styles_of};
+ghost use Rattle.cedar_parse.specs.Words.{AsksForNothing, styles_of};
 ghost use Rattle.cedar_parse.specs.declared.run.Ending.{Ending as How};
 ghost use Rattle.cedar_parse.specs.declared.run.Ending.TheVariants.{Stopped, Usage};
 ghost use Rattle.cedar_parse.specs.declared.run.Verdict.TheVariants as verdict;
@@ -273,7 +273,8 @@ fn print_faults<O: Write>(faults: &ParseErrors, out: &mut Output<O>) -> Result<(
     Ok(())
 }
 
-fn print_fault<O: Write>(fault: &ParseError, out: &mut Output<O>) -> Result<(), Stop>
+/// A fault's place and what is said of it; a dash where it has no place.
+pub(crate) fn print_fault<O: Write>(fault: &ParseError, out: &mut Output<O>) -> Result<(), Stop>
     ensures { IfErr result (λ stop. writer_state out.new ≡ WriterState.Failed stop) }
 {
     match fault.primary_source_span() {

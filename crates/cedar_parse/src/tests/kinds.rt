@@ -388,6 +388,11 @@ fn what_the_scope_cannot_have_is_told(rt: HostRuntime) {
         ToASTErrorKind::wrong_entity_argument_two_expected(Ref::Single, Ref::Template, Ref::Set),
         "expected single entity uid or template slot, found set of entity uids",
     );
+    says_and_copies(
+        &rt,
+        ToASTErrorKind::wrong_entity_argument_one_expected(Ref::Template, Ref::Single),
+        "expected template slot, found single entity uid",
+    );
     let found = made(
         &rt,
         String::from_str(rt.alloc(), "?resource instead of ?principal"),

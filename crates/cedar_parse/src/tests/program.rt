@@ -1,7 +1,8 @@
 //! Runs of the program over memory: its rows, and readers and writers that fail.
 use super::held::{holds, holds_for, made, refusal};
-use crate::run::{arguments, refuse_arguments, run};
+use crate::run::{arguments, print_fault, refuse_arguments, run};
 use crate::streams::Output;
+use cedar_syntax::err::{ParseError, ToASTError, ToASTErrorKind};
 use std::env::{Env, FillError};
 use std::io;
 use std::io::{ErrorKind, Read, Write};
@@ -405,6 +406,19 @@ fn tells_of_a_flush_that_fails(rt: HostRuntime) {
             status == 4 && err.as_slice() == b"input or output failed\n".as_slice(),
         );
     }
+}
+
+#[test]
+fn a_fault_without_a_place_stands_behind_a_dash(rt: HostRuntime) {
+    let fault = ParseError::ToAST(ToASTError::new(ToASTErrorKind::InvalidSingleEq, None));
+    let mut out = Vec::new(rt.alloc());
+    let printed = print_fault(&fault, &mut Output::new(&mut out));
+    drop(fault);
+    holds(&rt, printed.is_ok());
+    holds(
+        &rt,
+        out.as_slice() == b"-: '=' is not a valid operator in Cedar\n".as_slice(),
+    );
 }
 
 #[test]
