@@ -1,5 +1,5 @@
 -- Each way to end a run, with what its end says.
-use Rattle.std.proofs.Common.{◌≡◌, ◌⊎◌, ℕ, List, Option, Some, None, Result, Ok, Err, IfSome, IfErr, IsTrue, false, true≢false, inl, inr, sym}
+use Rattle.std.proofs.Common.{◌≡◌, ◌⊎◌, ℕ, List, Option, Some, None, Result, Ok, Err, IfSome, IfErr, inl, inr}
 use Rattle.std.specs.Prelude.{String}
 use Rattle.std.specs.Str.{IsUtf8}
 use Rattle.cedar_parse.specs.declared.run.Ending.{Ending}
@@ -7,7 +7,7 @@ use Rattle.cedar_parse.specs.declared.run.Ending.TheVariants.{Usage, Stopped}
 use Rattle.cedar_parse.specs.declared.streams.Stop.{Stop}
 use Rattle.cedar_parse.specs.declared.streams.Stop.TheVariants.{InputOutput}
 use Rattle.cedar_parse.specs.declared.streams.WriterState.{WriterState}
-use Rattle.cedar_parse.specs.declared.streams.WriterState.TheVariants.{Written, Failed}
+use Rattle.cedar_parse.specs.declared.streams.WriterState.TheVariants.{Written}
 use Rattle.cedar_parse.specs.Ends.{Streams, Stops, StopsWriting, Ends, TellsEnd, status_of}
 use Rattle.cedar_parse.specs.Streams.{IsNoText}
 use Rattle.cedar_parse.specs.declared.words.Command.{Command}

@@ -1,7 +1,6 @@
 -- A text, its tree, and what both say of its meaning.
 use Rattle.std.specs.Result.{result_and}
 use Rattle.std.proofs.Common.{◌≡◌, ℕ, List, String, Result, Ok, Err, IfOk, IfErr, IsErrAnd, sym, ap, subst, ◌∙◌}
-use Rattle.cedar_lexer.specs.Cut.{Cuts}
 use Rattle.cedar_lexer.specs.Token.{Lexeme}
 use Rattle.cedar_expressions.specs.Value.{Value}
 use Rattle.cedar_syntax.specs.declared.cst.Expr.{Expr}

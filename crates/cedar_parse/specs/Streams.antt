@@ -9,7 +9,7 @@ use Rattle.cedar_parse.specs.declared.streams.Stop.TheVariants.{Memory}
 use Rattle.cedar_parse.specs.declared.streams.Input.{Input}
 use Rattle.cedar_parse.specs.declared.streams.Output.{Output}
 use Rattle.cedar_parse.specs.declared.streams.WriterState.{WriterState}
-use Rattle.cedar_parse.specs.declared.streams.WriterState.TheVariants.{Flushed, Written, Failed}
+use Rattle.cedar_parse.specs.declared.streams.WriterState.TheVariants.{Failed}
 
 -- want of memory stands for the errors of its own kind, and for no other
 abbrev pub StandsFor : Stop → Error → Type 0

@@ -1,4 +1,4 @@
-use Rattle.std.proofs.Common.{true, sym, ◌∙◌, true≢false, rules}
+use Rattle.std.proofs.Common.{sym, ◌∙◌, true≢false, rules}
 use Rattle.cedar_parse.proofs.Spelled.{onward, back, last_part, one_part}
 use Rattle.cedar_parse.proofs.words.is_name.Goals as goal
 

@@ -1,4 +1,4 @@
-use Rattle.std.proofs.Common.{true, false, ◌++◌, sym, ap, ◌∙◌, true≢false, rules}
+use Rattle.std.proofs.Common.{◌++◌, sym, ap, ◌∙◌, true≢false, rules}
 use Rattle.std.specs.List.{list_all}
 use Rattle.cedar_expressions.specs.Path.{namespace_text, is_unreserved_identifier}
 use Rattle.cedar_parse.proofs.Spelled.{onward, back, last_part, path_ok, path_written}
