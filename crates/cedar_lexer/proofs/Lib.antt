@@ -1,10 +1,14 @@
 pub mod Bytes
 pub mod Cuts
+pub mod Ends
 pub mod Fixed
 pub mod Found
 pub mod Fronts
+pub mod Joints
 pub mod Marks
+pub mod Padded
 pub mod Runs
 pub mod Skips
+pub mod Spaced
 pub mod Steps
 pub mod Strings

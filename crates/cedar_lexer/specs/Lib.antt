@@ -4,3 +4,5 @@ pub mod Names
 pub mod Scan
 pub mod Spelling
 pub mod Token
+pub mod Varied
+pub mod Words

@@ -1,5 +1,5 @@
 //! Laws of the cut. Each is a function that does nothing: its contract is the law.
-ghost use Rattle.std.specs.Prelude.{◌≡◌, ◌↔◌, ◌⊎◌, ℕ, ◌≤◌, List, [], ◌∷◌, ◌++◌, Option, Result};
+ghost use Rattle.std.specs.Prelude.{◌≡◌, ◌↔◌, ◌⊎◌, ℕ, ◌≤◌, List, [], ◌∷◌, ◌++◌, Option, Result, length, ◌+◌, codes};
 ghost use Rattle.std.specs.Iterator.{Drains};
 ghost use Rattle.std.specs.Str.{IsUtf8, IsCharBoundary};
 ghost use Rattle.cedar_lexer.specs.declared.token.Token.{Token};
@@ -7,6 +7,8 @@ ghost use Rattle.cedar_lexer.specs.declared.token.InvalidToken.{InvalidToken};
 ghost use Rattle.cedar_lexer.specs.Token.{Lexeme};
 ghost use Rattle.cedar_lexer.specs.Cut.{Layout, Cuts, CutsFrom, StopsAt, StopsFrom, IsTokenRange, StandInOrder};
 ghost use Rattle.cedar_lexer.specs.LexerState.{IsNextToken, LexerAnswers, fresh_lexer, IsCutOrStop, AnswersAre};
+ghost use Rattle.cedar_lexer.specs.Varied.{IsPadding, BeginsAt, FitsBefore, end_of};
+ghost use Rattle.cedar_lexer.specs.Words.{TokenText, AreSpelled, words_of, texts_of, tokens_text, open_word, close_word};
 
 /// A text has at most one cut.
 pub fn at_most_one_cut()
@@ -55,4 +57,28 @@ pub fn whole_run()
     ensures { (source : List ℕ) (answers : List (Result Token InvalidToken))
         → Drains LexerAnswers (fresh_lexer source) answers → (ts : List Lexeme) × (bad : Option ℕ)
         × IsCutOrStop source 0 ts bad × AnswersAre answers ts bad }
+{}
+
+/// Spellings with one space between two cut into tokens of these kinds and texts.
+pub fn spaced_words_are_cut()
+    ensures { (words : List TokenText) → AreSpelled words → (ts : List Lexeme)
+        × Cuts (tokens_text (texts_of words)) ts × (words_of ts ≡ words) }
+{}
+
+/// White space, or a comment with its line end, straight before a token leaves the words of a text as they are; so do
+/// parentheses put around the bytes of some tokens, but for themselves.
+pub fn varied_texts_are_cut()
+    ensures padding { (front padding rest : List ℕ) (ts : List Lexeme)
+        → IsUtf8 (front ++ rest) → Cuts (front ++ rest) ts → BeginsAt (length front) ts
+        → (p : IsPadding padding) → FitsBefore p (length front) ts
+        → (us : List Lexeme) × Cuts (front ++ (padding ++ rest)) us × (words_of us ≡ words_of ts) }
+    ensures parentheses { (front middle rest : List ℕ) (before : List Lexeme) (t : Lexeme)
+        (ts after : List Lexeme)
+        → IsUtf8 (front ++ (middle ++ rest))
+        → Cuts (front ++ (middle ++ rest)) (before ++ t ∷ (ts ++ after))
+        → t.start ≡ length front → end_of (t ∷ ts) ≡ length front + length middle
+        → (us : List Lexeme)
+        × Cuts (front ++ (codes "(" ++ (middle ++ (codes ")" ++ rest)))) us
+        × (words_of us ≡ words_of before ++ (open_word ∷ (words_of (t ∷ ts)
+        ++ (close_word ∷ words_of after)))) }
 {}

@@ -3,3 +3,4 @@ mod Verdicts
 mod Spelled
 mod Naming
 mod MeantSets
+mod WrittenAnswers

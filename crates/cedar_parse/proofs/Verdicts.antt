@@ -4,7 +4,7 @@ use Rattle.std.proofs.Common.{◌≡◌, ℕ, List, String, Result, Ok, Err, IfO
 use Rattle.cedar_lexer.specs.Token.{Lexeme}
 use Rattle.cedar_expressions.specs.Value.{Value}
 use Rattle.cedar_syntax.specs.declared.cst.Expr.{Expr}
-use Rattle.cedar_syntax.specs.declared.cst.TheConstants.{SIGN_LIMIT}
+use Rattle.cedar_syntax.specs.Signs.{sign_limit}
 use Rattle.cedar_syntax.specs.declared.err.faults.Failure.{Failure}
 use Rattle.cedar_syntax.specs.declared.err.faults.Failure.TheVariants.{Memory, Errors}
 use Rattle.cedar_syntax.specs.Located.{Located}
@@ -27,13 +27,13 @@ use Rattle.cedar_parse.specs.Words.{styles_of}
 
 -- the law of the conversion that tokens which mean something have a tree that is converted to it
 abbrev pub Complete : Type 0
-Complete = (table : Extensions) (src : List ℕ) (ts : List Lexeme) (w : Value) → Means table SIGN_LIMIT expression ts w
+Complete = (table : Extensions) (src : List ℕ) (ts : List Lexeme) (w : Value) → Means table sign_limit expression ts w
     → (x : Expr) × ReadsExpr src ts x × Converts table (located expr_form (placed src ts x)) w
 
 -- the law of the conversion that a tree which is converted has tokens that mean the value
 abbrev pub Sound : Type 0
 Sound = (table : Extensions) (src : List ℕ) (ts : List Lexeme) (x : Expr) (w : Value) → ReadsExpr src ts x
-    → Converts table (located expr_form (placed src ts x)) w → Means table SIGN_LIMIT expression ts w
+    → Converts table (located expr_form (placed src ts x)) w → Means table sign_limit expression ts w
 
 -- a text is meant whose tree is converted
 pub meant_by : {A : Type 0} (words : List (String A)) → Sound → (src : List ℕ) (y : Cell Expr) (w : Value) → IsTreeOf ReadsExpr src y → Converts (styles_of words) (located expr_form y) w

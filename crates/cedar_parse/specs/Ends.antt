@@ -1,12 +1,12 @@
 -- What each end of a run says of the words and of the text.
-use Rattle.std.specs.Prelude.{◌≡◌, ◌⊎◌, ℕ, List, Option, Some, None, IfSome, String}
+use Rattle.std.specs.Prelude.{◌≡◌, ◌⊎◌, ℕ, List, Option, Some, None, IfSome, String, ⊤}
 use Rattle.std.specs.Str.{IsUtf8}
 use Rattle.cedar_lexer.specs.Token.{Lexeme}
 use Rattle.cedar_lexer.specs.Cut.{Cuts}
 use Rattle.cedar_expressions.specs.Value.{Value}
-use Rattle.cedar_syntax.specs.declared.cst.TheConstants.{SIGN_LIMIT}
+use Rattle.cedar_syntax.specs.Signs.{sign_limit}
 use Rattle.cedar_policy_parser.specs.Strict.{Means, expression}
-use Rattle.cedar_policy_parser.specs.StrictPolicy.{IsPolicySet}
+use Rattle.cedar_policy_parser.specs.Formatted.{AreLinesOf, MeansSet}
 use Rattle.cedar_policy_store.specs.PlaceFree.{Policies as PolicySet}
 use Rattle.cedar_parse.specs.declared.run.Ending.{Ending}
 use Rattle.cedar_parse.specs.declared.run.Ending.TheVariants.{Answered, Usage, Stopped}
@@ -18,37 +18,47 @@ use Rattle.cedar_parse.specs.declared.streams.Input.{Input}
 use Rattle.cedar_parse.specs.declared.streams.Output.{Output}
 use Rattle.cedar_parse.specs.declared.streams.WriterState.{WriterState}
 use Rattle.cedar_parse.specs.declared.streams.WriterState.TheVariants.{Flushed, Written, Failed}
-use Rattle.cedar_parse.specs.Streams.{read_failure, writer_state, IsNoText}
+use Rattle.cedar_parse.specs.Streams.{Writing, IsWritten, read_failure, writer_state, IsNoText}
 use Rattle.cedar_parse.specs.declared.words.Command.{Command}
-use Rattle.cedar_parse.specs.declared.words.Command.TheVariants.{Expression, Policies}
+use Rattle.cedar_parse.specs.declared.words.Command.TheVariants.{Expression, Policies, Format}
 use Rattle.cedar_parse.specs.Words.{AsksFor, AsksForNothing, styles_of}
 
 -- the text's tokens mean what the command asks for: an expression, or a set of policies, that
 -- calls no extension but those that the words name
 abbrev pub IsMeant : {A : Type 0} → Command → List (String A) → List ℕ → Type 0
 IsMeant Expression words text = (ts : List Lexeme) × (value : Value) × Cuts text ts
-    × Means (styles_of words) SIGN_LIMIT expression ts value
-IsMeant Policies words text = (ts : List Lexeme) × (set : PolicySet) × Cuts text ts
-    × IsPolicySet (styles_of words) SIGN_LIMIT ts set
+    × Means (styles_of words) sign_limit expression ts value
+IsMeant Policies words text = (set : PolicySet) × MeansSet (styles_of words) text set
+IsMeant Format words text = (set : PolicySet) × MeansSet (styles_of words) text set
 
 abbrev pub IsVerdict : {A : Type 0} → Command → List (String A) → List ℕ → Verdict → Type 0
 IsVerdict command words text Accepted = IsMeant command words text
 IsVerdict command words text Refused = ¬ IsMeant command words text
 
+-- What is written of an accepted text that is to be formatted: the text's policies in lines. Of
+-- what is written else nothing is said.
+abbrev pub IsAnswerWritten : Command → List ℕ → Verdict → Writing → Type 0
+IsAnswerWritten Format text Accepted w =
+    (lines : List ℕ) × AreLinesOf lines text × IsWritten lines w
+IsAnswerWritten command text verdict w = ⊤
+
 -- A run's streams at its end: what is known of the reader's text, `None` where the reader can't
--- tell it before it is read; why reading failed, if it did; how the calls of both writers went.
+-- tell it before it is read; why reading failed, if it did; what the writer of the answer held
+-- before the run and holds at its end; how the calls of both writers went.
 pub record Streams : Type 0 where
   pub known : Option (List ℕ)
   pub read : Option Stop
+  pub writing : Writing
   pub out : WriterState
   pub err : WriterState
 
-abbrev pub streams_at : {R O E : Type 0} → Option (List ℕ) → Input R → Output O → Output E
-    → Streams
-streams_at known input out err =
+abbrev pub streams_at : {R O E : Type 0} → Option (List ℕ) → Input R → Writing → Output O
+    → Output E → Streams
+streams_at known input writing out err =
     record {
       known = known;
       read = read_failure input;
+      writing = writing;
       out = writer_state out;
       err = writer_state err;
     }
@@ -73,7 +83,8 @@ StopsWriting out stop = (stop ≡ Memory) ⊎ (out ≡ Failed stop)
 pub data Ends {A : Type 0} (words : List (String A)) (s : Streams) : Ending → Type 0 where
   -- the text was read, and all that was written was passed on
   answered : (command : Command) (verdict : Verdict) → AsksFor command words →
-      IfSome s.known (λ text. IsVerdict command words text verdict) → s.read ≡ None →
+      IfSome s.known (λ text. IsVerdict command words text verdict) →
+      IfSome s.known (λ text. IsAnswerWritten command text verdict s.writing) → s.read ≡ None →
       s.out ≡ Flushed → Ends words s (Answered verdict)
   usage : AsksForNothing words → s.err ≡ Written → Ends words s Usage
   stopped : (command : Command) (stop : Stop) → AsksFor command words →

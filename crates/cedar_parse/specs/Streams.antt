@@ -1,6 +1,7 @@
 -- What is seen of a run's streams, and what a call leaves.
 use Rattle.std.specs.Prelude.{◌≡◌, ◌↔◌, ℕ, List, Option, Result, Ok, Err, IfSome, IsErrAnd}
 use Rattle.std.specs.Str.{IsUtf8}
+use Rattle.std.specs.Io.KnownBytes.{Appends}
 use Rattle.std.specs.IoError.{error_kind}
 use Rattle.std.specs.declared.io.ErrorKind.TheVariants as kind
 use Rattle.std.specs.declared.io.Error.{Error}
@@ -28,6 +29,23 @@ IsNoText known = IfSome known (λ bytes. ¬ IsUtf8 bytes)
 
 abbrev pub writer_state : {W : Type 0} → Output W → WriterState
 writer_state output = output.state
+
+abbrev pub writer_of : {W : Type 0} → Output W → W
+writer_of output = output.writer
+
+-- what a writer held before some calls and holds after them, where that is known
+pub record Writing : Type 0 where
+  pub before : Option (List ℕ)
+  pub after : Option (List ℕ)
+
+-- of a writer of a type whose bytes are known so
+abbrev pub writing : {W : Type 0} → (W → Option (List ℕ)) → Output W → Output W → Writing
+writing contents old new =
+    record { before = contents (writer_of old); after = contents (writer_of new) }
+
+-- just these bytes were written, where what the writer holds is known
+abbrev pub IsWritten : List ℕ → Writing → Type 0
+IsWritten bytes w = Appends w.before w.after bytes
 
 -- What the writer itself answers to a call is answered, but where a call failed before, that
 -- failure.

@@ -6,7 +6,7 @@ use Rattle.std.specs.Str.{byte, bytes_eq}
 use Rattle.cedar_expressions.specs.Path.{Path, name_text, is_unreserved_identifier}
 use Rattle.cedar_policy_parser.specs.Extensions.{Extensions}
 use Rattle.cedar_parse.specs.declared.words.Command.{Command}
-use Rattle.cedar_parse.specs.declared.words.Command.TheVariants.{Expression, Policies}
+use Rattle.cedar_parse.specs.declared.words.Command.TheVariants.{Expression, Policies, Format}
 
 -- a name none of whose identifiers is reserved
 abbrev pub is_unreserved_name : Path → Bool
@@ -31,6 +31,7 @@ pub data IsStyle (word : List ℕ) : Type 0 where
 abbrev pub command_word : Command → List ℕ
 command_word Expression = codes "expr"
 command_word Policies = codes "policies"
+command_word Format = codes "format"
 
 -- The words ask for a command: its word comes first, and each word behind it names a function or a
 -- method.

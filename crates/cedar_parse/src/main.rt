@@ -1,6 +1,7 @@
 //! `cedar-parse`: reads a Cedar text from standard input and prints what the parser makes of it, or its faults.
 #![tactic(auto)]
 
+mod format;
 mod policies;
 mod run;
 mod streams;

@@ -5,8 +5,8 @@ ghost use Rattle.cedar_expressions.specs.Value.{Value};
 ghost use Rattle.cedar_syntax.specs.Forms.{located, expr_form};
 ghost use Rattle.cedar_policy_parser.specs.Conversion.{Converts};
 ghost use Rattle.cedar_policy_parser.specs.Refused.{TellsTree};
-ghost use Rattle.cedar_parse.specs.Ends.{IsMeant, IsVerdict, Streams, streams_at, Ends, Stops, StopsWriting, TellsEnd, status_of};
-ghost use Rattle.cedar_parse.specs.Streams.{reader_of, read_failure, writer_state};
+ghost use Rattle.cedar_parse.specs.Ends.{IsMeant, IsVerdict, IsAnswerWritten, Streams, streams_at, Ends, Stops, StopsWriting, TellsEnd, status_of};
+ghost use Rattle.cedar_parse.specs.Streams.{Writing, writing, reader_of, read_failure, writer_state};
 ghost use Rattle.cedar_parse.specs.Words.{AsksForNothing, styles_of};
 ghost use Rattle.cedar_parse.specs.declared.run.Ending.{Ending as How};
 ghost use Rattle.cedar_parse.specs.declared.run.Ending.TheVariants.{Stopped, Usage};
@@ -14,6 +14,7 @@ ghost use Rattle.cedar_parse.specs.declared.run.Verdict.TheVariants as verdict;
 ghost use Rattle.cedar_parse.specs.declared.words.Command.TheVariants as command;
 ghost use Rattle.cedar_syntax.specs.FirstFault.{IsMemory};
 
+use crate::format::format;
 use crate::policies::policies;
 use crate::streams::{Input, Output, Stop, WriterState};
 use crate::words::{Command, command_of, table_named};
@@ -101,8 +102,8 @@ pub fn run_on<R: Read + Drop, O: Write, E: Write>(
     err: &mut Output<E>,
 ) -> u8
     ensures ends { (end : How) × (result ≡ status_of end)
-        × Ends words.now
-        (streams_at (R.remaining (reader_of input.old)) input.new out.new err.new) end }
+        × Ends words.now (streams_at (R.remaining (reader_of input.old)) input.new
+        (writing O.contents out.old out.new) out.new err.new) end }
     ensures unread { AsksForNothing words.now → input.new ≡ input.old }
 {
     match command_of(words) {
@@ -155,6 +156,8 @@ fn answer<R: Read + Drop, O: Write>(
 ) -> Result<Verdict, Stop>
     ensures verdict { IfOk result (λ v.
         IfSome (R.remaining (reader_of input.old)) (λ text. IsVerdict command words.now text v)) }
+    ensures written { IfOk result (λ v. IfSome (R.remaining (reader_of input.old))
+        (λ text. IsAnswerWritten command text v (writing O.contents out.old out.new))) }
     ensures read { OnOk result (read_failure input.new ≡ None) }
     ensures flushed { OnOk result (writer_state out.new ≡ WriterState.Flushed) }
     ensures stops { IfErr result (λ stop.
@@ -174,6 +177,8 @@ fn passed_on<O: Write>(
     out: &mut Output<O>,
 ) -> Result<Verdict, Stop>
     ensures verdict { IfOk result (λ v. IsVerdict command words.now text.now v) }
+    ensures written { IfOk result (λ v. IsAnswerWritten
+        command text.now v (writing O.contents out.old out.new)) }
     ensures flushed { OnOk result (writer_state out.new ≡ WriterState.Flushed) }
     ensures stops { IfErr result (λ stop. StopsWriting (writer_state out.new) stop) }
 {
@@ -191,11 +196,14 @@ fn answered<O: Write>(
     out: &mut Output<O>,
 ) -> Result<Verdict, Stop>
     ensures verdict { IfOk result (λ v. IsVerdict command words.now text.now v) }
+    ensures written { IfOk result (λ v. IsAnswerWritten
+        command text.now v (writing O.contents out.old out.new)) }
     ensures stops { IfErr result (λ stop. StopsWriting (writer_state out.new) stop) }
 {
     match command {
         Command::Expression => expression(alloc, words, text, out),
         Command::Policies => policies(alloc, words, text, out),
+        Command::Format => format(alloc, words, text, out),
     }
 }
 

@@ -1,5 +1,6 @@
 //! The streams of a run: a reader and writers, each with how its calls went.
 ghost use Rattle.std.specs.Prelude.{◌≡◌, ◌⊎◌, None, Some, OnOk, IfOk, IfErr, IfSome, string_bytes};
+ghost use Rattle.std.specs.Io.KnownBytes.{Keeps};
 
 use std::alloc::Global;
 use std::fmt::Display;
@@ -101,11 +102,12 @@ pub struct Output<W> {
 }
 
 impl<W: Write> Output<W> {
-    ghost use Rattle.cedar_parse.specs.Streams.{writer_state, Repeats, Leaves};
+    ghost use Rattle.cedar_parse.specs.Streams.{writer_state, writer_of, writing, IsWritten, Repeats, Leaves};
 
     /// A writer that nothing was written to yet.
     pub fn new(writer: W) -> Output<W>
-        ensures { writer_state result ≡ WriterState.Flushed }
+        ensures writer { writer_of result ≡ writer }
+        ensures state { writer_state result ≡ WriterState.Flushed }
     {
         Output {
             writer,
@@ -115,8 +117,10 @@ impl<W: Write> Output<W> {
 
     /// Writes a text: the call of `write!` and `writeln!`.
     pub fn write_fmt<D: Display + Drop>(&mut self, text: D) -> Result<(), Stop>
-        ensures { Leaves WriterState.Written (writer_state self.old) result
+        ensures left { Leaves WriterState.Written (writer_state self.old) result
             (writer_state self.new) }
+        ensures written { OnOk result (IfSome (D.output text)
+            (λ bytes. IsWritten bytes (writing W.contents self.old self.new))) }
     {
         let answer = self.writer.write_fmt(text);
         self.heard(answer, WriterState::Written)
@@ -124,8 +128,10 @@ impl<W: Write> Output<W> {
 
     /// Passes on what the writer holds back.
     pub fn flush(&mut self) -> Result<(), Stop>
-        ensures { Leaves WriterState.Flushed (writer_state self.old) result
+        ensures left { Leaves WriterState.Flushed (writer_state self.old) result
             (writer_state self.new) }
+        ensures kept { Keeps
+            (W.contents (writer_of self.old)) (W.contents (writer_of self.new)) }
     {
         let answer = self.writer.flush();
         self.heard(answer, WriterState::Flushed)
@@ -135,6 +141,7 @@ impl<W: Write> Output<W> {
     fn heard(&mut self, answer: io::Result<()>, state: WriterState) -> Result<(), Stop>
         ensures repeated { Repeats (writer_state self.old) answer result }
         ensures left { Leaves state (writer_state self.old) result (writer_state self.new) }
+        ensures kept { writer_of self.new ≡ writer_of self.old }
     {
         if let WriterState::Failed(stop) = self.state {
             return Err(stop);

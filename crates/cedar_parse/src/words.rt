@@ -5,7 +5,7 @@ ghost use Rattle.std.specs.Prelude.{◌≡◌, ◌≢◌, ◌↔◌, ℕ, true, 
 ghost use Rattle.std.specs.BTreeSet.{contains};
 ghost use Rattle.std.specs.List.{AllByRecursion, list_all, list_any};
 ghost use Rattle.cedar_expressions.specs.Path.{Path, name_text, begins_identifier, continues_identifier, is_identifier, is_reserved_word, is_unreserved_identifier};
-ghost use Rattle.cedar_policy_parser.specs.Extensions.{table_of};
+ghost use Rattle.cedar_policy_parser.specs.Table.{table_of};
 ghost use Rattle.cedar_parse.specs.Words.{AsksFor, AsksForNothing, IsStyle, SpellsName, IsFoundName, IsCut, IsUncut, is_unreserved_name, names_function, word_names_method, styles_of, command_word};
 
 use cedar_expressions::{Id, InternalName, Name, Text, UnreservedId};
@@ -20,6 +20,8 @@ pub enum Command {
     Expression,
     /// `policies`: a set of policies.
     Policies,
+    /// `format`: a set of policies, laid out anew.
+    Format,
 }
 
 /// The command that the words ask for: its word, with words that name extension functions and methods behind it.
@@ -44,6 +46,7 @@ fn command_named(word: &str) -> Option<Command>
     match word {
         "expr" => Some(Command::Expression),
         "policies" => Some(Command::Policies),
+        "format" => Some(Command::Format),
         _ => None,
     }
 }

@@ -8,15 +8,16 @@ use Rattle.cedar_syntax.specs.declared.err.faults.Failure.{Failure}
 use Rattle.cedar_syntax.specs.declared.err.faults.Failure.TheVariants.{Memory, Errors}
 use Rattle.cedar_policy_parser.specs.declared.members.Access.{Access as Kept}
 use Rattle.cedar_policy_parser.specs.declared.members.Reading.{Reading}
-use Rattle.cedar_policy_parser.specs.Applied.{Leads, after_field, begins_call, reading_outcome, seen_access, settled_value, waiting}
 use Rattle.cedar_policy_parser.specs.Extensions.{Extensions}
 use Rattle.cedar_policy_parser.specs.Held.{Held, expression}
 use Rattle.cedar_policy_parser.specs.Members.{Access, field, call, index, accesses_of, method_outcome, name_accesses}
 use Rattle.cedar_policy_parser.specs.Outcome.{Outcome, fault_outcome, next, expression_call, no_methods, invalid_access}
-use Rattle.cedar_policy_parser.specs.Seen.{Refuses, TellsAlone}
+use Rattle.cedar_policy_parser.specs.Seen.{Refuses}
 use Rattle.cedar_policy_parser.proofs.Inverted.{given_as}
 use Rattle.cedar_policy_parser.proofs.Loops.{drop_next, drop_whole}
 use Rattle.cedar_policy_parser.proofs.Outcomes.{refuses}
+use Rattle.cedar_policy_parser.specs.machines.Applied.{Leads, after_field, begins_call, reading_outcome, seen_access, settled_value, waiting}
+use Rattle.cedar_policy_parser.specs.machines.Views.{TellsAlone}
 
 -- ---- one step
 

@@ -1,6 +1,7 @@
 -- Where the parts have values, a relation is refused for its operators alone, a product for its quotients and remainders, in order, a record for a key that
 -- it has twice; and a name that is no variable is refused as an expression. So is a whole expression that is one of these alone.
 use Rattle.std.proofs.Common.{◌≡◌, ℕ, zero, suc, true, List, [], ◌∷◌, ◌++◌, Option, Some, None, Ok, Err, refl, sym, ap, ◌∙◌}
+use Rattle.std.specs.Map.{keys_of}
 use Rattle.cedar_expressions.specs.Keys.{repeats_key}
 use Rattle.cedar_expressions.specs.Path.{Path}
 use Rattle.cedar_expressions.specs.Value.{Value}
@@ -17,7 +18,7 @@ use Rattle.cedar_syntax.specs.Tree as t
 use Rattle.cedar_syntax.specs.Tree.{Level, Operator, disjunction, conjunction, relation, sum, product}
 use Rattle.cedar_policy_parser.specs.Alone as way
 use Rattle.cedar_policy_parser.specs.Alone.{HasValue, HaveValues, OperandsHaveValues, quotient, quotients, IsPair, ArePairs, ComesTo, IsAlone, IsBareName}
-use Rattle.cedar_policy_parser.specs.Conversion.{Part, outcome, form_outcome, operands, pairs_outcome, pair_outcome, pair_form_outcome, value_outcome, accesses_outcome, tree_place, expression_at, chain_outcome, keys, record_outcome, factor, with_part, signs_outcome, number_in, lone_literal}
+use Rattle.cedar_policy_parser.specs.Conversion.{Part, outcome, form_outcome, operands, pairs_outcome, pair_outcome, pair_form_outcome, value_outcome, accesses_outcome, tree_place, expression_at, chain_outcome, record_outcome, factor, with_part, signs_outcome, number_in, lone_literal}
 use Rattle.cedar_policy_parser.specs.Extensions.{Extensions}
 use Rattle.cedar_policy_parser.specs.HasSide.{no_sign}
 use Rattle.cedar_policy_parser.specs.Held.{Held, bare_name, as_expression, as_attribute}
@@ -29,7 +30,7 @@ use Rattle.cedar_policy_parser.proofs.Inverted.{next_ok}
 
 -- ---- a node alone
 
-chain_alone : (level : Level) (place : Option Loc) (o : Outcome Held) → chain_outcome level place f.none o (Ok []) ≡ o
+pub chain_alone : (level : Level) (place : Option Loc) (o : Outcome Held) → chain_outcome level place f.none o (Ok []) ≡ o
 chain_alone disjunction place (Ok h) = refl
 chain_alone conjunction place (Ok h) = refl
 chain_alone relation place (Ok h) = refl
@@ -41,7 +42,7 @@ chain_alone relation place (Err fs) = refl
 chain_alone sum place (Err fs) = refl
 chain_alone product place (Err fs) = refl
 
-unary_alone : (place : Option Loc) (op : Option NegOp) (number : Option ℕ) (o : Outcome Held) → no_sign op ≡ true → signs_outcome place op number o ≡ o
+pub unary_alone : (place : Option Loc) (op : Option NegOp) (number : Option ℕ) (o : Outcome Held) → no_sign op ≡ true → signs_outcome place op number o ≡ o
 unary_alone place None number o h = refl
 unary_alone place (Some (sign.Bang zero)) number o h = refl
 unary_alone place (Some (sign.Dash zero)) number o h = refl
@@ -50,7 +51,7 @@ unary_alone place (Some (sign.Dash (suc n))) number o h = cc
 unary_alone place (Some sign.OverBang) number o h = cc
 unary_alone place (Some sign.OverDash) number o h = cc
 
-member_alone : (e : Extensions) (place : Option Loc) (o : Outcome Held) → next (both o (Ok [])) (λ p. member_outcome e place p.0 p.1) ≡ o
+pub member_alone : (e : Extensions) (place : Option Loc) (o : Outcome Held) → next (both o (Ok [])) (λ p. member_outcome e place p.0 p.1) ≡ o
 member_alone e place (Ok h) = refl
 member_alone e place (Err fs) = refl
 
@@ -59,7 +60,7 @@ parens_alone place (Ok w) = refl
 parens_alone place (Err fs) = refl
 
 -- it gives what the node gives
-comes_to : {tree node : Located} (e : Extensions) → ComesTo tree node → outcome e tree ≡ outcome e node
+pub comes_to : {tree node : Located} (e : Extensions) → ComesTo tree node → outcome e tree ≡ outcome e node
 unfolding outcome form_outcome operands accesses_outcome
 comes_to e way.itself = refl
 comes_to e (way.through_only c) = comes_to e c
@@ -198,15 +199,15 @@ all_pairs e f.none (pair ∷ pairs) h = absurd h
 all_pairs e (f.more op n others) [] h = absurd h
 all_pairs e (f.more op n others) (pair ∷ pairs) h = rw (one_pair e n pair h.0, all_pairs e others pairs h.1) refl
 
-repeats : (place : Option Loc) (o : Outcome (List (List ℕ × Value))) (pairs : List (List ℕ × Value)) → o ≡ Ok pairs → repeats_key (keys pairs) ≡ true → next o (record_outcome place) ≡ fault_outcome expression_construction_error place
+repeats : (place : Option Loc) (o : Outcome (List (List ℕ × Value))) (pairs : List (List ℕ × Value)) → o ≡ Ok pairs → repeats_key (keys_of pairs) ≡ true → next o (record_outcome place) ≡ fault_outcome expression_construction_error place
 repeats place o pairs e k = rw (e, k) refl
 
-pub repeated_key : (e : Extensions) (place : Option Loc) (inits : Parts) (pairs : List (List ℕ × Value)) → ArePairs e inits pairs → repeats_key (keys pairs) ≡ true
+pub repeated_key : (e : Extensions) (place : Option Loc) (inits : Parts) (pairs : List (List ℕ × Value)) → ArePairs e inits pairs → repeats_key (keys_of pairs) ≡ true
     → outcome e (at place (f.record_of inits)) ≡ fault_outcome expression_construction_error place
 unfolding outcome form_outcome
 repeated_key e place inits pairs h k = repeats place (pairs_outcome e inits) pairs (all_pairs e inits pairs h) k
 
-pub repeated_key_alone : (e : Extensions) (tree : Located) (place : Option Loc) (inits : Parts) (pairs : List (List ℕ × Value)) → IsAlone tree (at place (f.record_of inits)) → ArePairs e inits pairs → repeats_key (keys pairs) ≡ true
+pub repeated_key_alone : (e : Extensions) (tree : Located) (place : Option Loc) (inits : Parts) (pairs : List (List ℕ × Value)) → IsAlone tree (at place (f.record_of inits)) → ArePairs e inits pairs → repeats_key (keys_of pairs) ≡ true
     → value_outcome e tree ≡ fault_outcome expression_construction_error place
 repeated_key_alone e tree place inits pairs i h k = refused_alone e tree (at place (f.record_of inits)) _ i (repeated_key e place inits pairs h k)
 

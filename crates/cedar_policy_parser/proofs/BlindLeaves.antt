@@ -21,7 +21,7 @@ use Rattle.cedar_syntax.specs.declared.cst.Str.TheVariants as str
 use Rattle.cedar_syntax.specs.declared.err.escape.UnescapeError.{UnescapeError}
 use Rattle.cedar_syntax.specs.Unlocated.{unlocated_cell, unlocated_literal, unlocated_name, unlocated_node, unlocated_ref}
 use Rattle.cedar_syntax.specs.Pattern.{pattern_faults, pattern_pieces}
-use Rattle.cedar_policy_parser.specs.Alike.{Alike, Same}
+use Rattle.cedar_policy_parser.proofs.Alike.{Alike, Same}
 use Rattle.cedar_policy_parser.specs.Conversion.{Part}
 use Rattle.cedar_policy_parser.specs.Entities.{id_text, id_outcome, reference_outcome, slot_id}
 use Rattle.cedar_policy_parser.specs.Held.{Held, expression, variable, bare_name, bare_truth, bare_string, as_expression, as_pattern, as_entity_type, as_string, as_attribute, text_value, unqualified}
@@ -231,7 +231,7 @@ reference_alike : (p q : Option Loc) (r : Ref) → Alike Equal (reference_outcom
 reference_alike p q (refs.Uid path eid) = next_alike (Pairs Equal Equal) Equal _ _ _ _ (both_alike Equal Equal _ _ _ _ (name_alike path) (id_alike p q eid)) (λ x y e. rw (e.0, e.1) refl)
 reference_alike p q (refs.Ref path inits) = tt
 
-entity_in_alike : (p q : Option Loc) (o : Option Ref) → Alike Equal (next (content_outcome p o) (reference_outcome p)) (next (content_outcome q (option_map unlocated_ref o)) (reference_outcome q))
+pub entity_in_alike : (p q : Option Loc) (o : Option Ref) → Alike Equal (next (content_outcome p o) (reference_outcome p)) (next (content_outcome q (option_map unlocated_ref o)) (reference_outcome q))
 entity_in_alike p q None = tt
 entity_in_alike p q (Some r) = reference_alike p q r
 

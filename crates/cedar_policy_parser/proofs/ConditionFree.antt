@@ -23,6 +23,7 @@ use Rattle.cedar_policy_parser.proofs.ConditionValues.{value_free}
 use Rattle.cedar_policy_parser.proofs.Inverted.{ok_is, next_ok, both_ok}
 use Rattle.cedar_policy_parser.proofs.SlotFree.{none_hidden}
 use Rattle.cedar_policy_parser.proofs.sound.Clauses.{no_slots}
+use Rattle.cedar_policy_parser.specs.machines.Views.{IsConditionFree}
 
 condition_free : (e : Extensions) (n : Node (Option Cond)) (c : Value) → condition_outcome e n ≡ Ok c → slots_of c ≡ []
 condition_free e n c h =
@@ -72,7 +73,7 @@ held_free None h = refl
 held_free (Some c) h = none_hidden (expr_meaning c) h
 
 -- a template that a tree gives
-pub template_free : (e : Extensions) (id : List ℕ) (n : Node (Option Policy)) (t : Template) → k.template_outcome e id n ≡ Ok (k.template_parts t) → k.IsConditionFree t
+pub template_free : (e : Extensions) (id : List ℕ) (n : Node (Option Policy)) (t : Template) → k.template_outcome e id n ≡ Ok (k.template_parts t) → IsConditionFree t
 template_free e id n t h =
     let a = next_ok (content_outcome n.loc n.node) (k.template_of e id n.loc) (k.template_parts t) h in
     held_free t.condition (given_free e id n.loc a.0 (k.template_parts t) a.2)

@@ -12,9 +12,10 @@ use Rattle.cedar_syntax.specs.declared.loc.Loc.{Loc}
 use Rattle.cedar_policy_parser.specs.Conditions.{condition_slot_fault, condition_value, slots_outcome, without_slots}
 use Rattle.cedar_policy_parser.specs.Outcome.{next}
 use Rattle.cedar_policy_parser.specs.Scope.{faults_outcome}
-use Rattle.cedar_policy_parser.specs.Seen.{Gives, empty_view}
+use Rattle.cedar_policy_parser.specs.Seen.{Gives}
 use Rattle.cedar_policy_parser.proofs.SlotFree.{no_place}
 use Rattle.cedar_policy_parser.proofs.sound.Clauses.{no_slots}
+use Rattle.cedar_policy_parser.specs.machines.Views.{empty_view}
 
 -- `unless` adds no slot
 pub value_free : (when : Bool) (x : Value) → slots_of x ≡ [] → slots_of (condition_value when x) ≡ []

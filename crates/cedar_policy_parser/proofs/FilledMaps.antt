@@ -19,13 +19,15 @@ use Rattle.cedar_syntax.specs.declared.loc.Loc.{Loc}
 use Rattle.cedar_syntax.specs.declared.node.Node.{Node}
 use Rattle.cedar_syntax.specs.FirstFault.{IsMemory}
 use Rattle.cedar_syntax.specs.Joined.{WantsMemory}
-use Rattle.cedar_policy_parser.specs.AnnotationKeys.{AnnotationContent, Answers, AnswersEach, HoldsSoFar, Gathering, HasKeys, HoldsAll, annotation_at, annotation_outcome, gathering_with, gathering_with_node, gathering, has_key, with_pair, empty_gathering, key_value_outcome, paired_keys, with_new_key}
+use Rattle.cedar_policy_parser.specs.AnnotationKeys.{AnnotationContent, Answers, AnswersEach, Gathering, annotation_at, annotation_outcome, gathering_with, gathering_with_node, gathering, has_key, with_pair, empty_gathering, key_value_outcome, paired_keys, with_new_key}
 use Rattle.cedar_policy_parser.specs.Names.{content_outcome}
-use Rattle.cedar_policy_parser.specs.Outcome.{NamedFault, Outcome, both, next, duplicate_annotation}
+use Rattle.cedar_policy_parser.specs.Outcome.{NamedFault, Outcome, both, next, duplicate_annotation, item_more}
 use Rattle.cedar_policy_parser.specs.Scope.{faults_outcome}
-use Rattle.cedar_policy_parser.specs.Seen.{Gives, Refuses, item_more, empty_view, named_faults}
+use Rattle.cedar_policy_parser.specs.Seen.{Gives, Refuses, named_faults}
 use Rattle.cedar_policy_parser.proofs.Inverted.{next_ok, ok_is}
 use Rattle.cedar_policy_parser.proofs.Loops.{take_next}
+use Rattle.cedar_policy_parser.specs.machines.Filled.{HoldsSoFar, HasKeys, HoldsAll}
+use Rattle.cedar_policy_parser.specs.machines.Views.{empty_view}
 
 -- ---- keys
 

@@ -5,8 +5,7 @@ use Rattle.cedar_syntax.specs.Located.{Located}
 use Rattle.cedar_syntax.specs.Tree.{Operator}
 use Rattle.cedar_policy_parser.specs.Conversion.{accesses_outcome, access_outcome, pairs_outcome, pair_outcome, with_first}
 use Rattle.cedar_policy_parser.specs.Extensions.{Extensions}
-use Rattle.cedar_policy_parser.specs.Outcome.{Outcome, both, next}
-use Rattle.cedar_policy_parser.specs.Seen.{item_more}
+use Rattle.cedar_policy_parser.specs.Outcome.{Outcome, both, next, item_more}
 use Rattle.cedar_policy_parser.proofs.Loops.{take_next, map_snoc}
 
 pub last : {X : Type 0} (x : Outcome X) → next (both x (Ok [])) with_first ≡ item_more (Ok []) x

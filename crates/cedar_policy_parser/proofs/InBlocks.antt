@@ -12,11 +12,10 @@ use Rattle.cedar_policy_parser.specs.Blocks.{faults_from, annotation_faults, pol
 use Rattle.cedar_policy_parser.specs.Conditions.{condition_outcome, conditions_outcome}
 use Rattle.cedar_policy_parser.specs.Extensions.{Extensions}
 use Rattle.cedar_policy_parser.specs.Names.{content_outcome, all_of}
-use Rattle.cedar_policy_parser.specs.Outcome.{Outcome, both, next}
+use Rattle.cedar_policy_parser.specs.Outcome.{Outcome, both, next, item_more}
 use Rattle.cedar_policy_parser.specs.Policies.{effect_outcome, kept_outcome, parts_outcome, template_of, template_outcome, policies_from, set_outcome}
 use Rattle.cedar_policy_parser.specs.PolicyMeaning.{policy_id}
 use Rattle.cedar_policy_parser.specs.Scope.{scope_outcome}
-use Rattle.cedar_policy_parser.specs.Seen.{item_more}
 
 -- ---- the joins
 

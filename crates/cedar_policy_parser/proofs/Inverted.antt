@@ -9,7 +9,7 @@ use Rattle.cedar_policy_parser.specs.Conversion.{Part, chain_outcome, level_outc
 use Rattle.cedar_policy_parser.specs.Extensions.{Extensions}
 use Rattle.cedar_policy_parser.specs.Held.{Held, as_expression}
 use Rattle.cedar_policy_parser.specs.Outcome.{NamedFault, Outcome, both, next}
-use Rattle.cedar_policy_parser.specs.Seen.{one_more}
+use Rattle.cedar_policy_parser.specs.machines.Views.{one_more}
 
 abbrev pub given_as : {X : Type 0} → X → Outcome X
 given_as x = Ok x

@@ -22,7 +22,8 @@ use Rattle.cedar_expressions.specs.declared.expr.ExprKind.TheFolds.{fold-ExprKin
 use Rattle.cedar_expressions.specs.declared.expr.ExprKind.TheVariants as kind
 use Rattle.cedar_expressions.specs.Meaning.{AtPlace, kind_call, expr_call, unary_call, binary_call, nary_call, list_call, expr_meaning}
 use Rattle.cedar_expressions.specs.Value.{Value, Values}
-use Rattle.cedar_policy_parser.specs.Scope.{is_call, made_by_is}
+use Rattle.cedar_policy_parser.specs.Scope.{made_by_is}
+use Rattle.cedar_policy_parser.specs.machines.Views.{is_call}
 
 -- what a kind means
 abbrev meaning : ExprKind → AtPlace

@@ -30,7 +30,6 @@ use Rattle.cedar_syntax.specs.Located.{Form}
 use Rattle.cedar_syntax.specs.Tree.{disjunction, conjunction, relation, sum, product}
 use Rattle.cedar_syntax.proofs.FormLevels.{expr_out, impl_out, data_or, data_if, or_out, and_out, relation_common, relation_has, relation_like, relation_typed, add_out, mult_out, unary_out, member_out, primary_literal, primary_ref, primary_name, primary_slot, primary_expr, primary_list, primary_inits, access_field, access_call, access_index, init_out}
 use Rattle.cedar_policy_parser.specs.Conversion.{outcome, form_outcome, operands, chain_outcome, conditional_outcome, signs_outcome, number_in, lone_literal, literal_outcome, expression_at, tree_place, accesses_outcome, pairs_outcome, with_attributes, beside_type, match_outcome, type_test_outcome, type_within_outcome, set_value_outcome, record_outcome, access_outcome, access_form_outcome, pair_outcome, pair_form_outcome, value_outcome, bodies}
-use Rattle.cedar_policy_parser.specs.Applied.{type_relation_outcome}
 use Rattle.cedar_policy_parser.specs.HasSide.{right_side}
 use Rattle.cedar_policy_parser.specs.Leaves.{name_leaf, slot_leaf, entity_leaf}
 use Rattle.cedar_policy_parser.specs.Members as member
@@ -40,6 +39,7 @@ use Rattle.cedar_policy_parser.specs.Extensions.{Extensions}
 use Rattle.cedar_policy_parser.specs.Held.{Held, as_expression, as_pattern, as_string, as_attribute}
 use Rattle.cedar_policy_parser.specs.Outcome.{Outcome, fault_outcome, both, next, empty_node}
 use Rattle.cedar_policy_parser.proofs.Parts.{alone}
+use Rattle.cedar_policy_parser.specs.machines.Applied.{type_relation_outcome}
 
 pub empty : {X : Type 0} (e : Extensions) (g : X → Form) (n : Node (Option X)) → n.node ≡ None → outcome e (located g n) ≡ fault_outcome empty_node n.loc
 unfolding outcome

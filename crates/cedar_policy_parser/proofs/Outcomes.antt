@@ -13,8 +13,9 @@ use Rattle.cedar_syntax.specs.Joined.{TellsBoth, WantsMemory}
 use Rattle.cedar_policy_parser.specs.Conversion.{Part, operands, with_part, factor, value_outcome}
 use Rattle.cedar_policy_parser.specs.Extensions.{Extensions}
 use Rattle.cedar_policy_parser.specs.Outcome.{Kind, Outcome, both, next, fault_outcome}
-use Rattle.cedar_policy_parser.specs.Seen.{Refuses, Gives, TellsAlone, named_faults, named_fault, one_more}
+use Rattle.cedar_policy_parser.specs.Seen.{Refuses, Gives, named_faults, named_fault}
 use Rattle.cedar_policy_parser.proofs.Loops.{take_next, map_snoc}
+use Rattle.cedar_policy_parser.specs.machines.Views.{TellsAlone, one_more}
 
 -- ---- faults
 

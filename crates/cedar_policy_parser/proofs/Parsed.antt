@@ -4,7 +4,7 @@ use Rattle.cedar_lexer.specs.Cut.{Cuts}
 use Rattle.cedar_lexer.specs.Token.{Lexeme}
 use Rattle.cedar_expressions.specs.Value.{Value}
 use Rattle.cedar_syntax.specs.declared.cst.Expr.{Expr}
-use Rattle.cedar_syntax.specs.declared.cst.TheConstants.{SIGN_LIMIT}
+use Rattle.cedar_syntax.specs.Signs.{sign_limit}
 use Rattle.cedar_syntax.specs.declared.err.faults.Failure.{Failure}
 use Rattle.cedar_syntax.specs.declared.err.faults.Failure.TheVariants.{Memory, Errors}
 use Rattle.cedar_syntax.specs.Forms.{located, expr_form}
@@ -32,7 +32,7 @@ at_start src [] x = refl
 at_start src (t ∷ ts) x = refl
 
 -- a tree that is converted to a value is that of tokens which mean it
-tree_meant : (e : Extensions) (src : List ℕ) (n : Cell Expr) (w : Value) → (g : IsTreeOf ReadsExpr src n) → Converts e (located expr_form n) w → Means e SIGN_LIMIT m.expression g.tokens w
+tree_meant : (e : Extensions) (src : List ℕ) (n : Cell Expr) (w : Value) → (g : IsTreeOf ReadsExpr src n) → Converts e (located expr_form n) w → Means e sign_limit m.expression g.tokens w
 tree_meant e src n w g h =
     let ts = g.tokens in
     let x = g.stands.tree in
@@ -45,7 +45,7 @@ pub record Found (e : Extensions) (src : List ℕ) (w : Value) : Type 0 where
   pub stands : IsTreeOf ReadsExpr src tree
   pub gives : Converts e (located expr_form tree) w
 
-pub tree_found : (e : Extensions) (src : List ℕ) (ts : List Lexeme) (w : Value) → Cuts src ts → Means e SIGN_LIMIT m.expression ts w → Found e src w
+pub tree_found : (e : Extensions) (src : List ℕ) (ts : List Lexeme) (w : Value) → Cuts src ts → Means e sign_limit m.expression ts w → Found e src w
 tree_found e src ts w cut h =
     let d : ExprRead e src ts w = complete e src h in
     record {
@@ -57,7 +57,7 @@ tree_found e src ts w cut h =
 -- ---- a text that is read, then converted
 
 pub read_value : {E : Type 0} (e : Extensions) (meaning : E → Value) (src : List ℕ) (n : Cell Expr) (r : Result E Failure) → IsTreeOf ReadsExpr src n → Gives meaning r (value_outcome e (located expr_form n))
-    → IfOk r (λ x. (ts : List Lexeme) × Cuts src ts × Means e SIGN_LIMIT m.expression ts (meaning x))
+    → IfOk r (λ x. (ts : List Lexeme) × Cuts src ts × Means e sign_limit m.expression ts (meaning x))
 read_value e meaning src n (Ok x) g h = (g.tokens, g.cut, tree_meant e src n (meaning x) g h)
 read_value e meaning src n (Err f) g h = tt
 

@@ -4,7 +4,7 @@ use Rattle.cedar_lexer.specs.Cut.{Cuts}
 use Rattle.cedar_lexer.specs.Token.{Lexeme}
 use Rattle.cedar_policy_store.specs.PlaceFree as free
 use Rattle.cedar_syntax.specs.declared.cst.Policies.{Policies}
-use Rattle.cedar_syntax.specs.declared.cst.TheConstants.{SIGN_LIMIT}
+use Rattle.cedar_syntax.specs.Signs.{sign_limit}
 use Rattle.cedar_syntax.specs.declared.err.faults.Failure.{Failure}
 use Rattle.cedar_syntax.specs.declared.err.faults.Failure.TheVariants.{Memory, Errors}
 use Rattle.cedar_syntax.specs.FirstFault.{IsMemory}
@@ -29,12 +29,16 @@ at_start e src [] x = refl
 at_start e src (t ∷ ts) x = refl
 
 -- a tree that is converted to a set is that of tokens which mean it
-tree_meant : (e : Extensions) (src : List ℕ) (n : Cell Policies) (set : free.Policies) → (g : IsTreeOf ReadsPolicies src n) → policies_outcome e n ≡ Ok set → IsPolicySet e SIGN_LIMIT g.tokens set
+pub tree_meant : (e : Extensions) (src : List ℕ) (n : Cell Policies) (set : free.Policies) → (g : IsTreeOf ReadsPolicies src n) → policies_outcome e n ≡ Ok set → IsPolicySet e sign_limit g.tokens set
 tree_meant e src n set g h =
     let ts = g.tokens in
     let x = g.stands.tree in
     let there = ap (λ y. policies_outcome e y) g.stands.is ∙ at_start e src ts x in
     set_meant e set g.stands.reads (sym there ∙ h)
+
+-- the text is cut into those
+pub text_meant : (e : Extensions) (src : List ℕ) (n : Cell Policies) (set : free.Policies) → IsTreeOf ReadsPolicies src n → policies_outcome e n ≡ Ok set → (ts : List Lexeme) × Cuts src ts × IsPolicySet e sign_limit ts set
+text_meant e src n set g h = (g.tokens, g.cut, tree_meant e src n set g h)
 
 -- tokens that mean something have such a tree
 pub record Found (e : Extensions) (src : List ℕ) (set : free.Policies) : Type 0 where
@@ -42,7 +46,7 @@ pub record Found (e : Extensions) (src : List ℕ) (set : free.Policies) : Type 
   pub stands : IsTreeOf ReadsPolicies src tree
   pub gives : policies_outcome e tree ≡ Ok set
 
-pub tree_found : (e : Extensions) (src : List ℕ) (ts : List Lexeme) (set : free.Policies) → Cuts src ts → IsPolicySet e SIGN_LIMIT ts set → Found e src set
+pub tree_found : (e : Extensions) (src : List ℕ) (ts : List Lexeme) (set : free.Policies) → Cuts src ts → IsPolicySet e sign_limit ts set → Found e src set
 tree_found e src ts set cut h =
     let d : SetRead e src ts set = set_read e src h in
     record {
@@ -55,8 +59,8 @@ tree_found e src ts set cut h =
 
 pub read_value : {S : Type 0} (e : Extensions) (meaning : S → free.Policies) (src : List ℕ) (n : Cell Policies) (r : Result S Failure) → IsTreeOf ReadsPolicies src n
     → Gives meaning r (policies_outcome e n)
-    → IfOk r (λ x. (ts : List Lexeme) × Cuts src ts × IsPolicySet e SIGN_LIMIT ts (meaning x))
-read_value e meaning src n (Ok x) g h = (g.tokens, g.cut, tree_meant e src n (meaning x) g h)
+    → IfOk r (λ x. (ts : List Lexeme) × Cuts src ts × IsPolicySet e sign_limit ts (meaning x))
+read_value e meaning src n (Ok x) g h = text_meant e src n (meaning x) g h
 read_value e meaning src n (Err f) g h = tt
 
 -- an outcome that gives a value is refused for want of memory alone

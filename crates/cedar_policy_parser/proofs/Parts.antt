@@ -1,5 +1,6 @@
 -- What is made of a first value and those behind operators.
 use Rattle.std.proofs.Common.{◌≡◌, ◌<◌, ◌≤◌, ℕ, Bool, true, false, List, [], ◌∷◌, map, length, Option, Ok, Err, refl, ap, ◌∙◌, arith}
+use Rattle.std.specs.Map.{keys_of}
 use Rattle.cedar_expressions.specs.declared.operators.AddOp.{AddOp}
 use Rattle.cedar_expressions.specs.Keys.{repeats_key}
 use Rattle.cedar_expressions.specs.Value as v
@@ -8,7 +9,7 @@ use Rattle.cedar_syntax.specs.declared.loc.Loc.{Loc}
 use Rattle.cedar_syntax.specs.Forms.{parts_of}
 use Rattle.cedar_syntax.specs.Located.{Located, none}
 use Rattle.cedar_syntax.specs.Tree.{Operator, Level, disjunction, conjunction, relation, sum, product, add}
-use Rattle.cedar_policy_parser.specs.Conversion.{Part, bodies, sum_terms, level_outcome, joint_outcome, operator_limit, chain_outcome, keys, expression_at, record_outcome, set_value_outcome}
+use Rattle.cedar_policy_parser.specs.Conversion.{Part, bodies, sum_terms, level_outcome, joint_outcome, operator_limit, chain_outcome, expression_at, record_outcome, set_value_outcome}
 use Rattle.cedar_policy_parser.specs.Held.{Held, as_expression}
 use Rattle.cedar_policy_parser.specs.Members.{call}
 use Rattle.cedar_policy_parser.specs.Outcome.{Outcome, fault_outcome, next, ambiguous_operators, expression_construction_error}
@@ -47,12 +48,12 @@ pub set_made : {O E : Type 0} (operator : O → Operator) (m : E → Value) (pla
     → ps ≡ Ok (map (λ p. (operator p.0, m p.1)) es) → items ≡ map (λ p. p.1) es → w ≡ v.set (values (map m items)) → next ps (set_value_outcome place) ≡ expression_at place w
 set_made operator m place ps es items w h k l = rw (h, l, k, bodies_behind operator m es) refl
 
-keys_seen : {E : Type 0} (m : E → Value) (es : List (List ℕ × E)) → keys (map (λ p. (p.0, m p.1)) es) ≡ map (λ p. p.0) es
+keys_seen : {E : Type 0} (m : E → Value) (es : List (List ℕ × E)) → keys_of (map (λ p. (p.0, m p.1)) es) ≡ map (λ p. p.0) es
 keys_seen m [] = refl
 keys_seen m (e ∷ es) = ap (λ ks. e.0 ∷ ks) (keys_seen m es)
 
 -- the keys of a record's pairs repeat one where the list's do
-keyed : {E : Type 0} (m : E → Value) (es : List (List ℕ × E)) (b : Bool) → repeats_key (map (λ p. p.0) es) ≡ b → repeats_key (keys (map (λ p. (p.0, m p.1)) es)) ≡ b
+keyed : {E : Type 0} (m : E → Value) (es : List (List ℕ × E)) (b : Bool) → repeats_key (map (λ p. p.0) es) ≡ b → repeats_key (keys_of (map (λ p. (p.0, m p.1)) es)) ≡ b
 keyed m es b h = ap repeats_key (keys_seen m es) ∙ h
 
 pub record_made : {E : Type 0} (m : E → Value) (place : Option Loc) (ps : Outcome (List (List ℕ × Value))) (es : List (List ℕ × E)) (w : Value)

@@ -16,11 +16,12 @@ use Rattle.cedar_syntax.specs.declared.loc.Loc.{Loc}
 use Rattle.cedar_syntax.specs.declared.node.Node.{Node}
 use Rattle.cedar_policy_parser.specs.AnnotationKeys.{AnnotationContent, Answers, AnswersEach, annotation_map, annotations_outcome, with_pair, with_annotation, kept_annotation, values_by_key, paired_keys}
 use Rattle.cedar_policy_parser.specs.Outcome.{NamedFault, expected_static_policy}
-use Rattle.cedar_policy_parser.specs.Policies.{is_slot_fault, kept_outcome, lent_bytes, slot_faults}
+use Rattle.cedar_policy_parser.specs.Policies.{is_slot_fault, kept_outcome, slot_faults}
 use Rattle.cedar_policy_parser.specs.Places.{bytes_of}
 use Rattle.cedar_policy_parser.specs.Seen.{named_faults, named_fault}
 use Rattle.cedar_policy_parser.proofs.Outcomes.{given_next}
 use Rattle.cedar_policy_parser.proofs.Loops.{map_snoc, take_next, take_whole}
+use Rattle.cedar_policy_parser.specs.machines.Views.{lent_bytes}
 
 -- ---- annotations kept by their keys, where what is made of each is what a policy keeps
 

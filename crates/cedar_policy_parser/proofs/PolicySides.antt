@@ -16,7 +16,8 @@ use Rattle.cedar_policy_store.specs.TemplateSlots.{at_most_one, constraint_slot,
 use Rattle.cedar_syntax.specs.declared.loc.Loc.{Loc}
 use Rattle.cedar_policy_parser.specs.Places.{place_within}
 use Rattle.cedar_policy_parser.specs.Outcome.{Outcome, NamedFault, fault_outcome, expected_static_policy}
-use Rattle.cedar_policy_parser.specs.Policies.{IsConditionFree, TemplateParts, meaning_of, only_static, scope_slots, side_outcome, policy_side, slot_of, slot_faults, template_parts, unless_slots}
+use Rattle.cedar_policy_parser.specs.Policies.{TemplateParts, meaning_of, only_static, scope_slots, side_outcome, policy_side, slot_faults, template_parts, unless_slots}
+use Rattle.cedar_policy_parser.specs.machines.Views.{IsConditionFree, slot_of}
 
 -- ---- a template's slots
 

@@ -1,6 +1,7 @@
 -- A string's raw text, laid out in its one way.
-use Rattle.std.proofs.Common.{◌≡◌, ℕ, List, [], ◌∷◌, Option, Ok, Err, refl, sym}
+use Rattle.std.proofs.Common.{◌≡◌, ℕ, zero, suc, ◌+◌, ◌-◌, ◌<◌, ◌≤◌, List, [], ◌∷◌, ◌++◌, length, take, Option, Ok, Err, refl, sym, ap, ◌∙◌, subst, arith, length-append}
 use Rattle.std.specs.Str.{chars}
+use Rattle.std.proofs.Math.Seq.{take-append_seam}
 use Rattle.cedar_expressions.specs.declared.literal.Literal.TheVariants as literals
 use Rattle.cedar_expressions.specs.Value as v
 use Rattle.cedar_expressions.specs.Value.{Value}
@@ -10,15 +11,43 @@ use Rattle.cedar_syntax.specs.declared.err.escape.UnescapeError.{UnescapeError}
 use Rattle.cedar_syntax.specs.declared.err.non_empty.NonEmpty.{NonEmpty}
 use Rattle.cedar_expressions.specs.declared.literal.PatternElem.{PatternElem}
 use Rattle.cedar_syntax.specs.Pattern.{IsPattern, HasPatternFaults, pattern_faults, pattern_pieces}
-use Rattle.cedar_syntax.specs.Piece.{Placed, IsLaidOut, IsUnescaped, HasEscapeFaults}
-use Rattle.cedar_syntax.proofs.Layouts.{laid_out, laid_once}
+use Rattle.cedar_syntax.specs.declared.unescape.piece.PieceValue.{PieceValue}
+use Rattle.cedar_syntax.specs.Piece.{Piece, Placed, bytes_len, piece_at, PieceLayout, end_of_text, piece, IsLaidOut, IsUnescaped, HasEscapeFaults}
+use Rattle.cedar_syntax.specs.PieceAhead.{BeginsWithPiece, first_piece}
+use Rattle.cedar_syntax.proofs.FirstPiece.{begins}
+use Rattle.cedar_syntax.proofs.Layouts.{laid_once}
 use Rattle.cedar_policy_parser.specs.Held.{text_value}
 use Rattle.cedar_policy_parser.specs.Outcome.{next}
-use Rattle.cedar_policy_parser.specs.Strings.{layout, escape_faults, unescaped, string_faults, unless_faulty, text_outcome, pattern_outcome}
+use Rattle.cedar_policy_parser.specs.Strings.{taken, pieces_from, layout, escape_faults, unescaped, string_faults, unless_faulty, text_outcome, pattern_outcome}
 
-layout_laid : (raw : List ℕ) → IsLaidOut raw (layout raw)
+-- ---- the layout
+
+some_text : {after : List ℕ} {o : PieceValue} (text : List ℕ) → Piece text after o → 0 < length text
+some_text [] p = absurd (elim p [ ])
+some_text (c ∷ text) p = omega arith
+
+taken_is : (cs text rest : List ℕ) → cs ≡ text ++ rest → take (length cs - length rest) cs ≡ text
+taken_is cs text rest h =
+    let e : length cs ≡ length text + length rest = ap length h ∙ length-append text rest in
+    let n : length cs - length rest ≡ length text = omega arith in
+    ap (λ m. take m cs) n ∙ ap (take (length text)) h ∙ take-append_seam text rest
+
+pieces_laid : (n start : ℕ) (cs : List ℕ) → length cs ≤ n → PieceLayout start cs (pieces_from n start cs)
+pieces_laid zero start [] h = end_of_text
+pieces_laid zero start (c ∷ cs) h = absurd (omega arith)
+pieces_laid (suc n) start [] h = end_of_text
+pieces_laid (suc n) start (c ∷ cs) h =
+    let b : BeginsWithPiece (c ∷ cs) (first_piece c cs) = begins c cs in
+    let r : List ℕ = (first_piece c cs).rest in
+    let same : taken (c ∷ cs) (first_piece c cs) ≡ b.text = taken_is (c ∷ cs) b.text r b.stands in
+    let longer : 0 < length b.text = some_text b.text b.is_piece in
+    let whole : suc (length cs) ≡ length b.text + length r = ap length b.stands ∙ length-append b.text r in
+    subst (λ text. PieceLayout start (c ∷ cs) (piece_at start text (first_piece c cs).outcome ∷ pieces_from n (start + bytes_len text) r)) (sym same)
+    (piece b.text r (first_piece c cs).outcome b.stands b.is_piece (pieces_laid n (start + bytes_len b.text) r (omega arith)))
+
+pub layout_laid : (raw : List ℕ) → IsLaidOut raw (layout raw)
 unfolding layout
-layout_laid raw = (laid_out 0 (chars raw)).1
+layout_laid raw = pieces_laid (length (chars raw)) 0 (chars raw) (omega arith)
 
 is_layout : (raw : List ℕ) (ps : List Placed) → IsLaidOut raw ps → ps ≡ layout raw
 is_layout raw ps l = laid_once 0 (chars raw) ps (layout raw) l (layout_laid raw)

@@ -16,9 +16,8 @@ use Rattle.cedar_syntax.specs.Tree.{Operator}
 use Rattle.cedar_syntax.proofs.FormLevels.{primary_literal, primary_ref, primary_name, primary_slot, primary_expr, primary_list, primary_inits}
 use Rattle.cedar_policy_parser.specs.Conversion.{with_first}
 use Rattle.cedar_policy_parser.specs.Entities.{entity_outcome}
-use Rattle.cedar_policy_parser.specs.Outcome.{fault_outcome, both, next, empty_node, wrong_node, wrong_entity_argument}
+use Rattle.cedar_policy_parser.specs.Outcome.{fault_outcome, both, next, empty_node, wrong_node, wrong_entity_argument, item_more}
 use Rattle.cedar_policy_parser.specs.References.{RefKind, entities, entity_at, entity_form, single_outcome, literal_fault, lone_entity, referent_at, referred_form, several_outcome, own_slot_outcome}
-use Rattle.cedar_policy_parser.specs.Seen.{item_more}
 use Rattle.cedar_policy_parser.proofs.Gathered.{last, shifted}
 use Rattle.cedar_policy_parser.proofs.Loops.{take_next, map_snoc}
 

@@ -13,16 +13,18 @@ use Rattle.cedar_syntax.specs.declared.err.faults.Failure.{Failure}
 use Rattle.cedar_syntax.specs.declared.err.faults.Failure.TheVariants.{Memory, Errors}
 use Rattle.cedar_syntax.specs.declared.node.Node.{Node}
 use Rattle.cedar_policy_parser.specs.Extensions.{Extensions}
-use Rattle.cedar_policy_parser.specs.Outcome.{Outcome, both, next}
+use Rattle.cedar_policy_parser.specs.Outcome.{Outcome, both, next, item_more}
 use Rattle.cedar_policy_parser.specs.Policies as k
-use Rattle.cedar_policy_parser.specs.Policies.{IsAdded, TemplateParts, maps_with_policy, either_parts, set_view, meaning_of, scope_slots, parts_set_outcome, side_outcome, policy_side, template_parts, with_parts}
+use Rattle.cedar_policy_parser.specs.Policies.{TemplateParts, either_parts, meaning_of, scope_slots, parts_set_outcome, side_outcome, policy_side, template_parts, with_parts}
 use Rattle.cedar_policy_parser.specs.PolicyMeaning.{set_with_policy, no_policies, policy_id}
-use Rattle.cedar_policy_parser.specs.Seen.{Gives, Refuses, item_more, empty_view, named_faults}
+use Rattle.cedar_policy_parser.specs.Seen.{Gives, Refuses, named_faults}
 use Rattle.cedar_policy_parser.proofs.Inverted.{ok_is}
 use Rattle.cedar_policy_parser.proofs.Loops.{take_next}
 use Rattle.cedar_policy_parser.proofs.MappedValues.{fold_snoc, with-empty, with-insert}
 use Rattle.cedar_policy_parser.proofs.PolicySides.{is_left, is_right, side_of}
 use Rattle.cedar_policy_parser.proofs.sound.Sets.{numbered_snoc, zero-plus}
+use Rattle.cedar_policy_parser.specs.machines.Filled.{IsAdded, maps_with_policy, set_view}
+use Rattle.cedar_policy_parser.specs.machines.Views.{empty_view}
 
 -- ---- a policy that is added
 

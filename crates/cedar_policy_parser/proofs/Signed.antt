@@ -6,7 +6,8 @@ use Rattle.cedar_expressions.specs.Value.{Value}
 use Rattle.cedar_syntax.specs.declared.loc.Loc.{Loc}
 use Rattle.cedar_syntax.specs.declared.err.faults.Failure.{Failure}
 use Rattle.cedar_syntax.specs.declared.cst.NegOp.TheVariants as sign
-use Rattle.cedar_syntax.specs.Trees.{bangs_of, dashes_of, sign_limit}
+use Rattle.cedar_syntax.specs.Trees.{bangs_of, dashes_of}
+use Rattle.cedar_syntax.specs.Signs.{sign_limit}
 use Rattle.cedar_policy_parser.specs.Conversion.{application_outcome, dashes_outcome, signs_outcome, number_outcome, expression_at}
 use Rattle.cedar_policy_parser.specs.Held.{Held, as_expression}
 use Rattle.cedar_policy_parser.specs.Outcome.{Outcome, next, fault_outcome, integer_literal_too_large}

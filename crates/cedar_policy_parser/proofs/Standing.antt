@@ -1,5 +1,5 @@
 -- Where the faults of what is joined stand, of where those of the parts do.
-use Rattle.std.proofs.Common.{◌≡◌, ◌≢◌, Bool, true, false, cond, List, [], ◌∷◌, ◌++◌, Option, Ok, Err, refl, subst}
+use Rattle.std.proofs.Common.{◌≡◌, ◌≢◌, Bool, true, false, cond, List, [], ◌∷◌, ◌++◌, Option, Some, None, Ok, Err, refl, ◌∙◌, subst, arith}
 use Rattle.std.specs.List.{All}
 use Rattle.std.proofs.lemmas.List.Elements.{All-nil, All-cons, All-append, All-weaker}
 use Rattle.cedar_syntax.specs.declared.loc.Loc.{Loc}
@@ -19,6 +19,19 @@ ByHand (parsed outer) = ⊥
 abbrev pub LiesIn : Origin → Option Loc → Type 0
 LiesIn by_hand place = Unit {0}
 LiesIn (parsed outer) place = LiesWithin outer place
+
+-- what lies within a place lies within itself
+pub self_within : (w p : Option Loc) → LiesWithin w p → LiesWithin p p
+self_within None None h = h
+self_within None (Some loc) h = absurd h
+self_within (Some outer) None h = h
+self_within (Some outer) (Some loc) h = (refl, omega arith, omega arith)
+
+pub within_within : (a b c : Option Loc) → LiesWithin a b → LiesWithin b c → LiesWithin a c
+within_within (Some a) (Some b) (Some c) h g = let x = h.1 in let y = h.2 in let z = g.1 in let w = g.2 in (g.0 ∙ h.0, omega arith, omega arith)
+within_within (Some a) (Some b) None h g = absurd g
+within_within (Some a) None c h g = absurd h
+within_within None b c h g = absurd h
 
 pub anywhere : (o : Origin) (place : Option Loc) → ByHand o → LiesIn o place
 anywhere by_hand place h = tt

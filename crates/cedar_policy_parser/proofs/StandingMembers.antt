@@ -4,17 +4,19 @@ use Rattle.cedar_expressions.specs.declared.literal.Literal.TheVariants as liter
 use Rattle.cedar_expressions.specs.Path.{Path}
 use Rattle.cedar_expressions.specs.Value as v
 use Rattle.cedar_expressions.specs.Value.{Value}
+use Rattle.cedar_expressions.specs.Written.{var_text}
 use Rattle.cedar_syntax.specs.declared.loc.Loc.{Loc}
 use Rattle.cedar_syntax.specs.Located as f
 use Rattle.cedar_syntax.specs.Located.{Located, Form, Parts}
 use Rattle.cedar_policy_parser.specs.declared.methods.Standard.{Standard}
 use Rattle.cedar_policy_parser.specs.Extensions.{Extensions}
 use Rattle.cedar_policy_parser.specs.HasSide.{attributes_of, begins_with, beginning_outcome, behind_first, field_form, field_of, fields_of, no_sign, right_form, right_side, string_alone}
-use Rattle.cedar_policy_parser.specs.Held.{Held, expression, variable, bare_name, bare_truth, bare_string, as_expression, variable_text}
+use Rattle.cedar_policy_parser.specs.Held.{Held, expression, variable, bare_name, bare_truth, bare_string, as_expression}
 use Rattle.cedar_policy_parser.specs.Literals.{literal_outcome}
 use Rattle.cedar_policy_parser.specs.Leaves.{name_leaf}
-use Rattle.cedar_policy_parser.specs.Members.{Access, field, call, index, standard_method, takes_one, with_arguments, plain_name, extension_method, method_by, method_outcome, is_method_id, function_outcome, accesses_of, name_accesses, variable_accesses, some_accesses, member_outcome}
+use Rattle.cedar_policy_parser.specs.Members.{Access, field, call, index, takes_one, with_arguments, plain_name, extension_method, method_by, method_outcome, function_outcome, accesses_of, name_accesses, variable_accesses, some_accesses, member_outcome}
 use Rattle.cedar_policy_parser.specs.Outcome.{variable_call, no_methods, invalid_access, invalid_index, expression_call, wrong_arity, function_call_on_method, method_call_on_function, unknown_method, unknown_function, invalid_has_rhs, reserved_identifier, empty_node}
+use Rattle.cedar_policy_parser.specs.StrictCalls.{standard_method, names_method}
 use Rattle.cedar_policy_parser.proofs.Standing.{Origin, LiesIn, anywhere, IsPlain, Stands, Anything, alone, next_stands, then_stands, if_stands}
 use Rattle.cedar_policy_parser.proofs.StandingLeaves.{HeldWithin, as_value, text_stands, unqualified_stands, unreserved_stands, literal_stands, named_stands}
 use Rattle.cedar_policy_parser.proofs.Tidy.{Tidy, FormTidy, AccessesTidy, AccessTidy, AccessFormTidy}
@@ -40,7 +42,7 @@ method_stands e o p id x args h = method_by_stands e o p id (standard_method id)
 
 function_stands : (e : Extensions) (o : Origin) (p : Option Loc) (name : Path) (args : List Value) → LiesIn o p → Stands IsPlain o Anything (function_outcome e p name args)
 function_stands e o p name args h =
-    if_stands IsPlain o Anything (is_method_id e name.path name.id) _ _ (alone IsPlain o function_call_on_method p tt h) (if_stands IsPlain o Anything (e.functions name) _ _ tt (alone IsPlain o unknown_function p tt h))
+    if_stands IsPlain o Anything (names_method e name.path name.id) _ _ (alone IsPlain o function_call_on_method p tt h) (if_stands IsPlain o Anything (e.functions name) _ _ tt (alone IsPlain o unknown_function p tt h))
 
 -- ---- accesses
 
@@ -102,7 +104,7 @@ string_stands o w p raw (f.more op n ps) k h = alone IsPlain o invalid_has_rhs w
 
 attributes_stand : (o : Origin) (w : Option Loc) (ps : Parts) (h : Held) → LiesIn o w → AccessesTidy o ps → HeldWithin o h → Stands IsPlain o Anything (attributes_of w ps h)
 attributes_stand o w ps (expression p x) k t h = alone IsPlain o invalid_has_rhs p tt h
-attributes_stand o w ps (variable p x) k t h = behind_stands o ps (variable_text x) t
+attributes_stand o w ps (variable p x) k t h = behind_stands o ps (var_text x) t
 attributes_stand o w ps (bare_name p x) k t h = then_stands IsPlain o Anything _ _ (unqualified_stands o p x.path x.id h) (λ id. behind_stands o ps id t)
 attributes_stand o w ps (bare_truth p x) k t h = alone IsPlain o reserved_identifier p tt h
 attributes_stand o w ps (bare_string p raw) k t h = string_stands o w p raw ps k h

@@ -22,11 +22,10 @@ use Rattle.cedar_policy_parser.specs.Conversion.{value_outcome}
 use Rattle.cedar_policy_parser.specs.Entities.{id_outcome}
 use Rattle.cedar_policy_parser.specs.Extensions.{Extensions}
 use Rattle.cedar_policy_parser.specs.Names.{any_ident}
-use Rattle.cedar_policy_parser.specs.Outcome.{Outcome, next, duplicate_annotation, invalid_condition, empty_clause, slots_in_condition_clause, invalid_effect}
+use Rattle.cedar_policy_parser.specs.Outcome.{Outcome, next, duplicate_annotation, invalid_condition, empty_clause, slots_in_condition_clause, invalid_effect, item_more}
 use Rattle.cedar_policy_parser.specs.Policies.{effect_of, effect_outcome, kept_outcome, parts_outcome, template_of, template_outcome, policies_from, set_outcome, policies_outcome}
 use Rattle.cedar_policy_parser.specs.PolicyMeaning.{policy_id}
 use Rattle.cedar_policy_parser.specs.Scope.{scope_outcome}
-use Rattle.cedar_policy_parser.specs.Seen.{item_more}
 use Rattle.cedar_policy_parser.specs.Standing.{LiesWithin}
 use Rattle.cedar_expressions.specs.Slots.{slots_of}
 use Rattle.cedar_policy_parser.proofs.Standing.{Origin, by_hand, parsed, LiesIn, IsTold, KindWithin, weaker, Stands, Anything, alone, one_before, no_faults, both_any, next_stands, then_stands, if_stands}

@@ -28,12 +28,12 @@ use Rattle.cedar_policy_parser.specs.Policies.{effect_outcome, template_outcome,
 use Rattle.cedar_policy_parser.specs.Scope.{scope_outcome}
 use Rattle.cedar_policy_parser.specs.Standing.{LiesWithin, StandWithin}
 use Rattle.cedar_policy_parser.proofs.Fitting.{Fits, all_fit, within}
-use Rattle.cedar_policy_parser.proofs.Standing.{Origin, parsed, IsTold, Stands, Anything, stand_within}
+use Rattle.cedar_policy_parser.proofs.Standing.{Origin, parsed, IsTold, Stands, Anything, self_within, stand_within}
 use Rattle.cedar_policy_parser.proofs.StandingPolicies.{new_annotation_stands, condition_stands, effect_stands, template_stands, policies_stand}
 use Rattle.cedar_policy_parser.proofs.StandingScopes.{scope_stands}
 use Rattle.cedar_policy_parser.proofs.StandingTrees.{value_faults}
 use Rattle.cedar_policy_parser.proofs.Tidy.{Holding, Each}
-use Rattle.cedar_policy_parser.proofs.TidyPolicies.{AnnotationTidy, CondTidy, PolicyTidy, Own, PartsOwn, WholeTidy, parts_own, policies_own, policy_some, policy_tidy, policies_tidy}
+use Rattle.cedar_policy_parser.proofs.TidyPolicies.{AnnotationTidy, CondTidy, PolicyTidy, Own, WholeTidy, parts_own, policies_own, policy_some, policy_tidy, policies_tidy}
 use Rattle.cedar_policy_parser.proofs.TidyTrees.{sits, expr_holds}
 
 pub expr_faults : (e : Extensions) (text : List ℕ) (tree : Cell Expr) → IsTreeOf ReadsExpr text tree → StandWithin tree.loc (value_outcome e (located expr_form tree))
@@ -82,30 +82,33 @@ set_faults e text tree g = stand_within tree.loc (policies_outcome e tree) (set_
 
 -- ---- a parsed policy is tidy
 
-abbrev some_of : {X : Type 0} → X → Option X
+abbrev pub some_of : {X : Type 0} → X → Option X
 some_of x = Some x
 
 some_is : {X : Type 0} {x y : X} → some_of x ≡ some_of y → x ≡ y
 some_is e = cc
 
--- within its place, and its parts within theirs
-pub parsed_parts : (text : List ℕ) (tree : Cell Policy) (x : Policy) → IsTreeOf ReadsPolicy text tree → tree.node ≡ Some x → WholeTidy (parsed tree.loc) x
-parsed_parts text tree x g e =
+-- what holds of each policy that is read holds of a text's
+pub parsed_as : (P : Origin → Policy → Type 0) (text : List ℕ) → ((w : Origin) (ts : List Lexeme) (x : Policy) → ReadsPolicy text ts x → Fits w text ts → P w x) → (tree : Cell Policy) (x : Policy) → IsTreeOf ReadsPolicy text tree → tree.node ≡ Some x
+    → P (parsed tree.loc) x
+parsed_as P text k tree x g e =
     let ts : List Lexeme = g.tokens in
     let y : Policy = g.stands.tree in
     let some = policy_some g.stands.reads in
     let c : Cell Policy = placed text ts y in
     let is : tree ≡ c = g.stands.is ∙ start_is text ts y some in
-    let fits = all_fit text _ _ ts g.cut some in
-    let same : y ≡ x = some_is (sym (ap (λ n. n.node) is) ∙ e) in
-    (subst (λ v. PolicyTidy (parsed v) x) (sym (ap (λ n. n.loc) is)) (subst (PolicyTidy (parsed c.loc)) same (policy_tidy g.stands.reads fits)), subst PartsOwn same (parts_own g.stands.reads fits))
+    subst (λ v. P (parsed v) x) (sym (ap (λ n. n.loc) is)) (subst (P (parsed c.loc)) (some_is (sym (ap (λ n. n.node) is) ∙ e)) (k (parsed c.loc) ts y g.stands.reads (all_fit text _ _ ts g.cut some)))
+
+-- within its place, and its parts within theirs
+pub parsed_parts : (text : List ℕ) (tree : Cell Policy) (x : Policy) → IsTreeOf ReadsPolicy text tree → tree.node ≡ Some x → WholeTidy (parsed tree.loc) x
+parsed_parts text = parsed_as WholeTidy text (λ w ts x r h. (policy_tidy r h, parts_own r h))
 
 pub parsed_tidy : (text : List ℕ) (tree : Cell Policy) (x : Policy) → IsTreeOf ReadsPolicy text tree → tree.node ≡ Some x → (w : Option Loc) × PolicyTidy (parsed w) x
 parsed_tidy text tree x g e = (tree.loc, (parsed_parts text tree x g e).0)
 
 -- ---- each policy of a parsed set
 
-all_of_each : {X : Type 0} (P Q : X → Type 0) → ((x : X) → P x → Q x) → (xs : List X) → Each P xs → All Q xs
+pub all_of_each : {X : Type 0} (P Q : X → Type 0) → ((x : X) → P x → Q x) → (xs : List X) → Each P xs → All Q xs
 all_of_each P Q k [] h = All-nil Q
 all_of_each P Q k (x ∷ xs) h = All-cons Q x xs (k x h.0) (all_of_each P Q k xs h.1)
 
@@ -117,12 +120,17 @@ in_node : (text : List ℕ) (ts : List Lexeme) (x : Policies) → (placed_or_sta
 in_node text [] x = refl
 in_node text (t ∷ ts) x = refl
 
--- what holds of each policy that is read, holds of those of the set
-pub each_policy : (text : List ℕ) (tree : Cell Policies) (x : Policies) (Q : Cell Policy → Type 0) → IsTreeOf ReadsPolicies text tree → tree.node ≡ Some x → ((n : Cell Policy) → Own WholeTidy n → Q n) → All Q x.0
-each_policy text tree x Q g h k =
+-- what follows of what holds of each policy that is read holds of those of a text's set
+pub each_as : (P : Origin → Policy → Type 0) (text : List ℕ) → ((w : Origin) (ts : List Lexeme) (x : Policies) → ReadsPolicies text ts x → Fits w text ts → Each (Own P) x.0) → (tree : Cell Policies) (x : Policies) (Q : Cell Policy → Type 0)
+    → IsTreeOf ReadsPolicies text tree → tree.node ≡ Some x → ((n : Cell Policy) → Own P n → Q n) → All Q x.0
+each_as P text reads tree x Q g h k =
     let y : Policies = g.stands.tree in
+    let there = some_place text g.tokens g.cut in
     subst (λ z. All Q z.0) (some_is (sym (ap (λ n. n.node) g.stands.is ∙ in_node text g.tokens y) ∙ h))
-    (all_of_each (Own WholeTidy) Q k y.0 (policies_own g.stands.reads (some_place text g.tokens g.cut).1))
+    (all_of_each (Own P) Q k y.0 (reads there.0 g.tokens y g.stands.reads there.1))
+
+pub each_policy : (text : List ℕ) (tree : Cell Policies) (x : Policies) (Q : Cell Policy → Type 0) → IsTreeOf ReadsPolicies text tree → tree.node ≡ Some x → ((n : Cell Policy) → Own WholeTidy n → Q n) → All Q x.0
+each_policy text = each_as WholeTidy text (λ w ts x r h. policies_own r h)
 
 policy_alone : (w : Origin) (c : Option Policy) → Holding w (WholeTidy w) c → Holding w (PolicyTidy w) c
 policy_alone w None h = h
@@ -134,13 +142,6 @@ member_faults e text id tree x g h =
     (λ n i. stand_within n.loc (template_outcome e id n) (template_stands e (parsed n.loc) id n (i.0, policy_alone (parsed n.loc) n.node i.1)))
 
 -- ---- each part of a policy
-
--- what lies within a place lies within itself
-self_within : (w p : Option Loc) → LiesWithin w p → LiesWithin p p
-self_within None None h = h
-self_within None (Some loc) h = absurd h
-self_within (Some outer) None h = h
-self_within (Some outer) (Some loc) h = (refl, omega arith, omega arith)
 
 parts_stand : (e : Extensions) (w : Option Loc) (p : PolicyImpl) → WholeTidy (parsed w) (trees.Policy p) → PartsStandWithin e w p
 parts_stand e w p h = (

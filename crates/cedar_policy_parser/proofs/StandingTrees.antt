@@ -1,5 +1,6 @@
 -- Where the faults of a tidy tree stand: a line for each rule, and the trees.
 use Rattle.std.proofs.Common.{ℕ, zero, suc, nat_le, List, [], ◌∷◌, Option, Some, None}
+use Rattle.std.specs.Map.{keys_of}
 use Rattle.cedar_expressions.specs.Keys.{repeats_key}
 use Rattle.cedar_expressions.specs.Value as v
 use Rattle.cedar_expressions.specs.Value.{Value}
@@ -13,7 +14,7 @@ use Rattle.cedar_syntax.specs.Located as f
 use Rattle.cedar_syntax.specs.Located.{Located, Form, Parts}
 use Rattle.cedar_syntax.specs.Tree as t
 use Rattle.cedar_syntax.specs.Tree.{Level, Operator, disjunction, conjunction, relation, sum, product}
-use Rattle.cedar_policy_parser.specs.Conversion.{Part, outcome, form_outcome, operands, accesses_outcome, access_outcome, access_form_outcome, pairs_outcome, pair_outcome, pair_form_outcome, value_outcome, comparison_outcome, relation_outcome, level_outcome, joint_outcome, operator_limit, chain_outcome, factor, application_outcome, dashes_outcome, signs_outcome, beside_type, tree_place, keys, record_outcome, number_in, lone_literal}
+use Rattle.cedar_policy_parser.specs.Conversion.{Part, outcome, form_outcome, operands, accesses_outcome, access_outcome, access_form_outcome, pairs_outcome, pair_outcome, pair_form_outcome, value_outcome, comparison_outcome, relation_outcome, level_outcome, joint_outcome, operator_limit, chain_outcome, factor, application_outcome, dashes_outcome, signs_outcome, beside_type, tree_place, record_outcome, number_in, lone_literal}
 use Rattle.cedar_policy_parser.specs.Extensions.{Extensions}
 use Rattle.cedar_policy_parser.specs.HasSide.{right_side}
 use Rattle.cedar_policy_parser.specs.Held.{Held, as_expression, as_pattern, as_entity_type, as_string, as_attribute}
@@ -102,7 +103,7 @@ type_stands : (o : Origin) (x : Outcome Value) (y : Outcome Held) → Stands IsP
 type_stands o x y a b = next_stands IsPlain o (HeldWithin o) Anything y (beside_type x) b (λ h w. both_any IsPlain o x (as_entity_type h) a (type_held o h w))
 
 record_stands : (o : Origin) (p : Option Loc) (fs : List (List ℕ × Value)) → LiesIn o p → Stands IsPlain o (HeldWithin o) (record_outcome p fs)
-record_stands o p fs w = if_stands IsPlain o (HeldWithin o) (repeats_key (keys fs)) _ _ (alone IsPlain o expression_construction_error p tt w) w
+record_stands o p fs w = if_stands IsPlain o (HeldWithin o) (repeats_key (keys_of fs)) _ _ (alone IsPlain o expression_construction_error p tt w) w
 
 mutual
   unfolding outcome form_outcome operands accesses_outcome access_outcome access_form_outcome pairs_outcome pair_outcome pair_form_outcome

@@ -6,7 +6,7 @@ use Rattle.cedar_lexer.specs.Token.{Lexeme}
 use Rattle.cedar_policy_store.specs.PlaceFree as free
 use Rattle.cedar_policy_store.specs.PlaceFree.{has_slot_in_scope}
 use Rattle.cedar_syntax.specs.declared.cst.Policy.{Policy}
-use Rattle.cedar_syntax.specs.declared.cst.TheConstants.{SIGN_LIMIT}
+use Rattle.cedar_syntax.specs.Signs.{sign_limit}
 use Rattle.cedar_syntax.specs.declared.loc.Loc.{Loc}
 use Rattle.cedar_syntax.specs.LoosePolicies.{ReadsPolicy}
 use Rattle.cedar_syntax.specs.Place.{placed}
@@ -80,7 +80,7 @@ right_from o t h s = ap side_outcome h ∙ ap Ok (side_of t ∙ ap (λ b. cond b
 -- ---- what the tokens mean
 
 pub static_meant : (e : Extensions) (src id : List ℕ) (ts : List Lexeme) (x : Policy) (t : TemplateParts) → ReadsPolicy src ts x
-    → (static_outcome e id (placed src ts x) ≡ Ok t) ↔ ((template_outcome e id (placed src ts x) ≡ Ok t) × IsPolicy e SIGN_LIMIT id ts (meaning_of t) × IsStatic (meaning_of t))
+    → (static_outcome e id (placed src ts x) ≡ Ok t) ↔ ((template_outcome e id (placed src ts x) ≡ Ok t) × IsPolicy e sign_limit id ts (meaning_of t) × IsStatic (meaning_of t))
 static_meant e src id ts x t r =
     let place = (placed src ts x).loc in
     let o = template_outcome e id (placed src ts x) in (
@@ -89,7 +89,7 @@ static_meant e src id ts x t r =
     )
 
 pub left_meant : (e : Extensions) (src id : List ℕ) (ts : List Lexeme) (x : Policy) (t : TemplateParts) → ReadsPolicy src ts x
-    → (either_outcome e id (placed src ts x) ≡ Ok (Left t)) ↔ ((template_outcome e id (placed src ts x) ≡ Ok t) × IsPolicy e SIGN_LIMIT id ts (meaning_of t) × IsStatic (meaning_of t))
+    → (either_outcome e id (placed src ts x) ≡ Ok (Left t)) ↔ ((template_outcome e id (placed src ts x) ≡ Ok t) × IsPolicy e sign_limit id ts (meaning_of t) × IsStatic (meaning_of t))
 left_meant e src id ts x t r =
     let o = template_outcome e id (placed src ts x) in (
       λ h. let d = left_in o t h in (d.0, policy_meant e id t r d.0, d.1),
@@ -97,7 +97,7 @@ left_meant e src id ts x t r =
     )
 
 pub right_meant : (e : Extensions) (src id : List ℕ) (ts : List Lexeme) (x : Policy) (t : TemplateParts) → ReadsPolicy src ts x
-    → (either_outcome e id (placed src ts x) ≡ Ok (Right t)) ↔ ((template_outcome e id (placed src ts x) ≡ Ok t) × IsPolicy e SIGN_LIMIT id ts (meaning_of t) × ¬ (IsStatic (meaning_of t)))
+    → (either_outcome e id (placed src ts x) ≡ Ok (Right t)) ↔ ((template_outcome e id (placed src ts x) ≡ Ok t) × IsPolicy e sign_limit id ts (meaning_of t) × ¬ (IsStatic (meaning_of t)))
 right_meant e src id ts x t r =
     let o = template_outcome e id (placed src ts x) in (
       λ h. let d = right_in o t h in (d.0, policy_meant e id t r d.0, d.1),
@@ -106,19 +106,19 @@ right_meant e src id ts x t r =
 
 -- ---- a tree of what tokens mean
 
-pub static_read : (e : Extensions) (src id : List ℕ) (ts : List Lexeme) (policy : free.Policy) → IsPolicy e SIGN_LIMIT id ts policy → IsStatic policy
+pub static_read : (e : Extensions) (src id : List ℕ) (ts : List Lexeme) (policy : free.Policy) → IsPolicy e sign_limit id ts policy → IsStatic policy
     → (x : Policy) × (t : TemplateParts) × ReadsPolicy src ts x × (static_outcome e id (placed src ts x) ≡ Ok t) × (meaning_of t ≡ policy)
 static_read e src id ts policy h s =
     let d = policy_read e src id h in
     (d.tree, d.parts, d.reads, static_from (placed src ts d.tree).loc (template_outcome e id (placed src ts d.tree)) d.parts d.gives (subst IsStatic (sym d.same) s), d.same)
 
-pub left_read : (e : Extensions) (src id : List ℕ) (ts : List Lexeme) (policy : free.Policy) → IsPolicy e SIGN_LIMIT id ts policy → IsStatic policy
+pub left_read : (e : Extensions) (src id : List ℕ) (ts : List Lexeme) (policy : free.Policy) → IsPolicy e sign_limit id ts policy → IsStatic policy
     → (x : Policy) × (t : TemplateParts) × ReadsPolicy src ts x × (either_outcome e id (placed src ts x) ≡ Ok (Left t)) × (meaning_of t ≡ policy)
 left_read e src id ts policy h s =
     let d = policy_read e src id h in
     (d.tree, d.parts, d.reads, left_from (template_outcome e id (placed src ts d.tree)) d.parts d.gives (subst IsStatic (sym d.same) s), d.same)
 
-pub right_read : (e : Extensions) (src id : List ℕ) (ts : List Lexeme) (policy : free.Policy) → IsPolicy e SIGN_LIMIT id ts policy → ¬ (IsStatic policy)
+pub right_read : (e : Extensions) (src id : List ℕ) (ts : List Lexeme) (policy : free.Policy) → IsPolicy e sign_limit id ts policy → ¬ (IsStatic policy)
     → (x : Policy) × (t : TemplateParts) × ReadsPolicy src ts x × (either_outcome e id (placed src ts x) ≡ Ok (Right t)) × (meaning_of t ≡ policy)
 right_read e src id ts policy h s =
     let d = policy_read e src id h in

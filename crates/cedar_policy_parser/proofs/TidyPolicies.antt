@@ -74,7 +74,7 @@ annotation_some (with_value p l q m r) = tt
 element_some : {src : List ℕ} {ts : List Lexeme} {x : VariableDef} → ReadsVariableDef src ts x → Some_of ts
 element_some (variable_def {ts = ts} {us = us} {vs = vs} {ws = ws} r a b c) = some_append ts (us ++ (vs ++ ws)) (any_some r)
 
-cond_some : {src : List ℕ} {ts : List Lexeme} {x : Cond} → ReadsCond src ts x → Some_of ts
+pub cond_some : {src : List ℕ} {ts : List Lexeme} {x : Cond} → ReadsCond src ts x → Some_of ts
 cond_some (cond {ts = ts} {us = us} l m r b) = some_behind (ts ++ one kind.OpenBrace l ++ us) (one kind.CloseBrace m) tt
 
 pub policy_some : {src : List ℕ} {ts : List Lexeme} {x : Policy} → ReadsPolicy src ts x → Some_of ts
@@ -159,7 +159,7 @@ policies_tidy {w = w} {src = src} (policies m) h = many_tidy w src (ReadsPolicy 
 abbrev pub Own : {T : Type 0} → (Origin → T → Type 0) → Node (Option T) → Type 0
 Own P n = NodeTidy (parsed n.loc) (P (parsed n.loc)) n
 
-many_own : {T : Type 0} (w : Origin) (src : List ℕ) (R : List Lexeme → T → Type 0) (P : Origin → T → Type 0) → ((ts : List Lexeme) (x : T) → R ts x → Some_of ts) → ((v : Origin) (ts : List Lexeme) (x : T) → R ts x → Fits v src ts → P v x) →
+pub many_own : {T : Type 0} (w : Origin) (src : List ℕ) (R : List Lexeme → T → Type 0) (P : Origin → T → Type 0) → ((ts : List Lexeme) (x : T) → R ts x → Some_of ts) → ((v : Origin) (ts : List Lexeme) (x : T) → R ts x → Fits v src ts → P v x) →
     {ts : List Lexeme} {xs : List (Cell T)} → ReadsMany src R ts xs → Fits w src ts → Each (Own P) xs
 many_own w src R P s l none h = tt
 many_own w src R P s l (more {ts = ts} {us = us} {xs = xs} {y = y} r q) h =

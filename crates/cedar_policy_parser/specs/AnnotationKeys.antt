@@ -1,28 +1,24 @@
 -- Annotations of a policy: what a key and its string give, and the keys of a policy's annotations,
 -- all of them different. The rules are those of Cedar's `to_kv_pair` and `get_ast_annotations`.
-use Rattle.std.specs.Prelude.{ℕ, List, [], ◌∷◌, ◌++◌, fold, Option, Some, None, Result, Ok, Err, Bool, if◌then◌else◌, unwrap_or, ◌≡◌, string_bytes}
+use Rattle.std.specs.Prelude.{ℕ, List, [], ◌∷◌, ◌++◌, fold, Option, Some, None, Ok, Err, Bool, if◌then◌else◌, unwrap_or, ◌≡◌, string_bytes}
 use denote.Ref.{Bor}
 use denote.Param.Members.{Shared}
 use Rattle.std.specs.List.{list_any}
 use Rattle.std.specs.Option.{option_map, option_copied}
 use Rattle.std.specs.declared.alloc.Global.{Global}
 use Rattle.std.specs.declared.string.String.{String}
-use Rattle.std.specs.FinMap.{FinMap, insert, empty, contains_key}
+use Rattle.std.specs.FinMap.{FinMap, insert, empty}
 use Rattle.std.specs.Str.{bytes_eq}
 use Rattle.cedar_policy_store.specs.declared.annotation.Annotation.{Annotation as Kept}
 use Rattle.cedar_policy_store.specs.TextMap.{text_order}
-use Rattle.cedar_syntax.specs.ParseErrors.{faults_of}
 use Rattle.cedar_syntax.specs.declared.cst.Annotation.{Annotation}
 use Rattle.cedar_syntax.specs.declared.cst.Str.{Str}
-use Rattle.cedar_syntax.specs.declared.err.faults.Failure.{Failure}
-use Rattle.cedar_syntax.specs.declared.err.faults.Failure.TheVariants.{Memory, Errors}
 use Rattle.cedar_syntax.specs.declared.loc.Loc.{Loc}
 use Rattle.cedar_syntax.specs.declared.node.Node.{Node}
 use Rattle.cedar_policy_parser.specs.Entities.{id_outcome}
 use Rattle.cedar_policy_parser.specs.Names.{content_outcome, any_ident}
-use Rattle.cedar_policy_parser.specs.Outcome.{Outcome, fault_outcome, both, next, duplicate_annotation}
+use Rattle.cedar_policy_parser.specs.Outcome.{Outcome, fault_outcome, both, next, duplicate_annotation, item_more}
 use Rattle.cedar_policy_parser.specs.Places.{place_mark}
-use Rattle.cedar_policy_parser.specs.Seen.{item_more, named_faults}
 
 -- a key, the text that its string stands for, if there is one, and the annotation's place
 pub record AnnotationContent : Type 0 where
@@ -98,10 +94,6 @@ annotation_map all = fold with_annotation empty all
 
 -- ---- what a caller makes of an annotation
 
--- the key and the text of an annotation at a place
-abbrev pub pair_view : Option Loc → List ℕ × Option (String Global) → AnnotationContent
-pair_view place p = annotation_at place (p.0, option_map string_bytes p.1)
-
 -- what f answers for the text and the place of an annotation
 pub record Answers {F T : Type 0}
     (g : Shared F (Option (String Global) × (Option (Bor Loc) × Unit {0})) T)
@@ -133,27 +125,3 @@ with_pair m p = insert m p.0 p.1
 
 abbrev pub values_by_key : {T : Type 0} → List AnnotationContent → List T → FinMap text_order T
 values_by_key all ts = fold with_pair empty (paired_keys all ts)
-
--- ---- a map that is being filled
-
--- the map has exactly these keys
-abbrev pub HasKeys : {T : Type 0} → FinMap text_order T → List (List ℕ) → Type 0
-HasKeys m keys = (key : List ℕ) → contains_key m key ≡ has_key keys key
-
--- the values so far, each under its key
-abbrev pub HoldsAll : {F T : Type 0}
-    → Shared F (Option (String Global) × (Option (Bor Loc) × Unit {0})) T → F → Gathering
-    → FinMap text_order T → Type 0
-HoldsAll {T = T} g f so_far m =
-    (all : List AnnotationContent) × (made : List T) × (so_far.all ≡ Ok all)
-    × AnswersEach g f all made × (m ≡ values_by_key all made)
-
--- The map after the annotations so far, and whether any of them is refused. After want of memory
--- nothing is said: it is the answer.
-abbrev pub HoldsSoFar : {F T : Type 0}
-    → Shared F (Option (String Global) × (Option (Bor Loc) × Unit {0})) T → F → Gathering
-    → FinMap text_order T → Result (Unit {0}) Failure → Type 0
-HoldsSoFar g f so_far m (Ok nothing) = HasKeys m so_far.keys × HoldsAll g f so_far m
-HoldsSoFar g f so_far m (Err (Memory error)) = Unit {0}
-HoldsSoFar g f so_far m (Err (Errors errors)) =
-    HasKeys m so_far.keys × (so_far.all ≡ Err (named_faults (faults_of errors)))

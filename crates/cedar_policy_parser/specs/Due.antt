@@ -1,12 +1,25 @@
--- Which faults are due in a policy: what its effect, conditions and scope are refused with.
-use Rattle.std.specs.Prelude.{◌≡◌, ◌≢◌, ℕ, Bool, true, false, List, filter, length, Option, Some}
+-- Which faults are due in a policy: what its effect, scope and conditions are refused with.
+use Rattle.std.specs.Prelude.{◌≡◌, ◌≢◌, ℕ, ◌-◌, Bool, true, false, List, [], ◌∷◌, filter, length, Option, Some, Err}
+use Rattle.std.specs.List.{All}
 use Rattle.cedar_syntax.specs.declared.cst.Cond.{Cond}
 use Rattle.cedar_syntax.specs.declared.cst.Expr.{Expr}
 use Rattle.cedar_syntax.specs.declared.cst.Ident.{Ident}
 use Rattle.cedar_syntax.specs.declared.cst.Ident.TheVariants as words
+use Rattle.cedar_syntax.specs.declared.cst.Policy.{Policy}
+use Rattle.cedar_syntax.specs.declared.cst.Policy.TheVariants as trees
+use Rattle.cedar_syntax.specs.declared.cst.PolicyImpl.{PolicyImpl}
 use Rattle.cedar_syntax.specs.declared.loc.Loc.{Loc}
 use Rattle.cedar_syntax.specs.declared.node.Node.{Node}
-use Rattle.cedar_policy_parser.specs.Outcome.{Kind, NamedFault, missing_scope_variable, extra_scope_element, duplicate_policy_id, duplicate_template_id}
+use Rattle.cedar_syntax.specs.Forms.{located, expr_form}
+use Rattle.cedar_policy_parser.specs.Blocks.{faults_from}
+use Rattle.cedar_policy_parser.specs.Conditions.{condition_outcome}
+use Rattle.cedar_policy_parser.specs.Conversion.{value_outcome}
+use Rattle.cedar_policy_parser.specs.DueKinds.{IsDueIn}
+use Rattle.cedar_policy_parser.specs.Extensions.{Extensions}
+use Rattle.cedar_policy_parser.specs.Outcome.{Kind, NamedFault, invalid_effect, missing_scope_variable, extra_scope_element, duplicate_policy_id, duplicate_template_id}
+use Rattle.cedar_policy_parser.specs.Policies.{effect_outcome}
+use Rattle.cedar_policy_parser.specs.Scope.{scope_outcome}
+use Rattle.cedar_policy_parser.specs.Sites.{wanted, expression}
 
 -- a condition that isn't empty, nor is its word, which has a place; it may have an expression
 abbrev pub HoldsCondition : Node (Option Cond) → Ident → Option Loc → Option (Node (Option Expr))
@@ -32,6 +45,46 @@ is_extra_element _ = false
 -- how many faults are of a kind
 abbrev pub count : (Kind → Bool) → List NamedFault → ℕ
 count is_one faults = length (filter (λ f. is_one f.0) faults)
+
+-- ---- a policy's effect and scope
+
+-- the parts of the policy that a node holds
+abbrev pub OfParts : (PolicyImpl → Type 0) → Node (Option Policy) → Type 0
+OfParts P n = (parts : PolicyImpl) → n.node ≡ Some (trees.Policy parts) → P parts
+
+-- an effect that is refused is so as one that is none, alone and at its own place
+abbrev pub RefusesEffect : PolicyImpl → Type 0
+RefusesEffect parts =
+    (faults : List NamedFault) → effect_outcome parts.effect ≡ Err faults
+    → faults ≡ (invalid_effect, parts.effect.loc) ∷ []
+
+-- as many missing elements are told as there are fewer than three
+abbrev pub TellsMissing : Extensions → PolicyImpl → Type 0
+TellsMissing e parts =
+    count is_missing_variable (faults_from (scope_outcome e parts)) ≡ 3 - length parts.variables
+
+-- and as many beyond three as there are
+abbrev pub TellsExtra : Extensions → PolicyImpl → Type 0
+TellsExtra e parts =
+    count is_extra_element (faults_from (scope_outcome e parts)) ≡ length parts.variables - 3
+
+-- ---- a policy's conditions
+
+-- a condition with `when` or `unless` whose expression isn't converted is refused with the
+-- expression's faults, each of them due in it
+abbrev pub HasDueFaults : Extensions → Node (Option Cond) → Type 0
+HasDueFaults e n =
+    (word : Ident) (place : Option Loc) (expr : Node (Option Expr)) (faults : List NamedFault)
+    → HoldsCondition n word place (Some expr) → IsWhenOrUnless word
+    → value_outcome e (located expr_form expr) ≡ Err faults
+    → (condition_outcome e n ≡ Err faults)
+    × All (IsDueIn e (wanted expression (located expr_form expr))) faults
+
+-- each condition of a policy
+abbrev pub HaveDueFaults : Extensions → PolicyImpl → Type 0
+HaveDueFaults e parts = All (HasDueFaults e) parts.conds
+
+-- ---- names of policies
 
 -- a fault that isn't of a name that two policies have
 abbrev pub IsOfNoName : NamedFault → Type 0

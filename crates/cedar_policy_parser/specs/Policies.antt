@@ -1,14 +1,10 @@
 -- Policies and sets of them: what their trees give. The rules are those of Cedar's
 -- `to_policy_template`, `to_policy_or_template`, `to_policy` and `to_policyset`.
-use Rattle.std.specs.Prelude.{◌≡◌, ℕ, suc, List, [], ◌∷◌, ◌++◌, map, filter, fold, Option, Some, None, Ok, Err, Bool, true, false}
-use Rattle.std.specs.Option.{option_copied, option_map}
-use denote.Ref.{Bor}
+use Rattle.std.specs.Prelude.{ℕ, suc, List, [], ◌∷◌, ◌++◌, map, filter, fold, Option, Ok, Err, Bool, true, false}
+use Rattle.std.specs.Option.{option_map}
 use Rattle.either.specs.declared.Either.{Either}
 use Rattle.either.specs.declared.Either.TheVariants.{Left, Right}
-use Rattle.std.specs.FinMap.{FinMap, insert}
-use Rattle.std.specs.declared.alloc.Global.{Global}
-use Rattle.std.specs.declared.vec.Vec.{Vec}
-use Rattle.cedar_expressions.specs.declared.expr.Expr.{Expr}
+use Rattle.std.specs.FinMap.{FinMap}
 use Rattle.cedar_expressions.specs.declared.place.Place.{Place}
 use Rattle.cedar_expressions.specs.declared.place.Slot.{Slot}
 use Rattle.cedar_expressions.specs.declared.literal.SlotId.TheVariants as ids
@@ -21,13 +17,10 @@ use Rattle.cedar_policy_store.specs.declared.constraints.PrincipalConstraint.{Pr
 use Rattle.cedar_policy_store.specs.declared.constraints.ResourceConstraint.{ResourceConstraint}
 use Rattle.cedar_policy_store.specs.declared.effect.Effect.{Effect}
 use Rattle.cedar_policy_store.specs.declared.effect.Effect.TheVariants as effects
-use Rattle.cedar_policy_store.specs.declared.static_policy.UnexpectedSlotError.{UnexpectedSlotError}
-use Rattle.cedar_policy_store.specs.declared.static_policy.UnexpectedSlotError.TheVariants.{FoundSlot}
 use Rattle.cedar_policy_store.specs.declared.template.Template.{Template}
-use Rattle.cedar_policy_store.specs.PolicyMaps.{PolicyMaps}
 use Rattle.cedar_policy_store.specs.PlaceFree as free
 use Rattle.cedar_policy_store.specs.PlaceFree.{annotation_value, constraint_meaning, set_meaning, with_values}
-use Rattle.cedar_policy_store.specs.TemplateSlots.{constraint_slot, at_most_one, condition_slots}
+use Rattle.cedar_policy_store.specs.TemplateSlots.{constraint_slot, at_most_one}
 use Rattle.cedar_policy_store.specs.TextMap.{text_order}
 use Rattle.cedar_syntax.specs.declared.cst.Annotation.{Annotation as AnnotationTree}
 use Rattle.cedar_syntax.specs.declared.cst.Ident.{Ident}
@@ -36,11 +29,10 @@ use Rattle.cedar_syntax.specs.declared.cst.Policies.{Policies}
 use Rattle.cedar_syntax.specs.declared.cst.Policy.{Policy}
 use Rattle.cedar_syntax.specs.declared.cst.Policy.TheVariants as trees
 use Rattle.cedar_syntax.specs.declared.cst.PolicyImpl.{PolicyImpl}
-use Rattle.cedar_syntax.specs.declared.err.to_ast.ToASTError.{ToASTError}
 use Rattle.cedar_syntax.specs.declared.loc.Loc.{Loc}
 use Rattle.cedar_syntax.specs.declared.node.Node.{Node}
 use Rattle.cedar_policy_parser.specs.AnnotationKeys.{annotations_outcome, annotation_map}
-use Rattle.cedar_policy_parser.specs.Conditions.{conditions_outcome, meanings}
+use Rattle.cedar_policy_parser.specs.Conditions.{conditions_outcome}
 use Rattle.cedar_policy_parser.specs.Places.{place_within, bytes_of}
 use Rattle.cedar_policy_parser.specs.Conversion.{with_first}
 use Rattle.cedar_policy_parser.specs.Extensions.{Extensions}
@@ -48,7 +40,6 @@ use Rattle.cedar_policy_parser.specs.Names.{content_outcome}
 use Rattle.cedar_policy_parser.specs.Outcome.{Kind, NamedFault, Outcome, fault_outcome, both, next, invalid_effect, expected_static_policy, slots_in_condition_clause}
 use Rattle.cedar_policy_parser.specs.PolicyMeaning.{no_policies, policy_id, with_policy, joint_condition}
 use Rattle.cedar_policy_parser.specs.Scope.{Scope, scope_outcome}
-use Rattle.cedar_policy_parser.specs.Seen.{kind_of}
 
 -- ---- a policy
 
@@ -71,10 +62,6 @@ pub record TemplateParts : Type 0 where
   pub resource : ResourceConstraint
   pub condition : Option Value
 
--- the bytes of a place that is lent
-abbrev pub lent_bytes : Option (Bor Loc) → Option Place
-lent_bytes loc = option_map bytes_of (option_copied loc)
-
 abbrev pub template_parts : Template → TemplateParts
 template_parts t = record {
   id = t.id;
@@ -91,21 +78,18 @@ template_parts t = record {
 abbrev pub Given : Type 0
 Given = (Effect × FinMap text_order Annotation) × (Scope × List Value)
 
--- the same of what the program holds
-abbrev pub parts_view : (Effect × FinMap text_order Annotation) × (Scope × Vec Expr Global) → Given
-parts_view p = (p.0, (p.1.0, meanings p.1.1))
-
 abbrev pub given_parts : List ℕ → Option Loc → Given → TemplateParts
-given_parts id place p = record {
-  id = id;
-  place = option_map bytes_of place;
-  annotations = p.0.1;
-  effect = p.0.0;
-  principal = p.1.0.0;
-  action = p.1.0.1;
-  resource = p.1.0.2;
-  condition = joint_condition p.1.1;
-}
+given_parts id place ((effect, annotations), ((principal, action, resource), conditions)) =
+    record {
+      id = id;
+      place = option_map bytes_of place;
+      annotations = annotations;
+      effect = effect;
+      principal = principal;
+      action = action;
+      resource = resource;
+      condition = joint_condition conditions;
+    }
 
 -- the annotations as a policy keeps them
 abbrev pub kept_outcome : List (Node (Option AnnotationTree))
@@ -150,10 +134,6 @@ abbrev pub either_parts : Either Template Template → Either TemplateParts Temp
 either_parts (Left t) = Left (template_parts t)
 either_parts (Right t) = Right (template_parts t)
 
--- the slot that hinders a template from being a static policy
-abbrev pub slot_of : UnexpectedSlotError → Slot
-slot_of (FoundSlot slot) = slot
-
 -- a template is refused at its first slot where that stands within the policy, else at the policy
 abbrev pub unless_slots : Option Loc → List Slot → TemplateParts → Outcome TemplateParts
 unless_slots place [] t = Ok t
@@ -168,15 +148,6 @@ abbrev pub slot_faults : List NamedFault → List NamedFault
 slot_faults faults =
     map (λ f. (expected_static_policy, f.1)) (filter (λ f. is_slot_fault f.0) faults)
 
--- a fault that is told, if there is one
-abbrev pub optional_fault : Option ToASTError → List NamedFault
-optional_fault (Some fault) = (kind_of fault.kind, fault.loc) ∷ []
-optional_fault None = []
-
--- no slot stands in the condition
-abbrev pub IsConditionFree : Template → Type 0
-IsConditionFree t = condition_slots t.condition ≡ []
-
 abbrev pub only_static : Option Loc → Outcome TemplateParts → Outcome TemplateParts
 only_static place (Ok t) = unless_slots place (scope_slots t) t
 only_static place (Err faults) = Err (faults ++ slot_faults faults)
@@ -185,14 +156,6 @@ abbrev pub static_outcome : Extensions → List ℕ → Node (Option Policy) →
 static_outcome e id n = only_static n.loc (template_outcome e id n)
 
 -- ---- sets
-
--- the policy is added under its name, or the template under its
-abbrev pub maps_with_policy : PolicyMaps → Either Template Template → PolicyMaps
-maps_with_policy set (Left t) = record set { policies = insert set.policies t.id t }
-maps_with_policy set (Right t) = record set { templates = insert set.templates t.id t }
-
-abbrev pub IsAdded : PolicyMaps → Either Template Template → PolicyMaps → Type 0
-IsAdded before policy after = after ≡ maps_with_policy before policy
 
 -- what a template means: its parts without places
 abbrev pub meaning_of : TemplateParts → free.Policy
@@ -221,10 +184,6 @@ set_of ts = fold with_parts no_policies ts
 
 abbrev pub parts_set_outcome : Outcome (List TemplateParts) → Outcome free.Policies
 parts_set_outcome all = next all (λ ts. Ok (set_of ts))
-
--- the set so far, if all of it is given
-abbrev pub set_view : PolicyMaps → Unit {0} → free.Policies
-set_view set all = set_meaning set
 
 abbrev pub set_outcome : Extensions → List (Node (Option Policy)) → Outcome free.Policies
 set_outcome e ns = parts_set_outcome (policies_from e 0 ns)

@@ -1,8 +1,5 @@
 -- What the program holds and answers, seen without what only messages show.
-use Rattle.std.specs.Prelude.{◌≡◌, List, [], ◌∷◌, ◌++◌, map, Result, Ok, Err}
-use Rattle.std.specs.declared.vec.Vec.{Vec}
-use Rattle.std.specs.declared.alloc.Global.{Global}
-use Rattle.cedar_expressions.specs.Value.{Value}
+use Rattle.std.specs.Prelude.{◌≡◌, List, map, Result, Ok, Err}
 use Rattle.cedar_syntax.specs.ParseErrors.{faults_of}
 use Rattle.cedar_syntax.specs.declared.err.faults.Failure.{Failure}
 use Rattle.cedar_syntax.specs.declared.err.faults.Failure.TheVariants.{Memory, Errors}
@@ -10,15 +7,9 @@ use Rattle.cedar_syntax.specs.declared.err.faults.ParseError.{ParseError}
 use Rattle.cedar_syntax.specs.declared.err.faults.ParseError.TheVariants.{ToCST, ToAST}
 use Rattle.cedar_syntax.specs.declared.err.to_ast.ToASTErrorKind.{ToASTErrorKind}
 use Rattle.cedar_syntax.specs.declared.err.to_ast.ToASTErrorKind.TheVariants as kinds
-use Rattle.cedar_syntax.specs.Tree.{Operator}
-use Rattle.cedar_policy_parser.specs.declared.special.ExprOrSpecial.{ExprOrSpecial}
-use Rattle.cedar_policy_parser.specs.declared.special.ExprOrSpecial.TheVariants as special
-use Rattle.cedar_policy_parser.specs.Conversion.{Part}
-use Rattle.cedar_policy_parser.specs.Held.{Held, expression, variable, bare_name, bare_truth, bare_string}
 use Rattle.cedar_policy_parser.specs.Outcome as k
 use Rattle.cedar_policy_parser.specs.Outcome.{Kind, NamedFault, Outcome, both, next, no_tree}
-use Rattle.std.specs.Prelude.{Option, None}
-use Rattle.cedar_syntax.specs.declared.loc.Loc.{Loc}
+use Rattle.std.specs.Prelude.{None}
 
 -- each kind without what a message shows of it
 abbrev pub kind_of : ToASTErrorKind → Kind
@@ -96,39 +87,6 @@ abbrev pub Gives : {X Y : Type 0} → (X → Y) → Result X Failure → Outcome
 Gives view (Ok x) outcome = outcome ≡ Ok (view x)
 Gives view (Err failure) outcome = Refuses failure outcome
 
--- the failure is one fault alone, or want of memory
-abbrev pub TellsAlone : Failure → Kind → Option Loc → Type 0
-TellsAlone (Memory error) kind place = Unit {0}
-TellsAlone (Errors errors) kind place = named_faults (faults_of errors) ≡ (kind, place) ∷ []
-
--- ---- views
-
--- an expression, or what is one but may be something else where it stands bare
-abbrev pub plain : {E : Type 0} → (E → Value) → ExprOrSpecial E → Held
-plain meaning (special.Expr e place) = expression place (meaning e)
-plain meaning (special.Var x place) = variable place x
-plain meaning (special.Name name place) = bare_name place name
-plain meaning (special.BoolLit b place) = bare_truth place b
-plain meaning (special.StrLit raw place) = bare_string place raw
-
--- expressions behind operators
-abbrev pub rest_view : {O E : Type 0} → (O → Operator) → (E → Value) → Vec (O × E) Global
-    → List Part
-rest_view operator meaning v = map (λ p. (operator p.0, meaning p.1)) v.items
-
+-- what is held is what the outcome gives
 abbrev pub itself : {T : Type 0} → T → T
 itself x = x
-
-abbrev pub empty_view : {T : Type 0} → T → Unit {0}
-empty_view x = tt
-
--- one more part behind those so far
-abbrev pub with_last : Operator → List Part × Value → Outcome (List Part)
-with_last op p = Ok (p.0 ++ (op, p.1) ∷ [])
-
-abbrev pub one_more : Operator → Outcome (List Part) → Outcome Value → Outcome (List Part)
-one_more op ps x = next (both ps x) (with_last op)
-
--- one more item behind those so far
-abbrev pub item_more : {X : Type 0} → Outcome (List X) → Outcome X → Outcome (List X)
-item_more xs x = next (both xs x) (λ p. Ok (p.0 ++ p.1 ∷ []))

@@ -4,7 +4,8 @@
 -- `/` and `%` mean nothing, so many signs at most as `limit` says stand before an operand, a
 -- literal number fits 64 bits with its sign, the keys of a record are all different. What may be
 -- called beside the methods of every text is what `table` has.
-use Rattle.std.specs.Prelude.{◌≡◌, ◌≤◌, ◌<◌, ◌^◌, ◌+◌, ◌-◌, ℕ, zero, suc, true, false, List, [], ◌∷◌, ◌++◌, map, length, Some, pos, neg_ℤ}
+use Rattle.std.specs.Prelude.{◌≡◌, ◌≤◌, ◌<◌, ◌^◌, ◌+◌, ◌-◌, ℕ, zero, suc, true, false, List, [], ◌∷◌, ◌++◌, length, Some, pos, neg_ℤ}
+use Rattle.std.specs.Map.{keys_of}
 use Rattle.cedar_lexer.specs.Token.{Lexeme}
 use Rattle.cedar_lexer.specs.declared.token.TokenKind.{TokenKind}
 use Rattle.cedar_lexer.specs.declared.token.TokenKind.TheVariants as kind
@@ -67,10 +68,6 @@ pub data Relates : TokenKind → Value → Value → Value → Type 0 where
   not_eq : {a b : Value} → Relates kind.NotEq a b (v.noteq a b)
   equal : {a b : Value} → Relates kind.EqEq a b (v.is_eq a b)
   within : {a b : Value} → Relates kind.In a b (v.is_in a b)
-
--- the keys of a record, as they are written
-abbrev pub keys_of : List (List ℕ × Value) → List (List ℕ)
-keys_of fs = map (λ f. f.0) fs
 
 mutual
   pub data Means (table : Extensions) (limit : ℕ) : Sort → List Lexeme → Value → Type 0 where

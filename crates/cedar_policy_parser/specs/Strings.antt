@@ -1,18 +1,31 @@
 -- What a string stands for: a text, or a pattern right of `like`.
-use Rattle.std.specs.Prelude.{ℕ, List, [], ◌∷◌, map, Option, Ok, Err}
+use Rattle.std.specs.Prelude.{ℕ, zero, suc, ◌+◌, ◌-◌, List, [], ◌∷◌, length, map, take, Option, Ok, Err}
 use Rattle.std.specs.Str.{chars}
 use Rattle.cedar_syntax.specs.declared.err.escape.UnescapeError.{UnescapeError}
 use Rattle.cedar_syntax.specs.declared.loc.Loc.{Loc}
 use Rattle.cedar_expressions.specs.declared.literal.PatternElem.{PatternElem}
 use Rattle.cedar_syntax.specs.Pattern.{pattern_faults, pattern_pieces}
-use Rattle.cedar_syntax.specs.Piece.{Placed, piece_faults, unescaped_pieces}
-use Rattle.cedar_syntax.proofs.Layouts.{laid_out}
+use Rattle.cedar_syntax.specs.Piece.{Placed, bytes_len, piece_at, piece_faults, unescaped_pieces}
+use Rattle.cedar_syntax.specs.PieceAhead.{PieceAhead, first_piece}
 use Rattle.cedar_policy_parser.specs.Outcome.{Outcome, NamedFault, unescape}
 
--- the pieces that a raw text is laid out of: there are such, and no others (the law `one_layout`
--- of `cedar_syntax`)
+-- the characters of the first piece of a text, of what stands behind it
+abbrev pub taken : List ℕ → PieceAhead → List ℕ
+taken cs ahead = take (length cs - length ahead.rest) cs
+
+-- the pieces from a byte of a text on, one after another from the left, so many at most
+abbrev pub pieces_from : ℕ → ℕ → List ℕ → List Placed
+pieces_from zero start cs = []
+pieces_from (suc n) start [] = []
+pieces_from (suc n) start (c ∷ cs) =
+    piece_at start (taken (c ∷ cs) (first_piece c cs)) (first_piece c cs).outcome
+    ∷ pieces_from n (start + bytes_len (taken (c ∷ cs) (first_piece c cs)))
+    (first_piece c cs).rest
+
+-- the pieces that a raw text is laid out of: they are such, and there are no others (the law
+-- `one_layout` of `cedar_syntax`); a text has no more pieces than characters
 unfoldable pub layout : List ℕ → List Placed
-layout raw = (laid_out 0 (chars raw)).0
+layout raw = pieces_from (length (chars raw)) 0 (chars raw)
 
 -- the escape faults of a raw text, and the text that it stands for where there are none
 abbrev pub escape_faults : List ℕ → List UnescapeError

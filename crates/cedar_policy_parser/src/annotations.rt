@@ -9,8 +9,10 @@ ghost use Rattle.cedar_policy_parser.specs.AnnotationKeys.{AnnotationContent};
 ghost use Rattle.cedar_policy_store.specs.TextMap.{map_in, text_order};
 ghost use Rattle.cedar_policy_parser.specs.Outcome.{NamedFault, duplicate_annotation};
 ghost use Rattle.cedar_policy_parser.specs.Scope.{faults_outcome};
-ghost use Rattle.cedar_policy_parser.specs.Seen.{Gives, Refuses, empty_view, named_fault};
+ghost use Rattle.cedar_policy_parser.specs.Seen.{Gives, Refuses, named_fault};
 ghost use Rattle.cedar_syntax.specs.Joined.{WantsMemory};
+ghost use Rattle.cedar_policy_parser.specs.machines.Filled.{HoldsSoFar};
+ghost use Rattle.cedar_policy_parser.specs.machines.Views.{empty_view, pair_view};
 
 use crate::entities::id_of;
 use crate::joins::{one_more_fault, refused_too};
@@ -45,7 +47,7 @@ fn pair(
     loc: &Option<Loc>,
     annotation: &Annotation,
 ) -> Result<(AnyId, Option<String>), Failure>
-    ensures { Gives (k.pair_view loc.now) result (k.key_value_outcome loc.now annotation.now) }
+    ensures { Gives (pair_view loc.now) result (k.key_value_outcome loc.now annotation.now) }
 {
     flatten_tuple_2(
         any_ident(alloc, &annotation.key),
@@ -58,7 +60,7 @@ fn text_pair(
     alloc: Global,
     node: &Node<Option<Annotation>>,
 ) -> Result<(AnyId, Option<String>), Failure>
-    ensures { Gives (k.pair_view node.now.loc) result (k.annotation_outcome node.now) }
+    ensures { Gives (pair_view node.now.loc) result (k.annotation_outcome node.now) }
 {
     match &node.node {
         Some(inner) => pair(alloc, &node.loc, inner),
@@ -128,8 +130,8 @@ fn one_more<T: Drop, F: Fn(Option<String>, Option<&Loc>) -> T>(
     requires { F.IsAlwaysCallable f.now }
     ensures ordered { IsOrdered text_order map.old → IsOrdered text_order map.new }
     ensures filled { (so_far : k.Gathering) → IsOrdered text_order map.old
-        → k.HoldsSoFar F.Fn f.now so_far (map_in map.old) all
-        → k.HoldsSoFar F.Fn f.now (k.gathering_with_node so_far node.now) (map_in map.new) result }
+        → HoldsSoFar F.Fn f.now so_far (map_in map.old) all
+        → HoldsSoFar F.Fn f.now (k.gathering_with_node so_far node.now) (map_in map.new) result }
 {
     match kv_pair::<T, F>(alloc, node, f) {
         Ok(pair) => keep::<T>(alloc, map, pair, &node.loc, all),

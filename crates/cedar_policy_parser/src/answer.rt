@@ -5,13 +5,14 @@
 ghost use Rattle.std.specs.Prelude.{◌≡◌, List};
 ghost use Rattle.cedar_expressions.specs.Value.{Value};
 ghost use Rattle.cedar_syntax.specs.Tree.{Operator};
-ghost use Rattle.cedar_policy_parser.specs.Applied.{seen_accesses};
 ghost use Rattle.cedar_policy_parser.specs.Conversion.{Part, conditional_outcome, expression_at as made_at};
-ghost use Rattle.cedar_policy_parser.specs.Extensions.{table_of};
 ghost use Rattle.cedar_policy_parser.specs.Held.{Held, as_expression};
 ghost use Rattle.cedar_policy_parser.specs.Members.{Access as Given, member_outcome};
 ghost use Rattle.cedar_policy_parser.specs.Outcome.{Outcome, both, empty_node, next, fault_outcome};
-ghost use Rattle.cedar_policy_parser.specs.Seen.{Gives, rest_view, one_more, plain};
+ghost use Rattle.cedar_policy_parser.specs.Seen.{Gives};
+ghost use Rattle.cedar_policy_parser.specs.Table.{table_of};
+ghost use Rattle.cedar_policy_parser.specs.machines.Applied.{seen_accesses};
+ghost use Rattle.cedar_policy_parser.specs.machines.Views.{rest_view, one_more, plain};
 
 use crate::collections::Accesses;
 use crate::conditional::{if_from, parens_from};

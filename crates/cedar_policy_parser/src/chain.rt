@@ -2,10 +2,11 @@
 ghost use Rattle.std.specs.Prelude.{◌≡◌, List};
 ghost use Rattle.cedar_expressions.specs.Value.{Value};
 ghost use Rattle.cedar_syntax.specs.Tree.{Operator, Level, disjunction, conjunction, relation, sum, product, or_or, and_and, compare, add, multiply};
-ghost use Rattle.cedar_policy_parser.specs.Conversion.{Part, joint_outcome, level_outcome, comparison_outcome, factor};
+ghost use Rattle.cedar_policy_parser.specs.Conversion.{Part, operands_outcome, level_outcome, comparison_outcome, factor};
 ghost use Rattle.cedar_policy_parser.specs.Held.{Held};
 ghost use Rattle.cedar_policy_parser.specs.Outcome.{Outcome, both, next};
-ghost use Rattle.cedar_policy_parser.specs.Seen.{Gives, plain, rest_view, empty_view};
+ghost use Rattle.cedar_policy_parser.specs.Seen.{Gives};
+ghost use Rattle.cedar_policy_parser.specs.machines.Views.{plain, rest_view, empty_view};
 
 use crate::join::bodies_of;
 use crate::special::{ExprOrSpecial, builder_at, into_expr, made, refusal};
@@ -192,7 +193,7 @@ pub(crate) fn chain_from<B: ExprBuilderInfallibleBuild, O: Joins + Drop>(
     ensures { (x : Outcome Held) (ps : Outcome (List Part)) (u : Outcome (Unit {0}))
         → Gives (plain B.meaning) first x → Gives (rest_view O.operator B.meaning) rest ps
         → Gives empty_view allowed u → Gives (plain B.meaning) result
-        (next (both (both x ps) u) (λ p. joint_outcome O.level loc.now p.0.0 p.0.1)) }
+        (next (both (both x ps) u) (operands_outcome O.level loc.now)) }
 {
     let parts = flatten_tuple_2(first, rest);
     let ((first, rest), ()) = flatten_tuple_2(parts, allowed)?;

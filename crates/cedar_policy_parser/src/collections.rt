@@ -1,14 +1,15 @@
 //! Sets, records and the accesses of a member, of what their parts give.
 ghost use Rattle.std.specs.Prelude.{◌≡◌, List, Ok};
 ghost use Rattle.cedar_syntax.specs.Tree.{beside};
-ghost use Rattle.cedar_policy_parser.specs.Applied.{Pair, seen_access, seen_accesses, seen_pair, seen_pairs};
 ghost use Rattle.cedar_policy_parser.specs.Conversion.{Part, bodies, record_outcome, set_value_outcome};
 ghost use Rattle.cedar_policy_parser.specs.Held.{Held, as_attribute, as_string};
 ghost use Rattle.cedar_policy_parser.specs.Members.{Access as Given, call, field, index};
 ghost use Rattle.cedar_policy_parser.specs.Names.{unreserved_ident as unreserved_outcome};
-ghost use Rattle.cedar_policy_parser.specs.Outcome.{Outcome, both, next};
-ghost use Rattle.cedar_policy_parser.specs.Seen.{Gives, rest_view, item_more, plain};
+ghost use Rattle.cedar_policy_parser.specs.Outcome.{Outcome, both, next, item_more};
+ghost use Rattle.cedar_policy_parser.specs.Seen.{Gives};
 ghost use Rattle.cedar_expressions.specs.Value.{Value};
+ghost use Rattle.cedar_policy_parser.specs.machines.Applied.{Pair, seen_access, seen_accesses, seen_pair, seen_pairs};
+ghost use Rattle.cedar_policy_parser.specs.machines.Views.{rest_view, plain};
 
 use crate::answer::{put, take};
 use crate::join::bodies_of;

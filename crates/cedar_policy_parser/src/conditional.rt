@@ -3,7 +3,8 @@ ghost use Rattle.cedar_expressions.specs.Value.{Value};
 ghost use Rattle.cedar_policy_parser.specs.Conversion.{conditional_outcome, expression_at as made_at};
 ghost use Rattle.cedar_policy_parser.specs.Held.{Held, as_expression};
 ghost use Rattle.cedar_policy_parser.specs.Outcome.{Outcome, both, next};
-ghost use Rattle.cedar_policy_parser.specs.Seen.{Gives, plain};
+ghost use Rattle.cedar_policy_parser.specs.Seen.{Gives};
+ghost use Rattle.cedar_policy_parser.specs.machines.Views.{plain};
 
 use crate::special::{ExprOrSpecial, builder_at, expr_of, made};
 use cedar_expressions::ExprBuilderInfallibleBuild;

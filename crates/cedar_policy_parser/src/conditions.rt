@@ -5,12 +5,13 @@ ghost use Rattle.cedar_expressions.specs.Meaning.{expr_meaning, unplaced};
 ghost use Rattle.cedar_expressions.specs.Value.{Value};
 ghost use Rattle.cedar_syntax.specs.declared.err.faults.ParseError.TheVariants.{ToAST};
 ghost use Rattle.cedar_policy_parser.specs.Conditions as k;
-ghost use Rattle.cedar_policy_parser.specs.Extensions.{table_of};
-ghost use Rattle.cedar_policy_parser.specs.Outcome.{Outcome, empty_clause, invalid_condition, slots_in_condition_clause};
+ghost use Rattle.cedar_policy_parser.specs.Outcome.{Outcome, empty_clause, invalid_condition, slots_in_condition_clause, item_more};
 ghost use Rattle.cedar_policy_parser.specs.Places.{place_within};
 ghost use Rattle.cedar_policy_parser.specs.PolicyMeaning.{joint_condition};
 ghost use Rattle.cedar_policy_parser.specs.Scope.{faults_outcome};
-ghost use Rattle.cedar_policy_parser.specs.Seen.{Gives, TellsAlone, item_more, itself, empty_view, named_fault};
+ghost use Rattle.cedar_policy_parser.specs.Seen.{Gives, itself, named_fault};
+ghost use Rattle.cedar_policy_parser.specs.Table.{table_of};
+ghost use Rattle.cedar_policy_parser.specs.machines.Views.{TellsAlone, empty_view, meanings};
 
 use crate::cst_to_ast::{ExprAst, ExtStyles};
 use crate::joins::{one_more_fault, place_within};
@@ -142,8 +143,8 @@ fn one_more(
     next: Result<Expr, Failure>,
 ) -> Result<Vec<Expr>, Failure>
     ensures { (cs : Outcome (List Value)) (c : Outcome Value)
-        → Gives k.meanings all cs → Gives unplaced next c
-        → Gives k.meanings result (item_more cs c) }
+        → Gives meanings all cs → Gives unplaced next c
+        → Gives meanings result (item_more cs c) }
 {
     let (mut all, next) = flatten_tuple_2(all, next)?;
     all.push(next)?;
@@ -156,7 +157,7 @@ pub(crate) fn conditions(
     styles: &ExtStyles,
     nodes: &[Node<Option<Cond>>],
 ) -> Result<Vec<Expr>, Failure>
-    ensures { Gives k.meanings result
+    ensures { Gives meanings result
         (k.conditions_outcome (table_of styles.now) nodes.now) }
 {
     let mut all: Result<Vec<Expr>, Failure> = Ok(Vec::new(alloc));

@@ -10,8 +10,9 @@ ghost use Rattle.cedar_syntax.specs.declared.cst.Relation.TheVariants as relatio
 ghost use Rattle.cedar_syntax.specs.declared.cst.Expr.TheVariants as exprs;
 ghost use Rattle.cedar_syntax.specs.Forms.{located, expr_form, or_form, and_form, relation_form, add_form, mult_form, unary_form};
 ghost use Rattle.cedar_policy_parser.specs.Conversion.{outcome};
-ghost use Rattle.cedar_policy_parser.specs.Extensions.{table_of};
-ghost use Rattle.cedar_policy_parser.specs.Seen.{Gives, plain};
+ghost use Rattle.cedar_policy_parser.specs.Seen.{Gives};
+ghost use Rattle.cedar_policy_parser.specs.Table.{table_of};
+ghost use Rattle.cedar_policy_parser.specs.machines.Views.{plain};
 
 use crate::answer::{Converted, Parts, chosen_in, gather, put, take, unreached_in, value_in};
 use crate::chain::{AndAnd, OrOr, chain_from, factor_of};

@@ -8,17 +8,17 @@ ghost use Rattle.cedar_policy_store.specs.TextMap.{map_in};
 ghost use Rattle.cedar_policy_parser.specs.AnnotationKeys.{AnnotationContent, Answers, AnswersEach, annotation_outcome, annotations_outcome, values_by_key};
 ghost use Rattle.cedar_policy_parser.specs.GeneratedIds.{remaining_nodes, named_outcome};
 ghost use Rattle.cedar_policy_parser.specs.Policies.{template_parts, template_outcome, either_parts, either_outcome, static_outcome, policies_outcome};
-ghost use Rattle.cedar_policy_parser.specs.References.{referent_outcome, single_of, single_entity, entity_or_slot, one_or_multiple};
+ghost use Rattle.cedar_policy_parser.specs.References.{referent_outcome, single_entity, entity_or_slot, one_or_multiple};
 ghost use Rattle.cedar_policy_parser.specs.Scope.{scope_outcome};
 ghost use Rattle.std.specs.BTreeSet.{contains};
 ghost use Rattle.cedar_expressions.specs.Path.{Path};
 ghost use Rattle.cedar_syntax.specs.Forms.{located, expr_form, member_form, primary_form};
 ghost use Rattle.cedar_policy_parser.specs.Conversion.{value_outcome};
 ghost use Rattle.cedar_policy_parser.specs.Entities.{entity_outcome};
-ghost use Rattle.cedar_policy_parser.specs.Extensions.{table_of};
 ghost use Rattle.cedar_policy_parser.specs.Literals.{lone_literal, string_outcome};
 ghost use Rattle.cedar_policy_parser.specs.Names.{any_ident as any_outcome, valid_ident as valid_outcome};
 ghost use Rattle.cedar_policy_parser.specs.Seen.{Gives, Refuses, itself};
+ghost use Rattle.cedar_policy_parser.specs.Table.{table_of};
 
 use crate::annotations::{annotations, kv_pair};
 use crate::answer::{Converted, unanswered};
@@ -89,7 +89,7 @@ pub trait ExprAst {
     ///
     /// Names: `ArbitraryVariable` for one that is no variable, `ReservedIdentifier`, `InvalidIdentifier` and `ReservedNamespace` for what no name may hold.
     /// Operators: `AmbiguousOperators` for more than one in a relation, `InvalidSingleEq`, `UnsupportedDivision`, `UnsupportedModulo`, `UnaryOpLimit` for more
-    /// than four signs. Literals: `IntegerLiteralTooLarge`, `Unescape` for each bad escape, `InvalidString`, `InvalidSlot`, `InvalidEntityLiteral`. Right of
+    /// signs than the limit. Literals: `IntegerLiteralTooLarge`, `Unescape` for each bad escape, `InvalidString`, `InvalidSlot`, `InvalidEntityLiteral`. Right of
     /// `has`: `InvalidHasRHS`, `PathAsAttribute`, and `ReservedIdentifier` for a truth value; of `like`: `InvalidPattern`; of `is`: `InvalidIsType`. Records:
     /// `InvalidAttribute`, `PathAsAttribute`, `ReservedIdentifier` for a truth value, and `ExpressionConstructionError` for a key that stands again. Calls and
     /// accesses: `VariableCall`, `ExpressionCall`, `UnknownFunction`, `UnknownMethod`, `FunctionCallOnMethod`, `MethodCallOnFunction`, `NoMethods`, `WrongArity`,
@@ -129,7 +129,7 @@ impl ExprAst for Node<Option<Expr>> {
     }
 
     fn to_ref(&self, alloc: Global, var: Var) -> Result<EntityUID, Failure>
-        ensures { Gives single_of result (referent_outcome single_entity var self.now) }
+        ensures { Gives single_entity.single result (referent_outcome single_entity var self.now) }
     {
         let SingleEntity(uid) = to_ref_or_refs::<SingleEntity>(alloc, var, self)?;
         Ok(uid)

@@ -2,7 +2,8 @@
 ghost use Rattle.cedar_policy_parser.specs.Entities.{entity_outcome, id_outcome, reference_outcome};
 ghost use Rattle.cedar_policy_parser.specs.Leaves.{entity_leaf};
 ghost use Rattle.cedar_policy_parser.specs.Outcome.{invalid_entity_literal};
-ghost use Rattle.cedar_policy_parser.specs.Seen.{Gives, TellsAlone, itself, plain};
+ghost use Rattle.cedar_policy_parser.specs.Seen.{Gives, itself};
+ghost use Rattle.cedar_policy_parser.specs.machines.Views.{TellsAlone, plain};
 
 use crate::literals::invalid_text;
 use crate::names::name_of;

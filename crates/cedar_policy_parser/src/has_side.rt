@@ -1,13 +1,14 @@
 //! Right of `has`: a string alone, or identifiers joined by `.`.
 ghost use Rattle.std.specs.Prelude.{◌≡◌, map};
 ghost use Rattle.cedar_syntax.specs.Forms.{located, parts_of, listed_access, access_form, add_form, mult_form, unary_form, member_form, primary_form};
-ghost use Rattle.cedar_policy_parser.specs.Applied.{seen_attributes};
 ghost use Rattle.cedar_policy_parser.specs.Conversion.{tree_place};
 ghost use Rattle.cedar_policy_parser.specs.HasSide.{attributes_of, begins_with, behind_first, field_of, fields_of, no_sign, right_form, right_side, string_alone};
 ghost use Rattle.cedar_policy_parser.specs.Names.{unreserved_ident as unreserved_outcome};
 ghost use Rattle.cedar_policy_parser.specs.Outcome.{Outcome, invalid_has_rhs, next};
 ghost use Rattle.cedar_policy_parser.specs.Held.{Held, unqualified};
-ghost use Rattle.cedar_policy_parser.specs.Seen.{Gives, TellsAlone, itself, plain};
+ghost use Rattle.cedar_policy_parser.specs.Seen.{Gives, itself};
+ghost use Rattle.cedar_policy_parser.specs.machines.Applied.{seen_attributes};
+ghost use Rattle.cedar_policy_parser.specs.machines.Views.{TellsAlone, plain};
 
 use crate::literals::literal;
 use crate::names::{named, unreserved_ident};

@@ -6,7 +6,8 @@ ghost use Rattle.cedar_syntax.specs.Located.{Located};
 ghost use Rattle.cedar_syntax.specs.Tree.{Operator, relation};
 ghost use Rattle.cedar_policy_parser.specs.Conversion.{Part, operator_limit};
 ghost use Rattle.cedar_policy_parser.specs.Outcome.{Outcome};
-ghost use Rattle.cedar_policy_parser.specs.Seen.{Gives, rest_view, empty_view, one_more};
+ghost use Rattle.cedar_policy_parser.specs.Seen.{Gives};
+ghost use Rattle.cedar_policy_parser.specs.machines.Views.{rest_view, empty_view, one_more};
 
 use crate::special::refusal;
 use cedar_expressions::ExprBuilderInfallibleBuild;

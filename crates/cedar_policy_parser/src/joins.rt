@@ -3,10 +3,11 @@ ghost use Rattle.std.specs.Prelude.{◌≡◌, ◌⊎◌, List, [], ◌∷◌, �
 ghost use Rattle.cedar_policy_parser.specs.Places.{bytes_within as within, place_within as within_place};
 ghost use Rattle.cedar_syntax.specs.declared.err.faults.ParseError.TheVariants.{ToAST};
 ghost use Rattle.cedar_policy_parser.specs.Outcome.{NamedFault, Outcome, both, next};
-ghost use Rattle.cedar_policy_parser.specs.Seen.{Gives, Refuses, empty_view, named_fault};
+ghost use Rattle.cedar_policy_parser.specs.Seen.{Gives, Refuses, named_fault};
 ghost use Rattle.cedar_policy_parser.specs.Scope.{faults_outcome};
 ghost use Rattle.cedar_syntax.specs.FirstFault.{IsMemory};
 ghost use Rattle.cedar_syntax.specs.Joined.{WantsMemory};
+ghost use Rattle.cedar_policy_parser.specs.machines.Views.{empty_view};
 
 use cedar_expressions::{Place, TryClone};
 use cedar_syntax::err::{Failure, ParseErrors, ToASTError};

@@ -1,6 +1,8 @@
 //! Laws that join the definitions: what a text's tree is converted to is what its tokens mean.
-ghost use Rattle.std.specs.Prelude.{◌≡◌, ◌↔◌, ℕ, List, [], ◌∷◌, Option, Some, Ok, Err, true};
+ghost use Rattle.std.specs.Prelude.{◌≡◌, ◌↔◌, ◌⊎◌, ℕ, List, [], ◌∷◌, Option, Some, Ok, Err, true};
+ghost use Rattle.std.specs.List.{All, Contains};
 ghost use Rattle.std.specs.Option.{option_map};
+ghost use Rattle.std.specs.Map.{keys_of};
 ghost use Rattle.cedar_lexer.specs.Cut.{Cuts};
 ghost use Rattle.cedar_lexer.specs.Spelling.{IsIdentifierText};
 ghost use Rattle.cedar_lexer.specs.Token.{Lexeme};
@@ -12,10 +14,12 @@ ghost use Rattle.cedar_syntax.specs.declared.loc.Loc.{Loc};
 ghost use Rattle.cedar_syntax.specs.declared.cst.Expr.{Expr as Tree};
 ghost use Rattle.cedar_syntax.specs.declared.cst.Ident.{Ident};
 ghost use Rattle.cedar_syntax.specs.declared.cst.NegOp.TheVariants as sign;
+ghost use Rattle.cedar_syntax.specs.declared.cst.Policies.{Policies as SetTree};
+ghost use Rattle.cedar_syntax.specs.declared.cst.Policy.{Policy as PolicyTree};
 ghost use Rattle.cedar_syntax.specs.declared.cst.Primary.{Primary};
 ghost use Rattle.cedar_syntax.specs.declared.cst.Ref.{Ref};
 ghost use Rattle.cedar_syntax.specs.declared.cst.RelOp.TheVariants as rel;
-ghost use Rattle.cedar_syntax.specs.declared.cst.TheConstants.{SIGN_LIMIT};
+ghost use Rattle.cedar_syntax.specs.Signs.{sign_limit};
 ghost use Rattle.cedar_syntax.specs.Forms.{located, expr_form, primary_form};
 ghost use Rattle.cedar_syntax.specs.Located as f;
 ghost use Rattle.cedar_syntax.specs.Located.{Located, Form, Parts};
@@ -23,18 +27,25 @@ ghost use Rattle.cedar_syntax.specs.Tree as t;
 ghost use Rattle.cedar_syntax.specs.Unlocated.{unlocated};
 ghost use Rattle.cedar_syntax.specs.Grammar.{IsTreeOf};
 ghost use Rattle.cedar_syntax.specs.LooseExpressions.{ReadsExpr, ReadsPrimary};
+ghost use Rattle.cedar_syntax.specs.LoosePolicies.{ReadsPolicies, ReadsPolicy};
 ghost use Rattle.cedar_syntax.specs.LooseWords.{ReadsIdent, ReadsRef};
+ghost use Rattle.cedar_syntax.specs.Piece.{IsLaidOut};
 ghost use Rattle.cedar_syntax.specs.Place.{placed};
 ghost use Rattle.cedar_syntax.specs.Trees.{Cell};
 ghost use Rattle.cedar_policy_parser.specs.Alone.{HasValue, HaveValues, OperandsHaveValues, quotients, ArePairs, ComesTo, IsAlone, IsBareName};
-ghost use Rattle.cedar_policy_parser.specs.Conversion.{Converts, keys, outcome, value_outcome};
+ghost use Rattle.cedar_policy_parser.specs.Conversion.{Converts, outcome, value_outcome};
+ghost use Rattle.cedar_policy_parser.specs.Due.{HaveDueFaults, OfParts};
+ghost use Rattle.cedar_policy_parser.specs.DueKinds.{AreDueIn, IsDue, IsProduct, kinds_of_site};
 ghost use Rattle.cedar_policy_parser.specs.Entities.{entity_outcome};
 ghost use Rattle.cedar_policy_parser.specs.Extensions.{Extensions};
 ghost use Rattle.cedar_policy_parser.specs.Literals.{string_outcome};
 ghost use Rattle.cedar_policy_parser.specs.Names.{any_ident, valid_ident};
-ghost use Rattle.cedar_policy_parser.specs.Outcome.{outcome_value, fault_outcome, ambiguous_operators, arbitrary_variable, expression_construction_error, invalid_single_eq, unary_op_limit};
+ghost use Rattle.cedar_policy_parser.specs.Outcome.{Kind, outcome_value, fault_outcome, ambiguous_operators, arbitrary_variable, expression_construction_error, invalid_single_eq, unary_op_limit};
+ghost use Rattle.cedar_policy_parser.specs.Sites as sites;
+ghost use Rattle.cedar_policy_parser.specs.Sites.{Site};
 ghost use Rattle.cedar_policy_parser.specs.Standing.{StandWithin};
 ghost use Rattle.cedar_policy_parser.specs.Strict.{Means, expression};
+ghost use Rattle.cedar_policy_parser.specs.Strings.{layout};
 
 use cedar_text::text_to_cst::laws::expressions;
 
@@ -42,13 +53,13 @@ use cedar_text::text_to_cst::laws::expressions;
 pub fn converted_is_meant()
     ensures { (table : Extensions) (src : List ℕ) (ts : List Lexeme) (x : Tree) (w : Value)
         → ReadsExpr src ts x → Converts table (located expr_form (placed src ts x)) w
-        → Means table SIGN_LIMIT expression ts w }
+        → Means table sign_limit expression ts w }
 {}
 
 /// Tokens that mean something have a tree that is converted to it.
 pub fn meant_is_converted()
     ensures { (table : Extensions) (src : List ℕ) (ts : List Lexeme) (w : Value)
-        → Means table SIGN_LIMIT expression ts w
+        → Means table sign_limit expression ts w
         → (x : Tree) × ReadsExpr src ts x × Converts table
         (located expr_form (placed src ts x)) w }
 {}
@@ -57,7 +68,7 @@ pub fn meant_is_converted()
 pub fn same_meaning()
     ensures { (table : Extensions) (src : List ℕ) (ts : List Lexeme) (x : Tree) (w : Value)
         → ReadsExpr src ts x
-        → Means table SIGN_LIMIT expression ts w ↔ Converts table
+        → Means table sign_limit expression ts w ↔ Converts table
         (located expr_form (placed src ts x)) w }
 {
     expressions();
@@ -66,7 +77,7 @@ pub fn same_meaning()
 /// Tokens have at most one meaning.
 pub fn one_meaning()
     ensures { (table : Extensions) (ts : List Lexeme) (v w : Value)
-        → Means table SIGN_LIMIT expression ts v → Means table SIGN_LIMIT expression ts w → v ≡ w }
+        → Means table sign_limit expression ts v → Means table sign_limit expression ts w → v ≡ w }
 {
     expressions();
 }
@@ -80,7 +91,7 @@ pub fn values_see_no_place()
 
 /// A relation whose operands have values is refused for its operators alone, at its place: two or more are
 /// `AmbiguousOperators`, a single `=` is `InvalidSingleEq`. A product whose operands have values is refused for each `/` and
-/// `%` in order, at its place, and for nothing else. More than four signs are `UnaryOpLimit` alone, at the place of the
+/// `%` in order, at its place, and for nothing else. More signs than the limit are `UnaryOpLimit` alone, at the place of the
 /// operand with its signs, whatever the operand is. A record of which each key is an attribute and each value a value, with a
 /// key twice, is `ExpressionConstructionError` alone, at its place. A name that is no variable is `ArbitraryVariable` alone
 /// where an expression is wanted, in parentheses or not, at its place.
@@ -135,13 +146,13 @@ pub fn refused_alone()
         → value_outcome table tree ≡ fault_outcome unary_op_limit place }
     ensures repeated_key { (table : Extensions) (place : Option Loc) (inits : Parts)
         (pairs : List (List ℕ × Value))
-        → ArePairs table inits pairs → repeats_key (keys pairs) ≡ true
+        → ArePairs table inits pairs → repeats_key (keys_of pairs) ≡ true
         → outcome table (f.at place (f.record_of inits))
         ≡ fault_outcome expression_construction_error place }
     ensures repeated_key_alone { (table : Extensions) (tree : Located) (place : Option Loc)
         (inits : Parts) (pairs : List (List ℕ × Value))
         → IsAlone tree (f.at place (f.record_of inits))
-        → ArePairs table inits pairs → repeats_key (keys pairs) ≡ true
+        → ArePairs table inits pairs → repeats_key (keys_of pairs) ≡ true
         → value_outcome table tree ≡ fault_outcome expression_construction_error place }
     ensures lone_name { (table : Extensions) (tree : Located) (place : Option Loc)
         → IsBareName tree place
@@ -172,6 +183,39 @@ pub fn faults_of_leaves_stand_within()
         → StandWithin tree.loc (entity_outcome tree) }
     ensures identifiers { (text : List ℕ) (tree : Cell Ident) → IsTreeOf ReadsIdent text tree
         → StandWithin tree.loc (valid_ident tree) }
+{}
+
+/// Each fault that a text's tree is refused with has a kind that is due at a site of the tree whose place holds the fault's.
+pub fn faults_are_due()
+    ensures { (table : Extensions) (text : List ℕ) (tree : Cell Tree)
+        → IsTreeOf ReadsExpr text tree
+        → AreDueIn table (sites.wanted sites.expression (located expr_form tree))
+        (value_outcome table (located expr_form tree)) }
+{}
+
+/// A condition with `when` or `unless` whose expression isn't converted is refused with just the expression's faults, each of a
+/// kind that is due in it: in a text's policy, and in each policy of a text's set.
+pub fn condition_faults_are_due()
+    ensures policies { (table : Extensions) (text : List ℕ) (tree : Cell PolicyTree)
+        → IsTreeOf ReadsPolicy text tree → OfParts (HaveDueFaults table) tree }
+    ensures sets { (table : Extensions) (text : List ℕ) (tree : Cell SetTree) (set : SetTree)
+        → IsTreeOf ReadsPolicies text tree → tree.node ≡ Some set
+        → All (OfParts (HaveDueFaults table)) set.0 }
+{}
+
+/// A kind is due at no site but where the rules name it, nor beside another one at the same site, but at a product, which may
+/// have both a `/` and a `%`.
+pub fn other_kinds_are_not_due()
+    ensures named { (table : Extensions) (site : Site) (kind : Kind)
+        → IsDue table kind site → Contains (kinds_of_site site) kind }
+    ensures alone { (table : Extensions) (site : Site) (kind other : Kind)
+        → IsDue table kind site → IsDue table other site → (kind ≡ other) ⊎ IsProduct site }
+{}
+
+/// The pieces that a string is taken for are those that its raw text is laid out of, of which there are no others
+/// (`cedar_syntax::unescape::laws::one_layout`).
+pub fn strings_are_laid_out()
+    ensures { (raw : List ℕ) → IsLaidOut raw (layout raw) }
 {}
 
 /// What is spelled as an identifier is one for tokens and for names.

@@ -10,6 +10,7 @@ mod conditions;
 mod convert;
 pub mod cst_to_ast;
 mod entities;
+pub mod formatter;
 mod has_side;
 mod join;
 mod joins;
@@ -39,4 +40,5 @@ pub use cst_to_ast::{
     AnnotationAst, ExprAst, ExtStyles, GeneratedPolicyIds, IdentAst, MemberAst, OneOrMultipleRefs,
     PoliciesAst, PolicyAst, PolicyImplAst, PrimaryAst, RefAst, Scope,
 };
+pub use formatter::format_policies;
 pub use parse::{parse_expression, parse_policyset};

@@ -6,7 +6,8 @@ ghost use Rattle.cedar_syntax.specs.Forms.{located, primary_form, member_form};
 ghost use Rattle.cedar_policy_parser.specs.Conversion.{literal_outcome, held_string, number_outcome, number_in, literal_alone, lone_literal};
 ghost use Rattle.cedar_policy_parser.specs.Held.{bare_truth};
 ghost use Rattle.cedar_policy_parser.specs.Outcome.{invalid_string};
-ghost use Rattle.cedar_policy_parser.specs.Seen.{Gives, TellsAlone, plain};
+ghost use Rattle.cedar_policy_parser.specs.Seen.{Gives};
+ghost use Rattle.cedar_policy_parser.specs.machines.Views.{TellsAlone, plain};
 
 use crate::special::{ExprOrSpecial, builder_at, made, refusal, unreached};
 use cedar_expressions::{ExprBuilderInfallibleBuild, Literal, Text, TryClone};

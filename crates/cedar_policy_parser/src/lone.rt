@@ -4,7 +4,8 @@ ghost use Rattle.cedar_syntax.specs.Forms.{located, expr_form, or_form, and_form
 ghost use Rattle.cedar_policy_parser.specs.HasSide.{no_sign};
 ghost use Rattle.cedar_policy_parser.specs.Outcome.{wrong_node};
 ghost use Rattle.cedar_policy_parser.specs.References.{lone};
-ghost use Rattle.cedar_policy_parser.specs.Seen.{Gives, TellsAlone};
+ghost use Rattle.cedar_policy_parser.specs.Seen.{Gives};
+ghost use Rattle.cedar_policy_parser.specs.machines.Views.{TellsAlone};
 
 use crate::convert::inner_of;
 use crate::special::{refusal, unreached};

@@ -2,12 +2,13 @@
 ghost use Rattle.std.specs.Prelude.{◌≡◌, ◌∷◌, [], List, MatchOption, map, Ok, if◌then◌else◌};
 ghost use Rattle.cedar_expressions.specs.Value as v;
 ghost use Rattle.cedar_expressions.specs.Value.{Value};
-ghost use Rattle.cedar_policy_parser.specs.Applied.{Leads, begins_call, reading_outcome, seen_access, seen_accesses, settled_value};
-ghost use Rattle.cedar_policy_parser.specs.Extensions.{table_of};
 ghost use Rattle.cedar_policy_parser.specs.Held.{Held};
 ghost use Rattle.cedar_policy_parser.specs.Members.{Access as Given, call, accesses_of, name_accesses, variable_accesses, some_accesses, member_outcome};
 ghost use Rattle.cedar_policy_parser.specs.Outcome.{Outcome, both, next, no_methods, invalid_access};
-ghost use Rattle.cedar_policy_parser.specs.Seen.{Gives, TellsAlone, plain};
+ghost use Rattle.cedar_policy_parser.specs.Seen.{Gives};
+ghost use Rattle.cedar_policy_parser.specs.Table.{table_of};
+ghost use Rattle.cedar_policy_parser.specs.machines.Applied.{Leads, begins_call, reading_outcome, seen_access, seen_accesses, settled_value};
+ghost use Rattle.cedar_policy_parser.specs.machines.Views.{TellsAlone, plain};
 
 use crate::methods::{Site, function, method};
 use crate::special::{ExprOrSpecial, builder_at, into_expr, made, refusal};

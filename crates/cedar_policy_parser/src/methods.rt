@@ -1,10 +1,12 @@
 //! Calls: the methods that every text may call, and the functions and methods of the table.
 ghost use Rattle.std.specs.Prelude.{◌≡◌, ◌∷◌, [], ◌≢◌, MatchOption, IfOk, map, length};
 ghost use Rattle.std.specs.Option.{is_some};
-ghost use Rattle.cedar_policy_parser.specs.Extensions.{table_of};
-ghost use Rattle.cedar_policy_parser.specs.Members.{standard_method, standard_outcome, extension_method, method_outcome, function_outcome, is_method_id, no_method};
+ghost use Rattle.cedar_policy_parser.specs.Members.{standard_outcome, extension_method, method_outcome, function_outcome, no_method};
 ghost use Rattle.cedar_policy_parser.specs.Outcome.{wrong_arity};
-ghost use Rattle.cedar_policy_parser.specs.Seen.{Gives, TellsAlone};
+ghost use Rattle.cedar_policy_parser.specs.Seen.{Gives};
+ghost use Rattle.cedar_policy_parser.specs.StrictCalls.{standard_method, names_method};
+ghost use Rattle.cedar_policy_parser.specs.Table.{table_of};
+ghost use Rattle.cedar_policy_parser.specs.machines.Views.{TellsAlone};
 
 use crate::cst_to_ast::ExtStyles;
 use crate::special::{builder_at, refusal};
@@ -199,7 +201,7 @@ fn lone_id(name: &Name) -> Result<Option<UnreservedId>, AllocError>
 /// The method that an unqualified name is, if it is one.
 fn method_named(styles: &ExtStyles, name: &Name) -> Result<Option<UnreservedId>, AllocError>
     ensures { IfOk result (λ found.
-        is_some found ≡ is_method_id (table_of styles.now) name.now.path name.now.id) }
+        is_some found ≡ names_method (table_of styles.now) name.now.path name.now.id) }
 {
     match lone_id(name)? {
         Some(id) => {

@@ -2,8 +2,9 @@
 ghost use Rattle.std.specs.Prelude.{◌≡◌, ℕ, List};
 ghost use Rattle.cedar_policy_parser.specs.Leaves.{name_leaf as named_held};
 ghost use Rattle.cedar_policy_parser.specs.Names.{spelling_outcome, valid_text as valid_text_of, valid_ident_of as valid_of, valid_ident as valid_outcome, any_ident_of as any_of, any_ident as any_outcome, unreserved_ident as unreserved_outcome, all_of, path_outcome, name_outcome, variable_of, named_variable};
-ghost use Rattle.cedar_policy_parser.specs.Outcome.{Outcome, reserved_identifier, invalid_identifier};
-ghost use Rattle.cedar_policy_parser.specs.Seen.{Gives, TellsAlone, item_more, itself, plain};
+ghost use Rattle.cedar_policy_parser.specs.Outcome.{Outcome, reserved_identifier, invalid_identifier, item_more};
+ghost use Rattle.cedar_policy_parser.specs.Seen.{Gives, itself};
+ghost use Rattle.cedar_policy_parser.specs.machines.Views.{TellsAlone, plain};
 
 use crate::special::{ExprOrSpecial, refusal, unreached};
 use cedar_expressions::{

@@ -9,13 +9,16 @@ ghost use Rattle.cedar_syntax.specs.FirstFault.{IsMemory};
 ghost use Rattle.cedar_syntax.specs.Leftmost.{HasLeftmost, NumbersFit};
 ghost use Rattle.cedar_syntax.specs.LoosePolicies.{ReadsPolicies};
 ghost use Rattle.cedar_syntax.specs.Sentences.{HasTree};
-ghost use Rattle.cedar_syntax.specs.declared.cst.TheConstants.{SIGN_LIMIT};
-ghost use Rattle.cedar_policy_parser.specs.Extensions.{table_of};
+ghost use Rattle.cedar_syntax.specs.Signs.{sign_limit};
+ghost use Rattle.cedar_policy_parser.specs.OldMeaning.{IsOldPolicySet};
 ghost use Rattle.cedar_policy_parser.specs.Refused.{RefusesSet, RefusesText};
 ghost use Rattle.cedar_policy_parser.specs.Strict.{Means, expression};
 ghost use Rattle.cedar_policy_parser.specs.StrictPolicy.{IsPolicySet};
+ghost use Rattle.cedar_policy_parser.specs.Table.{table_of};
+ghost use Rattle.cedar_policy_parser.specs.VariedTexts.{SpacesKeep, ParenthesesKeep};
 
 use crate::cst_to_ast::{ExprAst, ExtStyles, PoliciesAst};
+use crate::policy_laws::one_set;
 use cedar_expressions::{Expr, ExprBuilder};
 use cedar_lexer::laws::at_most_one_cut;
 use cedar_policy_store::PolicySet;
@@ -31,9 +34,9 @@ use std::alloc::Global;
 pub fn parse_expression(alloc: Global, text: &str, styles: &ExtStyles) -> Result<Expr, Failure>
     ensures value { IfOk result (λ e.
         (ts : List Lexeme) × Cuts text.now ts × Means
-        (table_of styles.now) SIGN_LIMIT expression ts (expr_meaning e)) }
+        (table_of styles.now) sign_limit expression ts (expr_meaning e)) }
     ensures only { (ts : List Lexeme) (w : Value) → Cuts text.now ts
-        → Means (table_of styles.now) SIGN_LIMIT expression ts w
+        → Means (table_of styles.now) sign_limit expression ts w
         → MatchResult result (λ e. expr_meaning e ≡ w) IsMemory }
     ensures refused { IfErr result (λ failure. RefusesText
         (table_of styles.now) failure text.now) }
@@ -49,20 +52,32 @@ pub fn parse_expression(alloc: Global, text: &str, styles: &ExtStyles) -> Result
 /// refused with one or more faults, each at its bytes of the text: those of `parse_policies`, all that there are, or those of
 /// `to_policyset`, all that there are. Of a text whose tokens the loose grammar has no tree for and whose numbers fit 64 bits, one
 /// fault starts before all others: at the first token, or the end, that no sentence of it allows. Or it is `Failure::Memory`.
+///
+/// A text that meant a set while no more than four signs in a row were counted means that set. What a text means stays what it
+/// means where a white space character, or a comment with its line end, is put straight before a token of it, and where
+/// parentheses are put around the whole expression of a condition, or around an entity or a slot of a scope.
 pub fn parse_policyset(alloc: Global, text: &str, styles: &ExtStyles) -> Result<PolicySet, Failure>
     ensures value { IfOk result (λ set.
         (ts : List Lexeme) × Cuts text.now ts × IsPolicySet
-        (table_of styles.now) SIGN_LIMIT ts (set_meaning set)) }
+        (table_of styles.now) sign_limit ts (set_meaning set)) }
     ensures only { (ts : List Lexeme) (meant : Policies) → Cuts text.now ts
-        → IsPolicySet (table_of styles.now) SIGN_LIMIT ts meant
+        → IsPolicySet (table_of styles.now) sign_limit ts meant
         → MatchResult result (λ set. set_meaning set ≡ meant) IsMemory }
     ensures refused { IfErr result (λ failure. RefusesSet
         (table_of styles.now) failure text.now) }
     ensures leftmost { (ts : List Lexeme) → Cuts text.now ts → NumbersFit ts
         → ¬ HasTree (ReadsPolicies text.now) ts
         → IfErr result (λ failure. HasLeftmost ReadsPolicies text.now ts failure) }
+    ensures kept { (ts : List Lexeme) (meant : Policies) → Cuts text.now ts
+        → IsOldPolicySet (table_of styles.now) ts meant
+        → MatchResult result (λ set. set_meaning set ≡ meant) IsMemory }
+    ensures spaces { IfOk result (λ set. SpacesKeep
+        (table_of styles.now) sign_limit text.now (set_meaning set)) }
+    ensures parentheses { IfOk result (λ set. ParenthesesKeep
+        (table_of styles.now) sign_limit text.now (set_meaning set)) }
 {
     at_most_one_cut();
+    one_set();
     let tree = parse_policies(alloc, text)?;
     tree.to_policyset(alloc, styles)
 }

@@ -1,8 +1,8 @@
 //! Places as the crates below know them: their bytes, without the text.
 ghost use Rattle.std.specs.Prelude.{◌≡◌};
 ghost use Rattle.std.specs.Option.{option_map};
-ghost use Rattle.cedar_policy_parser.specs.Policies.{lent_bytes};
 ghost use Rattle.cedar_policy_parser.specs.Places.{bytes_of};
+ghost use Rattle.cedar_policy_parser.specs.machines.Views.{lent_bytes};
 
 use cedar_expressions::Place;
 use cedar_syntax::loc::Loc;

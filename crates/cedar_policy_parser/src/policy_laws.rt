@@ -1,9 +1,11 @@
 //! Laws that join the definitions: what the trees of policies are converted to is what their tokens mean.
-ghost use Rattle.std.specs.Prelude.{◌≡◌, ◌≢◌, ◌↔◌, ℕ, ◌-◌, List, [], ◌∷◌, map, length, Option, Some, None, Ok, Err};
+ghost use Rattle.std.specs.Prelude.{◌≡◌, ◌≢◌, ◌↔◌, ◌≤◌, ℕ, List, [], map, Option, Some, None, Ok, Err};
 ghost use Rattle.std.specs.List.{All};
 ghost use Rattle.either.specs.declared.Either.TheVariants.{Left, Right};
 ghost use Rattle.cedar_expressions.specs.Value.{Value};
+ghost use Rattle.cedar_lexer.specs.Cut.{Cuts};
 ghost use Rattle.cedar_lexer.specs.Token.{Lexeme};
+ghost use Rattle.cedar_lexer.specs.Words.{words_of};
 ghost use Rattle.cedar_policy_store.specs.PlaceFree as free;
 ghost use Rattle.cedar_syntax.specs.declared.cst.Annotation.{Annotation};
 ghost use Rattle.cedar_syntax.specs.declared.cst.Cond.{Cond};
@@ -13,21 +15,23 @@ ghost use Rattle.cedar_syntax.specs.declared.cst.Policies.{Policies as SetTree};
 ghost use Rattle.cedar_syntax.specs.declared.cst.Policy.{Policy as PolicyTree};
 ghost use Rattle.cedar_syntax.specs.declared.cst.Policy.TheVariants as trees;
 ghost use Rattle.cedar_syntax.specs.declared.cst.PolicyImpl.{PolicyImpl};
-ghost use Rattle.cedar_syntax.specs.declared.cst.TheConstants.{SIGN_LIMIT};
+ghost use Rattle.cedar_syntax.specs.Signs.{sign_limit};
 ghost use Rattle.cedar_syntax.specs.declared.loc.Loc.{Loc};
 ghost use Rattle.cedar_syntax.specs.declared.node.Node.{Node};
 ghost use Rattle.cedar_syntax.specs.Forms.{located, expr_form};
 ghost use Rattle.cedar_syntax.specs.Grammar.{IsTreeOf};
 ghost use Rattle.cedar_syntax.specs.LoosePolicies.{ReadsPolicies, ReadsPolicy};
 ghost use Rattle.cedar_syntax.specs.Place.{placed};
+ghost use Rattle.cedar_syntax.specs.PrintLaw.{SameUpToPlaces};
 ghost use Rattle.cedar_syntax.specs.Trees.{Cell};
+ghost use Rattle.cedar_syntax.specs.UnlocatedTrees.{unlocated_policies};
 ghost use Rattle.cedar_policy_parser.specs.AnnotationKeys.{annotation_outcome, with_new_key};
 ghost use Rattle.cedar_policy_parser.specs.Blocks.{PartsStandWithin, faults_from, policy_faults, set_faults};
 ghost use Rattle.cedar_policy_parser.specs.Conditions.{condition_outcome, condition_slot_fault};
 ghost use Rattle.cedar_policy_parser.specs.Conversion.{Converts};
-ghost use Rattle.cedar_policy_parser.specs.Due.{HoldsCondition, IsWhenOrUnless, IsOfNoName, count, is_extra_element, is_missing_variable};
+ghost use Rattle.cedar_policy_parser.specs.Due.{HoldsCondition, IsWhenOrUnless, IsOfNoName, OfParts, RefusesEffect, TellsExtra, TellsMissing};
 ghost use Rattle.cedar_policy_parser.specs.Extensions.{Extensions};
-ghost use Rattle.cedar_policy_parser.specs.Outcome.{NamedFault, fault_outcome, next, empty_clause, invalid_condition, invalid_effect};
+ghost use Rattle.cedar_policy_parser.specs.Outcome.{NamedFault, fault_outcome, next, outcome_value, empty_clause, invalid_condition};
 ghost use Rattle.cedar_policy_parser.specs.Policies as k;
 ghost use Rattle.cedar_policy_parser.specs.Policies.{TemplateParts, meaning_of};
 ghost use Rattle.cedar_policy_parser.specs.PolicyMeaning.{IsStatic};
@@ -43,13 +47,13 @@ pub fn policy_is_meant()
     ensures { (table : Extensions) (src id : List ℕ) (ts : List Lexeme)
         (x : PolicyTree) (parts : TemplateParts)
         → ReadsPolicy src ts x → k.template_outcome table id (placed src ts x) ≡ Ok parts
-        → IsPolicy table SIGN_LIMIT id ts (meaning_of parts) }
+        → IsPolicy table sign_limit id ts (meaning_of parts) }
 {}
 
 /// Tokens that mean a policy have a tree that is converted to it.
 pub fn meant_is_policy()
     ensures { (table : Extensions) (src id : List ℕ) (ts : List Lexeme) (policy : free.Policy)
-        → IsPolicy table SIGN_LIMIT id ts policy
+        → IsPolicy table sign_limit id ts policy
         → (x : PolicyTree) × (parts : TemplateParts) × ReadsPolicy src ts x
         × (k.template_outcome table id (placed src ts x) ≡ Ok parts)
         × (meaning_of parts ≡ policy) }
@@ -63,10 +67,10 @@ pub fn static_policy_is_meant()
         → ReadsPolicy src ts x
         → (k.static_outcome table id (placed src ts x) ≡ Ok parts)
         ↔ ((k.template_outcome table id (placed src ts x) ≡ Ok parts)
-        × IsPolicy table SIGN_LIMIT id ts (meaning_of parts) × IsStatic (meaning_of parts)) }
+        × IsPolicy table sign_limit id ts (meaning_of parts) × IsStatic (meaning_of parts)) }
     ensures meant { (table : Extensions) (src id : List ℕ) (ts : List Lexeme)
         (policy : free.Policy)
-        → IsPolicy table SIGN_LIMIT id ts policy → IsStatic policy
+        → IsPolicy table sign_limit id ts policy → IsStatic policy
         → (x : PolicyTree) × (parts : TemplateParts) × ReadsPolicy src ts x
         × (k.static_outcome table id (placed src ts x) ≡ Ok parts)
         × (meaning_of parts ≡ policy) }
@@ -80,47 +84,60 @@ pub fn side_is_meant()
         → ReadsPolicy src ts x
         → (k.either_outcome table id (placed src ts x) ≡ Ok (Left parts))
         ↔ ((k.template_outcome table id (placed src ts x) ≡ Ok parts)
-        × IsPolicy table SIGN_LIMIT id ts (meaning_of parts) × IsStatic (meaning_of parts)) }
+        × IsPolicy table sign_limit id ts (meaning_of parts) × IsStatic (meaning_of parts)) }
     ensures templates { (table : Extensions) (src id : List ℕ)
         (ts : List Lexeme) (x : PolicyTree) (parts : TemplateParts)
         → ReadsPolicy src ts x
         → (k.either_outcome table id (placed src ts x) ≡ Ok (Right parts))
         ↔ ((k.template_outcome table id (placed src ts x) ≡ Ok parts)
-        × IsPolicy table SIGN_LIMIT id ts (meaning_of parts) × ¬ (IsStatic (meaning_of parts))) }
+        × IsPolicy table sign_limit id ts (meaning_of parts) × ¬ (IsStatic (meaning_of parts))) }
     ensures meant_static { (table : Extensions) (src id : List ℕ) (ts : List Lexeme)
         (policy : free.Policy)
-        → IsPolicy table SIGN_LIMIT id ts policy → IsStatic policy
+        → IsPolicy table sign_limit id ts policy → IsStatic policy
         → (x : PolicyTree) × (parts : TemplateParts) × ReadsPolicy src ts x
         × (k.either_outcome table id (placed src ts x) ≡ Ok (Left parts))
         × (meaning_of parts ≡ policy) }
     ensures meant_template { (table : Extensions) (src id : List ℕ) (ts : List Lexeme)
         (policy : free.Policy)
-        → IsPolicy table SIGN_LIMIT id ts policy → ¬ (IsStatic policy)
+        → IsPolicy table sign_limit id ts policy → ¬ (IsStatic policy)
         → (x : PolicyTree) × (parts : TemplateParts) × ReadsPolicy src ts x
         × (k.either_outcome table id (placed src ts x) ≡ Ok (Right parts))
         × (meaning_of parts ≡ policy) }
 {}
 
-/// What the tree of a set is converted to is what its tokens mean.
+/// What the tree of a set is converted to is what its tokens mean; so is the tree that a whole text has, be it of no tokens.
 pub fn set_is_meant()
-    ensures { (table : Extensions) (src : List ℕ) (ts : List Lexeme)
+    ensures tokens { (table : Extensions) (src : List ℕ) (ts : List Lexeme)
         (x : SetTree) (set : free.Policies)
         → ReadsPolicies src ts x → k.policies_outcome table (placed src ts x) ≡ Ok set
-        → IsPolicySet table SIGN_LIMIT ts set }
+        → IsPolicySet table sign_limit ts set }
+    ensures text { (table : Extensions) (text : List ℕ) (tree : Cell SetTree) (set : free.Policies)
+        → IsTreeOf ReadsPolicies text tree → k.policies_outcome table tree ≡ Ok set
+        → (ts : List Lexeme) × Cuts text ts × IsPolicySet table sign_limit ts set }
 {}
 
-/// Tokens that mean a set have a tree that is converted to it.
+/// Tokens that mean a set have a tree that is converted to it; so has a text that is cut into them, be it into none.
 pub fn meant_is_set()
-    ensures { (table : Extensions) (src : List ℕ) (ts : List Lexeme) (set : free.Policies)
-        → IsPolicySet table SIGN_LIMIT ts set
+    ensures tokens { (table : Extensions) (src : List ℕ) (ts : List Lexeme) (set : free.Policies)
+        → IsPolicySet table sign_limit ts set
         → (x : SetTree) × ReadsPolicies src ts x
         × (k.policies_outcome table (placed src ts x) ≡ Ok set) }
+    ensures text { (table : Extensions) (text : List ℕ) (ts : List Lexeme) (set : free.Policies)
+        → Cuts text ts → IsPolicySet table sign_limit ts set
+        → (tree : Cell SetTree) × IsTreeOf ReadsPolicies text tree
+        × (k.policies_outcome table tree ≡ Ok set) }
+{}
+
+/// Trees of sets that differ in their places alone are converted to the same set, or neither of them to any.
+pub fn sets_see_no_place()
+    ensures { (table : Extensions) (x y : Cell SetTree) → SameUpToPlaces unlocated_policies x y
+        → outcome_value (k.policies_outcome table x) ≡ outcome_value (k.policies_outcome table y) }
 {}
 
 /// Tokens of a policy have at most one meaning under a name.
 pub fn one_policy()
     ensures { (table : Extensions) (id : List ℕ) (ts : List Lexeme) (v w : free.Policy)
-        → IsPolicy table SIGN_LIMIT id ts v → IsPolicy table SIGN_LIMIT id ts w → v ≡ w }
+        → IsPolicy table sign_limit id ts v → IsPolicy table sign_limit id ts w → v ≡ w }
 {
     single_policies();
 }
@@ -128,7 +145,7 @@ pub fn one_policy()
 /// Tokens of a set have at most one meaning.
 pub fn one_set()
     ensures { (table : Extensions) (ts : List Lexeme) (v w : free.Policies)
-        → IsPolicySet table SIGN_LIMIT ts v → IsPolicySet table SIGN_LIMIT ts w → v ≡ w }
+        → IsPolicySet table sign_limit ts v → IsPolicySet table sign_limit ts w → v ≡ w }
 {
     policies();
 }
@@ -173,30 +190,39 @@ pub fn blocks()
         ≡ policy_faults table parts }
 {}
 
-/// In a parsed policy a refused effect is `InvalidEffect` alone; its scope has a `MissingScopeVariable` just for each element
-/// that is missing, and an `ExtraScopeElement` just for each beyond three. A condition whose word is neither `when` nor
-/// `unless` is `InvalidCondition` alone; with one of them it is `EmptyClause` alone if it has no expression, and, if its
-/// expression converts, just a `SlotsInConditionClause` for each slot, in order, where the slot stands within the condition. No fault of a policy's or a set's tree, by hand too, is
-/// of a name that two policies have; and where such a tree, or a part of a policy, is refused there is a fault.
+/// In a parsed policy, and in each policy of a parsed set, a refused effect is `InvalidEffect` alone; its scope has a
+/// `MissingScopeVariable` just for each element that is missing, and an `ExtraScopeElement` just for each beyond three. A
+/// condition whose word is neither `when` nor `unless` is `InvalidCondition` alone; with one of them it is `EmptyClause` alone
+/// if it has no expression, and, if its expression converts, just a `SlotsInConditionClause` for each slot, in order, where the
+/// slot stands within the condition. No fault of a policy's or a set's tree, by hand too, is of a name that two policies have,
+/// whatever of the two kinds of policy is wanted; and where such a tree, or a part of a policy, is refused there is a fault.
 pub fn due()
-    ensures effect { (text : List ℕ) (tree : Cell PolicyTree) (parts : PolicyImpl)
-        (faults : List NamedFault)
-        → IsTreeOf ReadsPolicy text tree → tree.node ≡ Some (trees.Policy parts)
-        → k.effect_outcome parts.effect ≡ Err faults
-        → faults ≡ (invalid_effect, parts.effect.loc) ∷ [] }
+    ensures effect { (text : List ℕ) (tree : Cell PolicyTree)
+        → IsTreeOf ReadsPolicy text tree → OfParts RefusesEffect tree }
     ensures missing { (table : Extensions) (text : List ℕ) (tree : Cell PolicyTree)
-        (parts : PolicyImpl)
-        → IsTreeOf ReadsPolicy text tree → tree.node ≡ Some (trees.Policy parts)
-        → count is_missing_variable (faults_from (scope_outcome table parts))
-        ≡ 3 - length parts.variables }
+        → IsTreeOf ReadsPolicy text tree → OfParts (TellsMissing table) tree }
     ensures extra { (table : Extensions) (text : List ℕ) (tree : Cell PolicyTree)
-        (parts : PolicyImpl)
-        → IsTreeOf ReadsPolicy text tree → tree.node ≡ Some (trees.Policy parts)
-        → count is_extra_element (faults_from (scope_outcome table parts))
-        ≡ length parts.variables - 3 }
+        → IsTreeOf ReadsPolicy text tree → OfParts (TellsExtra table) tree }
+    ensures member_effect { (text : List ℕ) (tree : Cell SetTree) (set : SetTree)
+        → IsTreeOf ReadsPolicies text tree → tree.node ≡ Some set
+        → All (OfParts RefusesEffect) set.0 }
+    ensures member_missing { (table : Extensions) (text : List ℕ)
+        (tree : Cell SetTree) (set : SetTree)
+        → IsTreeOf ReadsPolicies text tree → tree.node ≡ Some set
+        → All (OfParts (TellsMissing table)) set.0 }
+    ensures member_extra { (table : Extensions) (text : List ℕ)
+        (tree : Cell SetTree) (set : SetTree)
+        → IsTreeOf ReadsPolicies text tree → tree.node ≡ Some set
+        → All (OfParts (TellsExtra table)) set.0 }
     ensures policy_names { (table : Extensions) (id : List ℕ)
         (tree : Cell PolicyTree)
         → All IsOfNoName (faults_from (k.template_outcome table id tree)) }
+    ensures static_names { (table : Extensions) (id : List ℕ)
+        (tree : Cell PolicyTree)
+        → All IsOfNoName (faults_from (k.static_outcome table id tree)) }
+    ensures either_names { (table : Extensions) (id : List ℕ)
+        (tree : Cell PolicyTree)
+        → All IsOfNoName (faults_from (k.either_outcome table id tree)) }
     ensures set_names { (table : Extensions) (tree : Cell SetTree)
         → All IsOfNoName (faults_from (k.policies_outcome table tree)) }
     ensures policy_refused { (table : Extensions) (id : List ℕ)
@@ -229,4 +255,17 @@ pub fn due()
         → Converts table (located expr_form expr) value
         → faults_from (condition_outcome table node)
         ≡ map (condition_slot_fault node.loc) (slots_of value) }
+{}
+
+/// What tokens mean with a limit of signs they mean with each higher one.
+pub fn old_meaning_is_kept()
+    ensures { (table : Extensions) (low high : ℕ) (ts : List Lexeme) (set : free.Policies)
+        → low ≤ high → IsPolicySet table low ts set → IsPolicySet table high ts set }
+{}
+
+/// Tokens of the same kinds and texts, wherever they stand, mean the same set.
+pub fn same_words_mean_the_same()
+    ensures { (table : Extensions) (ts us : List Lexeme) (set : free.Policies)
+        → IsPolicySet table sign_limit ts set → words_of us ≡ words_of ts
+        → IsPolicySet table sign_limit us set }
 {}

@@ -7,11 +7,12 @@ ghost use Rattle.cedar_syntax.specs.declared.cst.RecInit.{RecInit as Init};
 ghost use Rattle.cedar_syntax.specs.declared.node.Node.{Node as Held};
 ghost use Rattle.cedar_syntax.specs.Forms.{located, member_form, primary_form, access_form, init_form};
 ghost use Rattle.cedar_policy_parser.specs.Conversion.{outcome, access_outcome, pair_outcome};
-ghost use Rattle.cedar_policy_parser.specs.Applied.{Pair, seen_accesses, seen_pairs};
-ghost use Rattle.cedar_policy_parser.specs.Extensions.{table_of};
 ghost use Rattle.cedar_policy_parser.specs.Members.{Access as Given};
-ghost use Rattle.cedar_policy_parser.specs.Outcome.{Outcome};
-ghost use Rattle.cedar_policy_parser.specs.Seen.{Gives, item_more, plain};
+ghost use Rattle.cedar_policy_parser.specs.Outcome.{Outcome, item_more};
+ghost use Rattle.cedar_policy_parser.specs.Seen.{Gives};
+ghost use Rattle.cedar_policy_parser.specs.Table.{table_of};
+ghost use Rattle.cedar_policy_parser.specs.machines.Applied.{Pair, seen_accesses, seen_pairs};
+ghost use Rattle.cedar_policy_parser.specs.machines.Views.{plain};
 
 use crate::answer::{
     Converted, Parts, gather, member_in, parens_in, put, take, unreached_in, value_in,

@@ -4,11 +4,12 @@ ghost use Rattle.std.specs.Option.{option_copied};
 ghost use Rattle.cedar_policy_store.specs.declared.constraints.ActionConstraint.{ActionConstraint as Action};
 ghost use Rattle.cedar_policy_store.specs.declared.constraints.PrincipalConstraint.{PrincipalConstraint as Principal};
 ghost use Rattle.cedar_policy_store.specs.declared.constraints.ResourceConstraint.{ResourceConstraint as Resource};
-ghost use Rattle.cedar_policy_parser.specs.Extensions.{table_of};
 ghost use Rattle.cedar_syntax.specs.declared.err.faults.ParseError.TheVariants.{ToAST};
 ghost use Rattle.cedar_policy_parser.specs.Outcome.{Outcome, both, next, missing_scope_variable};
 ghost use Rattle.cedar_policy_parser.specs.Scope as s;
-ghost use Rattle.cedar_policy_parser.specs.Seen.{Gives, TellsAlone, itself, empty_view, named_fault};
+ghost use Rattle.cedar_policy_parser.specs.Seen.{Gives, itself, named_fault};
+ghost use Rattle.cedar_policy_parser.specs.Table.{table_of};
+ghost use Rattle.cedar_policy_parser.specs.machines.Views.{TellsAlone, empty_view};
 
 mod action;
 mod element;

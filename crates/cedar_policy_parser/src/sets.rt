@@ -1,11 +1,12 @@
 //! Sets of policies.
 ghost use Rattle.std.specs.Prelude.{List, OnOk};
 ghost use Rattle.cedar_policy_store.specs.PlaceFree.{set_meaning};
-ghost use Rattle.cedar_policy_parser.specs.Extensions.{table_of};
-ghost use Rattle.cedar_policy_parser.specs.Outcome.{Outcome};
+ghost use Rattle.cedar_policy_parser.specs.Outcome.{Outcome, item_more};
 ghost use Rattle.cedar_policy_parser.specs.Policies as k;
 ghost use Rattle.cedar_policy_parser.specs.PolicyMeaning.{policy_id as policy_id_of};
-ghost use Rattle.cedar_policy_parser.specs.Seen.{Gives, item_more};
+ghost use Rattle.cedar_policy_parser.specs.Seen.{Gives};
+ghost use Rattle.cedar_policy_parser.specs.Table.{table_of};
+ghost use Rattle.cedar_policy_parser.specs.machines.Filled.{IsAdded, set_view};
 
 use crate::cst_to_ast::ExtStyles;
 use crate::joins::refused_too;
@@ -35,7 +36,7 @@ fn policy_at(
 
 /// Adds a policy or a template under its name.
 fn add(set: &mut PolicySet, policy: Either<StaticPolicy, Template>) -> Result<(), PolicySetError>
-    ensures { OnOk result (k.IsAdded set.old policy set.new) }
+    ensures { OnOk result (IsAdded set.old policy set.new) }
 {
     match policy {
         Either::Left(policy) => set.add_static(policy),
@@ -45,7 +46,7 @@ fn add(set: &mut PolicySet, policy: Either<StaticPolicy, Template>) -> Result<()
 
 /// Keeps a policy under its name. It has a number that no other of the set has, so the name is free.
 fn keep(set: &mut PolicySet, policy: Either<StaticPolicy, Template>) -> Result<(), AllocError>
-    ensures { OnOk result (k.IsAdded set.old policy set.new) }
+    ensures { OnOk result (IsAdded set.old policy set.new) }
 {
     match add(set, policy) {
         Ok(()) => Ok(()),
@@ -61,9 +62,9 @@ fn one_more(
     next: Result<Either<StaticPolicy, Template>, Failure>,
 ) -> Result<(), Failure>
     ensures { (o : Outcome (List k.TemplateParts)) (x : Outcome k.TemplateParts)
-        → Gives (k.set_view set.old) all (k.parts_set_outcome o)
+        → Gives (set_view set.old) all (k.parts_set_outcome o)
         → Gives k.either_parts next (k.side_outcome x)
-        → Gives (k.set_view set.new) result (k.parts_set_outcome (item_more o x)) }
+        → Gives (set_view set.new) result (k.parts_set_outcome (item_more o x)) }
 {
     match next {
         Ok(policy) => match keep(set, policy) {

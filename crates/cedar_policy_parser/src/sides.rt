@@ -1,11 +1,12 @@
 //! `has`, `like`, `is` and `is .. in`, of what their sides give.
 ghost use Rattle.cedar_expressions.specs.Value.{Value};
-ghost use Rattle.cedar_policy_parser.specs.Applied.{Matched, seen_attributes, seen_pattern, seen_type};
 ghost use Rattle.cedar_policy_parser.specs.Conversion.{ValueAndType, beside_type, match_outcome, type_test_outcome, type_within_outcome, with_attributes};
 ghost use Rattle.cedar_policy_parser.specs.HasSide.{Attributes as Named};
 ghost use Rattle.cedar_policy_parser.specs.Held.{Held, as_pattern};
 ghost use Rattle.cedar_policy_parser.specs.Outcome.{Outcome, both, next};
-ghost use Rattle.cedar_policy_parser.specs.Seen.{Gives, plain};
+ghost use Rattle.cedar_policy_parser.specs.Seen.{Gives};
+ghost use Rattle.cedar_policy_parser.specs.machines.Applied.{Matched, seen_attributes, seen_pattern, seen_type};
+ghost use Rattle.cedar_policy_parser.specs.machines.Views.{plain};
 
 use crate::has_side::Attributes;
 use crate::special::{ExprOrSpecial, builder_at, made};

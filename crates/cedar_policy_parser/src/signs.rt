@@ -4,8 +4,9 @@ ghost use Rattle.cedar_expressions.specs.Value as v;
 ghost use Rattle.cedar_policy_parser.specs.Conversion.{application_outcome, dashes_outcome, negative as negative_of, signs_outcome};
 ghost use Rattle.cedar_policy_parser.specs.Held.{Held};
 ghost use Rattle.cedar_policy_parser.specs.Outcome.{Outcome, fault_outcome, unary_op_limit};
-ghost use Rattle.cedar_policy_parser.specs.Seen.{Gives, TellsAlone, plain};
+ghost use Rattle.cedar_policy_parser.specs.Seen.{Gives};
 ghost use Rattle.cedar_policy_parser.specs.Strict.{iteration, largest};
+ghost use Rattle.cedar_policy_parser.specs.machines.Views.{TellsAlone, plain};
 
 use crate::literals::LARGEST;
 use crate::special::{ExprOrSpecial, builder_at, expr_of, made, refusal};

@@ -2,7 +2,8 @@
 ghost use Rattle.cedar_policy_parser.specs.Entities.{slot_outcome};
 ghost use Rattle.cedar_policy_parser.specs.Leaves.{slot_leaf};
 ghost use Rattle.cedar_policy_parser.specs.Outcome.{invalid_slot};
-ghost use Rattle.cedar_policy_parser.specs.Seen.{Gives, TellsAlone, itself, plain};
+ghost use Rattle.cedar_policy_parser.specs.Seen.{Gives, itself};
+ghost use Rattle.cedar_policy_parser.specs.machines.Views.{TellsAlone, plain};
 
 use crate::special::{ExprOrSpecial, builder_at, made, refusal, unreached};
 use cedar_expressions::{ExprBuilderInfallibleBuild, SlotId, Text, TryClone};

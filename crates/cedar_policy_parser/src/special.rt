@@ -4,7 +4,8 @@ ghost use Rattle.std.specs.Option.{option_map};
 ghost use Rattle.cedar_policy_parser.specs.Held.{Held, expression, as_expression};
 ghost use Rattle.cedar_policy_parser.specs.Outcome.{Outcome, arbitrary_variable, empty_node, next};
 ghost use Rattle.cedar_policy_parser.specs.Places.{bytes_of};
-ghost use Rattle.cedar_policy_parser.specs.Seen.{Gives, TellsAlone, kind_of, plain};
+ghost use Rattle.cedar_policy_parser.specs.Seen.{Gives, kind_of};
+ghost use Rattle.cedar_policy_parser.specs.machines.Views.{TellsAlone, plain};
 
 use crate::places::bytes_of;
 use crate::strings::text_of;

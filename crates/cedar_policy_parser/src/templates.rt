@@ -7,10 +7,11 @@ ghost use Rattle.cedar_syntax.specs.declared.err.faults.ParseError.TheVariants.{
 ghost use Rattle.cedar_syntax.specs.ParseErrors.{faults_of};
 ghost use Rattle.cedar_syntax.specs.declared.loc.Loc.{Loc};
 ghost use Rattle.cedar_policy_parser.specs.Places.{place_within};
-ghost use Rattle.cedar_policy_parser.specs.Extensions.{table_of};
 ghost use Rattle.cedar_policy_parser.specs.Outcome.{Outcome, invalid_effect, expected_static_policy};
 ghost use Rattle.cedar_policy_parser.specs.Policies as k;
-ghost use Rattle.cedar_policy_parser.specs.Seen.{Gives, Refuses, TellsAlone, itself, named_faults, named_fault};
+ghost use Rattle.cedar_policy_parser.specs.Seen.{Gives, Refuses, itself, named_faults, named_fault};
+ghost use Rattle.cedar_policy_parser.specs.Table.{table_of};
+ghost use Rattle.cedar_policy_parser.specs.machines.Views.{TellsAlone, IsConditionFree, lent_bytes, optional_fault, parts_view, slot_of};
 
 use crate::annotations::annotations;
 use crate::conditions::{conditions, folded};
@@ -67,7 +68,7 @@ fn kept_annotations(alloc: Global, policy: &PolicyImpl) -> Result<Annotations, F
 {
     let make = |text: Option<String>, loc: Option<&Loc>| -> Annotation
         ensures value { result.value ≡ unwrap_or (option_map string_bytes text) [] }
-        ensures place { marked_place result.place ≡ k.lent_bytes loc.entry }
+        ensures place { marked_place result.place ≡ lent_bytes loc.entry }
     { Annotation::with_optional_value(alloc, text, bytes_at(loc)) };
     let by_key = annotations::<Annotation, _>(alloc, policy.annotations.as_slice(), &make)?;
     Ok(Annotations::from(by_key))
@@ -78,7 +79,7 @@ type Parts = ((Effect, Annotations), (Scope, Vec<Expr>));
 
 /// The parts of a policy, joined.
 fn parts(alloc: Global, styles: &ExtStyles, policy: &PolicyImpl) -> Result<Parts, Failure>
-    ensures { Gives k.parts_view result
+    ensures { Gives parts_view result
         (k.parts_outcome (table_of styles.now) policy.now) }
 {
     let maybe_effect = effect(alloc, &policy.effect);
@@ -103,7 +104,7 @@ fn constructed(
     parts: Parts,
 ) -> Result<Template, AllocError>
     ensures { IfOk result (λ t. k.template_parts t
-        ≡ k.given_parts id loc.now (k.parts_view parts)) }
+        ≡ k.given_parts id loc.now (parts_view parts)) }
 {
     let ((effect, annotations), (scope, conditions)) = parts;
     let (principal, action, resource) = scope;
@@ -174,7 +175,7 @@ fn found_slot(alloc: Global, slot: Slot, loc: &Option<Loc>) -> Failure
 /// What stands behind a slot in a condition where a static policy is wanted.
 fn static_fault(fault: &ParseError) -> Result<Option<ToASTError>, AllocError>
     ensures { IfOk result (λ made. k.slot_faults (named_fault fault.now ∷ [])
-        ≡ k.optional_fault made) }
+        ≡ optional_fault made) }
 {
     match fault {
         ParseError::ToAST(fault) => match &fault.kind {
@@ -236,7 +237,7 @@ fn add_static_faults(alloc: Global, faults: &mut ParseErrors) -> Result<(), Allo
 /// What a template with a slot is refused with where a static policy is wanted.
 fn not_static(alloc: Global, error: UnexpectedSlotError, loc: &Option<Loc>) -> Failure
     ensures { TellsAlone result expected_static_policy
-        (place_within loc.now (k.slot_of error).place) }
+        (place_within loc.now (slot_of error).place) }
 {
     match error {
         UnexpectedSlotError::FoundSlot(slot) => found_slot(alloc, slot, loc),
@@ -249,7 +250,7 @@ fn only_static(
     loc: &Option<Loc>,
     template: Template,
 ) -> Result<StaticPolicy, Failure>
-    ensures { k.IsConditionFree template → Gives k.template_parts result
+    ensures { IsConditionFree template → Gives k.template_parts result
         (k.unless_slots loc.now (k.scope_slots (k.template_parts template))
         (k.template_parts template)) }
 {

@@ -3,9 +3,10 @@
 ghost use Rattle.std.specs.Prelude.{◌≡◌, List, map};
 ghost use Rattle.cedar_expressions.specs.declared.entity.EntityUID.{EntityUID as Entity};
 ghost use Rattle.cedar_syntax.specs.Forms.{located, parts_of, listed_expr, expr_form, primary_form};
-ghost use Rattle.cedar_policy_parser.specs.Outcome.{Outcome, wrong_node, wrong_entity_argument};
+ghost use Rattle.cedar_policy_parser.specs.Outcome.{Outcome, wrong_node, wrong_entity_argument, item_more};
 ghost use Rattle.cedar_policy_parser.specs.References.{RefKind as Kind, single_entity, entity_or_slot, one_or_multiple, literal_fault, entity_at, lone_entity, entities, single_outcome, own_slot_outcome, several_outcome, of_variable, referent_at, referent_outcome};
-ghost use Rattle.cedar_policy_parser.specs.Seen.{Gives, TellsAlone, item_more, itself};
+ghost use Rattle.cedar_policy_parser.specs.Seen.{Gives, itself};
+ghost use Rattle.cedar_policy_parser.specs.machines.Views.{TellsAlone};
 
 use crate::entities::entity_of;
 use crate::lone::{form, lone_expr, not_wanted};

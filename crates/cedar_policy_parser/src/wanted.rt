@@ -1,11 +1,13 @@
 //! What a form is where something else than an expression is wanted: a pattern, an entity type, a string, a record's key.
 ghost use Rattle.std.specs.Prelude.{◌≡◌, [], false, IfOk, MatchOption};
 ghost use Rattle.cedar_expressions.specs.Path.{is_unreserved_identifier};
-ghost use Rattle.cedar_policy_parser.specs.Held.{Held, as_attribute, as_entity_type, as_pattern, as_string, unqualified, variable_text};
+ghost use Rattle.cedar_expressions.specs.Written.{var_text};
+ghost use Rattle.cedar_policy_parser.specs.Held.{Held, as_attribute, as_entity_type, as_pattern, as_string, unqualified};
 ghost use Rattle.cedar_policy_parser.specs.Literals.{string_outcome};
 ghost use Rattle.cedar_syntax.specs.Forms.{located, primary_form};
 ghost use Rattle.cedar_policy_parser.specs.Outcome.{Outcome, next, invalid_attribute, invalid_is_type, invalid_pattern, invalid_string, path_as_attribute, reserved_identifier};
-ghost use Rattle.cedar_policy_parser.specs.Seen.{Gives, TellsAlone, itself, plain};
+ghost use Rattle.cedar_policy_parser.specs.Seen.{Gives, itself};
+ghost use Rattle.cedar_policy_parser.specs.machines.Views.{TellsAlone, plain};
 
 use crate::literals::literal;
 use crate::names::named;
@@ -23,7 +25,7 @@ use std::alloc::{AllocError, Global};
 
 /// The word that a variable is.
 pub(crate) fn variable_word(alloc: Global, var: Var) -> Result<Text, AllocError>
-    ensures { IfOk result (λ text. text ≡ variable_text var) }
+    ensures { IfOk result (λ text. text ≡ var_text var) }
 {
     match var {
         Var::Principal => Text::from_str(alloc, "principal"),
@@ -151,7 +153,7 @@ fn id_of(text: Text) -> Option<UnreservedId>
 
 /// The entity type whose name is a variable's word.
 fn variable_type(alloc: Global, var: Var) -> Result<EntityType, AllocError>
-    ensures { IfOk result (λ it. it.name ≡ record { path = []; id = variable_text var }) }
+    ensures { IfOk result (λ it. it.name ≡ record { path = []; id = var_text var }) }
 {
     let Some(id) = id_of(variable_word(alloc, var)?) else {
         unreachable!()

@@ -18,3 +18,4 @@ pub mod machines
 mod ConjoinedLemmas
 mod KeptLemmas
 mod TableLemmas
+pub mod again

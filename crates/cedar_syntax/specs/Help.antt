@@ -2,7 +2,7 @@
 -- slip; the others are this repository's own.
 use Rattle.std.specs.Prelude.{ℕ, List, ◌++◌, codes, Option, Some, None}
 use Rattle.std.specs.Fmt.{decimal}
-use Rattle.cedar_syntax.specs.declared.cst.TheConstants.{SIGN_LIMIT}
+use Rattle.cedar_syntax.specs.Signs.{sign_limit}
 use Rattle.cedar_syntax.specs.declared.err.to_ast.ToASTErrorKind.{ToASTErrorKind}
 use Rattle.cedar_syntax.specs.declared.err.to_ast.ToASTErrorKind.TheVariants as kind
 
@@ -38,5 +38,5 @@ plain_help _ = None
 abbrev pub kind_help : ToASTErrorKind → Option (List ℕ)
 kind_help (kind.UnaryOpLimit _) =
     Some (codes "cannot chain more than "
-    ++ (decimal SIGN_LIMIT ++ codes " applications of a unary operator"))
+    ++ (decimal sign_limit ++ codes " applications of a unary operator"))
 kind_help other = plain_help other

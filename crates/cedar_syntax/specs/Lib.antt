@@ -3,6 +3,7 @@ pub mod EscapeFaults
 pub mod Expected
 pub mod Faults
 pub mod FirstFault
+pub mod Formatted
 pub mod Forms
 pub mod Grammar
 pub mod Help
@@ -24,9 +25,11 @@ pub mod Pattern
 pub mod Piece
 pub mod PieceAhead
 pub mod Place
+pub mod PrintLaw
 pub mod Printed
 pub mod Printing
 pub mod RawFault
+pub mod SameWords
 pub mod Sentences
 pub mod Signs
 pub mod Slots
@@ -38,6 +41,7 @@ pub mod TreePlaces
 pub mod Trees
 pub mod UnescapeFailure
 pub mod Unlocated
+pub mod UnlocatedTrees
 pub mod Unplaced
 pub mod WrittenTokens
 pub mod machines

@@ -159,7 +159,7 @@ pub enum MultOp {
 }
 
 /// So many signs before an operand are counted; more are one form, whatever their number.
-pub const SIGN_LIMIT: u8 = 4;
+pub const SIGN_LIMIT: u8 = 8;
 
 /// The signs before an operand, which are counted up to the limit.
 #[derive(Debug, Clone, Copy, PartialEq, Eq)]

@@ -8,6 +8,7 @@ mod copy_traits;
 pub mod cst;
 mod display;
 pub mod err;
+pub mod laws;
 mod leaves;
 pub mod loc;
 pub mod node;

@@ -1,5 +1,4 @@
 pub mod HeldParts
-pub mod Joints
 pub mod KindTexts
 mod Taking
 mod Within

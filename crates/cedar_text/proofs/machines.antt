@@ -24,6 +24,7 @@ pub mod PolicyEntries
 pub mod PolicyParts
 pub mod PolicyRecovery
 pub mod PolicyShapes
+pub mod PrintLaws
 pub mod Recovery
 pub mod Scope
 pub mod SequenceShapes

@@ -17,8 +17,12 @@ ghost use Rattle.cedar_syntax.specs.LooseExpressions.{ReadsExpr, ReadsPrimary};
 ghost use Rattle.cedar_syntax.specs.LoosePolicies.{ReadsPolicies, ReadsPolicy};
 ghost use Rattle.cedar_syntax.specs.LooseWords.{ReadsIdent, ReadsName, ReadsRef};
 ghost use Rattle.cedar_syntax.specs.MendedFaults.{IsMendedRefusal, NothingBefore, PoliciesBefore};
+ghost use Rattle.cedar_syntax.specs.PrintLaw.{HasSameTree, node_text};
 ghost use Rattle.cedar_syntax.specs.TreePlaces.{IsPlace, node_places, expr_places, ident_places, name_places, policies_places, policy_places, primary_places, ref_places};
 ghost use Rattle.cedar_syntax.specs.Trees.{Cell};
+ghost use Rattle.cedar_syntax.specs.Unlocated.{unlocated_name, unlocated_ref};
+ghost use Rattle.cedar_syntax.specs.UnlocatedTrees.{unlocated_expr, unlocated_ident, unlocated_primary, unlocated_policy, unlocated_policies};
+ghost use Rattle.cedar_syntax.specs.Unplaced.{expr_tree, primary_tree, name_tree, ref_tree, ident_tree, policy_tree, policies_tree};
 
 mod annotation;
 mod condition;
@@ -55,7 +59,8 @@ use std::alloc::Global;
 /// The tree of policies.
 ///
 /// It answers a tree exactly if the text cuts into tokens that are policies by the loose grammar, and then that tree,
-/// the only one. Every place in it is a range of bytes of the text, on boundaries of characters.
+/// the only one. Every place in it is a range of bytes of the text, on boundaries of characters. Its printed text cuts
+/// into tokens that have this tree too, places aside, and no other.
 ///
 /// A refusal is all faults of the text, the one at which the parse stops first: behind a token with which no policies
 /// go on, reading goes on with the mended tokens. Each fault is one of those of `parse_expr`, of policies; where an
@@ -66,6 +71,8 @@ pub fn parse_policies(alloc: Global, text: &str) -> Result<Node<Option<Policies>
     ensures found { IfOk result (λ x. IsTreeOf ReadsPolicies text.now x) }
     ensures places { IfOk result
         (λ x. All (IsPlace text.now) (node_places policies_places x)) }
+    ensures printed { IfOk result
+        (λ x. HasSameTree ReadsPolicies unlocated_policies x (node_text policies_tree x)) }
     ensures only { (y : Cell Policies) → IsTreeOf ReadsPolicies text.now y
         → MatchResult result (λ x. x ≡ y) IsMemory }
     ensures refused { IfErr result
@@ -84,6 +91,8 @@ pub fn parse_policy(alloc: Global, text: &str) -> Result<Node<Option<Policy>>, F
     ensures found { IfOk result (λ x. IsTreeOf ReadsPolicy text.now x) }
     ensures places { IfOk result
         (λ x. All (IsPlace text.now) (node_places policy_places x)) }
+    ensures printed { IfOk result
+        (λ x. HasSameTree ReadsPolicy unlocated_policy x (node_text policy_tree x)) }
     ensures only { (y : Cell Policy) → IsTreeOf ReadsPolicy text.now y
         → MatchResult result (λ x. x ≡ y) IsMemory }
     ensures refused { IfErr result
@@ -97,7 +106,8 @@ pub fn parse_policy(alloc: Global, text: &str) -> Result<Node<Option<Policy>>, F
 /// The tree of an expression.
 ///
 /// It answers a tree exactly if the text cuts into tokens that the loose grammar has a tree for, and then that tree,
-/// the only one. Every place in it is a range of bytes of the text, on boundaries of characters.
+/// the only one. Every place in it is a range of bytes of the text, on boundaries of characters. Its printed text cuts
+/// into tokens that have this tree too, places aside, and no other.
 ///
 /// A refusal is one fault, the first of these: `UnrecognizedToken`, a token with which no expression goes on, at its
 /// bytes; `UnrecognizedEof`, where no expression ends at the end of the text, at the end of the last token or 0, each
@@ -107,6 +117,8 @@ pub fn parse_policy(alloc: Global, text: &str) -> Result<Node<Option<Policy>>, F
 pub fn parse_expr(alloc: Global, text: &str) -> Result<Node<Option<Expr>>, Failure>
     ensures found { IfOk result (λ x. IsTreeOf ReadsExpr text.now x) }
     ensures places { IfOk result (λ x. All (IsPlace text.now) (node_places expr_places x)) }
+    ensures printed { IfOk result
+        (λ x. HasSameTree ReadsExpr unlocated_expr x (node_text expr_tree x)) }
     ensures only { (y : Cell Expr) → IsTreeOf ReadsExpr text.now y
         → MatchResult result (λ x. x ≡ y) IsMemory }
     ensures refused { IfErr result
@@ -118,7 +130,8 @@ pub fn parse_expr(alloc: Global, text: &str) -> Result<Node<Option<Expr>>, Failu
 /// The tree of an entity literal.
 ///
 /// It answers a tree exactly if the text cuts into tokens that are an entity literal by the loose grammar, and then that
-/// tree, the only one. Every place in it is a range of bytes of the text, on boundaries of characters.
+/// tree, the only one. Every place in it is a range of bytes of the text, on boundaries of characters. Its printed text
+/// cuts into tokens that have this tree too, places aside, and no other.
 ///
 /// A refusal is one fault, the first of these: `UnrecognizedToken`, a token with which no entity literal goes on, at its
 /// bytes; `UnrecognizedEof`, where none ends at the end of the text, at the end of the last token or 0, each with the
@@ -127,6 +140,8 @@ pub fn parse_expr(alloc: Global, text: &str) -> Result<Node<Option<Expr>>, Failu
 pub fn parse_ref(alloc: Global, text: &str) -> Result<Node<Option<Ref>>, Failure>
     ensures found { IfOk result (λ x. IsTreeOf ReadsRef text.now x) }
     ensures places { IfOk result (λ x. All (IsPlace text.now) (node_places ref_places x)) }
+    ensures printed { IfOk result
+        (λ x. HasSameTree ReadsRef unlocated_ref x (node_text ref_tree x)) }
     ensures only { (y : Cell Ref) → IsTreeOf ReadsRef text.now y
         → MatchResult result (λ x. x ≡ y) IsMemory }
     ensures refused { IfErr result (λ f. IsRefusal ReadsRef Narrowing.Never text.now f) }
@@ -140,6 +155,8 @@ pub fn parse_ref(alloc: Global, text: &str) -> Result<Node<Option<Ref>>, Failure
 pub fn parse_name(alloc: Global, text: &str) -> Result<Node<Option<Name>>, Failure>
     ensures found { IfOk result (λ x. IsTreeOf ReadsName text.now x) }
     ensures places { IfOk result (λ x. All (IsPlace text.now) (node_places name_places x)) }
+    ensures printed { IfOk result
+        (λ x. HasSameTree ReadsName unlocated_name x (node_text name_tree x)) }
     ensures only { (y : Cell Name) → IsTreeOf ReadsName text.now y
         → MatchResult result (λ x. x ≡ y) IsMemory }
     ensures refused { IfErr result (λ f. IsRefusal ReadsName Narrowing.Never text.now f) }
@@ -153,6 +170,8 @@ pub fn parse_name(alloc: Global, text: &str) -> Result<Node<Option<Name>>, Failu
 pub fn parse_ident(alloc: Global, text: &str) -> Result<Node<Option<Ident>>, Failure>
     ensures found { IfOk result (λ x. IsTreeOf ReadsIdent text.now x) }
     ensures places { IfOk result (λ x. All (IsPlace text.now) (node_places ident_places x)) }
+    ensures printed { IfOk result
+        (λ x. HasSameTree ReadsIdent unlocated_ident x (node_text ident_tree x)) }
     ensures only { (y : Cell Ident) → IsTreeOf ReadsIdent text.now y
         → MatchResult result (λ x. x ≡ y) IsMemory }
     ensures refused { IfErr result (λ f. IsRefusal ReadsIdent Narrowing.Never text.now f) }
@@ -168,6 +187,8 @@ pub fn parse_primary(alloc: Global, text: &str) -> Result<Node<Option<Primary>>,
     ensures found { IfOk result (λ x. IsTreeOf ReadsPrimary text.now x) }
     ensures places { IfOk result
         (λ x. All (IsPlace text.now) (node_places primary_places x)) }
+    ensures printed { IfOk result
+        (λ x. HasSameTree ReadsPrimary unlocated_primary x (node_text primary_tree x)) }
     ensures only { (y : Cell Primary) → IsTreeOf ReadsPrimary text.now y
         → MatchResult result (λ x. x ≡ y) IsMemory }
     ensures refused { IfErr result

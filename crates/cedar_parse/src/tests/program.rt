@@ -1,4 +1,4 @@
-//! Runs of the program over memory: its rows, and readers and writers that fail.
+//! Runs of the program over memory: its words, what each command writes, and readers and writers that fail.
 use super::held::{holds, holds_for, made, refusal};
 use crate::run::{arguments, print_fault, refuse_arguments, run};
 use crate::streams::Output;
@@ -33,7 +33,7 @@ const ENDED_EARLY: [Row; 9] = [
         "",
         "input or output failed\n",
     ),
-    (&["format"], b"\xff1 + 2", 2, "", USAGE_LINE),
+    (&["format", "f"], b"\xff1 + 2", 2, "", USAGE_LINE),
     (&["expression"], b"\xff1 + 2", 2, "", USAGE_LINE),
     (&["fn:f"], b"\xff1 + 2", 2, "", USAGE_LINE),
     (&["fn:f", "expr"], b"\xff1 + 2", 2, "", USAGE_LINE),
@@ -41,8 +41,9 @@ const ENDED_EARLY: [Row; 9] = [
     (EXPR, b"1 + \xff", 4, "", "input or output failed\n"),
 ];
 
-/// Texts that mean something.
-const ACCEPTED: [Row; 10] = [
+/// What each command writes of a text that means something and of one that doesn't. (What texts mean, and what they are refused for, stands
+/// in the cases of `cedar_cases`.)
+const ANSWERED: [Row; 6] = [
     (
         EXPR,
         b"1 + 2 == 3 && !true",
@@ -51,123 +52,10 @@ const ACCEPTED: [Row; 10] = [
         "",
     ),
     (
-        EXPR,
-        b"!!!!true && 9223372036854775807 > 0",
+        &["expr", "fn:ip", "method:isIpv4"],
+        b"ip(\"1.2.3.4\").isIpv4()",
         0,
-        "! ! ! ! true && 9223372036854775807 > 0\nok\n",
-        "",
-    ),
-    (EXPR, b"!!!!true", 0, "! ! ! ! true\nok\n", ""),
-    (EXPR, b"1 - -1", 0, "1 - - 1\nok\n", ""),
-    (
-        EXPR,
-        b"if true then 1 else -2",
-        0,
-        "if true then 1 else - 2\nok\n",
-        "",
-    ),
-    (
-        EXPR,
-        b"-9223372036854775808",
-        0,
-        "- 9223372036854775808\nok\n",
-        "",
-    ),
-    (EXPR, b"--5", 0, "- - 5\nok\n", ""),
-    (EXPR, b"-(5)", 0, "- ( 5 )\nok\n", ""),
-    (
-        EXPR,
-        b"principal || action",
-        0,
-        "principal || action\nok\n",
-        "",
-    ),
-    (EXPR, b"2*(3) // a comment", 0, "2 * ( 3 )\nok\n", ""),
-];
-
-/// Texts with faults.
-const REFUSED: [Row; 20] = [
-    (EXPR, b"", 1, "0..0: unexpected end of input\n", ""),
-    (EXPR, b"1 +", 1, "3..3: unexpected end of input\n", ""),
-    (EXPR, b"1 2", 1, "2..3: unexpected token `2`\n", ""),
-    (EXPR, b"1 & 2", 1, "2..2: invalid token\n", ""),
-    (EXPR, b") ~", 1, "0..1: unexpected token `)`\n", ""),
-    (
-        EXPR,
-        b"99999999999999999999 ~",
-        1,
-        "0..20: integer parse error: number too large to fit in target type\n",
-        "",
-    ),
-    (EXPR, b"1 ~", 1, "2..2: invalid token\n", ""),
-    (
-        EXPR,
-        b"1 = 2",
-        1,
-        "0..5: '=' is not a valid operator in Cedar\n",
-        "",
-    ),
-    (
-        EXPR,
-        b"!!!!!true",
-        1,
-        "0..9: too many occurrences of `!`\n",
-        "",
-    ),
-    (
-        EXPR,
-        b"-----true",
-        1,
-        "0..9: too many occurrences of `-`\n",
-        "",
-    ),
-    (
-        EXPR,
-        b"9223372036854775808",
-        1,
-        "0..19: integer literal `9223372036854775808` is too large\n",
-        "",
-    ),
-    (
-        EXPR,
-        b"-(9223372036854775808)",
-        1,
-        "2..21: integer literal `9223372036854775808` is too large\n",
-        "",
-    ),
-    (
-        EXPR,
-        b"-9223372036854775809",
-        1,
-        "0..20: integer literal `9223372036854775809` is too large\n",
-        "",
-    ),
-    (
-        EXPR,
-        b"principal == 5555555555555555555555",
-        1,
-        "13..35: integer parse error: number too large to fit in target type\n",
-        "",
-    ),
-    (
-        EXPR,
-        b"principal == -5555555555555555555555",
-        1,
-        "14..36: integer parse error: number too large to fit in target type\n",
-        "",
-    ),
-    (
-        EXPR,
-        b"principal < action < resource",
-        1,
-        "0..29: multiple relational operators (>, ==, in, etc.) must be used with parentheses to make ordering explicit\n",
-        "",
-    ),
-    (
-        EXPR,
-        b"9223372036854775808 < 1 < 9223372036854775808",
-        1,
-        "0..19: integer literal `9223372036854775808` is too large\n26..45: integer literal `9223372036854775808` is too large\n0..45: multiple relational operators (>, ==, in, etc.) must be used with parentheses to make ordering explicit\n",
+        "ip ( \"1.2.3.4\" ) . isIpv4 ( )\nok\n",
         "",
     ),
     (
@@ -177,44 +65,19 @@ const REFUSED: [Row; 20] = [
         "0..9: division is not supported\n0..9: remainder/modulo is not supported\n",
         "",
     ),
+    (&["policies"], b"", 0, "ok 0\n", ""),
     (
-        EXPR,
-        b"1 + if true then 1 else 2",
-        1,
-        "7..11: unexpected token `true`\n",
-        "",
-    ),
-    (EXPR, b"(1", 1, "2..2: unexpected end of input\n", ""),
-];
-
-/// Strings: accepted where no escape is a fault; a first operand that stands bare is no fault yet.
-const STRINGS: [Row; 4] = [
-    (
-        EXPR,
-        b"\"abc\" == \"a\\u{62}c\"",
+        &["policies"],
+        b"permit(principal == ?principal, action, resource in (?resource)); forbid(principal, action in [], resource,);",
         0,
-        "\"abc\" == \"a\\u{62}c\"\nok\n",
+        "policy0 template\npolicy1 static\nok 2\n",
         "",
     ),
     (
-        EXPR,
-        b"\"\\q\"",
+        &["policies"],
+        b"permit(principal);",
         1,
-        "0..4: the input `\\q` is not a valid escape\n",
-        "",
-    ),
-    (
-        EXPR,
-        b"\"\\x4\" + \"\\u{D800}\"",
-        1,
-        "8..18: the input `\\u{D800}` is not a valid escape\n",
-        "",
-    ),
-    (
-        EXPR,
-        b"1 + \"\\q\\x4\"",
-        1,
-        "4..11: the input `\\q` is not a valid escape\n4..11: the input `\\x4` is not a valid escape\n",
+        "16..16: this policy is missing the `action` variable in the scope\n16..16: this policy is missing the `resource` variable in the scope\n",
         "",
     ),
 ];
@@ -230,7 +93,7 @@ fn owned(rt: &(impl Abort + AllocGlobal), words: &[&str]) -> Vec<String> {
 }
 
 /// Runs over memory, with a writer of errors of its own: the status, and what was written there.
-fn run_on<R: Read + Drop, O: Write>(
+pub(super) fn run_on<R: Read + Drop, O: Write>(
     rt: &(impl Abort + AllocGlobal),
     words: &[&str],
     reader: R,
@@ -255,18 +118,6 @@ pub(super) fn ends_so(rt: &(impl Abort + AllocGlobal), row: &Row) {
     holds(rt, err.as_slice() == said.as_bytes());
 }
 
-/// The text is refused, and what the program writes of it begins so.
-pub(super) fn begins_so(rt: &(impl Abort + AllocGlobal), text: &str, told: &str) {
-    let mut out = Vec::new(rt.alloc());
-    let (status, err) = run_on(rt, EXPR, text.as_bytes(), &mut out);
-    holds_for(
-        rt,
-        status == 1 && out.as_slice().starts_with(told.as_bytes()),
-        &text,
-    );
-    holds(rt, err.is_empty());
-}
-
 #[test]
 fn runs_that_ask_for_nothing_end_so(rt: HostRuntime) {
     for row in &ENDED_EARLY {
@@ -275,22 +126,8 @@ fn runs_that_ask_for_nothing_end_so(rt: HostRuntime) {
 }
 
 #[test]
-fn texts_that_mean_something_end_so(rt: HostRuntime) {
-    for row in &ACCEPTED {
-        ends_so(&rt, row);
-    }
-}
-
-#[test]
-fn texts_with_faults_end_so(rt: HostRuntime) {
-    for row in &REFUSED {
-        ends_so(&rt, row);
-    }
-}
-
-#[test]
-fn texts_with_strings_end_so(rt: HostRuntime) {
-    for row in &STRINGS {
+fn texts_are_answered(rt: HostRuntime) {
+    for row in &ANSWERED {
         ends_so(&rt, row);
     }
 }
@@ -360,13 +197,19 @@ impl Write for FailingWriter {
 }
 
 /// Runs on a text with each number of writes that are taken, until the run ends as it does on a sound writer.
-fn fails_at_each_write(rt: &(impl Abort + AllocGlobal), text: &str, want: &str, status: u8) {
+fn fails_at_each_write(
+    rt: &(impl Abort + AllocGlobal),
+    words: &[&str],
+    text: &str,
+    want: &str,
+    status: u8,
+) {
     for writes_left in 0..200 {
         let mut out = FailingWriter {
             writes_left,
             taken: Vec::new(rt.alloc()),
         };
-        let (got, _) = run_on(rt, EXPR, text.as_bytes(), &mut out);
+        let (got, _) = run_on(rt, words, text.as_bytes(), &mut out);
         if got == status {
             holds(rt, out.taken.as_slice() == want.as_bytes());
             holds_for(rt, writes_left > 0, &"no write was needed");
@@ -379,8 +222,10 @@ fn fails_at_each_write(rt: &(impl Abort + AllocGlobal), text: &str, want: &str, 
 
 #[test]
 fn tells_of_a_write_that_fails(rt: HostRuntime) {
-    fails_at_each_write(&rt, "1", "1\nok\n", 0);
-    fails_at_each_write(&rt, "", "0..0: unexpected end of input\n", 1);
+    fails_at_each_write(&rt, EXPR, "1", "1\nok\n", 0);
+    fails_at_each_write(&rt, EXPR, "", "0..0: unexpected end of input\n", 1);
+    let lines = "permit ( principal , action , resource ) ;\n";
+    fails_at_each_write(&rt, &["format"], lines, lines, 0);
 }
 
 /// Takes all that is written, and fails at the flush.
@@ -419,18 +264,6 @@ fn a_fault_without_a_place_stands_behind_a_dash(rt: HostRuntime) {
         &rt,
         out.as_slice() == b"-: '=' is not a valid operator in Cedar\n".as_slice(),
     );
-}
-
-#[test]
-fn a_long_text_is_answered(rt: HostRuntime) {
-    let mut text = made(&rt, String::from_str(rt.alloc(), "1 //"));
-    for _ in 0..9_996 {
-        made(&rt, text.push('a'));
-    }
-    let mut out = Vec::new(rt.alloc());
-    let (status, err) = run_on(&rt, EXPR, text.as_bytes(), &mut out);
-    holds(&rt, status == 0 && out.as_slice() == b"1\nok\n".as_slice());
-    holds(&rt, err.is_empty());
 }
 
 /// Arguments that the process might be given, the program's name first.

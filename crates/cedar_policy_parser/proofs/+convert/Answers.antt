@@ -7,7 +7,7 @@ use Rattle.cedar_syntax.specs.declared.cst.Unary.{out-Unary}
 use Rattle.cedar_syntax.specs.Forms.{located, expr_form, or_form, and_form, relation_form, add_form, mult_form, unary_form, member_form, primary_form, or_operand, and_operand, relation_operand, add_operand, mult_operand, listed_access, listed_expr, listed_init}
 use Rattle.cedar_syntax.specs.Tree.{or_or, and_and, compare, add, multiply, beside}
 use Rattle.cedar_policy_parser.specs.Conversion.{outcome}
-use Rattle.cedar_policy_parser.specs.Extensions.{table_of}
+use Rattle.cedar_policy_parser.specs.Table.{table_of}
 use Rattle.cedar_policy_parser.proofs.Gathered.{no_access, access_next, no_pair, pair_next}
 use Rattle.cedar_policy_parser.proofs.Loops.{take_whole}
 use Rattle.cedar_policy_parser.proofs.Nodes as node

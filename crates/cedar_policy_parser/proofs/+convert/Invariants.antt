@@ -2,10 +2,11 @@ use Rattle.std.proofs.Common.{map, take}
 use Rattle.cedar_syntax.specs.Forms.{parts_of, or_operand, and_operand, relation_operand, add_operand, mult_operand, listed_access, listed_expr, listed_init}
 use Rattle.cedar_syntax.specs.Tree.{or_or, and_and, compare, add, multiply, beside}
 use Rattle.cedar_policy_parser.specs.Conversion.{operands, accesses_outcome, pairs_outcome}
-use Rattle.cedar_policy_parser.specs.Applied.{seen_accesses, seen_pairs}
-use Rattle.cedar_policy_parser.specs.Extensions.{table_of}
-use Rattle.cedar_policy_parser.specs.Seen.{Gives, rest_view}
+use Rattle.cedar_policy_parser.specs.Seen.{Gives}
+use Rattle.cedar_policy_parser.specs.Table.{table_of}
 use Rattle.cedar_policy_parser.proofs.+convert.Given as goal
+use Rattle.cedar_policy_parser.specs.machines.Applied.{seen_accesses, seen_pairs}
+use Rattle.cedar_policy_parser.specs.machines.Views.{rest_view}
 
 abbrev pub invariant-convert::or_chain-loop-part : goal.invariant-convert::or_chain-loop-part
 invariant-convert::or_chain-loop-part g l = Gives (rest_view (λ op. or_or) g.B.ExprBuilderInfallibleBuild.meaning) l.rest (operands (table_of l.styles) l.node.loc (parts_of (map or_operand (take l.part-index l.part-items))))

@@ -2,6 +2,7 @@
 use Rattle.std.proofs.Common.{◌≡◌, ℕ, Bool, true, false, ◌||◌, ◌&&◌, List, [], ◌∷◌, ◌++◌, Option, Some, None, Ok, unwrap_or, refl, sym, ap, ◌∙◌}
 use Rattle.std.specs.List.{list_any}
 use Rattle.std.specs.Str.{bytes_eq}
+use Rattle.std.specs.Map.{keys_of}
 use Rattle.cedar_lexer.specs.Token.{Lexeme}
 use Rattle.cedar_lexer.specs.declared.token.TokenKind.TheVariants as kind
 use Rattle.cedar_expressions.specs.Keys.{repeats_key}
@@ -21,10 +22,9 @@ use Rattle.cedar_syntax.specs.Tokens.{Spot, one, between_quotes}
 use Rattle.cedar_syntax.specs.Trees.{Cell, annotation_of}
 use Rattle.cedar_policy_parser.specs.AnnotationKeys.{AnnotationContent, annotation_at, annotation_outcome, gathering_with_node, gathering, has_key, converted_key, empty_gathering, key_value_outcome, with_new_key}
 use Rattle.cedar_policy_parser.specs.Names.{any_ident, any_ident_of}
-use Rattle.cedar_policy_parser.specs.Outcome.{Outcome, both, next}
-use Rattle.cedar_policy_parser.specs.Seen.{item_more}
+use Rattle.cedar_policy_parser.specs.Outcome.{Outcome, both, next, item_more}
 use Rattle.cedar_policy_parser.specs.StrictPolicy as m
-use Rattle.cedar_policy_parser.specs.StrictPolicy.{AreAnnotations, IsAnnotation, IsAnyWord, keys_of_annotations}
+use Rattle.cedar_policy_parser.specs.StrictPolicy.{AreAnnotations, IsAnnotation, IsAnyWord}
 use Rattle.cedar_policy_parser.specs.StrictWords as w
 use Rattle.cedar_policy_parser.proofs.Loops.{map_snoc}
 use Rattle.cedar_policy_parser.proofs.MappedValues.{fold_snoc}
@@ -109,7 +109,7 @@ pub record AnnotationsRead (src : List ℕ) (ts : List Lexeme) (pairs : List (Li
   pub reads : ReadsMany src (ReadsAnnotation src) ts cells
   pub all : List AnnotationContent
   pub gives : (gathering cells).all ≡ Ok all
-  pub same_keys : (gathering cells).keys ≡ keys_of_annotations pairs
+  pub same_keys : (gathering cells).keys ≡ keys_of pairs
   pub same : texts all ≡ pairs
 
 or_none : (a b : Bool) → (a || b) ≡ false → (a ≡ false) × (b ≡ false)
@@ -125,11 +125,11 @@ key_more keys x y h = rw h refl
 last_text : (xs ys : List (List ℕ × List ℕ)) (key a b : List ℕ) → xs ≡ ys → a ≡ b → xs ++ (key, a) ∷ [] ≡ ys ++ (key, b) ∷ []
 last_text xs ys key a b h k = rw (h, k) refl
 
-pub annotations_read : (src : List ℕ) {ts : List Lexeme} {pairs : List (List ℕ × List ℕ)} → AreAnnotations ts pairs → repeats_key (keys_of_annotations pairs) ≡ false → AnnotationsRead src ts pairs
+pub annotations_read : (src : List ℕ) {ts : List Lexeme} {pairs : List (List ℕ × List ℕ)} → AreAnnotations ts pairs → repeats_key (keys_of pairs) ≡ false → AnnotationsRead src ts pairs
 annotations_read src m.no_annotation differ = record { cells = []; reads = l.none; all = []; gives = refl; same_keys = refl; same = refl }
 annotations_read src (m.more_annotations {us = us} {all = pairs} {key = key} {text = text} i j) differ =
     let keys = map_snoc (λ p. p.0) pairs (key, text) in
-    let apart = or_none (repeats_key (keys_of_annotations pairs)) (list_any (bytes_eq key) (keys_of_annotations pairs)) (sym (ap repeats_key keys ∙ repeats-push (keys_of_annotations pairs) key) ∙ differ) in
+    let apart = or_none (repeats_key (keys_of pairs)) (list_any (bytes_eq key) (keys_of pairs)) (sym (ap repeats_key keys ∙ repeats-push (keys_of pairs) key) ∙ differ) in
     let c = annotations_read src i apart.0 in
     let d = annotation_read src j in
     let n = placed src us d.tree in

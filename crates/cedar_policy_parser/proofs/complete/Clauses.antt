@@ -8,7 +8,7 @@ use Rattle.cedar_expressions.specs.Value.{Value}
 use Rattle.cedar_syntax.specs.declared.loc.Loc.{Loc}
 use Rattle.cedar_syntax.specs.declared.cst.Cond.{Cond}
 use Rattle.cedar_syntax.specs.declared.cst.Ident.TheVariants as ident
-use Rattle.cedar_syntax.specs.declared.cst.TheConstants.{SIGN_LIMIT}
+use Rattle.cedar_syntax.specs.Signs.{sign_limit}
 use Rattle.cedar_syntax.specs.Forms.{located, expr_form}
 use Rattle.cedar_syntax.specs.LoosePolicies as l
 use Rattle.cedar_syntax.specs.LoosePolicies.{ReadsCond, ReadsMany}
@@ -42,7 +42,7 @@ when_given place o x h none = rw h (ap (λ u. next u (λ _. Ok x)) (none_there p
 unless_given : (place : Option Loc) (o : Outcome Value) (x : Value) → o ≡ Ok x → slots_of x ≡ [] → next o (without_slots place false) ≡ Ok (v.not x)
 unless_given place o x h none = rw h (ap (λ u. next u (λ _. Ok (v.not x))) (none_there place (slots_of x) none))
 
-condition_read : (e : Extensions) (src : List ℕ) {ts : List Lexeme} {c : Value} → IsCondition e SIGN_LIMIT ts c → ConditionRead e src ts c
+condition_read : (e : Extensions) (src : List ℕ) {ts : List Lexeme} {c : Value} → IsCondition e sign_limit ts c → ConditionRead e src ts c
 condition_read e src (m.when {ts = ts} {a = x} p a z i none) =
     let d = complete e src i in
     let n = placed src ts d.tree in
@@ -77,7 +77,7 @@ pub record ConditionsRead (e : Extensions) (src : List ℕ) (ts : List Lexeme) (
   pub reads : ReadsMany src (ReadsCond src) ts cells
   pub gives : conditions_outcome e cells ≡ Ok cs
 
-pub conditions_read : (e : Extensions) (src : List ℕ) {ts : List Lexeme} {cs : List Value} → AreConditions e SIGN_LIMIT ts cs → ConditionsRead e src ts cs
+pub conditions_read : (e : Extensions) (src : List ℕ) {ts : List Lexeme} {cs : List Value} → AreConditions e sign_limit ts cs → ConditionsRead e src ts cs
 conditions_read e src m.no_condition = record { cells = []; reads = l.none; gives = refl }
 conditions_read e src (m.more_conditions {us = us} {cs = cs} {c = c} i j) =
     let d = conditions_read e src i in

@@ -1,5 +1,6 @@
 -- Lists of expressions and of a record's entries, and the primaries in brackets.
 use Rattle.std.proofs.Common.{◌≡◌, ℕ, false, List, [], ◌∷◌, ◌++◌, map, Option, Ok, Err, refl, sym, ap, ◌∙◌}
+use Rattle.std.specs.Map.{keys_of}
 use Rattle.cedar_lexer.specs.Token.{Lexeme}
 use Rattle.cedar_lexer.specs.declared.token.TokenKind.TheVariants as kind
 use Rattle.cedar_expressions.specs.Keys.{repeats_key}
@@ -18,7 +19,6 @@ use Rattle.cedar_policy_parser.specs.Conversion.{Part, operands, pairs_outcome, 
 use Rattle.cedar_policy_parser.specs.Extensions.{Extensions}
 use Rattle.cedar_policy_parser.specs.Held.{Held, as_expression, as_attribute}
 use Rattle.cedar_policy_parser.specs.Outcome.{Outcome, both, next}
-use Rattle.cedar_policy_parser.specs.Strict.{keys_of}
 use Rattle.cedar_policy_parser.specs.StrictWords.{IsKey}
 use Rattle.cedar_policy_parser.proofs.Inverted.{ok_is, value_from}
 use Rattle.cedar_policy_parser.proofs.Loops.{map_snoc}

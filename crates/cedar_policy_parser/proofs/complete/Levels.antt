@@ -25,7 +25,6 @@ use Rattle.cedar_policy_parser.specs.Conversion.{Part, Converts, outcome, operan
 use Rattle.cedar_policy_parser.specs.Extensions.{Extensions}
 use Rattle.cedar_policy_parser.specs.Held.{Held, as_expression}
 use Rattle.cedar_policy_parser.specs.Outcome.{Outcome, next}
-use Rattle.cedar_policy_parser.specs.Seen.{one_more}
 use Rattle.cedar_policy_parser.specs.Strict as m
 use Rattle.cedar_policy_parser.specs.Strict.{Sort}
 use Rattle.cedar_policy_parser.proofs.Inverted.{value_from}
@@ -33,6 +32,7 @@ use Rattle.cedar_policy_parser.proofs.Loops.{map_snoc}
 use Rattle.cedar_policy_parser.proofs.Made.{gives_or_alone, gives_or, gives_and, gives_add, gives_mult}
 use Rattle.cedar_policy_parser.proofs.Outcomes.{operand, operands_snoc, settled}
 use Rattle.cedar_policy_parser.proofs.complete.Reads.{ExprRead, OrRead, AndRead, RelationRead, AddRead, MultRead, UnaryRead, MemberRead, PrimaryRead, ItemsRead, under, summed, under-snoc, summed-snoc, bodies-under, added-summed}
+use Rattle.cedar_policy_parser.specs.machines.Views.{one_more}
 
 abbrev pub Read : Extensions → List ℕ → Sort → List Lexeme → Value → Type 0
 Read e src m.expression ts w = ExprRead e src ts w

@@ -33,11 +33,10 @@ use Rattle.cedar_policy_parser.specs.Conversion.{Part, operands, outcome, set_va
 use Rattle.cedar_policy_parser.specs.Entities.{entity_outcome}
 use Rattle.cedar_policy_parser.specs.Extensions.{Extensions}
 use Rattle.cedar_policy_parser.specs.Held.{as_expression, expression}
-use Rattle.cedar_policy_parser.specs.Outcome.{Outcome, both, next}
+use Rattle.cedar_policy_parser.specs.Outcome.{Outcome, both, next, item_more}
 use Rattle.cedar_policy_parser.specs.References.{RefKind, entities, entity_at, entity_form, entity_or_slot, lone, lone_form, lone_entity, one_or_multiple, referent_at, referred_form, single_entity}
 use Rattle.cedar_policy_parser.specs.Places.{place_mark}
 use Rattle.cedar_policy_parser.specs.Scope.{is_made_by_is}
-use Rattle.cedar_policy_parser.specs.Seen.{item_more}
 use Rattle.cedar_policy_parser.specs.StrictScope as m
 use Rattle.cedar_policy_parser.specs.StrictScope.{AreActions, AreEntities, IsEntityAlone, IsEntityList, IsReference}
 use Rattle.cedar_policy_parser.specs.StrictWords.{IsEntity}

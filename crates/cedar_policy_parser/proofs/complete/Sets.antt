@@ -12,7 +12,7 @@ use Rattle.cedar_syntax.specs.declared.cst.Ident.{Ident}
 use Rattle.cedar_syntax.specs.declared.cst.Ident.TheVariants as ident
 use Rattle.cedar_syntax.specs.declared.cst.Policies.{Policies}
 use Rattle.cedar_syntax.specs.declared.cst.Policy.{Policy}
-use Rattle.cedar_syntax.specs.declared.cst.TheConstants.{SIGN_LIMIT}
+use Rattle.cedar_syntax.specs.Signs.{sign_limit}
 use Rattle.cedar_syntax.specs.LoosePolicies as l
 use Rattle.cedar_syntax.specs.LoosePolicies.{ReadsMany, ReadsPolicies, ReadsPolicy}
 use Rattle.cedar_syntax.specs.LooseWords as lw
@@ -23,12 +23,11 @@ use Rattle.cedar_syntax.specs.Trees.{Cell, policies_of, policy_of}
 use Rattle.cedar_policy_parser.specs.AnnotationKeys.{AnnotationContent, annotation_map, annotations_outcome}
 use Rattle.cedar_policy_parser.specs.Conditions.{conditions_outcome}
 use Rattle.cedar_policy_parser.specs.Extensions.{Extensions}
-use Rattle.cedar_policy_parser.specs.Outcome.{Outcome, both, next}
+use Rattle.cedar_policy_parser.specs.Outcome.{Outcome, both, next, item_more}
 use Rattle.cedar_policy_parser.specs.Policies as k
 use Rattle.cedar_policy_parser.specs.Policies.{TemplateParts}
 use Rattle.cedar_policy_parser.specs.PolicyMeaning.{joint_condition, no_policies, policy_id, with_policy}
 use Rattle.cedar_policy_parser.specs.Scope.{elements_outcome}
-use Rattle.cedar_policy_parser.specs.Seen.{item_more}
 use Rattle.cedar_policy_parser.specs.StrictPolicy as m
 use Rattle.cedar_policy_parser.specs.StrictPolicy.{ArePolicies, IsEffect, IsPolicy, IsPolicySet, by_key}
 use Rattle.cedar_policy_parser.proofs.Loops.{map_snoc}
@@ -70,7 +69,7 @@ same_value : (id : List ℕ) (given : k.Given) (notes : List (List ℕ × List �
     → value_of id given (free.with_values free.annotation_value given.0.1) ≡ record { id = id; annotations = by_key notes; effect = given.0.0; principal = p; action = a; resource = r; condition = joint_condition given.1.1 }
 same_value id given notes h i j l = rw (h, i, j, l) refl
 
-pub policy_read : (e : Extensions) (src : List ℕ) (id : List ℕ) {ts : List Lexeme} {x : free.Policy} → IsPolicy e SIGN_LIMIT id ts x → PolicyRead e src id ts x
+pub policy_read : (e : Extensions) (src : List ℕ) (id : List ℕ) {ts : List Lexeme} {x : free.Policy} → IsPolicy e sign_limit id ts x → PolicyRead e src id ts x
 policy_read e src id (m.policy {ts = ts} {us = us} {vs = vs} {annotations = notes} {k = j} {effect = effect} {conditions = cs} p o c z a differ f s d) =
     let all = ts ++ one j p ++ one kind.OpenParen o ++ us ++ one kind.CloseParen c ++ vs ++ one kind.Semicolon z in
     let n = annotations_read src a differ in
@@ -105,7 +104,7 @@ more_given o x ys y h k = rw (h, k) refl
 last_same : (xs ys : List free.Policy) (a b : free.Policy) → xs ≡ ys → a ≡ b → xs ++ a ∷ [] ≡ ys ++ b ∷ []
 last_same xs ys a b h k = rw (h, k) refl
 
-policies_read : (e : Extensions) (src : List ℕ) {ts : List Lexeme} {xs : List free.Policy} → ArePolicies e SIGN_LIMIT ts xs → PoliciesRead e src ts xs
+policies_read : (e : Extensions) (src : List ℕ) {ts : List Lexeme} {xs : List free.Policy} → ArePolicies e sign_limit ts xs → PoliciesRead e src ts xs
 policies_read e src m.no_policy = record { cells = []; reads = l.none; all = []; gives = refl; same = refl }
 policies_read e src (m.more_policies {us = us} {ps = xs} {p = x} i j) =
     let c = policies_read e src i in
@@ -130,7 +129,7 @@ pub record SetRead (e : Extensions) (src : List ℕ) (ts : List Lexeme) (set : f
 set_given : (o : Outcome (List TemplateParts)) (ps : List TemplateParts) (set : free.Policies) → o ≡ Ok ps → k.set_of ps ≡ set → next o (λ ts. Ok (k.set_of ts)) ≡ Ok set
 set_given o ps set h k = rw h (ap Ok k)
 
-pub set_read : (e : Extensions) (src : List ℕ) {ts : List Lexeme} {set : free.Policies} → IsPolicySet e SIGN_LIMIT ts set → SetRead e src ts set
+pub set_read : (e : Extensions) (src : List ℕ) {ts : List Lexeme} {set : free.Policies} → IsPolicySet e sign_limit ts set → SetRead e src ts set
 set_read e src (m.policy_set {ps = xs} i) =
     let c = policies_read e src i in
     record {

@@ -19,7 +19,8 @@ use Rattle.cedar_syntax.specs.LooseWords as lw
 use Rattle.cedar_syntax.specs.LooseWords.{ReadsLiteral}
 use Rattle.cedar_syntax.specs.Place.{placed}
 use Rattle.cedar_syntax.specs.Tokens.{Spot, one, number_of, fits}
-use Rattle.cedar_syntax.specs.Trees.{Cell, unary_of, member_of, bangs_of, dashes_of, sign_limit}
+use Rattle.cedar_syntax.specs.Trees.{Cell, unary_of, member_of, bangs_of, dashes_of}
+use Rattle.cedar_syntax.specs.Signs.{sign_limit}
 use Rattle.cedar_policy_parser.specs.Conversion.{number_in, lone_literal, literal_alone}
 use Rattle.cedar_policy_parser.specs.Extensions.{Extensions}
 use Rattle.cedar_policy_parser.specs.Strict.{iteration, IsNumeral}

@@ -5,7 +5,7 @@ use Rattle.cedar_lexer.specs.declared.token.TokenKind.{TokenKind}
 use Rattle.cedar_lexer.specs.declared.token.TokenKind.TheVariants as kind
 use Rattle.cedar_expressions.specs.declared.operators.AddOp.{AddOp}
 use Rattle.cedar_expressions.specs.Value.{Value}
-use Rattle.cedar_syntax.specs.declared.cst.TheConstants.{SIGN_LIMIT}
+use Rattle.cedar_syntax.specs.Signs.{sign_limit}
 use Rattle.cedar_policy_parser.specs.Extensions.{Extensions}
 use Rattle.cedar_policy_parser.specs.Strict as m
 use Rattle.cedar_policy_parser.specs.Strict.{Sort, Means, Joined, Added, Listed, Entries, JoinedEntries, Entry}
@@ -19,7 +19,7 @@ use Rattle.cedar_policy_parser.proofs.complete.Sides.{operator_read, relation_al
 use Rattle.cedar_policy_parser.proofs.complete.Signs.{plain_read, banged_read, dashed_read, negative_read}
 
 mutual
-  pub complete : {s : Sort} {ts : List Lexeme} {w : Value} (e : Extensions) (src : List ℕ) → Means e SIGN_LIMIT s ts w → Read e src s ts w
+  pub complete : {s : Sort} {ts : List Lexeme} {w : Value} (e : Extensions) (src : List ℕ) → Means e sign_limit s ts w → Read e src s ts w
   complete e src (m.conditional i t o f g h) = if_read i t o (complete e src f) (complete e src g) (complete e src h)
   complete e src (m.one_disjunction h) = expr_read (complete e src h)
   complete e src (m.disjoined j some) = or_read (complete_parts e src j refl) some
@@ -57,27 +57,27 @@ mutual
   complete e src (m.set i o list) = set_read i o (complete_list e src list)
   complete e src (m.in_braces i o fs differ) = braces_read i o (complete_entries e src fs) differ
 
-  complete_parts : {k : TokenKind} {s : Sort} {ts : List Lexeme} {a : Value} {bs : List Value} (e : Extensions) (src : List ℕ) → Joined e SIGN_LIMIT k s ts a bs → PartsRead e src k s ts a bs
+  complete_parts : {k : TokenKind} {s : Sort} {ts : List Lexeme} {a : Value} {bs : List Value} (e : Extensions) (src : List ℕ) → Joined e sign_limit k s ts a bs → PartsRead e src k s ts a bs
   complete_parts e src (m.one_part {k = k} {s = s} {ts = ts} {a = a} h) = one_read e src k ts a s (complete e src h)
   complete_parts e src (m.more_parts {k = k} {s = s} {ts = ts} {us = us} {a = a} {b = b} {bs = bs} p j h) = more_read e src k ts us a b bs s p (complete_parts e src j) (complete e src h)
 
-  complete_terms : {ts : List Lexeme} {a : Value} {bs : List (AddOp × Value)} (e : Extensions) (src : List ℕ) → Added e SIGN_LIMIT ts a bs → MultsRead e src ts a bs
+  complete_terms : {ts : List Lexeme} {a : Value} {bs : List (AddOp × Value)} (e : Extensions) (src : List ℕ) → Added e sign_limit ts a bs → MultsRead e src ts a bs
   complete_terms e src (m.one_term h) = one_mult_read (complete e src h)
   complete_terms e src (m.more_terms p j r h) = more_mults p (complete_terms e src j) r (complete e src h)
 
-  complete_list : {ts : List Lexeme} {bs : List Value} (e : Extensions) (src : List ℕ) → Listed e SIGN_LIMIT ts bs → ListRead e src ts bs
+  complete_list : {ts : List Lexeme} {bs : List Value} (e : Extensions) (src : List ℕ) → Listed e sign_limit ts bs → ListRead e src ts bs
   complete_list e src m.no_items = no_list
   complete_list e src (m.items j) = list_read (complete_parts e src j refl)
   complete_list e src (m.items_comma p j) = list_comma p (complete_parts e src j refl)
 
-  complete_entries : {ts : List Lexeme} {fs : List (List ℕ × Value)} (e : Extensions) (src : List ℕ) → Entries e SIGN_LIMIT ts fs → EntriesRead e src ts fs
+  complete_entries : {ts : List Lexeme} {fs : List (List ℕ × Value)} (e : Extensions) (src : List ℕ) → Entries e sign_limit ts fs → EntriesRead e src ts fs
   complete_entries e src m.no_entries = no_entries
   complete_entries e src (m.entries j) = entries_read (complete_pairs e src j)
   complete_entries e src (m.entries_comma p j) = entries_comma p (complete_pairs e src j)
 
-  complete_pairs : {ts : List Lexeme} {fs : List (List ℕ × Value)} (e : Extensions) (src : List ℕ) → JoinedEntries e SIGN_LIMIT ts fs → PairsRead e src ts fs
+  complete_pairs : {ts : List Lexeme} {fs : List (List ℕ × Value)} (e : Extensions) (src : List ℕ) → JoinedEntries e sign_limit ts fs → PairsRead e src ts fs
   complete_pairs e src (m.one_entry h) = one_pair (complete_entry e src h)
   complete_pairs e src (m.more_entries p j h) = more_pairs p (complete_pairs e src j) (complete_entry e src h)
 
-  complete_entry : {ts : List Lexeme} {key : List ℕ} {a : Value} (e : Extensions) (src : List ℕ) → Entry e SIGN_LIMIT ts key a → EntryRead e src ts (key, a)
+  complete_entry : {ts : List Lexeme} {key : List ℕ} {a : Value} (e : Extensions) (src : List ℕ) → Entry e sign_limit ts key a → EntryRead e src ts (key, a)
   complete_entry e src (m.entry p k h) = entry_read p k (complete e src h)

@@ -7,6 +7,7 @@ use Rattle.cedar_expressions.specs.declared.entity.EntityUID.{EntityUID}
 use Rattle.cedar_expressions.specs.declared.literal.Var.{Var}
 use Rattle.cedar_expressions.specs.declared.literal.Var.TheVariants as vars
 use Rattle.cedar_expressions.specs.Path.{is_valid_identifier, is_reserved_namespace}
+use Rattle.cedar_expressions.specs.Written.{var_text}
 use Rattle.cedar_syntax.specs.declared.loc.Loc.{Loc}
 use Rattle.cedar_syntax.specs.declared.cst.Ident.{Ident}
 use Rattle.cedar_syntax.specs.declared.cst.Ident.TheVariants as ident
@@ -23,7 +24,7 @@ use Rattle.cedar_syntax.specs.LooseWords.{ReadsAny, ReadsLiteral, ReadsName, Rea
 use Rattle.cedar_syntax.specs.Tokens.{Spot, one, between_quotes}
 use Rattle.cedar_syntax.specs.Trees.{Cell, name_of as tree_name}
 use Rattle.cedar_policy_parser.specs.Entities.{entity_of, reference_outcome}
-use Rattle.cedar_policy_parser.specs.Held.{Held, variable, bare_name, bare_string, as_entity_type, as_attribute, variable_text, type_of_name}
+use Rattle.cedar_policy_parser.specs.Held.{Held, variable, bare_name, bare_string, as_entity_type, as_attribute, type_of_name}
 use Rattle.cedar_policy_parser.specs.HasSide.{attributes_of, behind_first}
 use Rattle.cedar_policy_parser.specs.Leaves.{name_leaf, variable_or_name}
 use Rattle.cedar_policy_parser.specs.Literals.{literal_outcome}
@@ -40,7 +41,7 @@ use Rattle.cedar_policy_parser.proofs.Quoted.{text_expected}
 -- what an identifier that is a variable says of its tokens and its text
 abbrev pub IsWord : List Lexeme → List ℕ → Option Var → Type 0
 IsWord ts id None = Unit {0}
-IsWord ts id (Some x) = (id ≡ variable_text x) × IsVariableWord ts
+IsWord ts id (Some x) = (id ≡ var_text x) × IsVariableWord ts
 
 pub record WordRead (ts : List Lexeme) (id : List ℕ) : Type 0 where
   pub word : Ident
@@ -133,14 +134,14 @@ path_given place xs x ids id h k free last = rw (h, k, free, last) refl
 -- a name is a variable, or not
 pub data IsHeldName (ts : List Lexeme) (place : Option Loc) : List (List ℕ) → List ℕ → Held → Type 0 where
   as_name : {ids : List (List ℕ)} {id : List ℕ} → IsHeldName ts place ids id (bare_name place (path_value ids id))
-  as_variable : (x : Var) → IsVariableWord ts → IsHeldName ts place [] (variable_text x) (variable place x)
+  as_variable : (x : Var) → IsVariableWord ts → IsHeldName ts place [] (var_text x) (variable place x)
 
 pub record NameRead (src : List ℕ) (ts : List Lexeme) (ids : List (List ℕ)) (id : List ℕ) : Type 0 where
   pub tree : Name
   pub reads : ReadsName src ts tree
   pub gives : (place : Option Loc) → (h : Held) × (name_leaf place (placed src ts tree) ≡ Ok h) × IsHeldName ts place ids id h
 
-variable_held : (ts : List Lexeme) (place : Option Loc) (id : List ℕ) (x : Var) → id ≡ variable_text x → IsVariableWord ts → IsHeldName ts place [] id (variable place x)
+variable_held : (ts : List Lexeme) (place : Option Loc) (id : List ℕ) (x : Var) → id ≡ var_text x → IsVariableWord ts → IsHeldName ts place [] id (variable place x)
 variable_held ts place id x h w = rw h (as_variable x w)
 
 bare_given : (place : Option Loc) (ids : List (List ℕ)) (id : List ℕ) (src : List ℕ) (ts : List Lexeme) (x : Name) → path_outcome (placed src ts x).loc x ≡ Ok (path_value ids id) → variable_or_name place None (placed src ts x) ≡ Ok (bare_name place (path_value ids id))

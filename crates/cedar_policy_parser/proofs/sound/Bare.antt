@@ -6,17 +6,16 @@ use Rattle.cedar_lexer.specs.declared.token.TokenKind.TheVariants as kind
 use Rattle.cedar_expressions.specs.declared.entity.EntityType.{EntityType}
 use Rattle.cedar_expressions.specs.declared.literal.PatternElem.{PatternElem}
 use Rattle.cedar_expressions.specs.declared.literal.Var.{Var}
-use Rattle.cedar_expressions.specs.declared.literal.Var.TheVariants as vars
 use Rattle.cedar_expressions.specs.declared.literal.Literal.TheVariants as literals
 use Rattle.cedar_expressions.specs.Value as v
 use Rattle.cedar_expressions.specs.Value.{Value}
 use Rattle.cedar_expressions.specs.Written.{var_text}
 use Rattle.cedar_syntax.specs.declared.loc.Loc.{Loc}
-use Rattle.cedar_syntax.specs.declared.cst.TheConstants.{SIGN_LIMIT}
+use Rattle.cedar_syntax.specs.Signs.{sign_limit}
 use Rattle.cedar_syntax.specs.Pattern.{IsPattern}
 use Rattle.cedar_syntax.specs.Tokens.{Spot, one, between_quotes}
 use Rattle.cedar_policy_parser.specs.Extensions.{Extensions}
-use Rattle.cedar_policy_parser.specs.Held.{Held, expression, variable, bare_name, bare_truth, bare_string, as_expression, as_pattern, as_entity_type, as_string, as_attribute, variable_text, unqualified}
+use Rattle.cedar_policy_parser.specs.Held.{Held, expression, variable, bare_name, bare_truth, bare_string, as_expression, as_pattern, as_entity_type, as_string, as_attribute, unqualified}
 use Rattle.cedar_policy_parser.specs.Strict as m
 use Rattle.cedar_policy_parser.specs.Strict.{Sort, Means}
 use Rattle.cedar_policy_parser.specs.StrictWords as w
@@ -28,7 +27,7 @@ use Rattle.cedar_policy_parser.proofs.sound.Words.{string_is_text}
 
 -- what tokens mean under a table and the limit that there is
 abbrev pub Meant : Extensions → Sort → List Lexeme → Value → Type 0
-Meant e s ts x = Means e SIGN_LIMIT s ts x
+Meant e s ts x = Means e sign_limit s ts x
 
 pub means_at : {e : Extensions} {s : Sort} {ts : List Lexeme} {x y : Value} → x ≡ y → Meant e s ts y → Meant e s ts x
 means_at h i = rw h i
@@ -94,16 +93,10 @@ held_pattern e s (bare_name place name) x i h = cc
 held_pattern e s (bare_truth place b) x i h = cc
 held_pattern e s (bare_string place raw) x i h = (i.0, i.2, pattern_meant place (between_quotes i.0.text) x (ap (λ r. as_pattern (bare_string place r)) (sym i.1) ∙ h))
 
-text_same : (x : Var) → var_text x ≡ variable_text x
-text_same vars.Principal = refl
-text_same vars.Action = refl
-text_same vars.Resource = refl
-text_same vars.Context = refl
+variable_identifier : {ts : List Lexeme} {k : TokenKind} {x : Var} (p : Spot) → IsVariable k x → ts ≡ one k p → IsIdentifier ts (var_text x)
+variable_identifier {x = x} p i there = rw there (w.variable_word p i)
 
-variable_identifier : {ts : List Lexeme} {k : TokenKind} {x : Var} (p : Spot) → IsVariable k x → ts ≡ one k p → IsIdentifier ts (variable_text x)
-variable_identifier {x = x} p i there = rw (there, sym (text_same x)) (w.variable_word p i)
-
-pub held_word : (e : Extensions) {ts : List Lexeme} (s : Sort) (place : Option Loc) (x : Var) → HeldAs e s ts (variable place x) → IsIdentifier ts (variable_text x)
+pub held_word : (e : Extensions) {ts : List Lexeme} (s : Sort) (place : Option Loc) (x : Var) → HeldAs e s ts (variable place x) → IsIdentifier ts (var_text x)
 held_word e s place x i = variable_identifier i.1 i.2 i.3
 
 -- a name of one identifier
@@ -121,7 +114,7 @@ unqualified_word place (x ∷ ids) id text n h = cc
 -- the type that is named, by its identifiers
 pub held_type : (e : Extensions) {ts : List Lexeme} (s : Sort) (h : Held) (t : EntityType) → HeldAs e s ts h → as_entity_type h ≡ Ok t → (ids : List (List ℕ)) × (id : List ℕ) × IsName ts ids id × (t ≡ record { name = path_value ids id })
 held_type e s (expression place y) t i h = cc
-held_type e s (variable place y) t i h = ([], variable_text y, w.one_identifier (held_word e s place y i), sym (ok_is h))
+held_type e s (variable place y) t i h = ([], var_text y, w.one_identifier (held_word e s place y i), sym (ok_is h))
 held_type e s (bare_name place name) t i h = (name.path, name.id, i.0, sym (ok_is h))
 held_type e s (bare_truth place b) t i h = cc
 held_type e s (bare_string place raw) t i h = cc

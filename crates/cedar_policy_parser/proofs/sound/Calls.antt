@@ -1,6 +1,5 @@
 -- A call that is converted means what the table and the methods of every text say of it.
-use Rattle.std.proofs.Common.{◌≡◌, ℕ, Bool, true, false, cond, ◌||◌, List, [], ◌∷◌, Option, Some, None, Ok, refl, sym, ap, ◌∙◌, codes}
-use Rattle.std.specs.Str.{bytes_eq}
+use Rattle.std.proofs.Common.{◌≡◌, ℕ, Bool, true, false, cond, List, [], ◌∷◌, Option, Some, None, Ok, refl, codes}
 use Rattle.std.proofs.lemmas.Slice.Eq.{bytes_eq-Decides}
 use Rattle.cedar_expressions.specs.Path.{Path}
 use Rattle.cedar_expressions.specs.Value as v
@@ -10,9 +9,9 @@ use Rattle.cedar_policy_parser.specs.declared.methods.Standard.{Standard}
 use Rattle.cedar_policy_parser.specs.declared.methods.Standard.TheVariants as standard
 use Rattle.cedar_policy_parser.specs.Extensions.{Extensions}
 use Rattle.cedar_policy_parser.specs.Members as g
-use Rattle.cedar_policy_parser.specs.Members.{standard_method, takes_one, with_arguments, method_outcome, method_by, function_outcome, is_method_id}
+use Rattle.cedar_policy_parser.specs.Members.{takes_one, with_arguments, method_outcome, method_by, function_outcome}
 use Rattle.cedar_policy_parser.specs.StrictCalls as m
-use Rattle.cedar_policy_parser.specs.StrictCalls.{CallsMethod, IsFunction, names_method, is_standard}
+use Rattle.cedar_policy_parser.specs.StrictCalls.{CallsMethod, IsFunction, names_method, standard_method}
 use Rattle.cedar_policy_parser.specs.StrictWords.{path_value}
 use Rattle.cedar_policy_parser.proofs.Inverted.{ok_is}
 
@@ -20,23 +19,6 @@ use Rattle.cedar_policy_parser.proofs.Inverted.{ok_is}
 abbrev chosen : Bool → Bool → Bool → Bool → Bool → Bool → Option Standard
 chosen a b c d f g =
     cond a (Some standard.Contains) (cond b (Some standard.ContainsAll) (cond c (Some standard.ContainsAny) (cond d (Some standard.IsEmpty) (cond f (Some standard.GetTag) (cond g (Some standard.HasTag) None)))))
-
-some_of : (a b c d f h : Bool) → g.is_some_standard (chosen a b c d f h) ≡ (a || (b || (c || (d || (f || (h || false))))))
-some_of true b c d f h = refl
-some_of false true c d f h = refl
-some_of false false true d f h = refl
-some_of false false false true f h = refl
-some_of false false false false true h = refl
-some_of false false false false false true = refl
-some_of false false false false false false = refl
-
--- both tell the six in the same way
-pub standard_same : (id : List ℕ) → g.is_some_standard (standard_method id) ≡ is_standard id
-standard_same id = some_of (bytes_eq id (codes "contains")) (bytes_eq id (codes "containsAll")) (bytes_eq id (codes "containsAny")) (bytes_eq id (codes "isEmpty")) (bytes_eq id (codes "getTag")) (bytes_eq id (codes "hasTag"))
-
-pub method_same : (e : Extensions) (ids : List (List ℕ)) (id : List ℕ) → is_method_id e ids id ≡ names_method e ids id
-method_same e [] id = ap (λ b. b || e.methods id) (standard_same id)
-method_same e (x ∷ ids) id = refl
 
 -- the word that a method is called by
 abbrev word_of : Standard → List ℕ
@@ -97,13 +79,13 @@ method_chosen : (e : Extensions) (place : Option Loc) (id : List ℕ) (o : Optio
 method_chosen e place id (Some s) x args y f h = calls_at (standard_word id s f) refl (standard_meant e place s x args y h)
 method_chosen e place id None x args y f h =
     let d = by_table_only e place id x args y (e.methods id) (e.functions (g.plain_name id)) refl refl h in
-    calls_at refl d.1 (m.by_table (sym (standard_same id) ∙ ap g.is_some_standard f) d.0)
+    calls_at refl d.1 (m.by_table f d.0)
 
 -- a method called on a value
 pub method_meant : (e : Extensions) (place : Option Loc) (id : List ℕ) (x : Value) (args : List Value) (y : Value) → method_outcome e place id x args ≡ Ok y → CallsMethod e id x args y
 method_meant e place id x args y h = method_chosen e place id (standard_method id) x args y refl h
 
-function_by : (e : Extensions) (place : Option Loc) (name : Path) (args : List Value) (y : Value) (a b : Bool) → is_method_id e name.path name.id ≡ a → e.functions name ≡ b
+function_by : (e : Extensions) (place : Option Loc) (name : Path) (args : List Value) (y : Value) (a b : Bool) → names_method e name.path name.id ≡ a → e.functions name ≡ b
     → function_outcome e place name args ≡ Ok y → (a ≡ false) × (b ≡ true) × (v.call_extension_fn name (values args) ≡ y)
 function_by e place name args y true b f k h = let no = rw f at h in cc
 function_by e place name args y false true f k h = (refl, refl, ok_is (rw (f, k) at h))
@@ -113,5 +95,5 @@ function_by e place name args y false false f k h = let no = rw (f, k) at h in c
 pub function_meant : (e : Extensions) (place : Option Loc) (name : Path) (args : List Value) (y : Value) → function_outcome e place name args ≡ Ok y
     → IsFunction e name.path name.id × (v.call_extension_fn (path_value name.path name.id) (values args) ≡ y)
 function_meant e place name args y h =
-    let d = function_by e place name args y (is_method_id e name.path name.id) (e.functions name) refl refl h in
-    ((sym (method_same e name.path name.id) ∙ d.0, d.1), d.2)
+    let d = function_by e place name args y (names_method e name.path name.id) (e.functions name) refl refl h in
+    ((d.0, d.1), d.2)

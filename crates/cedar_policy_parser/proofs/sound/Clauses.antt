@@ -8,7 +8,7 @@ use Rattle.cedar_expressions.specs.Value.{Value}
 use Rattle.cedar_syntax.specs.declared.loc.Loc.{Loc}
 use Rattle.cedar_syntax.specs.declared.cst.Cond.{Cond}
 use Rattle.cedar_syntax.specs.declared.cst.Ident.{Ident}
-use Rattle.cedar_syntax.specs.declared.cst.TheConstants.{SIGN_LIMIT}
+use Rattle.cedar_syntax.specs.Signs.{sign_limit}
 use Rattle.cedar_syntax.specs.LoosePolicies as l
 use Rattle.cedar_syntax.specs.LoosePolicies.{ReadsBody, ReadsCond, ReadsMany}
 use Rattle.cedar_syntax.specs.LooseWords as lw
@@ -50,12 +50,12 @@ pub no_slots : (place : Option Loc) (slots : List Slot) (u : Unit {0}) → fault
 no_slots place [] u h = refl
 no_slots place (s ∷ slots) u h = cc
 
-clause_meant : {k : TokenKind} {ts us : List Lexeme} (e : Extensions) (b : Bool) (x c : Value) (p a z : Spot) → ClauseOf b k → ts ≡ one k p → Means e SIGN_LIMIT expression us x → slots_of x ≡ [] → condition_value b x ≡ c
-    → IsCondition e SIGN_LIMIT (ts ++ one kind.OpenBrace a ++ us ++ one kind.CloseBrace z) c
+clause_meant : {k : TokenKind} {ts us : List Lexeme} (e : Extensions) (b : Bool) (x c : Value) (p a z : Spot) → ClauseOf b k → ts ≡ one k p → Means e sign_limit expression us x → slots_of x ≡ [] → condition_value b x ≡ c
+    → IsCondition e sign_limit (ts ++ one kind.OpenBrace a ++ us ++ one kind.CloseBrace z) c
 clause_meant e _ x c p a z when_clause h i none same = rw (h, ← same) (m.when p a z i none)
 clause_meant e _ x c p a z unless_clause h i none same = rw (h, ← same) (m.unless p a z i none)
 
-condition_meant : {src : List ℕ} {ts : List Lexeme} {x : Cond} (e : Extensions) (place : Option Loc) (c : Value) → ReadsCond src ts x → condition_of e place x ≡ Ok c → IsCondition e SIGN_LIMIT ts c
+condition_meant : {src : List ℕ} {ts : List Lexeme} {x : Cond} (e : Extensions) (place : Option Loc) (c : Value) → ReadsCond src ts x → condition_of e place x ≡ Ok c → IsCondition e sign_limit ts c
 condition_meant {src = src} e place c (l.cond {ts = ts} {us = us} {i = i} a z r (l.body {x = x} b)) h =
     let f = next_ok (is_when (placed src ts i)) _ c h in
     let g = next_ok (clause e place (Some (placed src us x))) (without_slots place f.0) c f.2 in
@@ -69,10 +69,10 @@ condition_meant {src = src} e place c (l.cond {ts = ts} {i = i} a z r l.no_body)
 
 -- ---- all of a policy
 
-conditions_as : {e : Extensions} {ts : List Lexeme} (cs ds : List Value) → cs ≡ ds → AreConditions e SIGN_LIMIT ts cs → AreConditions e SIGN_LIMIT ts ds
+conditions_as : {e : Extensions} {ts : List Lexeme} (cs ds : List Value) → cs ≡ ds → AreConditions e sign_limit ts cs → AreConditions e sign_limit ts ds
 conditions_as cs ds h i = rw (← h) i
 
-pub conditions_meant : {src : List ℕ} {ts : List Lexeme} {xs : List (Cell Cond)} (e : Extensions) (cs : List Value) → ReadsMany src (ReadsCond src) ts xs → conditions_outcome e xs ≡ Ok cs → AreConditions e SIGN_LIMIT ts cs
+pub conditions_meant : {src : List ℕ} {ts : List Lexeme} {xs : List (Cell Cond)} (e : Extensions) (cs : List Value) → ReadsMany src (ReadsCond src) ts xs → conditions_outcome e xs ≡ Ok cs → AreConditions e sign_limit ts cs
 conditions_meant e cs l.none h = conditions_as [] cs (ok_is h) m.no_condition
 conditions_meant {src = src} e cs (l.more {us = us} {xs = xs} {y = y} r s) h =
     let a = all_snoc (condition_outcome e) xs (placed src us y) cs h in

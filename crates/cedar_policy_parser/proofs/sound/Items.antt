@@ -1,17 +1,18 @@
 -- Accesses and a record's pairs, one more at the end, and what is made of the items of a set or a record.
 use Rattle.std.proofs.Common.{◌≡◌, ℕ, List, [], ◌∷◌, ◌++◌, Option, Ok, refl, sym, ap, ◌∙◌}
+use Rattle.std.specs.Map.{keys_of}
 use Rattle.cedar_lexer.specs.Token.{Lexeme}
 use Rattle.cedar_lexer.specs.declared.token.TokenKind.TheVariants as kind
 use Rattle.cedar_expressions.specs.Keys.{repeats_key}
 use Rattle.cedar_expressions.specs.Value.{Value, fields}
 use Rattle.cedar_expressions.specs.Value as v
 use Rattle.cedar_syntax.specs.declared.loc.Loc.{Loc}
-use Rattle.cedar_syntax.specs.declared.cst.TheConstants.{SIGN_LIMIT}
+use Rattle.cedar_syntax.specs.Signs.{sign_limit}
 use Rattle.cedar_syntax.specs.Forms.{parts_of}
 use Rattle.cedar_syntax.specs.Located.{Located}
 use Rattle.cedar_syntax.specs.Tree.{Operator}
 use Rattle.cedar_syntax.specs.Tokens.{Spot, one}
-use Rattle.cedar_policy_parser.specs.Conversion.{Part, bodies, accesses_outcome, access_outcome, pairs_outcome, pair_outcome, with_first, set_value_outcome, record_outcome, keys}
+use Rattle.cedar_policy_parser.specs.Conversion.{Part, bodies, accesses_outcome, access_outcome, pairs_outcome, pair_outcome, with_first, set_value_outcome, record_outcome}
 use Rattle.cedar_policy_parser.specs.Extensions.{Extensions}
 use Rattle.cedar_policy_parser.specs.Held.{Held, expression}
 use Rattle.cedar_policy_parser.specs.Members.{Access}
@@ -56,15 +57,15 @@ pairs_snoc e (q ∷ ps) p zs h =
 
 -- ---- sets and records
 
-pub set_held : (e : Extensions) (ts : List Lexeme) (l n : Spot) (place : Option Loc) (r : Outcome (List Part)) (h : Held) → ((ps : List Part) → r ≡ Ok ps → Listed e SIGN_LIMIT ts (bodies ps))
+pub set_held : (e : Extensions) (ts : List Lexeme) (l n : Spot) (place : Option Loc) (r : Outcome (List Part)) (h : Held) → ((ps : List Part) → r ≡ Ok ps → Listed e sign_limit ts (bodies ps))
     → next r (set_value_outcome place) ≡ Ok h → HeldAs e m.primary (one kind.OpenBracket l ++ ts ++ one kind.CloseBracket n) h
 set_held e ts l n place r h items k =
     let a = next_ok r (set_value_outcome place) h k in
     held_as e m.primary _ _ h (ok_is a.2) (m.set l n (items a.0 a.1))
 
-pub braces_held : (e : Extensions) (ts : List Lexeme) (l n : Spot) (place : Option Loc) (r : Outcome (List (List ℕ × Value))) (h : Held) → ((fs : List (List ℕ × Value)) → r ≡ Ok fs → Entries e SIGN_LIMIT ts fs)
+pub braces_held : (e : Extensions) (ts : List Lexeme) (l n : Spot) (place : Option Loc) (r : Outcome (List (List ℕ × Value))) (h : Held) → ((fs : List (List ℕ × Value)) → r ≡ Ok fs → Entries e sign_limit ts fs)
     → next r (record_outcome place) ≡ Ok h → HeldAs e m.primary (one kind.OpenBrace l ++ ts ++ one kind.CloseBrace n) h
 braces_held e ts l n place r h items k =
     let a = next_ok r (record_outcome place) h k in
-    let b = unless_ok (repeats_key (keys a.0)) (Ok (expression place (v.«record» (fields a.0)))) _ h a.2 in
+    let b = unless_ok (repeats_key (keys_of a.0)) (Ok (expression place (v.«record» (fields a.0)))) _ h a.2 in
     held_as e m.primary _ _ h (ok_is b.1) (m.in_braces l n (items a.0 a.1) b.0)

@@ -6,7 +6,7 @@ use Rattle.cedar_lexer.specs.declared.token.TokenKind.TheVariants as kind
 use Rattle.cedar_expressions.specs.declared.operators.AddOp.{AddOp}
 use Rattle.cedar_expressions.specs.Value.{Value}
 use Rattle.cedar_syntax.specs.declared.loc.Loc.{Loc}
-use Rattle.cedar_syntax.specs.declared.cst.TheConstants.{SIGN_LIMIT}
+use Rattle.cedar_syntax.specs.Signs.{sign_limit}
 use Rattle.cedar_syntax.specs.Located.{Parts}
 use Rattle.cedar_syntax.specs.Tree.{Level, Operator, disjunction, conjunction, product}
 use Rattle.cedar_syntax.specs.Tokens.{Spot, one}
@@ -22,10 +22,10 @@ use Rattle.cedar_policy_parser.proofs.sound.Bare.{Meant, HeldAs, held_means, hel
 use Rattle.cedar_policy_parser.proofs.sound.Leaves.{held_as}
 
 abbrev pub JoinedAs : Extensions → TokenKind → Sort → List Lexeme → Value → List Value → Type 0
-JoinedAs e k s ts a bs = Joined e SIGN_LIMIT k s ts a bs
+JoinedAs e k s ts a bs = Joined e sign_limit k s ts a bs
 
 abbrev pub AddedAs : Extensions → List Lexeme → Value → List (AddOp × Value) → Type 0
-AddedAs e ts a bs = Added e SIGN_LIMIT ts a bs
+AddedAs e ts a bs = Added e sign_limit ts a bs
 
 -- ---- a chain that is given
 

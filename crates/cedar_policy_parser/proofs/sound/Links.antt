@@ -7,7 +7,7 @@ use Rattle.cedar_expressions.specs.Path.{Path}
 use Rattle.cedar_expressions.specs.Value as v
 use Rattle.cedar_expressions.specs.Value.{Value, values}
 use Rattle.cedar_syntax.specs.declared.loc.Loc.{Loc}
-use Rattle.cedar_syntax.specs.declared.cst.TheConstants.{SIGN_LIMIT}
+use Rattle.cedar_syntax.specs.Signs.{sign_limit}
 use Rattle.cedar_syntax.specs.Tokens.{Spot, one}
 use Rattle.cedar_policy_parser.specs.Extensions.{Extensions}
 use Rattle.cedar_policy_parser.specs.Held.{Held, expression, variable, bare_name, bare_truth, bare_string, as_expression}
@@ -23,7 +23,7 @@ use Rattle.cedar_policy_parser.proofs.sound.Calls.{method_meant, function_meant}
 -- the tokens of an access
 pub data IsLink (e : Extensions) : List Lexeme → Access → Type 0 where
   is_field : {ts : List Lexeme} {id : List ℕ} (p : Spot) → IsIdentifier ts id → IsLink e (one kind.Dot p ++ ts) (field id)
-  is_call : {ts : List Lexeme} {args : List Value} (l m : Spot) → Listed e SIGN_LIMIT ts args → IsLink e (one kind.OpenParen l ++ ts ++ one kind.CloseParen m) (call args)
+  is_call : {ts : List Lexeme} {args : List Value} (l m : Spot) → Listed e sign_limit ts args → IsLink e (one kind.OpenParen l ++ ts ++ one kind.CloseParen m) (call args)
   is_index : {ts : List Lexeme} {text : List ℕ} (l m : Spot) → IsText ts text → IsLink e (one kind.OpenBracket l ++ ts ++ one kind.CloseBracket m) (index text)
 
 -- and of accesses one behind another, from the first

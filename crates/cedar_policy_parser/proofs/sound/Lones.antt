@@ -33,7 +33,8 @@ use Rattle.cedar_syntax.specs.LooseExpressions as l
 use Rattle.cedar_syntax.specs.LooseExpressions.{ReadsExpr, ReadsOr, ReadsAnds, ReadsAnd, ReadsRelations, ReadsRelation, ReadsAdds, ReadsAdd, ReadsMults, ReadsMult, ReadsUnaries, ReadsUnary, ReadsMember, ReadsAccesses, ReadsPrimary, ReadsExprs, ReadsRecInits, ReadsSlot, ReadsSigns}
 use Rattle.cedar_syntax.specs.LooseWords.{ReadsLiteral, ReadsName, ReadsRef}
 use Rattle.cedar_syntax.specs.Tokens.{Spot, one}
-use Rattle.cedar_syntax.specs.Trees.{Cell, bangs_of, dashes_of, sign_limit}
+use Rattle.cedar_syntax.specs.Trees.{Cell, bangs_of, dashes_of}
+use Rattle.cedar_syntax.specs.Signs.{sign_limit}
 use Rattle.cedar_policy_parser.specs.HasSide.{no_sign}
 use Rattle.cedar_policy_parser.specs.Outcome.{NamedFault, Outcome, fault_outcome, wrong_node}
 use Rattle.cedar_policy_parser.specs.References.{lone, lone_form}

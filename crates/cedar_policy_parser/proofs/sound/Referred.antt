@@ -27,10 +27,9 @@ use Rattle.cedar_policy_parser.specs.declared.to_ref_or_refs.OneOrMultipleRefs.T
 use Rattle.cedar_policy_parser.specs.declared.to_ref_or_refs.SingleEntity.{SingleEntity}
 use Rattle.cedar_policy_parser.specs.Conversion.{with_first}
 use Rattle.cedar_policy_parser.specs.Entities.{entity_outcome}
-use Rattle.cedar_policy_parser.specs.Outcome.{NamedFault, Outcome, both}
+use Rattle.cedar_policy_parser.specs.Outcome.{NamedFault, Outcome, both, item_more}
 use Rattle.cedar_policy_parser.specs.References.{RefKind, entities, entity_at, entity_form, entity_or_slot, lone, lone_entity, of_variable, one_or_multiple, referent_outcome, referent_at, referred_form, single_entity}
 use Rattle.cedar_policy_parser.specs.Places.{place_mark}
-use Rattle.cedar_policy_parser.specs.Seen.{item_more}
 use Rattle.cedar_policy_parser.specs.StrictScope as m
 use Rattle.cedar_policy_parser.specs.StrictScope.{AreActions, AreEntities, IsEntityAlone, IsEntityList, IsReference}
 use Rattle.cedar_policy_parser.specs.StrictWords.{IsEntity}

@@ -2,6 +2,7 @@
 use Rattle.std.proofs.Common.{◌≡◌, ◌+◌, ℕ, zero, suc, List, [], ◌∷◌, ◌++◌, map, length, Option, Ok, refl, sym, ap, ◌∙◌, arith, false}
 use Rattle.std.specs.FinMap.{FinMap}
 use Rattle.std.specs.List.{fold}
+use Rattle.std.specs.Map.{keys_of}
 use Rattle.cedar_lexer.specs.Token.{Lexeme}
 use Rattle.cedar_lexer.specs.declared.token.TokenKind.{TokenKind}
 use Rattle.cedar_lexer.specs.declared.token.TokenKind.TheVariants as kind
@@ -13,7 +14,7 @@ use Rattle.cedar_syntax.specs.declared.loc.Loc.{Loc}
 use Rattle.cedar_syntax.specs.declared.cst.Ident.{Ident}
 use Rattle.cedar_syntax.specs.declared.cst.Policies.{Policies}
 use Rattle.cedar_syntax.specs.declared.cst.Policy.{Policy}
-use Rattle.cedar_syntax.specs.declared.cst.TheConstants.{SIGN_LIMIT}
+use Rattle.cedar_syntax.specs.Signs.{sign_limit}
 use Rattle.cedar_syntax.specs.LoosePolicies as l
 use Rattle.cedar_syntax.specs.LoosePolicies.{ReadsMany, ReadsPolicies, ReadsPolicy}
 use Rattle.cedar_syntax.specs.LooseWords as lw
@@ -27,14 +28,13 @@ use Rattle.cedar_policy_parser.specs.Conditions.{conditions_outcome}
 use Rattle.cedar_policy_parser.specs.Conversion.{with_first}
 use Rattle.cedar_policy_parser.specs.Extensions.{Extensions}
 use Rattle.cedar_policy_parser.specs.Names.{content_outcome}
-use Rattle.cedar_policy_parser.specs.Outcome.{Outcome, both, next}
+use Rattle.cedar_policy_parser.specs.Outcome.{Outcome, both, next, item_more}
 use Rattle.cedar_policy_parser.specs.Policies as k
 use Rattle.cedar_policy_parser.specs.Policies.{TemplateParts}
 use Rattle.cedar_policy_parser.specs.PolicyMeaning.{joint_condition, no_policies, policy_id, with_policy}
 use Rattle.cedar_policy_parser.specs.Scope.{elements_outcome}
-use Rattle.cedar_policy_parser.specs.Seen.{item_more}
 use Rattle.cedar_policy_parser.specs.StrictPolicy as m
-use Rattle.cedar_policy_parser.specs.StrictPolicy.{ArePolicies, IsEffect, IsPolicy, IsPolicySet, by_key, keys_of_annotations}
+use Rattle.cedar_policy_parser.specs.StrictPolicy.{ArePolicies, IsEffect, IsPolicy, IsPolicySet, by_key}
 use Rattle.cedar_policy_parser.proofs.Gathered.{last, shifted}
 use Rattle.cedar_policy_parser.proofs.Inverted.{ok_is, next_ok, both_ok}
 use Rattle.cedar_policy_parser.proofs.Loops.{map_snoc}
@@ -68,10 +68,10 @@ effect_word src {ts = ts} {i = i} x (lw.any {k = j} p h) g =
     (j, p, kind_effect j p.text (placed src ts i).loc x (ap (λ o. next (content_outcome (placed src ts i).loc o) (k.effect_of (placed src ts i).loc)) h ∙ g), refl)
 
 -- the keys of annotations with their texts are the annotations'
-texts_differ : (all : List AnnotationContent) → repeats_key (annotation_keys all) ≡ false → repeats_key (keys_of_annotations (texts all)) ≡ false
+texts_differ : (all : List AnnotationContent) → repeats_key (annotation_keys all) ≡ false → repeats_key (keys_of (texts all)) ≡ false
 texts_differ all h = rw (same_keys all) h
   where
-    same_keys : (bs : List AnnotationContent) → keys_of_annotations (texts bs) ≡ annotation_keys bs
+    same_keys : (bs : List AnnotationContent) → keys_of (texts bs) ≡ annotation_keys bs
     same_keys [] = refl
     same_keys (b ∷ bs) = ap (λ ns. b.key ∷ ns) (same_keys bs)
 
@@ -88,10 +88,10 @@ value_of id p notes = record {
 }
 
 -- a policy by its parts
-policy_at : {e : Extensions} {id : List ℕ} {us vs : List Lexeme} (x y : free.Policy) → us ≡ vs → x ≡ y → IsPolicy e SIGN_LIMIT id us x → IsPolicy e SIGN_LIMIT id vs y
+policy_at : {e : Extensions} {id : List ℕ} {us vs : List Lexeme} (x y : free.Policy) → us ≡ vs → x ≡ y → IsPolicy e sign_limit id us x → IsPolicy e sign_limit id vs y
 policy_at x y h g i = rw (← h, ← g) i
 
-pub policy_meant : {src : List ℕ} {ts : List Lexeme} {x : Policy} (e : Extensions) (id : List ℕ) (t : TemplateParts) → ReadsPolicy src ts x → k.template_outcome e id (placed src ts x) ≡ Ok t → IsPolicy e SIGN_LIMIT id ts (k.meaning_of t)
+pub policy_meant : {src : List ℕ} {ts : List Lexeme} {x : Policy} (e : Extensions) (id : List ℕ) (t : TemplateParts) → ReadsPolicy src ts x → k.template_outcome e id (placed src ts x) ≡ Ok t → IsPolicy e sign_limit id ts (k.meaning_of t)
 policy_meant {src = src} {ts = all} e id t (l.policy {ts = ts} {us = us} {vs = vs} {ws = ws} {xs = xs} {i = i} {ys = ys} {zs = zs} o c s ar r vr cr) h =
     let place = (placed src us i).loc in
     let a = next_ok (both (both (k.effect_outcome (placed src us i)) (k.kept_outcome xs)) (both (elements_outcome e place ys) (conditions_outcome e zs))) _ t h in
@@ -127,7 +127,7 @@ pub meant_length : (ts : List TemplateParts) → length (map k.meaning_of ts) �
 meant_length [] = refl
 meant_length (t ∷ ts) = ap suc (meant_length ts)
 
-policies_as : {e : Extensions} {ts : List Lexeme} (xs ys : List free.Policy) → xs ≡ ys → ArePolicies e SIGN_LIMIT ts xs → ArePolicies e SIGN_LIMIT ts ys
+policies_as : {e : Extensions} {ts : List Lexeme} (xs ys : List free.Policy) → xs ≡ ys → ArePolicies e sign_limit ts xs → ArePolicies e sign_limit ts ys
 policies_as xs ys h i = rw (← h) i
 
 more_ok : {X : Type 0} (o : Outcome (List X)) (x : Outcome X) (zs : List X) → item_more o x ≡ Ok zs → (ys : List X) × (y : X) × (o ≡ Ok ys) × (x ≡ Ok y) × (zs ≡ ys ++ y ∷ [])
@@ -136,10 +136,10 @@ more_ok o x zs h =
     let b = both_ok o x a.0 a.1 in
     (a.0.0, a.0.1, b.0, b.1, sym (ok_is a.2))
 
-named_as : {e : Extensions} {ts : List Lexeme} {x : free.Policy} (i j : ℕ) → i ≡ j → IsPolicy e SIGN_LIMIT (policy_id i) ts x → IsPolicy e SIGN_LIMIT (policy_id j) ts x
+named_as : {e : Extensions} {ts : List Lexeme} {x : free.Policy} (i j : ℕ) → i ≡ j → IsPolicy e sign_limit (policy_id i) ts x → IsPolicy e sign_limit (policy_id j) ts x
 named_as i j h p = rw (← h) p
 
-policies_meant : {src : List ℕ} {ts : List Lexeme} {xs : List (Cell Policy)} (e : Extensions) (ps : List TemplateParts) → ReadsMany src (ReadsPolicy src) ts xs → k.policies_from e 0 xs ≡ Ok ps → ArePolicies e SIGN_LIMIT ts (map k.meaning_of ps)
+policies_meant : {src : List ℕ} {ts : List Lexeme} {xs : List (Cell Policy)} (e : Extensions) (ps : List TemplateParts) → ReadsMany src (ReadsPolicy src) ts xs → k.policies_from e 0 xs ≡ Ok ps → ArePolicies e sign_limit ts (map k.meaning_of ps)
 policies_meant e ps l.none h = policies_as [] (map k.meaning_of ps) (ap (map k.meaning_of) (ok_is h)) m.no_policy
 policies_meant {src = src} e ps (l.more {us = us} {xs = xs} {y = y} r s) h =
     let n = placed src us y in
@@ -153,10 +153,10 @@ pub folded_meanings : (set : free.Policies) (ts : List TemplateParts) → fold k
 folded_meanings set [] = refl
 folded_meanings set (t ∷ ts) = folded_meanings (with_policy set (k.meaning_of t)) ts
 
-set_as : {e : Extensions} {ts : List Lexeme} (x y : free.Policies) → x ≡ y → IsPolicySet e SIGN_LIMIT ts x → IsPolicySet e SIGN_LIMIT ts y
+set_as : {e : Extensions} {ts : List Lexeme} (x y : free.Policies) → x ≡ y → IsPolicySet e sign_limit ts x → IsPolicySet e sign_limit ts y
 set_as x y h i = rw (← h) i
 
-pub set_meant : {src : List ℕ} {ts : List Lexeme} {x : Policies} (e : Extensions) (set : free.Policies) → ReadsPolicies src ts x → k.policies_outcome e (placed src ts x) ≡ Ok set → IsPolicySet e SIGN_LIMIT ts set
+pub set_meant : {src : List ℕ} {ts : List Lexeme} {x : Policies} (e : Extensions) (set : free.Policies) → ReadsPolicies src ts x → k.policies_outcome e (placed src ts x) ≡ Ok set → IsPolicySet e sign_limit ts set
 set_meant e set (l.policies {xs = xs} r) h =
     let a = next_ok (k.policies_from e 0 xs) _ set h in
     set_as (fold with_policy no_policies (map k.meaning_of a.0)) set (sym (folded_meanings no_policies a.0) ∙ ok_is a.2) (m.policy_set (policies_meant e a.0 r a.1))

@@ -10,7 +10,8 @@ use Rattle.cedar_syntax.specs.declared.cst.NegOp.TheVariants as sign
 use Rattle.cedar_syntax.specs.LooseExpressions as l
 use Rattle.cedar_syntax.specs.LooseExpressions.{ReadsSigns}
 use Rattle.cedar_syntax.specs.Tokens.{number_of}
-use Rattle.cedar_syntax.specs.Trees.{bangs_of, dashes_of, sign_limit}
+use Rattle.cedar_syntax.specs.Trees.{bangs_of, dashes_of}
+use Rattle.cedar_syntax.specs.Signs.{sign_limit}
 use Rattle.cedar_policy_parser.specs.Conversion.{application_outcome, dashes_outcome, signs_outcome, expression_at, negative}
 use Rattle.cedar_policy_parser.specs.Extensions.{Extensions}
 use Rattle.cedar_policy_parser.specs.Held.{Held, expression, as_expression}

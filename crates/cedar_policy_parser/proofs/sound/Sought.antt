@@ -1,5 +1,6 @@
 -- Right of `has`: what is converted there is what is sought.
 use Rattle.std.proofs.Common.{◌≡◌, ◌<◌, ℕ, zero, suc, Bool, true, false, cond, nat_le, List, [], ◌∷◌, ◌++◌, append_assoc, append-nil, map, Option, Some, None, Ok, Err, refl, sym, ap, ◌∙◌, arith}
+use Rattle.cedar_expressions.specs.Written.{var_text}
 use Rattle.cedar_lexer.specs.Token.{Lexeme}
 use Rattle.cedar_lexer.specs.declared.token.TokenKind.{TokenKind}
 use Rattle.cedar_lexer.specs.declared.token.TokenKind.TheVariants as kind
@@ -24,10 +25,11 @@ use Rattle.cedar_syntax.specs.Place.{placed}
 use Rattle.cedar_syntax.specs.LooseExpressions as l
 use Rattle.cedar_syntax.specs.LooseExpressions.{ReadsAdd, ReadsMults, ReadsMult, ReadsUnaries, ReadsUnary, ReadsMember, ReadsPrimary, ReadsAccesses, ReadsAccess, ReadsSigns}
 use Rattle.cedar_syntax.specs.Tokens.{Spot, one}
-use Rattle.cedar_syntax.specs.Trees.{Cell, add_of, mult_of, unary_of, member_of, bangs_of, dashes_of, sign_limit}
-use Rattle.cedar_policy_parser.specs.Extensions.{Extensions, no_extensions}
+use Rattle.cedar_syntax.specs.Trees.{Cell, add_of, mult_of, unary_of, member_of, bangs_of, dashes_of}
+use Rattle.cedar_syntax.specs.Signs.{sign_limit}
+use Rattle.cedar_policy_parser.specs.Extensions.{Extensions}
 use Rattle.cedar_policy_parser.specs.HasSide.{Attributes, right_side, right_form, begins_with, beginning_outcome, attributes_of, behind_first, fields_of, field_of, field_form, string_alone, no_sign}
-use Rattle.cedar_policy_parser.specs.Held.{Held, expression, variable, bare_name, bare_truth, bare_string, variable_text, unqualified, as_string}
+use Rattle.cedar_policy_parser.specs.Held.{Held, expression, variable, bare_name, bare_truth, bare_string, unqualified, as_string}
 use Rattle.cedar_policy_parser.specs.Leaves.{name_leaf}
 use Rattle.cedar_policy_parser.specs.Literals.{literal_outcome}
 use Rattle.cedar_policy_parser.specs.Outcome.{Outcome, NamedFault, fault_outcome, invalid_has_rhs}
@@ -106,7 +108,7 @@ string_sought {src = src} e whole place raw r i (l.more_access {us = vs} {xs = x
 attributes_meant : {src : List ℕ} (ts : List Lexeme) {us : List Lexeme} {xs : List (Cell MemAccess)} (e : Extensions) (whole : Option Loc) (h : Held) (r : Attributes) → HeldAs e m.primary ts h → ReadsAccesses src us xs
     → attributes_of whole (parts_of (map listed_access xs)) h ≡ Ok r → IsSought (ts ++ us) r.0 r.1
 attributes_meant ts e whole (expression place x) r i q k = cc
-attributes_meant ts e whole (variable place x) r i q k = behind_meant (variable_text x) r (held_word e m.primary place x i) q k
+attributes_meant ts e whole (variable place x) r i q k = behind_meant (var_text x) r (held_word e m.primary place x i) q k
 attributes_meant ts e whole (bare_name place name) r i q k =
     let d = next_ok (unqualified place name.path name.id) _ r k in
     behind_meant d.0 r (unqualified_word place name.path name.id d.0 i.0 d.1) q d.2
@@ -121,6 +123,10 @@ begins_at whole ps p t u h = ap (beginning_outcome whole ps p) h
 never : {Y : Type 0} (fs : List NamedFault) (y : Y) (o : Outcome Y) → o ≡ Err fs → o ≡ Ok y → ⊥
 never fs y (Ok z) h k = cc
 never fs y (Err gs) h k = cc
+
+-- a table that holds nothing: what stands right of `has` looks at none
+no_extensions : Extensions
+no_extensions = record { functions = λ name. false; methods = λ id. false }
 
 begun_meant : {src : List ℕ} {ts us : List Lexeme} {x : Primary} {xs : List (Cell MemAccess)} (whole place : Option Loc) (r : Attributes) → ReadsPrimary src ts x → ReadsAccesses src us xs
     → begins_with whole (parts_of (map listed_access xs)) (at place (primary_form x)) ≡ Ok r → IsSought (ts ++ us) r.0 r.1

@@ -6,7 +6,7 @@ use Rattle.cedar_lexer.specs.declared.token.TokenKind.TheVariants as kind
 use Rattle.cedar_expressions.specs.declared.operators.AddOp.{AddOp}
 use Rattle.cedar_expressions.specs.Value.{Value}
 use Rattle.cedar_syntax.specs.declared.loc.Loc.{Loc}
-use Rattle.cedar_syntax.specs.declared.cst.TheConstants.{SIGN_LIMIT}
+use Rattle.cedar_syntax.specs.Signs.{sign_limit}
 use Rattle.cedar_syntax.specs.declared.cst.Expr.{Expr}
 use Rattle.cedar_syntax.specs.declared.cst.Or.{Or}
 use Rattle.cedar_syntax.specs.declared.cst.And.{And}
@@ -99,7 +99,7 @@ link_as e ts a b h i = rw (← h) i
 abbrev IsJoined : Extensions → List Lexeme → List Value → Type 0
 IsJoined e ts vs = (a : Value) × (bs : List Value) × (vs ≡ a ∷ bs) × JoinedAs e kind.Comma m.expression ts a bs
 
-listed_as : (e : Extensions) (ts : List Lexeme) (vs ws : List Value) → vs ≡ ws → Listed e SIGN_LIMIT ts ws → Listed e SIGN_LIMIT ts vs
+listed_as : (e : Extensions) (ts : List Lexeme) (vs ws : List Value) → vs ≡ ws → Listed e sign_limit ts ws → Listed e sign_limit ts vs
 listed_as e ts vs ws h i = rw h i
 
 joined_one : (e : Extensions) (ts : List Lexeme) (qs ps : List Part) (op : Operator) (b : Value) → [] ≡ qs → ps ≡ qs ++ (op, b) ∷ [] → Meant e m.expression ts b → IsJoined e ts (bodies ps)
@@ -110,10 +110,10 @@ joined_more e ts us p qs ps op b k j i = (j.0, j.1 ++ b ∷ [], ap bodies k ∙ 
 
 -- ---- entries
 
-entries_as : (e : Extensions) (ts : List Lexeme) (xs ys : List (List ℕ × Value)) → xs ≡ ys → Entries e SIGN_LIMIT ts ys → Entries e SIGN_LIMIT ts xs
+entries_as : (e : Extensions) (ts : List Lexeme) (xs ys : List (List ℕ × Value)) → xs ≡ ys → Entries e sign_limit ts ys → Entries e sign_limit ts xs
 entries_as e ts xs ys h i = rw h i
 
-joined_as : (e : Extensions) (ts : List Lexeme) (xs ys : List (List ℕ × Value)) → xs ≡ ys → JoinedEntries e SIGN_LIMIT ts ys → JoinedEntries e SIGN_LIMIT ts xs
+joined_as : (e : Extensions) (ts : List Lexeme) (xs ys : List (List ℕ × Value)) → xs ≡ ys → JoinedEntries e sign_limit ts ys → JoinedEntries e sign_limit ts xs
 joined_as e ts xs ys h i = rw h i
 
 -- ---- the induction
@@ -252,7 +252,7 @@ mutual
   sound_primary e place h (l.in_braces {ts = ts} {xs = xs} a b r) k =
       braces_held e ts a b place (pairs_outcome e (parts_of (map listed_init xs))) h (λ fs i. sound_inits e fs r i) (sym (gives_braces e place xs) ∙ k)
 
-  sound_exprs : {src : List ℕ} {ts : List Lexeme} {xs : List (Cell Expr)} (e : Extensions) (place : Option Loc) (ps : List Part) → ReadsExprs src ts xs → operands e place (parts_of (map listed_expr xs)) ≡ Ok ps → Listed e SIGN_LIMIT ts (bodies ps)
+  sound_exprs : {src : List ℕ} {ts : List Lexeme} {xs : List (Cell Expr)} (e : Extensions) (place : Option Loc) (ps : List Part) → ReadsExprs src ts xs → operands e place (parts_of (map listed_expr xs)) ≡ Ok ps → Listed e sign_limit ts (bodies ps)
   sound_exprs e place ps l.no_expr k = listed_as e [] (bodies ps) [] (ap bodies (sym (ok_is k))) m.no_items
   sound_exprs e place ps (l.exprs {ts = ts} r) k =
       let j = sound_items e place ps r k in
@@ -269,12 +269,12 @@ mutual
       let d = snoc_parts e place listed_expr xs (placed src us y) ps k in
       joined_more e ts us p d.0 ps beside d.1 d.4 (sound_items e place d.0 r d.2) (expression_of e src us y d.1 (λ t j. sound_expr e (placed src us y).loc t s j) (plain_operand e place (listed_expr (placed src us y)) d.1 (λ v. refl) d.3))
 
-  sound_inits : {src : List ℕ} {ts : List Lexeme} {xs : List (Cell RecInit)} (e : Extensions) (fs : List (List ℕ × Value)) → ReadsRecInits src ts xs → pairs_outcome e (parts_of (map listed_init xs)) ≡ Ok fs → Entries e SIGN_LIMIT ts fs
+  sound_inits : {src : List ℕ} {ts : List Lexeme} {xs : List (Cell RecInit)} (e : Extensions) (fs : List (List ℕ × Value)) → ReadsRecInits src ts xs → pairs_outcome e (parts_of (map listed_init xs)) ≡ Ok fs → Entries e sign_limit ts fs
   sound_inits e fs l.no_init k = entries_as e [] fs [] (sym (ok_is k)) m.no_entries
   sound_inits e fs (l.inits r) k = m.entries (sound_pairs e fs r k)
   sound_inits e fs (l.inits_comma p r) k = m.entries_comma p (sound_pairs e fs r k)
 
-  sound_pairs : {src : List ℕ} {ts : List Lexeme} {xs : List (Cell RecInit)} (e : Extensions) (fs : List (List ℕ × Value)) → ReadsInitItems src ts xs → pairs_outcome e (parts_of (map listed_init xs)) ≡ Ok fs → JoinedEntries e SIGN_LIMIT ts fs
+  sound_pairs : {src : List ℕ} {ts : List Lexeme} {xs : List (Cell RecInit)} (e : Extensions) (fs : List (List ℕ × Value)) → ReadsInitItems src ts xs → pairs_outcome e (parts_of (map listed_init xs)) ≡ Ok fs → JoinedEntries e sign_limit ts fs
   sound_pairs {src = src} e fs (l.one_init {ts = ts} {x = x} r) k =
       let d = pairs_snoc e [] (listed_init (placed src ts x)) fs k in
       joined_as e ts fs (d.1 ∷ []) (d.4 ∙ ap (λ ys. ys ++ d.1 ∷ []) (sym (ok_is d.2))) (m.one_entry (sound_pair e (placed src ts x).loc d.1 r d.3))
@@ -282,7 +282,7 @@ mutual
       let d = pairs_snoc e (map listed_init xs) (listed_init (placed src us y)) fs (ap (λ ys. pairs_outcome e (parts_of ys)) (sym (map_snoc listed_init xs (placed src us y))) ∙ k) in
       joined_as e (ts ++ one kind.Comma p ++ us) fs (d.0 ++ d.1 ∷ []) d.4 (m.more_entries p (sound_pairs e d.0 r d.2) (sound_pair e (placed src us y).loc d.1 s d.3))
 
-  sound_pair : {src : List ℕ} {ts : List Lexeme} {x : RecInit} (e : Extensions) (place : Option Loc) (z : List ℕ × Value) → ReadsRecInit src ts x → pair_outcome e (at place (init_form x)) ≡ Ok z → Entry e SIGN_LIMIT ts z.0 z.1
+  sound_pair : {src : List ℕ} {ts : List Lexeme} {x : RecInit} (e : Extensions) (place : Option Loc) (z : List ℕ × Value) → ReadsRecInit src ts x → pair_outcome e (at place (init_form x)) ≡ Ok z → Entry e sign_limit ts z.0 z.1
   sound_pair {src = src} e place z (l.rec_init {ts = ts} {us = us} {x = x} {y = y} p r s) k =
       let d = next_ok (outcome e (located expr_form (placed src ts x))) _ z (sym (gives_entry e place (placed src ts x) (placed src us y)) ∙ k) in
       let b = both_ok (as_attribute d.0) (value_outcome e (located expr_form (placed src us y))) z d.2 in

@@ -1,9 +1,10 @@
 //! The element of a scope that asks of the action.
 ghost use Rattle.std.specs.Prelude.{◌≡◌, Some, IfOk};
-ghost use Rattle.cedar_policy_parser.specs.Extensions.{table_of};
 ghost use Rattle.cedar_policy_parser.specs.Outcome.{invalid_action_type};
 ghost use Rattle.cedar_policy_parser.specs.Scope as s;
-ghost use Rattle.cedar_policy_parser.specs.Seen.{Gives, TellsAlone, itself, empty_view};
+ghost use Rattle.cedar_policy_parser.specs.Seen.{Gives, itself};
+ghost use Rattle.cedar_policy_parser.specs.Table.{table_of};
+ghost use Rattle.cedar_policy_parser.specs.machines.Views.{TellsAlone, empty_view};
 
 use crate::cst_to_ast::ExtStyles;
 use crate::methods::Site;

@@ -6,10 +6,11 @@ ghost use Rattle.cedar_expressions.specs.declared.literal.Var.TheVariants as var
 ghost use Rattle.cedar_syntax.specs.declared.cst.RelOp.TheVariants as rel;
 ghost use Rattle.cedar_syntax.specs.Forms.{located, expr_form};
 ghost use Rattle.cedar_policy_parser.specs.Conversion.{value_outcome};
-ghost use Rattle.cedar_policy_parser.specs.Extensions.{table_of};
 ghost use Rattle.cedar_policy_parser.specs.Outcome.{Outcome, invalid_scope_variable};
 ghost use Rattle.cedar_policy_parser.specs.Scope as s;
-ghost use Rattle.cedar_policy_parser.specs.Seen.{Gives, Refuses, TellsAlone, itself, empty_view};
+ghost use Rattle.cedar_policy_parser.specs.Seen.{Gives, Refuses, itself};
+ghost use Rattle.cedar_policy_parser.specs.Table.{table_of};
+ghost use Rattle.cedar_policy_parser.specs.machines.Views.{TellsAlone, empty_view, is_call};
 
 use crate::answer::{Converted, unanswered};
 use crate::convert::add;
@@ -79,7 +80,7 @@ fn element_variable(alloc: Global, element: &VariableDef) -> Result<Var, Failure
 
 /// Whether a call of one expression is `is`.
 fn is_call(call: &UnaryCall) -> bool
-    ensures { result ≡ s.is_call call.now }
+    ensures { result ≡ is_call call.now }
 {
     match call {
         UnaryCall::Is(_) => true,

@@ -20,7 +20,7 @@ use Rattle.cedar_syntax.specs.declared.reading.class.Side.TheVariants as side
 use Rattle.cedar_syntax.specs.declared.reading.class.Operator.{Operator}
 use Rattle.cedar_syntax.specs.declared.reading.class.Operator.TheVariants as operator
 use Rattle.cedar_syntax.specs.Tokens.{number_of, fits, any_of}
-use Rattle.cedar_syntax.specs.Trees.{sign_limit}
+use Rattle.cedar_syntax.specs.Signs.{sign_limit}
 
 -- digits: a number, or too large a one for 64 bits
 abbrev pub number_class : List ℕ → Beginning

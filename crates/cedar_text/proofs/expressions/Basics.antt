@@ -7,6 +7,7 @@ use Rattle.cedar_lexer.specs.declared.token.TokenKind.{TokenKind}
 use Rattle.cedar_syntax.specs.declared.cst.NegOp.TheVariants as neg
 use Rattle.cedar_syntax.specs.declared.reading.class.Sign.TheVariants as sign
 use Rattle.cedar_syntax.specs.Place.{joint_extent, extent}
+use Rattle.cedar_syntax.specs.Signs.{sign_limit}
 use Rattle.cedar_syntax.specs.Trees.{bangs_of, dashes_of}
 use Rattle.cedar_syntax.specs.Tokens.{Spot, one}
 use Rattle.cedar_syntax.specs.machines.Classes.{with_sign}
@@ -17,36 +18,36 @@ chain_extent ts us k p = rw (extent-append (ts ++ one k p) us, extent-append ts 
 
 -- one sign more, at the limit and below it
 
-limit_more : (n : ℕ) (a b : Bool) → nat_le n 4 ≡ a → nat_le (n + 1) 4 ≡ b → nat_lt n 4 ≡ b
-limit_more n a true e f = let g : n + 1 ≤ 4 = leb-true (n + 1) 4 f in let h : n < 4 = omega arith in lt-ltb n 4 h
-limit_more n a false e f = let g : 4 < n + 1 = leb-false (n + 1) 4 f in let h : 4 ≤ n = omega arith in le-ltb n 4 h
+limit_more : (k n : ℕ) (a b : Bool) → nat_le n k ≡ a → nat_le (n + 1) k ≡ b → nat_lt n k ≡ b
+limit_more k n a true e f = let g : n + 1 ≤ k = leb-true (n + 1) k f in let h : n < k = omega arith in lt-ltb n k h
+limit_more k n a false e f = let g : k < n + 1 = leb-false (n + 1) k f in let h : k ≤ n = omega arith in le-ltb n k h
 
-over_more : (n : ℕ) → nat_le n 4 ≡ false → nat_le (n + 1) 4 ≡ false
-over_more n e = let g : 4 < n = leb-false n 4 e in let h : 4 < n + 1 = omega arith in lt-leb (n + 1) 4 h
+over_more : (k n : ℕ) → nat_le n k ≡ false → nat_le (n + 1) k ≡ false
+over_more k n e = let g : k < n = leb-false n k e in let h : k < n + 1 = omega arith in lt-leb (n + 1) k h
 
 pub bang_more : (n : ℕ) → with_sign (Some (bangs_of n)) sign.Bang ≡ Some (bangs_of (n + 1))
-bang_more n = go (nat_le n 4) refl
+bang_more n = go (nat_le n sign_limit) refl
   where
-    go : (a : Bool) → nat_le n 4 ≡ a → with_sign (Some (cond a (neg.Bang n) neg.OverBang)) sign.Bang ≡ Some (bangs_of (n + 1))
-    go true e = ap (λ b. Some (cond b (neg.Bang (n + 1)) neg.OverBang)) (limit_more n true (nat_le (n + 1) 4) e refl)
-    go false e = ap (λ b. Some (cond b (neg.Bang (n + 1)) neg.OverBang)) (sym (over_more n e))
+    go : (a : Bool) → nat_le n sign_limit ≡ a → with_sign (Some (cond a (neg.Bang n) neg.OverBang)) sign.Bang ≡ Some (bangs_of (n + 1))
+    go true e = ap (λ b. Some (cond b (neg.Bang (n + 1)) neg.OverBang)) (limit_more sign_limit n true (nat_le (n + 1) sign_limit) e refl)
+    go false e = ap (λ b. Some (cond b (neg.Bang (n + 1)) neg.OverBang)) (sym (over_more sign_limit n e))
 
 pub dash_more : (n : ℕ) → with_sign (Some (dashes_of n)) sign.Dash ≡ Some (dashes_of (n + 1))
-dash_more n = go (nat_le n 4) refl
+dash_more n = go (nat_le n sign_limit) refl
   where
-    go : (a : Bool) → nat_le n 4 ≡ a → with_sign (Some (cond a (neg.Dash n) neg.OverDash)) sign.Dash ≡ Some (dashes_of (n + 1))
-    go true e = ap (λ b. Some (cond b (neg.Dash (n + 1)) neg.OverDash)) (limit_more n true (nat_le (n + 1) 4) e refl)
-    go false e = ap (λ b. Some (cond b (neg.Dash (n + 1)) neg.OverDash)) (sym (over_more n e))
+    go : (a : Bool) → nat_le n sign_limit ≡ a → with_sign (Some (cond a (neg.Dash n) neg.OverDash)) sign.Dash ≡ Some (dashes_of (n + 1))
+    go true e = ap (λ b. Some (cond b (neg.Dash (n + 1)) neg.OverDash)) (limit_more sign_limit n true (nat_le (n + 1) sign_limit) e refl)
+    go false e = ap (λ b. Some (cond b (neg.Dash (n + 1)) neg.OverDash)) (sym (over_more sign_limit n e))
 
 pub bang_dash : (n : ℕ) → with_sign (Some (bangs_of n)) sign.Dash ≡ None
-bang_dash n = go (nat_le n 4)
+bang_dash n = go (nat_le n sign_limit)
   where
     go : (a : Bool) → with_sign (Some (cond a (neg.Bang n) neg.OverBang)) sign.Dash ≡ None
     go true = refl
     go false = refl
 
 pub dash_bang : (n : ℕ) → with_sign (Some (dashes_of n)) sign.Bang ≡ None
-dash_bang n = go (nat_le n 4)
+dash_bang n = go (nat_le n sign_limit)
   where
     go : (a : Bool) → with_sign (Some (cond a (neg.Dash n) neg.OverDash)) sign.Bang ≡ None
     go true = refl

@@ -9,7 +9,7 @@ use Rattle.cedar_syntax.specs.declared.reading.recovery.Way.{Way}
 use Rattle.cedar_syntax.specs.declared.reading.recovery.Way.TheVariants as way
 use Rattle.cedar_syntax.specs.Tokens.{fits}
 use Rattle.cedar_syntax.specs.Sentences.{kinds, Allowed, IsFirstRefused, first}
-use Rattle.cedar_syntax.specs.Mended.{is_stop, Skips, Mended, head, Faults, no_fault, too_large, last_fault, more_faults}
+use Rattle.cedar_syntax.specs.Mended.{Mended, head, Faults, no_fault, too_large, last_fault, more_faults}
 use Rattle.cedar_syntax.specs.machines.Door.{Machine, Answer, next, ended, refused, answer_state, steps, Comes, AnswersRightly, Door, is_taken, is_some, allows, Shapes}
 use Rattle.cedar_syntax.specs.machines.Door as door
 use Rattle.cedar_text.specs.machines.WordShapes.{no_tree}
@@ -18,7 +18,7 @@ use Rattle.cedar_syntax.proofs.machines.Laws.{false_true, starts_from, comes, ex
 use Rattle.cedar_syntax.proofs.machines.Holding.{snoc_assoc, one_more}
 use Rattle.cedar_text.proofs.machines.Alike.{states_alike}
 use Rattle.cedar_text.proofs.machines.SequenceShapes.{IsShapeBy}
-use Rattle.cedar_text.proofs.machines.Recovery.{end_from, Recoverable, reads, stays, skips_on, braced, skips, skips_out, no_stop, fault_told, Search, found_none, found, search, stop_at, Resumed, resumed}
+use Rattle.cedar_text.proofs.machines.Recovery.{end_from, Recoverable, reads, stays, is_stop, Skips, skips_on, braced, skips, skips_out, no_stop, fault_told, Search, found_none, found, search, stop_at, Resumed, resumed}
 
 -- what a definition says of a fault, recovery tells
 
@@ -39,10 +39,10 @@ large_told r f xs l s t refused c o i e h k g = absurd (false_true (ap (λ c. is
 large_told r f xs l s t door.too_large c o i e h k g = refl
 
 skipped_last : {S T F V : Type 0} {src : List ℕ} {m : Machine Lexeme S T} {R : List Lexeme → T → Type 0} {W : List Lexeme → Type 0} {U : List Lexeme → Option Lexeme → F → Type 0} {L : Lexeme → F → Type 0} {r : Recovers S F} {n : Machine TokenKind V (Unit {0})} {f : S → V} →
-    Recoverable src m R W U L r n f → (before : List Lexeme) (s : S) (xs : List F) (x : F) (w : Way) (b : Bool) → r.way s ≡ w → skips_on w ≡ b → Comes m before s → {us : List Lexeme} → Search (braced w) us → ((vs : List Lexeme) → ¬ (Mended src R W before us vs)) →
+    Recoverable src m R W U L r n f → (before : List Lexeme) (s : S) (xs : List F) (x : F) (w : Way) (b : Bool) → r.way s ≡ w → skips_on w ≡ b → Comes m before s → {us : List Lexeme} → Search (braced w) us → ((vs : List Lexeme) → ¬ (Mended src W before us vs)) →
     told_all m r (skipping xs w s x) us ≡ run_faults xs (Some x)
 skipped_last {m = m} {r = r} d before s xs x w true h i c (found_none {ts = us} k) none = skips_out m r xs w s x us i k
-skipped_last {src = src} {R = R} {W = W} {r = r} d before s xs x w true h i c (found vs t ws k j) none =
+skipped_last {src = src} {W = W} {r = r} d before s xs x w true h i c (found vs t ws k j) none =
     let g = stop_at d before s vs ws t c (ap (λ w. skips_on w) h ∙ i) (subst (λ w. Skips (braced w) vs) (sym h) k) (ap (λ w. is_stop (braced w) t.kind) h ∙ j) in
     absurd (none (g.front ++ ws) g.mended)
 skipped_last {m = m} {r = r} d before s xs x w false h i c {us = us} k none = never w i us
@@ -114,7 +114,7 @@ Behind {S = S} src m R W U L ts = (before : List Lexeme) (s : S) → Comes m bef
 
 -- where nothing ends the skipping, nothing is mended
 unmended : {S T F V : Type 0} {src : List ℕ} {m : Machine Lexeme S T} {R : List Lexeme → T → Type 0} {W : List Lexeme → Type 0} {U : List Lexeme → Option Lexeme → F → Type 0} {L : Lexeme → F → Type 0} {r : Recovers S F} {n : Machine TokenKind V (Unit {0})} {f : S → V} →
-    Recoverable src m R W U L r n f → (before us : List Lexeme) (s : S) → Comes m before s → (skips_on (r.way s) ≡ true → Skips (braced (r.way s)) us) → (vs : List Lexeme) → ¬ (Mended src R W before us vs)
+    Recoverable src m R W U L r n f → (before us : List Lexeme) (s : S) → Comes m before s → (skips_on (r.way s) ≡ true → Skips (braced (r.way s)) us) → (vs : List Lexeme) → ¬ (Mended src W before us vs)
 unmended {r = r} d before us s c h vs e =
     let g = resumed d s e c in
     no_stop (braced (r.way s)) g.skips g.after g.stop g.is_one (subst (λ w. Skips (braced (r.way s)) w) g.parts (h g.goes_on))

@@ -16,7 +16,7 @@ use Rattle.cedar_syntax.specs.Trees.{Cell}
 use Rattle.cedar_syntax.specs.machines.Door.{Answer, next, ended, refused, too_large, Machine, answer_state, steps, AnswersRightly, Door, Shapes}
 use Rattle.cedar_syntax.proofs.machines.Laws.{none_some, steps-none, kinds-append, comes}
 use Rattle.cedar_text.specs.GoesOn.{GoesOnInText}
-use Rattle.cedar_text.proofs.Joints.{laid_bytes, laid_end, laid_stands, laid_stays}
+use Rattle.cedar_lexer.proofs.Joints.{laid_bytes, laid_end, laid_stands, laid_stays}
 use Rattle.cedar_text.proofs.KindTexts.{NumbersFit, ascii_text, text_of, text_utf8, tokens_from, text_laid, kinds_are, all_fit}
 use Rattle.cedar_text.proofs.machines.StandsInText.{Ends, shapes_end, has_tree}
 

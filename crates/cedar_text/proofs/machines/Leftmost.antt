@@ -21,10 +21,10 @@ use Rattle.cedar_syntax.specs.Expected.{IsNarrowed, Picks, no_kind, picked, pass
 use Rattle.cedar_syntax.specs.FirstFault.{tokens_end, FirstFault, unexpected, early_end, large_number, bad_place, IsFaultIn}
 use Rattle.cedar_syntax.specs.Grammar.{Rule, IsNodeOf}
 use Rattle.cedar_syntax.specs.Leftmost.{IsFitting, NumbersFit, start_of, IsBefore, StartsBefore, StandsLeftmost, HasLeftmost}
-use Rattle.cedar_syntax.specs.Mended.{Mended, to_brace, to_end, Faults, no_fault, too_large, last_fault, more_faults, stub_token, head}
+use Rattle.cedar_syntax.specs.Mended.{Mended, to_brace, to_end, Faults, no_fault, too_large, last_fault, more_faults, short_policy, head}
 use Rattle.cedar_syntax.specs.MendedFaults.{fault_of, Unallowed, a_token, the_end, IsLarge, faults_with_last, FaultsOf, IsListed, IsFaultList, IsMendedRefusal}
 use Rattle.cedar_syntax.specs.Sentences.{kinds, Starts, Allowed, IsFirstRefused, first}
-use Rattle.cedar_syntax.specs.Tokens.{one}
+use Rattle.cedar_syntax.specs.Tokens.{Spot, one}
 use Rattle.cedar_syntax.proofs.machines.Laws.{some_is, false_true, kinds-append}
 use Rattle.cedar_text.proofs.machines.Recovery.{end_from, end_from-append}
 use Rattle.cedar_text.proofs.machines.Telling.{end_is}
@@ -93,21 +93,23 @@ open_fits e = cc
 close_fits : kind.CloseParen ≡ kind.Number → ⊥
 close_fits e = cc
 
+semicolon_fits : kind.Semicolon ≡ kind.Number → ⊥
+semicolon_fits e = cc
+
+short_fits : (e : Spot) → NumbersFit (short_policy e)
+short_fits e = (λ e. absurd (identifier_fits e), (λ e. absurd (open_fits e), (λ e. absurd (close_fits e), (λ e. absurd (semicolon_fits e), tt))))
+
 -- no number is put in by mending
-fit_mended : {T : Type 0} {src : List ℕ} {R : List Lexeme → T → Type 0} {W : List Lexeme → Type 0} {before rest mended : List Lexeme} → Mended src R W before rest mended → NumbersFit (before ++ rest) → NumbersFit mended
-fit_mended (to_brace ts us vs ws e b k) h =
+fit_mended : {src : List ℕ} {W : List Lexeme → Type 0} {before rest mended : List Lexeme} → Mended src W before rest mended → NumbersFit (before ++ rest) → NumbersFit mended
+fit_mended (to_brace ts us vs ws e b k j) h =
     let g : NumbersFit (vs ++ one kind.CloseBrace e ++ ws) = fit_right (ts ++ us) (vs ++ one kind.CloseBrace e ++ ws) h in
     fit_both (ts ++ one kind.CloseBrace e) ws
     (fit_both ts (one kind.CloseBrace e) (fit_left ts us (fit_left (ts ++ us) (vs ++ one kind.CloseBrace e ++ ws) h)) (fit_right vs (one kind.CloseBrace e) (fit_left (vs ++ one kind.CloseBrace e) ws g)))
     (fit_right (vs ++ one kind.CloseBrace e) ws g)
-fit_mended (to_end ts us vs ws e w b i k) h =
-    let g : NumbersFit (vs ++ one kind.Semicolon e ++ ws) = fit_right (ts ++ us) (vs ++ one kind.Semicolon e ++ ws) h in
-    let a : NumbersFit (ts ++ stub_token kind.Identifier) = fit_both ts (stub_token kind.Identifier) (fit_left ts us (fit_left (ts ++ us) (vs ++ one kind.Semicolon e ++ ws) h)) (λ e. absurd (identifier_fits e), tt) in
-    let b : NumbersFit (ts ++ stub_token kind.Identifier ++ stub_token kind.OpenParen) = fit_both (ts ++ stub_token kind.Identifier) (stub_token kind.OpenParen) a (λ e. absurd (open_fits e), tt) in
-    let c : NumbersFit (ts ++ stub_token kind.Identifier ++ stub_token kind.OpenParen ++ stub_token kind.CloseParen) = fit_both (ts ++ stub_token kind.Identifier ++ stub_token kind.OpenParen) (stub_token kind.CloseParen) b (λ e. absurd (close_fits e), tt) in
-    fit_both (ts ++ stub_token kind.Identifier ++ stub_token kind.OpenParen ++ stub_token kind.CloseParen ++ one kind.Semicolon e) ws
-    (fit_both (ts ++ stub_token kind.Identifier ++ stub_token kind.OpenParen ++ stub_token kind.CloseParen) (one kind.Semicolon e) c (fit_right vs (one kind.Semicolon e) (fit_left (vs ++ one kind.Semicolon e) ws g)))
-    (fit_right (vs ++ one kind.Semicolon e) ws g)
+fit_mended (to_end ts us vs ws e w b k j) h =
+    fit_both (ts ++ short_policy e) ws
+    (fit_both ts (short_policy e) (fit_left ts us (fit_left (ts ++ us) (vs ++ one kind.Semicolon e ++ ws) h)) (short_fits e))
+    (fit_right (vs ++ one kind.Semicolon e) ws (fit_right (ts ++ us) (vs ++ one kind.Semicolon e ++ ws) h))
 
 -- ---- tokens in order
 
@@ -208,7 +210,7 @@ pub record Goes {T : Type 0} (R : List Lexeme → T → Type 0) (before rest men
   pub last : end_from 0 front ≡ stop.end
 
 abbrev pub Resumes : {T : Type 0} → List ℕ → (List Lexeme → T → Type 0) → (List Lexeme → Type 0) → Type 0
-Resumes src R W = (before rest mended : List Lexeme) → Mended src R W before rest mended → Starts R before → Goes R before rest mended
+Resumes src R W = (before rest mended : List Lexeme) → Mended src W before rest mended → Starts R before → Goes R before rest mended
 
 record Later (n : ℕ) (xs : List ParseError) (y : Option ParseError) : Type 0 where
   mended : AllByRecursion (λ x. StartsFrom n x) xs

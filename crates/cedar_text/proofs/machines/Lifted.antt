@@ -3,10 +3,6 @@ use Rattle.std.specs.Prelude.{◌↔◌}
 use Rattle.std.proofs.Common.{◌≡◌, ℕ, List, ◌++◌, Option, sym, ◌∙◌, ap}
 use Rattle.cedar_lexer.specs.Token.{Lexeme}
 use Rattle.cedar_lexer.specs.declared.token.TokenKind.{TokenKind}
-use Rattle.cedar_lexer.specs.declared.token.TokenKind.TheVariants as kind
-use Rattle.cedar_syntax.specs.Tokens.{one}
-use Rattle.cedar_syntax.specs.Sentences.{HasTree}
-use Rattle.cedar_syntax.specs.Mended.{InBraces, in_braces}
 use Rattle.cedar_syntax.specs.machines.Door.{Machine, Comes, Door, Shapes}
 use Rattle.cedar_syntax.specs.machines.Recovery.{Recovers}
 use Rattle.cedar_text.specs.machines.WordShapes.{no_tree}
@@ -23,9 +19,6 @@ pub record LeftAs {S H F G : Type 0} (r : Recovers S F) (v : Recovers H G) (held
   pub closes : (q : H) → held (v.close q) ≡ r.close (held q)
   pub ends : (q : H) → held (v.end q) ≡ r.end (held q)
 
-braces_so : {T Z : Type 0} (src : List ℕ) (R : List Lexeme → T → Type 0) (Q : List Lexeme → Z → Type 0) → ((ts : List Lexeme) → HasTree R ts → HasTree Q ts) → {us vs : List Lexeme} → InBraces src R us vs → InBraces src Q us vs
-braces_so src R Q h (in_braces ts l e a b c) = in_braces ts l e (h (ts ++ one kind.Semicolon e) a) b c
-
 comparable_so : {S T H Z V : Type 0} {m : Machine Lexeme S T} {u : Machine Lexeme H Z} {held : H → S} (f : S → V) → Holds m u held → {ts : List Lexeme} {v w : V} → v ≡ w → Comparable m f ts v → Comparable u (λ q. f (held q)) ts w
 comparable_so f h {ts = ts} e c =
     let q = h.up ts c.state c.comes in
@@ -33,11 +26,11 @@ comparable_so f h {ts = ts} e c =
 
 pub lifted : {S T H Z F G V : Type 0} {src : List ℕ} {m : Machine Lexeme S T} {u : Machine Lexeme H Z} {R : List Lexeme → T → Type 0} {Q : List Lexeme → Z → Type 0} {W : List Lexeme → Type 0} {U : List Lexeme → Option Lexeme → F → Type 0} {L : Lexeme → F → Type 0}
     {r : Recovers S F} {v : Recovers H G} {n : Machine TokenKind V (Unit {0})} {f : S → V} (A : List Lexeme → Option Lexeme → G → Type 0) (B : Lexeme → G → Type 0) (held : H → S) →
-    Recoverable src m R W U L r n f → Holds m u held → LeftAs r v held → Door u Q → Shapes u n (λ q. f (held q)) no_tree → ((ts : List Lexeme) → HasTree R ts → HasTree Q ts) → ((ts : List Lexeme) → HasTree Q ts → HasTree R ts) →
+    Recoverable src m R W U L r n f → Holds m u held → LeftAs r v held → Door u Q → Shapes u n (λ q. f (held q)) no_tree →
     ((s q : H) (l : ℕ) (o : Option Lexeme) → f (held s) ≡ f (held q) → v.tell s l o ≡ v.tell q l o) →
     ((ts : List Lexeme) (q : H) (o : Option Lexeme) (x : G) → Comes u ts q → A ts o x ↔ (v.tell q (end_from 0 ts) o ≡ x)) → ((t : Lexeme) (x : G) → B t x ↔ (v.large t ≡ x)) →
     Recoverable src u Q W A B v n (λ q. f (held q))
-lifted {src = src} {R = R} {Q = Q} {r = r} {f = f} A B held d h k door shaped to of a b c = record {
+lifted {f = f} A B held d h k door shaped a b c = record {
   door = door;
   shaped = shaped;
   by_shape = record {
@@ -48,10 +41,10 @@ lifted {src = src} {R = R} {Q = Q} {r = r} {f = f} A B held d h k door shaped to
   };
   tells = b;
   larges = c;
-  inside = λ ts q e w. let i = d.inside ts (held q) (h.down ts q e) (sym (k.ways q) ∙ w) in record { opened = i.opened; within = i.within; is = i.is; braces = braces_so src R Q to i.braces };
-  braces = λ us vs q i e. k.ways q ∙ d.braces us vs (held q) (braces_so src Q R of i) (h.down (us ++ vs) q e);
+  inside = λ ts q e w. d.inside ts (held q) (h.down ts q e) (sym (k.ways q) ∙ w);
+  braces = λ us vs q i e. k.ways q ∙ d.braces us vs (held q) i (h.down (us ++ vs) q e);
   begun = λ ts q e w. d.begun ts (held q) (h.down ts q e) (λ i. w (k.ways q ∙ i));
   not_begun = λ ts us q w i e j. d.not_begun ts us (held q) w i (h.down (ts ++ us) q e) (sym (k.ways q) ∙ j);
-  closes = λ us vs q e i g. comparable_so f h (ap f (sym (k.closes q))) (d.closes us vs (held q) e (braces_so src Q R of i) (h.down (us ++ vs) q g));
+  closes = λ us vs q e i g. comparable_so f h (ap f (sym (k.closes q))) (d.closes us vs (held q) e i (h.down (us ++ vs) q g));
   ends = λ ts us q e w i g. comparable_so f h (ap f (sym (k.ends q))) (d.ends ts us (held q) e w i (h.down (ts ++ us) q g));
 }

@@ -8,7 +8,6 @@ use Rattle.cedar_syntax.specs.declared.cst.Ident.{Ident}
 use Rattle.cedar_syntax.specs.declared.cst.Annotation.{Annotation}
 use Rattle.cedar_syntax.specs.declared.cst.VariableDef.{VariableDef}
 use Rattle.cedar_syntax.specs.declared.cst.Cond.{Cond}
-use Rattle.cedar_syntax.specs.declared.cst.Policy.{Policy}
 use Rattle.cedar_syntax.specs.declared.reading.extent.Extent.{Extent}
 use Rattle.cedar_text.specs.declared.text_to_cst.condition.ConditionState.{ConditionState}
 use Rattle.cedar_text.specs.declared.text_to_cst.condition.ConditionState.TheVariants as condition
@@ -19,10 +18,10 @@ use Rattle.cedar_text.specs.declared.text_to_cst.sequence.Spanned.{Spanned}
 use Rattle.cedar_syntax.specs.Tokens.{Spot, one}
 use Rattle.cedar_syntax.specs.Place.{joint_extent, extent, placed}
 use Rattle.cedar_syntax.specs.Trees.{Cell}
-use Rattle.cedar_syntax.specs.LooseWords.{ReadsAny, any, ReadsList}
+use Rattle.cedar_syntax.specs.LooseWords.{ReadsAny, any}
 use Rattle.cedar_syntax.specs.LooseExpressions.{ReadsExpr}
-use Rattle.cedar_syntax.specs.LoosePolicies.{ReadsMany, ReadsAnnotation, ReadsVariableDef, ReadsBody, no_body, body, ReadsCond, ReadsPolicy}
-use Rattle.cedar_syntax.specs.LoosePolicies as loose
+use Rattle.cedar_syntax.specs.LoosePolicies.{ReadsBody, no_body, body, ReadsCond}
+use Rattle.cedar_syntax.specs.Mended.{OpenPolicy, open_policy}
 use Rattle.cedar_syntax.specs.Sentences.{HasTree, Starts}
 use Rattle.cedar_syntax.specs.machines.Door.{Machine, answer_state, steps, Comes, Door}
 use Rattle.cedar_syntax.specs.machines.Marks.{mark_of}
@@ -42,23 +41,6 @@ use Rattle.cedar_text.proofs.machines.Placing.{node_door}
 use Rattle.cedar_text.proofs.machines.Policy.{SectionDoors, holds_conditions, head_runs, PolicyRead, is_annotated, is_effect, is_scope, is_conditions, policy_read}
 use Rattle.cedar_text.proofs.machines.Policy as read
 use Rattle.cedar_text.proofs.machines.Policies.{Grounds, section_doors}
-
--- a policy up to where a condition may stand, or its semicolon
-pub data OpenPolicy (src : List ℕ) : List Lexeme → Type 0 where
-  open_policy : {ts us vs ws : List Lexeme} {xs : List (Cell Annotation)} {i : Ident} {ys : List (Cell VariableDef)} {zs : List (Cell Cond)} (l m : Spot) →
-      ReadsMany src (ReadsAnnotation src) ts xs → ReadsAny us i → ReadsList src (ReadsVariableDef src) vs ys → ReadsMany src (ReadsCond src) ws zs → OpenPolicy src (ts ++ us ++ one kind.OpenParen l ++ vs ++ one kind.CloseParen m ++ ws)
-
-pub whole_policy_of : {src : List ℕ} {ts : List Lexeme} (e : Spot) → OpenPolicy src ts → HasTree (ReadsPolicy src) (ts ++ one kind.Semicolon e)
-whole_policy_of e (open_policy l m r w v c) = (_, loose.policy l m e r w v c)
-
-pub record Opening (src : List ℕ) (ts : List Lexeme) : Type 0 where
-  pub tokens : List Lexeme
-  pub stands : OpenPolicy src tokens
-  pub end : Spot
-  pub is : tokens ++ one kind.Semicolon end ≡ ts
-
-pub opening_of : {src : List ℕ} {ts : List Lexeme} {p : Policy} → ReadsPolicy src ts p → Opening src ts
-opening_of (loose.policy l m e r w v c) = record { tokens = _; stands = open_policy l m r w v c; end = e; is = refl }
 
 -- the machines of conditions
 

@@ -16,7 +16,6 @@ use Rattle.cedar_syntax.specs.Grammar.{IsNodeOf}
 use Rattle.cedar_syntax.specs.LoosePolicies.{ReadsMany, ReadsPolicy, ReadsPolicies}
 use Rattle.cedar_syntax.specs.MendedFaults.{fault_of, Unallowed, IsLarge, PoliciesBefore, NothingBefore, IsMendedRefusal}
 use Rattle.cedar_syntax.specs.Place.{placed}
-use Rattle.cedar_syntax.specs.Sentences.{HasTree}
 use Rattle.cedar_syntax.specs.Trees.{Cell}
 use Rattle.cedar_syntax.specs.machines.Door.{Machine, Door, allows, Shapes}
 use Rattle.cedar_syntax.specs.machines.Mapping.{mapped_machine, policies_node}
@@ -74,15 +73,6 @@ whole_shaped src m n f g h i =
     mapped_shaped (policies_node src) (placing src (policies_machine src m)) (all_policies_shapes n) (λ s. all_policies_shape f g h s.state)
     (nodes_shaped src (policies_machine src m) (all_policies_shapes n) (all_policies_shape f g h) (all_policies_shaped src m n f g h i))
 
-to_whole : (src : List ℕ) (ts : List Lexeme) → HasTree (ReadsMany src (ReadsPolicy src)) ts → HasTree (IsNodeOf ReadsPolicies src) ts
-to_whole src ts w = (policies_node src (placed src ts w.0), policies_nodes src ts (placed src ts w.0) (as_node w.1))
-
-of_whole : (src : List ℕ) (ts : List Lexeme) → HasTree (IsNodeOf ReadsPolicies src) ts → HasTree (ReadsMany src (ReadsPolicy src)) ts
-of_whole src ts w = go (nodes_policies src ts w.0 w.1).0 (nodes_policies src ts w.0 w.1).1
-  where
-    go : (x : Cell (List (Cell Policy))) → AsNode src (ReadsMany src (ReadsPolicy src)) ts x → HasTree (ReadsMany src (ReadsPolicy src)) ts
-    go x (as_node {x = xs} r) = (xs, r)
-
 pub whole_recovered : {N S E L M F : Type 0} (src : List ℕ) (m : PartMachines N S E) (n : PartShapes L M F) (f : N → L) (g : S → M) (h : E → F) → Grounds src m → PartsShaped m n f g h →
     Recoverable src (whole_machine src m) (IsNodeOf ReadsPolicies src) (PoliciesBefore src) (Unallowed (IsNodeOf ReadsPolicies src) narrowing.Tokens src) (IsLarge src) (whole_recovers src n f g h) (all_policies_shapes n) (λ s. all_policies_shape f g h s.state)
 whole_recovered src m n f g h d i =
@@ -93,7 +83,7 @@ whole_recovered src m n f g h d i =
     (large_exactly src))
     (placed_holds src (policies_node src) (policies_machine src m))
     record { ways = λ q. refl; closes = λ q. refl; ends = λ q. refl }
-    (whole_door d) (whole_shaped src m n f g h i) (to_whole src) (of_whole src)
+    (whole_door d) (whole_shaped src m n f g h i)
     (λ s q l o e. ap (λ u. refused_fault fault_of (λ after. allows (all_policies_shapes n) u after) src l o) e)
     (λ ts q o x c. tells_exactly (λ s. all_policies_shape f g h s.state) (whole_door d) (whole_shaped src m n f g h i) src ts q o x c)
     (large_exactly src)
@@ -146,7 +136,7 @@ one_recovered src m n f g h d i =
     (large_exactly src))
     record { down = λ ts q c. c; up = λ ts s c. (s, c, refl) }
     record { ways = λ q. refl; closes = λ q. refl; ends = λ q. refl }
-    (one_door d) (one_policy_shaped src m n f g h i) (λ ts w. (w.0, to_one d ts w.0 w.1)) (λ ts w. (w.0, of_one d ts w.0 w.1))
+    (one_door d) (one_policy_shaped src m n f g h i)
     (λ s q l o e. ap (λ u. refused_fault fault_of (λ after. allows (one_policy_shapes n) u after) src l o) e)
     (λ ts q o x c. tells_exactly (λ s. one_policy_shape f g h s) (one_door d) (one_policy_shaped src m n f g h i) src ts q o x c)
     (large_exactly src)

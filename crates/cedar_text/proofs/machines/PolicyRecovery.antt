@@ -19,10 +19,10 @@ use Rattle.cedar_syntax.specs.Tokens.{Spot, one}
 use Rattle.cedar_syntax.specs.Place.{placed}
 use Rattle.cedar_syntax.specs.Trees.{Cell}
 use Rattle.cedar_syntax.specs.LooseWords.{any, no_item}
-use Rattle.cedar_syntax.specs.LoosePolicies.{ReadsMany, none, more, ReadsPolicy}
+use Rattle.cedar_syntax.specs.LoosePolicies.{ReadsMany, none, ReadsPolicy}
 use Rattle.cedar_syntax.specs.LoosePolicies as loose
 use Rattle.cedar_syntax.specs.Sentences.{HasTree}
-use Rattle.cedar_syntax.specs.Mended.{InBraces, in_braces, IsBegun, stub_token}
+use Rattle.cedar_syntax.specs.Mended.{InBraces, in_braces, EndsInBraces, BegunPolicy, stub_token, short_policy}
 use Rattle.cedar_syntax.specs.machines.Door.{Machine, Answer, next, ended, refused, too_large, answer_state, steps, Comes, option_image}
 use Rattle.cedar_text.specs.machines.Placing.{AsNode, as_node, spanned_state, spanned_answer, node_if}
 use Rattle.cedar_text.specs.machines.Sequences.{sequence, many}
@@ -39,8 +39,8 @@ use Rattle.cedar_text.proofs.machines.Sequences.{item_at, many_holds, many_next,
 use Rattle.cedar_text.proofs.machines.Policy.{policy_ends}
 use Rattle.cedar_text.proofs.machines.PolicyShapes.{PartsShaped}
 use Rattle.cedar_text.proofs.machines.Policies.{Grounds, one_policy_door, all_policies_door, one_policy_shaped, all_policies_shaped}
-use Rattle.cedar_text.proofs.machines.Opened.{OpenPolicy, whole_policy_of, opening_of, in_body, IsClosed, closed, behind_brace, OpenTokens, opened_by}
-use Rattle.cedar_text.proofs.machines.Recovery.{end_from, Inside, Split, Comparable, Recoverable}
+use Rattle.cedar_text.proofs.machines.Opened.{in_body, IsClosed, closed, behind_brace, OpenTokens, opened_by}
+use Rattle.cedar_text.proofs.machines.Recovery.{end_from, Split, Comparable, Recoverable}
 
 -- how a fault is left is told by the shape
 
@@ -142,72 +142,32 @@ stop_apart e = cc
 abbrev spare : Spot
 spare = record { start = 0; end = 0; text = [] }
 
-short_reads : (src : List ℕ) (e : Spot) → HasTree (ReadsPolicy src) (stub_token kind.Identifier ++ stub_token kind.OpenParen ++ stub_token kind.CloseParen ++ one kind.Semicolon e)
+short_reads : (src : List ℕ) (e : Spot) → HasTree (ReadsPolicy src) (short_policy e)
 short_reads src e = (_, loose.policy spare spare e none (any {k = kind.Identifier} {i = ident.Ident []} spare refl) no_item none)
 
 node_tree : {T : Type 0} {src : List ℕ} {R : List Lexeme → T → Type 0} {ts : List Lexeme} {c : Cell T} → AsNode src R ts c → HasTree R ts
 node_tree (as_node {x = x} r) = (x, r)
 
 -- a state that can't end has begun a policy
-begun_by : {N S E : Type 0} {src : List ℕ} {m : PartMachines N S E} → Grounds src m → (us : List Lexeme) (q : Spanned (OnePolicy N S E)) → Comes (policy_machine src m) us q → (policy_machine src m).finish q ≡ None → IsBegun src us
+begun_by : {N S E : Type 0} {src : List ℕ} {m : PartMachines N S E} → Grounds src m → (us : List Lexeme) (q : Spanned (OnePolicy N S E)) → Comes (policy_machine src m) us q → (policy_machine src m).finish q ≡ None → BegunPolicy src us
 begun_by {N = N} {S = S} {E = E} {src = src} {m = m} g us q c e =
     let d = one_policy_door g in
     let v = d.viable q in
     go v.more v.last v.tree v.goes v.ends
   where
-    go : (ts : List Lexeme) (last : Spanned (OnePolicy N S E)) (x : Cell Policy) → steps (policy_machine src m) (Some q) ts ≡ Some last → (policy_machine src m).finish last ≡ Some x → IsBegun src us
+    go : (ts : List Lexeme) (last : Spanned (OnePolicy N S E)) (x : Cell Policy) → steps (policy_machine src m) (Some q) ts ≡ Some last → (policy_machine src m).finish last ≡ Some x → BegunPolicy src us
     go [] last x h f = absurd (none_some e (ap (λ q. (policy_machine src m).finish q) (some_is h) ∙ f))
     go (t ∷ ts) last x h f =
         let d = one_policy_door g in
         let r = node_tree (d.sound (us ++ t ∷ ts) last x (then_steps (policy_machine src m) (Some (policy_machine src m).start) (Some q) (Some last) us (t ∷ ts) c h) f) in
         (t, (ts, subst (λ us. HasTree (ReadsPolicy src) us) (sym (snoc_assoc us t ts)) r))
 
-none_begun : (src : List ℕ) → IsBegun src []
+none_begun : (src : List ℕ) → BegunPolicy src []
 none_begun src = (record { kind = kind.Identifier; start = 0; end = 0; text = [] }, (stub_token kind.OpenParen ++ stub_token kind.CloseParen ++ stub_token kind.Semicolon, short_reads src spare))
 
 -- a machine's state behind tokens is one
 same_state : {S T : Type 0} (m : Machine Lexeme S T) (ts : List Lexeme) (s q : S) → Comes m ts s → Comes m ts q → s ≡ q
 same_state m ts s q c d = some_is (sym c ∙ d)
-
--- what stands before a policy's semicolon
-
-snoc_same : (ts us : List Lexeme) (t u : Lexeme) → ts ++ t ∷ [] ≡ us ++ u ∷ [] → ts ≡ us
-snoc_same [] [] t u e = refl
-snoc_same [] (v ∷ []) t u e = absurd (cc)
-snoc_same [] (v ∷ w ∷ us) t u e = absurd (cc)
-snoc_same (v ∷ []) [] t u e = absurd (cc)
-snoc_same (v ∷ w ∷ ts) [] t u e = absurd (cc)
-snoc_same (v ∷ ts) (w ∷ us) t u e = cons_same (first_same e) (snoc_same ts us t u (rest_same e))
-  where
-    first_same : {a b : Lexeme} {xs ys : List Lexeme} → a ∷ xs ≡ b ∷ ys → a ≡ b
-    first_same e = cc
-
-    rest_same : {a b : Lexeme} {xs ys : List Lexeme} → a ∷ xs ≡ b ∷ ys → xs ≡ ys
-    rest_same e = cc
-
-    cons_same : {a b : Lexeme} {xs ys : List Lexeme} → a ≡ b → xs ≡ ys → a ∷ xs ≡ b ∷ ys
-    cons_same e f = cc
-
-one_open : {src : List ℕ} {us : List Lexeme} {p : Policy} (ts : List Lexeme) (e : Spot) → ReadsPolicy src us p → us ≡ ts ++ one kind.Semicolon e → OpenPolicy src ts
-one_open {src = src} ts e r h =
-    let o = opening_of r in
-    subst (λ ts. OpenPolicy src ts) (snoc_same o.tokens ts _ _ (o.is ∙ h)) o.stands
-
--- policies, and an open one
-record ManyOpen (src : List ℕ) (ts : List Lexeme) : Type 0 where
-  whole : List Lexeme
-  trees : List (Cell Policy)
-  open_tokens : List Lexeme
-  reads : ReadsMany src (ReadsPolicy src) whole trees
-  stands : OpenPolicy src open_tokens
-  is : whole ++ open_tokens ≡ ts
-
-many_open : {src : List ℕ} {us : List Lexeme} {xs : List (Cell Policy)} (ts : List Lexeme) (e : Spot) → ReadsMany src (ReadsPolicy src) us xs → us ≡ ts ++ one kind.Semicolon e → ManyOpen src ts
-many_open [] e none h = absurd (cc)
-many_open (t ∷ ts) e none h = absurd (cc)
-many_open ts e (more {ts = us} {xs = xs} r p) h =
-    let o = opening_of p in
-    record { whole = us; trees = xs; open_tokens = o.tokens; reads = r; stands = o.stands; is = snoc_same (us ++ o.tokens) ts _ _ (append_assoc us o.tokens (one kind.Semicolon o.end) ∙ ap (λ ws. us ++ ws) o.is ∙ h) }
 
 -- one policy
 
@@ -257,32 +217,32 @@ taken_span src e t (ended x) h = refl
 taken_span src e t refused h = refl
 taken_span src e t too_large h = refl
 
-alone_inside : {N S E : Type 0} {src : List ℕ} {m : PartMachines N S E} → Grounds src m → (ts : List Lexeme) → OpenTokens src ts → Inside src (AsNode src (ReadsPolicy src)) ts
-alone_inside {src = src} g ts o =
-    let w = whole_policy_of spare o.stands in
-    record { opened = o.before ++ o.word ++ one kind.OpenBrace o.brace; within = o.body; is = o.is; braces = in_braces o.before o.brace spare (placed src (o.before ++ one kind.Semicolon spare) w.0, as_node w.1) o.reads o.starts }
+alone_inside : {src : List ℕ} (ts : List Lexeme) → OpenTokens src ts → EndsInBraces src Nothing ts
+alone_inside ts o = record { opened = o.before ++ o.word ++ one kind.OpenBrace o.brace; within = o.body; is = o.is; braces = in_braces [] o.before o.brace refl o.stands o.reads o.starts }
 
 -- what is in braces, as a run has it
-alone_open : {src : List ℕ} (ts : List Lexeme) (e : Spot) (x : Cell Policy) → AsNode src (ReadsPolicy src) (ts ++ one kind.Semicolon e) x → OpenPolicy src ts
-alone_open {src = src} ts e x r = let y = node_tree r in one_open ts e y.1 refl
+alone_braces : {N S E : Type 0} {src : List ℕ} {m : PartMachines N S E} → Grounds src m → (us vs : List Lexeme) (s : Spanned (OnePolicy N S E)) → InBraces src Nothing us vs → Comes (policy_machine src m) (us ++ vs) s → policy_way way.Stop s.state ≡ way.ToBrace
+alone_braces {src = src} {m = m} d us vs s (in_braces ts es {ws = ws} l z o a b) c =
+    let n = policy_machine src m in
+    let k = in_body d vs l o a b in
+    ap (λ s. policy_way way.Stop s.state) (same_state n (es ++ ws ++ one kind.OpenBrace l ++ vs) s k.state (subst (λ ts. Comes n (ts ++ es ++ ws ++ one kind.OpenBrace l ++ vs) s) z c) k.comes) ∙ k.is way.Stop
 
-alone_braces : {N S E : Type 0} {src : List ℕ} {m : PartMachines N S E} → Grounds src m → (us vs : List Lexeme) (s : Spanned (OnePolicy N S E)) → InBraces src (AsNode src (ReadsPolicy src)) us vs → Comes (policy_machine src m) (us ++ vs) s → policy_way way.Stop s.state ≡ way.ToBrace
-alone_braces {src = src} {m = m} d us vs s (in_braces ts {ws = ws} l e p a b) c =
-    let k = in_body d vs l (alone_open ts e p.0 p.1) a b in
-    ap (λ s. policy_way way.Stop s.state) (same_state (policy_machine src m) (ts ++ ws ++ one kind.OpenBrace l ++ vs) s k.state c k.comes) ∙ k.is way.Stop
-
-alone_not_begun : {N S E : Type 0} {src : List ℕ} {m : PartMachines N S E} → Grounds src m → (ts us : List Lexeme) (s : Spanned (OnePolicy N S E)) → ts ≡ [] → IsBegun src us → Comes (policy_machine src m) (ts ++ us) s → policy_way way.Stop s.state ≡ way.Stop → ⊥
+alone_not_begun : {N S E : Type 0} {src : List ℕ} {m : PartMachines N S E} → Grounds src m → (ts us : List Lexeme) (s : Spanned (OnePolicy N S E)) → ts ≡ [] → BegunPolicy src us → Comes (policy_machine src m) (ts ++ us) s → policy_way way.Stop s.state ≡ way.Stop → ⊥
 alone_not_begun {src = src} {m = m} d ts us s z p c e =
     let n = policy_machine src m in
     let k = comes (one_policy_door d) (us ++ p.0 ∷ []) (p.1.0, (placed src ((us ++ p.0 ∷ []) ++ p.1.0) p.1.1.0, as_node p.1.1.1)) in
     none_some (taken_span src s.extent p.0 (policy_step src (sections src m) s.state p.0) (stopped_whole src m s.state e p.0)) (rest_of_run n us (p.0 ∷ []) s (Some k.0) (subst (λ ts. Comes n (ts ++ us) s) z c) k.1)
 
-alone_closes : {N S E L M F : Type 0} (f : N → L) (g : S → M) (h : E → F) {src : List ℕ} {m : PartMachines N S E} → Grounds src m → (us vs : List Lexeme) (s : Spanned (OnePolicy N S E)) (e : Spot) → InBraces src (AsNode src (ReadsPolicy src)) us vs → Comes (policy_machine src m) (us ++ vs) s →
+alone_closes : {N S E L M F : Type 0} (f : N → L) (g : S → M) (h : E → F) {src : List ℕ} {m : PartMachines N S E} → Grounds src m → (us vs : List Lexeme) (s : Spanned (OnePolicy N S E)) (e : Spot) → InBraces src Nothing us vs → Comes (policy_machine src m) (us ++ vs) s →
     Comparable (policy_machine src m) (one_policy_shape f g h) (us ++ one kind.CloseBrace e) (one_policy_shape f g h (policy_closing s))
-alone_closes f g h d us vs s e (in_braces ts l q p a b) c =
-    let k = behind_brace d l e (alone_open ts q p.0 p.1) a in
-    let w = alone_braces d us vs s (in_braces ts l q p a b) c in
-    record { state = k.state; comes = k.comes; alike = close_shape f g h way.Stop s stop_apart w ∙ sym (closed_shape_is f g h k.state.extent k.is) }
+alone_closes f g h {src = src} {m = m} d us vs s e (in_braces ts es {ws = ws} l z o a b) c =
+    let k = behind_brace d l e o a in
+    let w = alone_braces d us vs s (in_braces ts es l z o a b) c in
+    record {
+      state = k.state;
+      comes = subst (λ ts. Comes (policy_machine src m) (ts ++ es ++ ws ++ one kind.OpenBrace l ++ one kind.CloseBrace e) k.state) (sym z) k.comes;
+      alike = close_shape f g h way.Stop s stop_apart w ∙ sym (closed_shape_is f g h k.state.extent k.is);
+    }
 
 pub one_recovers : {N S E L M F X : Type 0} (src : List ℕ) (m : PartMachines N S E) (n : PartShapes L M F) (f : N → L) (g : S → M) (h : E → F) → Grounds src m → PartsShaped m n f g h →
     (tell : Spanned (OnePolicy N S E) → ℕ → Option Lexeme → X) (large : Lexeme → X) (U : List Lexeme → Option Lexeme → X → Type 0) (L : Lexeme → X → Type 0) →
@@ -300,13 +260,13 @@ one_recovers src m n f g h d i tell large U L a b c = record {
   };
   tells = b;
   larges = c;
-  inside = λ ts s e w. alone_inside d ts (opened_by d way.Stop stop_apart ts s e w);
+  inside = λ ts s e w. alone_inside ts (opened_by d way.Stop stop_apart ts s e w);
   braces = alone_braces d;
   begun = λ ts s e w. record { whole = []; part = ts; is = refl; stands = refl; begun = begun_by d ts s e (ap (λ o. node_if src s.extent o) (not_stopped s.state w)) };
   not_begun = alone_not_begun d;
   closes = alone_closes f g h d;
   ends = λ ts us s e z p w. let r = short_reads src e in let k = (one_policy_door d).complete _ _ (as_node r.1) in
-      record { state = k.last; comes = subst (λ ts. Comes (policy_machine src m) (ts ++ stub_token kind.Identifier ++ stub_token kind.OpenParen ++ stub_token kind.CloseParen ++ one kind.Semicolon e) k.last) (sym z) k.goes; alike = sym (whole_shape f g h src k.last _ k.ends) };
+      record { state = k.last; comes = subst (λ ts. Comes (policy_machine src m) (ts ++ short_policy e) k.last) (sym z) k.goes; alike = sym (whole_shape f g h src k.last _ k.ends) };
 }
 
 -- policies
@@ -346,19 +306,15 @@ start_whole src m q x e h = none_some refl (ap (λ q. (policy_machine src m).fin
 
 -- what is in braces
 
-many_open_of : {src : List ℕ} (ts : List Lexeme) (e : Spot) → HasTree (ReadsMany src (ReadsPolicy src)) (ts ++ one kind.Semicolon e) → ManyOpen src ts
-many_open_of ts e h = many_open ts e h.1 refl
-
-all_in_braces : {N S E : Type 0} {src : List ℕ} {m : PartMachines N S E} → Grounds src m → (us vs : List Lexeme) (s : Sequence (Spanned (OnePolicy N S E)) (Cell Policy)) → InBraces src (ReadsMany src (ReadsPolicy src)) us vs → Comes (policies_machine src m) (us ++ vs) s →
+all_in_braces : {N S E : Type 0} {src : List ℕ} {m : PartMachines N S E} → Grounds src m → (us vs : List Lexeme) (s : Sequence (Spanned (OnePolicy N S E)) (Cell Policy)) → InBraces src (WholePolicies src) us vs → Comes (policies_machine src m) (us ++ vs) s →
     begun_policy_way s.begun ≡ way.ToBrace
-all_in_braces {src = src} {m = m} d us vs s (in_braces ts {ws = ws} l e p a b) c =
-    let o = many_open_of ts e p in
-    let k = in_body d vs l o.stands a b in
-    let r = another d o.whole (o.open_tokens ++ ws ++ one kind.OpenBrace l ++ vs) o.trees k.state o.reads k.comes (start_way src m k.state (k.is way.ToEnd)) in
-    ap (λ s. begun_policy_way s.begun) (same_state (policies_machine src m) (ts ++ ws ++ one kind.OpenBrace l ++ vs) s (item_at o.trees k.state) c
-    (subst (λ ts. Comes (policies_machine src m) ts (item_at o.trees k.state)) (assoc o.whole o.open_tokens ws (one kind.OpenBrace l) vs ∙ ap (λ ts. ts ++ ws ++ one kind.OpenBrace l ++ vs) o.is) r)) ∙ k.is way.ToEnd
+all_in_braces {src = src} {m = m} d us vs s (in_braces ts es {ws = ws} l p o a b) c =
+    let k = in_body d vs l o a b in
+    let r = another d ts (es ++ ws ++ one kind.OpenBrace l ++ vs) p.0 k.state p.1 k.comes (start_way src m k.state (k.is way.ToEnd)) in
+    ap (λ s. begun_policy_way s.begun) (same_state (policies_machine src m) (ts ++ es ++ ws ++ one kind.OpenBrace l ++ vs) s (item_at p.0 k.state) c
+    (subst (λ ts. Comes (policies_machine src m) ts (item_at p.0 k.state)) (assoc ts es ws (one kind.OpenBrace l) vs) r)) ∙ k.is way.ToEnd
   where
-    assoc : (ts us ws l vs : List Lexeme) → ts ++ (us ++ ws ++ l ++ vs) ≡ (ts ++ us) ++ ws ++ l ++ vs
+    assoc : (ts us ws l vs : List Lexeme) → ts ++ (us ++ ws ++ l ++ vs) ≡ ts ++ us ++ ws ++ l ++ vs
     assoc ts us ws l vs = simp append_assoc
 
 all_close_shape : {N S E L M F : Type 0} (f : N → L) (g : S → M) (h : E → F) (xs : List (Cell Policy)) (b : Option (Spanned (OnePolicy N S E))) → begun_policy_way b ≡ way.ToBrace →
@@ -366,35 +322,33 @@ all_close_shape : {N S E L M F : Type 0} (f : N → L) (g : S → M) (h : E → 
 all_close_shape f g h xs None e = absurd (cc)
 all_close_shape f g h xs (Some s) e = ap (λ u. Some u) (close_shape f g h way.ToEnd s to_end_apart e)
 
-all_closes : {N S E L M F : Type 0} (f : N → L) (g : S → M) (h : E → F) {src : List ℕ} {m : PartMachines N S E} → Grounds src m → (us vs : List Lexeme) (s : Sequence (Spanned (OnePolicy N S E)) (Cell Policy)) (e : Spot) → InBraces src (ReadsMany src (ReadsPolicy src)) us vs →
+all_closes : {N S E L M F : Type 0} (f : N → L) (g : S → M) (h : E → F) {src : List ℕ} {m : PartMachines N S E} → Grounds src m → (us vs : List Lexeme) (s : Sequence (Spanned (OnePolicy N S E)) (Cell Policy)) (e : Spot) → InBraces src (WholePolicies src) us vs →
     Comes (policies_machine src m) (us ++ vs) s → Comparable (policies_machine src m) (all_policies_shape f g h) (us ++ one kind.CloseBrace e) (all_policies_shape f g h (policies_closing s.done s.begun))
-all_closes f g h {src = src} {m = m} d us vs s e (in_braces ts {ws = ws} l q p a b) c =
-    let o = many_open_of ts q p in
-    let k = behind_brace d l e o.stands a in
-    let r = another d o.whole (o.open_tokens ++ ws ++ one kind.OpenBrace l ++ one kind.CloseBrace e) o.trees k.state o.reads k.comes (start_closed src m k.state k.is) in
+all_closes f g h {src = src} {m = m} d us vs s e (in_braces ts es {ws = ws} l p o a b) c =
+    let k = behind_brace d l e o a in
+    let r = another d ts (es ++ ws ++ one kind.OpenBrace l ++ one kind.CloseBrace e) p.0 k.state p.1 k.comes (start_closed src m k.state k.is) in
     record {
-      state = item_at o.trees k.state;
-      comes = subst (λ ts. Comes (policies_machine src m) ts (item_at o.trees k.state)) (assoc o.whole o.open_tokens ws (one kind.OpenBrace l) (one kind.CloseBrace e) ∙ ap (λ ts. ts ++ ws ++ one kind.OpenBrace l ++ one kind.CloseBrace e) o.is) r;
-      alike = all_close_shape f g h s.done s.begun (all_in_braces d us vs s (in_braces ts l q p a b) c) ∙ ap (λ u. Some u) (sym (closed_shape_is f g h k.state.extent k.is));
+      state = item_at p.0 k.state;
+      comes = subst (λ ts. Comes (policies_machine src m) ts (item_at p.0 k.state)) (assoc ts es ws (one kind.OpenBrace l) (one kind.CloseBrace e)) r;
+      alike = all_close_shape f g h s.done s.begun (all_in_braces d us vs s (in_braces ts es l p o a b) c) ∙ ap (λ u. Some u) (sym (closed_shape_is f g h k.state.extent k.is));
     }
   where
-    assoc : (ts us ws l vs : List Lexeme) → ts ++ (us ++ ws ++ l ++ vs) ≡ (ts ++ us) ++ ws ++ l ++ vs
+    assoc : (ts us ws l vs : List Lexeme) → ts ++ (us ++ ws ++ l ++ vs) ≡ ts ++ us ++ ws ++ l ++ vs
     assoc ts us ws l vs = simp append_assoc
 
 all_inside : {N S E : Type 0} {src : List ℕ} {m : PartMachines N S E} → Grounds src m → {ts : List Lexeme} {s : Sequence (Spanned (OnePolicy N S E)) (Cell Policy)} → ManyRead src (policy_machine src m) (ReadsPolicy src) ts s → begun_policy_way s.begun ≡ way.ToBrace →
-    Inside src (ReadsMany src (ReadsPolicy src)) ts
+    EndsInBraces src (WholePolicies src) ts
 all_inside d (is_between r) e = absurd (cc)
-all_inside {src = src} d (is_begun {ts = ts} us {xs = xs} {s = q} r c) e =
+all_inside d (is_begun {ts = ts} us {xs = xs} {s = q} r c) e =
     let o = opened_by d way.ToEnd to_end_apart us q c e in
-    let w = whole_policy_of spare o.stands in
     record {
-      opened = (ts ++ o.before) ++ o.word ++ one kind.OpenBrace o.brace;
+      opened = ts ++ o.before ++ o.word ++ one kind.OpenBrace o.brace;
       within = o.body;
       is = assoc ts o.before o.word (one kind.OpenBrace o.brace) o.body ∙ ap (λ us. ts ++ us) o.is;
-      braces = in_braces (ts ++ o.before) o.brace spare (_, subst (λ ts. ReadsMany src (ReadsPolicy src) ts (xs ++ placed src (o.before ++ one kind.Semicolon spare) w.0 ∷ [])) (sym (append_assoc ts o.before (one kind.Semicolon spare))) (more r w.1)) o.reads o.starts;
+      braces = in_braces ts o.before o.brace (xs, r) o.stands o.reads o.starts;
     }
   where
-    assoc : (ts us ws l vs : List Lexeme) → (ts ++ us) ++ ws ++ l ++ vs ≡ ts ++ (us ++ ws ++ l ++ vs)
+    assoc : (ts us ws l vs : List Lexeme) → ts ++ us ++ ws ++ l ++ vs ≡ ts ++ (us ++ ws ++ l ++ vs)
     assoc ts us ws l vs = simp append_assoc
 
 all_split : {N S E : Type 0} {src : List ℕ} {m : PartMachines N S E} → Grounds src m → {ts : List Lexeme} {s : Sequence (Spanned (OnePolicy N S E)) (Cell Policy)} → ManyRead src (policy_machine src m) (ReadsPolicy src) ts s → Split src (WholePolicies src) ts
@@ -428,20 +382,15 @@ never_stops src m (Some s) e = go s.state e
     go (policy.Closed p) e = cc
 
 all_ends : {N S E L M F : Type 0} (f : N → L) (g : S → M) (h : E → F) {src : List ℕ} {m : PartMachines N S E} → Grounds src m → (ts : List Lexeme) (e : Spot) → WholePolicies src ts →
-    Comparable (policies_machine src m) (all_policies_shape f g h) (ts ++ stub_token kind.Identifier ++ stub_token kind.OpenParen ++ stub_token kind.CloseParen ++ one kind.Semicolon e) (Some whole_policy)
+    Comparable (policies_machine src m) (all_policies_shape f g h) (ts ++ short_policy e) (Some whole_policy)
 all_ends f g h {src = src} {m = m} d ts e w =
-    let us = stub_token kind.Identifier ++ stub_token kind.OpenParen ++ stub_token kind.CloseParen ++ one kind.Semicolon e in
     let r = short_reads src e in
-    let k = (one_policy_door d).complete us (placed src us r.0) (as_node r.1) in
-    let c = another d ts us w.0 k.last w.1 k.goes (start_whole src m k.last (placed src us r.0) k.ends) in
+    let k = (one_policy_door d).complete (short_policy e) (placed src (short_policy e) r.0) (as_node r.1) in
     record {
       state = item_at w.0 k.last;
-      comes = subst (λ ts. Comes (policies_machine src m) ts (item_at w.0 k.last)) (assoc ts (stub_token kind.Identifier) (stub_token kind.OpenParen) (stub_token kind.CloseParen) (one kind.Semicolon e)) c;
-      alike = ap (λ u. Some u) (sym (whole_shape f g h src k.last (placed src us r.0) k.ends));
+      comes = another d ts (short_policy e) w.0 k.last w.1 k.goes (start_whole src m k.last (placed src (short_policy e) r.0) k.ends);
+      alike = ap (λ u. Some u) (sym (whole_shape f g h src k.last (placed src (short_policy e) r.0) k.ends));
     }
-  where
-    assoc : (ts us ws l vs : List Lexeme) → ts ++ (us ++ ws ++ l ++ vs) ≡ ts ++ us ++ ws ++ l ++ vs
-    assoc ts us ws l vs = simp append_assoc
 
 all_ways : {N S E L M F : Type 0} (f : N → L) (g : S → M) (h : E → F) (b c : Option (Spanned (OnePolicy N S E))) → option_image (one_policy_shape f g h) b ≡ option_image (one_policy_shape f g h) c → begun_policy_way b ≡ begun_policy_way c
 all_ways f g h None None e = refl

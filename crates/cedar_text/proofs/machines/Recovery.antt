@@ -9,7 +9,7 @@ use Rattle.cedar_syntax.specs.declared.reading.recovery.Way.{Way}
 use Rattle.cedar_syntax.specs.declared.reading.recovery.Way.TheVariants as way
 use Rattle.cedar_syntax.specs.Tokens.{Spot, one}
 use Rattle.cedar_syntax.specs.Sentences.{first}
-use Rattle.cedar_syntax.specs.Mended.{InBraces, Stands, inside, outside, is_stop, Skips, IsBegun, stub_token, Mended, to_brace, to_end, head}
+use Rattle.cedar_syntax.specs.Mended.{InBraces, EndsInBraces, BegunPolicy, NoneIs, short_policy, Mended, to_brace, to_end, head}
 use Rattle.cedar_syntax.specs.machines.Door.{Machine, Answer, next, ended, refused, answer_state, steps, Comes, AnswersRightly, Door, is_taken, is_some, allows, IsShape, Shapes}
 use Rattle.cedar_syntax.specs.machines.Door as door
 use Rattle.cedar_syntax.specs.machines.Marks.{mark_of}
@@ -26,29 +26,19 @@ abbrev pub end_from : ℕ → List Lexeme → ℕ
 end_from l [] = l
 end_from l (t ∷ ts) = end_from t.end ts
 
--- tokens that end in braces
-pub record Inside {T : Type 0} (src : List ℕ) (R : List Lexeme → T → Type 0) (ts : List Lexeme) : Type 0 where
-  pub opened : List Lexeme
-  pub within : List Lexeme
-  pub is : opened ++ within ≡ ts
-  pub braces : InBraces src R opened within
-
 -- tokens that end with a begun policy
 pub record Split (src : List ℕ) (W : List Lexeme → Type 0) (ts : List Lexeme) : Type 0 where
   pub whole : List Lexeme
   pub part : List Lexeme
   pub is : whole ++ part ≡ ts
   pub stands : W whole
-  pub begun : IsBegun src part
+  pub begun : BegunPolicy src part
 
 -- a state of this shape behind these tokens
 pub record Comparable {S T V : Type 0} (m : Machine Lexeme S T) (f : S → V) (ts : List Lexeme) (v : V) : Type 0 where
   pub state : S
   pub comes : Comes m ts state
   pub alike : v ≡ f state
-
-abbrev pub short_policy : Spot → List Lexeme
-short_policy e = stub_token kind.Identifier ++ stub_token kind.OpenParen ++ stub_token kind.CloseParen ++ one kind.Semicolon e
 
 -- what a machine shows of itself to be recovered
 pub record Recoverable {S T F V : Type 0} (src : List ℕ) (m : Machine Lexeme S T) (R : List Lexeme → T → Type 0) (W : List Lexeme → Type 0) (U : List Lexeme → Option Lexeme → F → Type 0) (L : Lexeme → F → Type 0) (r : Recovers S F)
@@ -58,13 +48,12 @@ pub record Recoverable {S T F V : Type 0} (src : List ℕ) (m : Machine Lexeme S
   pub by_shape : IsByShape r f
   pub tells : (ts : List Lexeme) (s : S) (o : Option Lexeme) (x : F) → Comes m ts s → U ts o x ↔ (r.tell s (end_from 0 ts) o ≡ x)
   pub larges : (t : Lexeme) (x : F) → L t x ↔ (r.large t ≡ x)
-  pub inside : (ts : List Lexeme) (s : S) → Comes m ts s → r.way s ≡ way.ToBrace → Inside src R ts
-  pub braces : (us vs : List Lexeme) (s : S) → InBraces src R us vs → Comes m (us ++ vs) s → r.way s ≡ way.ToBrace
+  pub inside : (ts : List Lexeme) (s : S) → Comes m ts s → r.way s ≡ way.ToBrace → EndsInBraces src W ts
+  pub braces : (us vs : List Lexeme) (s : S) → InBraces src W us vs → Comes m (us ++ vs) s → r.way s ≡ way.ToBrace
   pub begun : (ts : List Lexeme) (s : S) → Comes m ts s → (r.way s ≡ way.Stop → ⊥) → Split src W ts
-  pub not_begun : (ts us : List Lexeme) (s : S) → W ts → IsBegun src us → Comes m (ts ++ us) s → r.way s ≡ way.Stop → ⊥
-  pub closes : (us vs : List Lexeme) (s : S) (e : Spot) → InBraces src R us vs → Comes m (us ++ vs) s → Comparable m f (us ++ one kind.CloseBrace e) (f (r.close s))
-  pub ends : (ts us : List Lexeme) (s : S) (e : Spot) → W ts → IsBegun src us → Comes m (ts ++ us) s →
-      Comparable m f (ts ++ stub_token kind.Identifier ++ stub_token kind.OpenParen ++ stub_token kind.CloseParen ++ one kind.Semicolon e) (f (r.end s))
+  pub not_begun : (ts us : List Lexeme) (s : S) → W ts → BegunPolicy src us → Comes m (ts ++ us) s → r.way s ≡ way.Stop → ⊥
+  pub closes : (us vs : List Lexeme) (s : S) (e : Spot) → InBraces src W us vs → Comes m (us ++ vs) s → Comparable m f (us ++ one kind.CloseBrace e) (f (r.close s))
+  pub ends : (ts us : List Lexeme) (s : S) (e : Spot) → W ts → BegunPolicy src us → Comes m (ts ++ us) s → Comparable m f (ts ++ short_policy e) (f (r.end s))
 
 -- runs of the parser that recovers
 
@@ -87,6 +76,17 @@ stays m r xs x [] = refl
 stays m r xs x (t ∷ ts) = stays m r xs x ts
 
 -- skipping
+
+-- where it ends: at a semicolon, and in braces at a closing brace too
+abbrev pub is_stop : Bool → TokenKind → Bool
+is_stop b kind.CloseBrace = b
+is_stop b kind.Semicolon = true
+is_stop b _ = false
+
+-- tokens that are skipped
+abbrev pub Skips : Bool → List Lexeme → Type 0
+Skips b [] = Unit {0}
+Skips b (t ∷ ts) = (is_stop b t.kind ≡ false) × Skips b ts
 
 abbrev pub braced : Way → Bool
 braced way.ToBrace = true
@@ -118,6 +118,29 @@ skips_out m r xs w s x (t ∷ ts) h i = ap (λ q. told_all m r q ts) (skip_one r
 pub no_stop : (b : Bool) (ts us : List Lexeme) (t : Lexeme) → is_stop b t.kind ≡ true → Skips b (ts ++ t ∷ us) → ⊥
 no_stop b [] us t e h = false_true h.0 e
 no_stop b (j ∷ ts) us t e h = no_stop b ts us t e h.1
+
+-- what is skipped, by its kinds
+
+none_stops : (b : Bool) (k : TokenKind) → is_stop b k ≡ true → (ts : List Lexeme) → Skips b ts → NoneIs k ts
+none_stops b k e [] h = tt
+none_stops b k e (t ∷ ts) h = (λ i. false_true h.0 (ap (λ k. is_stop b k) i ∙ e), none_stops b k e ts h.1)
+
+goes_on_within : (k : TokenKind) → ¬ (k ≡ kind.CloseBrace) → ¬ (k ≡ kind.Semicolon) → is_stop true k ≡ false
+goes_on_within kind.CloseBrace h i = absurd (h refl)
+goes_on_within kind.Semicolon h i = absurd (i refl)
+goes_on_within _ h i = refl
+
+goes_on_outside : (k : TokenKind) → ¬ (k ≡ kind.Semicolon) → is_stop false k ≡ false
+goes_on_outside kind.Semicolon h = absurd (h refl)
+goes_on_outside _ h = refl
+
+skips_within : (ts : List Lexeme) → NoneIs kind.CloseBrace ts → NoneIs kind.Semicolon ts → Skips true ts
+skips_within [] h i = tt
+skips_within (t ∷ ts) h i = (goes_on_within t.kind h.0 i.0, skips_within ts h.1 i.1)
+
+skips_outside : (ts : List Lexeme) → NoneIs kind.Semicolon ts → Skips false ts
+skips_outside [] h = tt
+skips_outside (t ∷ ts) h = (goes_on_outside t.kind h.0, skips_outside ts h.1)
 
 -- a fault is told, and then it is left
 
@@ -165,7 +188,7 @@ pub record StopAt {S T F V : Type 0} (src : List ℕ) (m : Machine Lexeme S T) (
   pub front : List Lexeme
   pub to : S
   pub state : S
-  pub mended : Mended src R W before (vs ++ t ∷ ws) (front ++ ws)
+  pub mended : Mended src W before (vs ++ t ∷ ws) (front ++ ws)
   pub comes : Comes m front state
   pub last : end_from 0 front ≡ t.end
   pub alike : f to ≡ f state
@@ -176,15 +199,15 @@ stop_assoc ts vs ws t = simp append_assoc
 
 at_brace : {S T F V : Type 0} {src : List ℕ} {m : Machine Lexeme S T} {R : List Lexeme → T → Type 0} {W : List Lexeme → Type 0} {U : List Lexeme → Option Lexeme → F → Type 0} {L : Lexeme → F → Type 0} {r : Recovers S F} {n : Machine TokenKind V (Unit {0})} {f : S → V} →
     Recoverable src m R W U L r n f → (before : List Lexeme) (s : S) (vs ws : List Lexeme) (e : Spot) → Comes m before s → r.way s ≡ way.ToBrace → Skips true vs → StopAt src m R W r f before s vs ws (token_at kind.CloseBrace e)
-at_brace {src = src} {m = m} {R = R} {W = W} {r = r} {f = f} d before s vs ws e c h k =
+at_brace {src = src} {m = m} {W = W} {r = r} {f = f} d before s vs ws e c h k =
     let b = d.inside before s c h in
     let g = d.closes b.opened b.within s e b.braces (subst (λ ts. Comes m ts s) (sym b.is) c) in
     record {
       front = b.opened ++ one kind.CloseBrace e;
       to = r.close s;
       state = g.state;
-      mended = subst (λ ts. Mended src R W ts (vs ++ token_at kind.CloseBrace e ∷ ws) ((b.opened ++ one kind.CloseBrace e) ++ ws)) b.is
-          (subst (λ us. Mended src R W (b.opened ++ b.within) us ((b.opened ++ one kind.CloseBrace e) ++ ws)) (snoc_assoc vs (token_at kind.CloseBrace e) ws) (to_brace b.opened b.within vs ws e b.braces k));
+      mended = subst (λ ts. Mended src W ts (vs ++ token_at kind.CloseBrace e ∷ ws) ((b.opened ++ one kind.CloseBrace e) ++ ws)) b.is
+          (subst (λ us. Mended src W (b.opened ++ b.within) us ((b.opened ++ one kind.CloseBrace e) ++ ws)) (snoc_assoc vs (token_at kind.CloseBrace e) ws) (to_brace b.opened b.within vs ws e b.braces (none_stops true kind.CloseBrace refl vs k) (none_stops true kind.Semicolon refl vs k)));
       comes = g.comes;
       last = end_from-append 0 b.opened (one kind.CloseBrace e);
       alike = g.alike;
@@ -199,12 +222,19 @@ not_stopped way.ToBrace h e = cc
 not_stopped way.ToEnd h e = cc
 not_stopped way.Stop h e = absurd (cc)
 
--- whether the tokens end in braces, by how their state is left
-stands_by : {S T F V : Type 0} {src : List ℕ} {m : Machine Lexeme S T} {R : List Lexeme → T → Type 0} {W : List Lexeme → Type 0} {U : List Lexeme → Option Lexeme → F → Type 0} {L : Lexeme → F → Type 0} {r : Recovers S F} {n : Machine TokenKind V (Unit {0})} {f : S → V} →
-    Recoverable src m R W U L r n f → (before : List Lexeme) (s : S) (w : Way) → Comes m before s → r.way s ≡ w → skips_on w ≡ true → Stands src R (braced w) before
-stands_by {src = src} {R = R} d before s way.ToBrace c h i = let b = d.inside before s c h in subst (λ ts. Stands src R true ts) b.is (inside b.opened b.within b.braces)
-stands_by {m = m} d before s way.ToEnd c h i = outside (λ us vs e b. way_apart (d.braces us vs s b (subst (λ ts. Comes m ts s) (sym e) c)) h)
-stands_by d before s way.Stop c h i = absurd (cc)
+-- behind tokens that end in braces, what is skipped has no closing brace
+brace_behind : {S T F V : Type 0} {src : List ℕ} {m : Machine Lexeme S T} {R : List Lexeme → T → Type 0} {W : List Lexeme → Type 0} {U : List Lexeme → Option Lexeme → F → Type 0} {L : Lexeme → F → Type 0} {r : Recovers S F} {n : Machine TokenKind V (Unit {0})} {f : S → V} →
+    Recoverable src m R W U L r n f → (before : List Lexeme) (s : S) (w : Way) → Comes m before s → r.way s ≡ w → skips_on w ≡ true → (vs : List Lexeme) → Skips (braced w) vs → EndsInBraces src W before → NoneIs kind.CloseBrace vs
+brace_behind d before s way.ToBrace c h i vs k j = none_stops true kind.CloseBrace refl vs k
+brace_behind {m = m} d before s way.ToEnd c h i vs k j = absurd (way_apart (d.braces j.opened j.within s j.braces (subst (λ ts. Comes m ts s) (sym j.is) c)) h)
+brace_behind d before s way.Stop c h i vs k j = absurd (cc)
+
+-- and what has none, where they do, is skipped
+skipped_behind : {S T F V : Type 0} {src : List ℕ} {m : Machine Lexeme S T} {R : List Lexeme → T → Type 0} {W : List Lexeme → Type 0} {U : List Lexeme → Option Lexeme → F → Type 0} {L : Lexeme → F → Type 0} {r : Recovers S F} {n : Machine TokenKind V (Unit {0})} {f : S → V} →
+    Recoverable src m R W U L r n f → (before : List Lexeme) (s : S) (w : Way) → Comes m before s → r.way s ≡ w → (vs : List Lexeme) → (EndsInBraces src W before → NoneIs kind.CloseBrace vs) → NoneIs kind.Semicolon vs → Skips (braced w) vs
+skipped_behind d before s way.ToBrace c h vs k j = skips_within vs (k (d.inside before s c h)) j
+skipped_behind d before s way.ToEnd c h vs k j = skips_outside vs j
+skipped_behind d before s way.Stop c h vs k j = skips_outside vs j
 
 end_resumes : {S F : Type 0} (r : Recovers S F) (xs : List F) (w : Way) (s : S) (x : F) (e : Spot) → skips_on w ≡ true → skip_step r xs w s x (token_at kind.Semicolon e) mark.Semicolon ≡ reading (xs ++ x ∷ []) e.end (r.end s)
 end_resumes r xs way.ToBrace s x e h = refl
@@ -213,19 +243,19 @@ end_resumes r xs way.Stop s x e h = absurd (cc)
 
 at_semicolon : {S T F V : Type 0} {src : List ℕ} {m : Machine Lexeme S T} {R : List Lexeme → T → Type 0} {W : List Lexeme → Type 0} {U : List Lexeme → Option Lexeme → F → Type 0} {L : Lexeme → F → Type 0} {r : Recovers S F} {n : Machine TokenKind V (Unit {0})} {f : S → V} →
     Recoverable src m R W U L r n f → (before : List Lexeme) (s : S) (vs ws : List Lexeme) (e : Spot) → Comes m before s → skips_on (r.way s) ≡ true → Skips (braced (r.way s)) vs → StopAt src m R W r f before s vs ws (token_at kind.Semicolon e)
-at_semicolon {src = src} {m = m} {R = R} {W = W} {r = r} {f = f} d before s vs ws e c h k =
+at_semicolon {src = src} {m = m} {W = W} {r = r} {f = f} d before s vs ws e c h k =
     let b = d.begun before s c (not_stopped (r.way s) h) in
     let g = d.ends b.whole b.part s e b.stands b.begun (subst (λ ts. Comes m ts s) (sym b.is) c) in
-    let front : List Lexeme = b.whole ++ stub_token kind.Identifier ++ stub_token kind.OpenParen ++ stub_token kind.CloseParen ++ one kind.Semicolon e in
+    let front : List Lexeme = b.whole ++ short_policy e in
     record {
       front = front;
       to = r.end s;
       state = g.state;
-      mended = subst (λ ts. Mended src R W ts (vs ++ token_at kind.Semicolon e ∷ ws) (front ++ ws)) b.is
-          (subst (λ us. Mended src R W (b.whole ++ b.part) us (front ++ ws)) (snoc_assoc vs (token_at kind.Semicolon e) ws)
-          (to_end b.whole b.part vs ws e b.stands b.begun (subst (λ ts. Stands src R (braced (r.way s)) ts) (sym b.is) (stands_by d before s (r.way s) c refl h)) k));
+      mended = subst (λ ts. Mended src W ts (vs ++ token_at kind.Semicolon e ∷ ws) (front ++ ws)) b.is
+          (subst (λ us. Mended src W (b.whole ++ b.part) us (front ++ ws)) (snoc_assoc vs (token_at kind.Semicolon e) ws)
+          (to_end b.whole b.part vs ws e b.stands b.begun (λ i. brace_behind d before s (r.way s) c refl h vs k (subst (λ ts. EndsInBraces src W ts) b.is i)) (none_stops (braced (r.way s)) kind.Semicolon refl vs k)));
       comes = g.comes;
-      last = end_from-append 0 (b.whole ++ stub_token kind.Identifier ++ stub_token kind.OpenParen ++ stub_token kind.CloseParen) (one kind.Semicolon e);
+      last = end_from-append 0 b.whole (short_policy e);
       alike = g.alike;
       resumes = λ xs x. end_resumes r xs (r.way s) s x e h;
     }
@@ -264,22 +294,14 @@ pub record Resumed {S T F V : Type 0} (m : Machine Lexeme S T) (r : Recovers S F
   pub alike : f to ≡ f state
   pub resumes : (xs : List F) (x : F) → skip_step r xs (r.way s) s x stop (mark_of stop.kind) ≡ reading (xs ++ x ∷ []) stop.end to
 
-way_of : {S T F V : Type 0} {src : List ℕ} {m : Machine Lexeme S T} {R : List Lexeme → T → Type 0} {W : List Lexeme → Type 0} {U : List Lexeme → Option Lexeme → F → Type 0} {L : Lexeme → F → Type 0} {r : Recovers S F} {n : Machine TokenKind V (Unit {0})} {f : S → V} →
-    Recoverable src m R W U L r n f → {before : List Lexeme} (s : S) (w : Way) → r.way s ≡ w → (w ≡ way.Stop → ⊥) → Comes m before s → {b : Bool} → Stands src R b before → braced w ≡ b
-way_of {m = m} d s way.ToBrace h i c (inside us vs b) = refl
-way_of {m = m} d s way.ToBrace h i c (outside {ts = ts} g) = let b = d.inside ts s c h in absurd (g b.opened b.within b.is b.braces)
-way_of {m = m} d s way.ToEnd h i c (inside us vs b) = absurd (way_apart (d.braces us vs s b c) h)
-way_of {m = m} d s way.ToEnd h i c (outside g) = refl
-way_of d s way.Stop h i c g = absurd (i refl)
-
 goes_on_by : (w : Way) → (w ≡ way.Stop → ⊥) → skips_on w ≡ true
 goes_on_by way.ToBrace h = refl
 goes_on_by way.ToEnd h = refl
 goes_on_by way.Stop h = absurd (h refl)
 
 pub resumed : {S T F V : Type 0} {src : List ℕ} {m : Machine Lexeme S T} {R : List Lexeme → T → Type 0} {W : List Lexeme → Type 0} {U : List Lexeme → Option Lexeme → F → Type 0} {L : Lexeme → F → Type 0} {r : Recovers S F} {n : Machine TokenKind V (Unit {0})} {f : S → V} →
-    Recoverable src m R W U L r n f → {before rest mended : List Lexeme} (s : S) → Mended src R W before rest mended → Comes m before s → Resumed m r f s rest mended
-resumed {r = r} d s (to_brace ts us vs ws e b k) c =
+    Recoverable src m R W U L r n f → {before rest mended : List Lexeme} (s : S) → Mended src W before rest mended → Comes m before s → Resumed m r f s rest mended
+resumed {r = r} d s (to_brace ts us vs ws e b k j) c =
     let h = d.braces ts us s b c in
     let g = d.closes ts us s e b c in
     record {
@@ -291,7 +313,7 @@ resumed {r = r} d s (to_brace ts us vs ws e b k) c =
       state = g.state;
       goes_on = ap (λ w. skips_on w) h;
       parts = snoc_assoc vs (token_at kind.CloseBrace e) ws;
-      skipping = subst (λ w. Skips (braced w) vs) (sym h) k;
+      skipping = subst (λ w. Skips (braced w) vs) (sym h) (skips_within vs k j);
       is_one = ap (λ w. braced w) h;
       mends = refl;
       comes = g.comes;
@@ -299,24 +321,23 @@ resumed {r = r} d s (to_brace ts us vs ws e b k) c =
       alike = g.alike;
       resumes = λ xs x. ap (λ w. skip_step r xs w s x (token_at kind.CloseBrace e) mark.CloseBrace) h;
     }
-resumed {r = r} d s (to_end ts us {b = b} vs ws e p q i k) c =
+resumed {r = r} d s (to_end ts us vs ws e p q k j) c =
     let h = goes_on_by (r.way s) (d.not_begun ts us s p q c) in
-    let w = way_of d s (r.way s) refl (d.not_begun ts us s p q c) c i in
     let g = d.ends ts us s e p q c in
     record {
       skips = vs;
       stop = token_at kind.Semicolon e;
       after = ws;
-      front = ts ++ stub_token kind.Identifier ++ stub_token kind.OpenParen ++ stub_token kind.CloseParen ++ one kind.Semicolon e;
+      front = ts ++ short_policy e;
       to = r.end s;
       state = g.state;
       goes_on = h;
       parts = snoc_assoc vs (token_at kind.Semicolon e) ws;
-      skipping = subst (λ b. Skips b vs) (sym w) k;
+      skipping = skipped_behind d (ts ++ us) s (r.way s) c refl vs k j;
       is_one = refl;
       mends = refl;
       comes = g.comes;
-      last = end_from-append 0 (ts ++ stub_token kind.Identifier ++ stub_token kind.OpenParen ++ stub_token kind.CloseParen) (one kind.Semicolon e);
+      last = end_from-append 0 ts (short_policy e);
       alike = g.alike;
       resumes = λ xs x. end_resumes r xs (r.way s) s x e h;
     }

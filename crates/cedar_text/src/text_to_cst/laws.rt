@@ -12,15 +12,20 @@ ghost use Rattle.cedar_syntax.specs.declared.cst.Primary.{Primary};
 ghost use Rattle.cedar_syntax.specs.declared.err.faults.ParseError.{ParseError};
 ghost use Rattle.cedar_syntax.specs.Expected.{by_name, IsIn, stand_by_name};
 ghost use Rattle.cedar_syntax.specs.FirstFault.{HasOneTree, HasTreeOrFault, HasOneFault, HasNotBoth};
+ghost use Rattle.cedar_syntax.specs.Formatted.{formatted};
 ghost use Rattle.cedar_syntax.specs.Grammar.{IsTreeOf};
 ghost use Rattle.cedar_syntax.specs.Leftmost.{StandsLeftmost};
 ghost use Rattle.cedar_syntax.specs.LooseExpressions.{ReadsExpr, ReadsPrimary};
 ghost use Rattle.cedar_syntax.specs.LoosePolicies.{ReadsPolicies, ReadsPolicy};
 ghost use Rattle.cedar_syntax.specs.LooseWords.{ReadsIdent, ReadsName, ReadsRef};
 ghost use Rattle.cedar_syntax.specs.MendedFaults.{HasFaultList, HasOneFaultList, NothingBefore, PoliciesBefore};
+ghost use Rattle.cedar_syntax.specs.PrintLaw.{PrintLaw, HasSameTree};
 ghost use Rattle.cedar_syntax.specs.Tokens.{any_of};
 ghost use Rattle.cedar_syntax.specs.TreePlaces.{IsPlace, node_places, expr_places, policies_places, policy_places, primary_places};
 ghost use Rattle.cedar_syntax.specs.Trees.{Cell};
+ghost use Rattle.cedar_syntax.specs.Unlocated.{unlocated_name, unlocated_ref};
+ghost use Rattle.cedar_syntax.specs.UnlocatedTrees.{unlocated_expr, unlocated_ident, unlocated_primary, unlocated_policy, unlocated_policies};
+ghost use Rattle.cedar_syntax.specs.Unplaced.{expr_tree, primary_tree, name_tree, ref_tree, ident_tree, policy_tree, policies_tree};
 ghost use Rattle.cedar_syntax.specs.machines.Door.{Door, IsOutside, Shapes};
 ghost use Rattle.cedar_text.specs.GoesOn.{GoesOnInText};
 ghost use Rattle.cedar_text.specs.StandsInText.{StandsInText};
@@ -104,6 +109,20 @@ pub fn single_policies()
     ensures goes_on_in_text { GoesOnInText ReadsPolicy }
     ensures fault_list { HasFaultList ReadsPolicy NothingBefore }
     ensures one_list { HasOneFaultList ReadsPolicy NothingBefore }
+{}
+
+/// The printed text of a tree that a text has cuts into tokens that have a tree by the same rule which is the same up to places,
+/// and no other. So do policies in lines, a line feed behind each.
+pub fn printed_texts()
+    ensures policies { PrintLaw ReadsPolicies unlocated_policies policies_tree }
+    ensures single_policies { PrintLaw ReadsPolicy unlocated_policy policy_tree }
+    ensures expressions { PrintLaw ReadsExpr unlocated_expr expr_tree }
+    ensures primaries { PrintLaw ReadsPrimary unlocated_primary primary_tree }
+    ensures entity_literals { PrintLaw ReadsRef unlocated_ref ref_tree }
+    ensures names { PrintLaw ReadsName unlocated_name name_tree }
+    ensures identifiers { PrintLaw ReadsIdent unlocated_ident ident_tree }
+    ensures lines { (text : List ℕ) (x : Cell Policies) → IsTreeOf ReadsPolicies text x
+        → HasSameTree ReadsPolicies unlocated_policies x (formatted x) }
 {}
 
 /// At most one fault of a list starts before all others there.

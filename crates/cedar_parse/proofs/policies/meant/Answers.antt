@@ -1,4 +1,4 @@
-use Rattle.cedar_policy_parser.specs.Extensions.{table_of}
+use Rattle.cedar_policy_parser.specs.Table.{table_of}
 use Rattle.cedar_policy_store.specs.PlaceFree.{set_meaning}
 use Rattle.cedar_parse.proofs.MeantSets.{set_meant, set_only}
 use Rattle.cedar_parse.proofs.policies.meant.Goals as goal

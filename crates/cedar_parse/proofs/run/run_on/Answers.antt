@@ -12,7 +12,7 @@ returns-in-Ok-clause-ends g c =
     let e = c.in-Ok.ensures in (
       Answered c.in-Ok.verdict,
       c.status.ensures,
-      Ends.answered c.in-Some.command c.in-Ok.verdict c.in-Some.ensures e.verdict e.read e.flushed,
+      Ends.answered c.in-Some.command c.in-Ok.verdict c.in-Some.ensures e.verdict e.written e.read e.flushed,
     )
 
 pub returns-in-Err-clause-ends : goal.returns-in-Err-clause-ends

@@ -1,8 +1,9 @@
 use Rattle.std.proofs.Common.{take}
 use Rattle.std.specs.BTreeMap.{IsOrdered}
 use Rattle.cedar_policy_store.specs.TextMap.{map_in, text_order}
-use Rattle.cedar_policy_parser.specs.AnnotationKeys.{HoldsSoFar, gathering}
+use Rattle.cedar_policy_parser.specs.AnnotationKeys.{gathering}
 use Rattle.cedar_policy_parser.proofs.annotations.annotations.Given as goal
+use Rattle.cedar_policy_parser.specs.machines.Filled.{HoldsSoFar}
 
 abbrev pub invariant-loop-node : goal.invariant-loop-node
 invariant-loop-node g l = record {

@@ -1,9 +1,9 @@
 use Rattle.std.proofs.Common.{◌<◌, length, arith, ◌∙◌}
 use Rattle.std.proofs.lemmas.Grind.{common_steps}
-use Rattle.cedar_policy_parser.specs.Seen.{plain, rest_view, empty_view}
 use Rattle.cedar_policy_parser.proofs.Outcomes.{both_gives, both_refused, both_given, given_next, refused_next, passed_on, gives_at}
 use Rattle.cedar_policy_parser.proofs.Parts.{joined_some}
 use Rattle.cedar_policy_parser.proofs.chain.chain_from.Goals as goal
+use Rattle.cedar_policy_parser.specs.machines.Views.{plain, rest_view, empty_view}
 
 pub returns-in_err-first : goal.returns-in_err-first
 returns-in_err-first g c x ps u h k l =

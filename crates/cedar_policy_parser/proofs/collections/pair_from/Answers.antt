@@ -1,7 +1,7 @@
-use Rattle.cedar_policy_parser.specs.Applied.{seen_pair}
 use Rattle.cedar_policy_parser.specs.Seen.{itself}
 use Rattle.cedar_policy_parser.proofs.Outcomes.{both_gives, given_next, gives_at}
 use Rattle.cedar_policy_parser.proofs.collections.pair_from.Goals as goal
+use Rattle.cedar_policy_parser.specs.machines.Applied.{seen_pair}
 
 pub returns : goal.returns
 returns g c h x l k =

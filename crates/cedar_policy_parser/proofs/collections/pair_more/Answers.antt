@@ -1,6 +1,6 @@
-use Rattle.cedar_policy_parser.specs.Applied.{seen_pair, seen_pairs}
 use Rattle.cedar_policy_parser.proofs.Outcomes.{both_refused, passed_on, refused_next}
 use Rattle.cedar_policy_parser.proofs.collections.pair_more.Goals as goal
+use Rattle.cedar_policy_parser.specs.machines.Applied.{seen_pair, seen_pairs}
 
 pub returns-in_err-all : goal.returns-in_err-all
 returns-in_err-all g c xs x h k =

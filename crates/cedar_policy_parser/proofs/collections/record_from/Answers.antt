@@ -1,8 +1,8 @@
 use Rattle.cedar_policy_parser.specs.Outcome.{expression_construction_error}
-use Rattle.cedar_policy_parser.specs.Seen.{plain}
 use Rattle.cedar_policy_parser.proofs.Outcomes.{gives_at, refuses}
 use Rattle.cedar_policy_parser.proofs.Parts.{record_made, record_refused}
 use Rattle.cedar_policy_parser.proofs.collections.record_from.Goals as goal
+use Rattle.cedar_policy_parser.specs.machines.Views.{plain}
 
 pub returns-in-Ok : goal.returns-in-Ok
 returns-in-Ok g c ps h =

@@ -1,8 +1,8 @@
 use Rattle.cedar_syntax.specs.Tree.{beside}
-use Rattle.cedar_policy_parser.specs.Seen.{plain}
 use Rattle.cedar_policy_parser.proofs.Outcomes.{gives_at}
 use Rattle.cedar_policy_parser.proofs.Parts.{set_made}
 use Rattle.cedar_policy_parser.proofs.collections.set_from.Goals as goal
+use Rattle.cedar_policy_parser.specs.machines.Views.{plain}
 
 pub returns : goal.returns
 returns g c ps h =

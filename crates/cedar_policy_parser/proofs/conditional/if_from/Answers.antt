@@ -1,6 +1,6 @@
-use Rattle.cedar_policy_parser.specs.Seen.{plain}
 use Rattle.cedar_policy_parser.proofs.Outcomes.{both_gives, both_refused, refused_next, passed_on}
 use Rattle.cedar_policy_parser.proofs.conditional.if_from.Goals as goal
+use Rattle.cedar_policy_parser.specs.machines.Views.{plain}
 
 pub returns-in_err-guard : goal.returns-in_err-guard
 returns-in_err-guard g c x y z h k l =

@@ -1,10 +1,11 @@
 use Rattle.std.proofs.Common.{refl}
-use Rattle.cedar_policy_parser.specs.Conditions.{condition_outcome, meanings}
-use Rattle.cedar_policy_parser.specs.Extensions.{table_of}
+use Rattle.cedar_policy_parser.specs.Conditions.{condition_outcome}
+use Rattle.cedar_policy_parser.specs.Table.{table_of}
 use Rattle.cedar_policy_parser.proofs.Identifiers.{all_next}
 use Rattle.cedar_policy_parser.proofs.Loops.{take_whole}
 use Rattle.cedar_policy_parser.proofs.Outcomes.{gives_at}
 use Rattle.cedar_policy_parser.proofs.conditions.conditions.Goals as goal
+use Rattle.cedar_policy_parser.specs.machines.Views.{meanings}
 
 pub loop-node-init : goal.loop-node-init
 loop-node-init c = rw c.new.ensures.items refl

@@ -1,10 +1,10 @@
 use Rattle.std.proofs.Common.{refl}
 use Rattle.cedar_policy_parser.specs.Conditions.{condition_slot_fault}
-use Rattle.cedar_policy_parser.specs.Seen.{empty_view}
 use Rattle.cedar_policy_parser.proofs.FaultLists.{told_read}
 use Rattle.cedar_policy_parser.proofs.Loops.{take_whole}
 use Rattle.cedar_policy_parser.proofs.Outcomes.{gives_at}
 use Rattle.cedar_policy_parser.proofs.conditions.no_slots.Goals as goal
+use Rattle.cedar_policy_parser.specs.machines.Views.{empty_view}
 
 pub loop-slot-init : goal.loop-slot-init
 loop-slot-init c = refl

@@ -1,7 +1,7 @@
 use Rattle.cedar_expressions.specs.Meaning.{unplaced}
-use Rattle.cedar_policy_parser.specs.Conditions.{meanings}
 use Rattle.cedar_policy_parser.proofs.Outcomes.{both_refused, passed_on, refused_next}
 use Rattle.cedar_policy_parser.proofs.conditions.one_more.Goals as goal
+use Rattle.cedar_policy_parser.specs.machines.Views.{meanings}
 
 pub returns-in_err-all : goal.returns-in_err-all
 returns-in_err-all c cs x h k =

@@ -1,7 +1,7 @@
-use Rattle.cedar_policy_parser.specs.Seen.{empty_view}
 use Rattle.cedar_policy_parser.proofs.ConditionValues.{slots_there}
 use Rattle.cedar_policy_parser.proofs.Outcomes.{wanting}
 use Rattle.cedar_policy_parser.proofs.conditions.without_slots.Goals as goal
+use Rattle.cedar_policy_parser.specs.machines.Views.{empty_view}
 
 pub returns-in_err-slots : goal.returns-in_err-slots
 returns-in_err-slots c = wanting empty_view c.from_residual.result _ c.from_residual.ensures.1

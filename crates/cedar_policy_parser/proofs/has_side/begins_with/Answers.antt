@@ -1,9 +1,9 @@
 use Rattle.std.proofs.Common.{map}
 use Rattle.cedar_syntax.specs.Forms.{listed_access, parts_of}
-use Rattle.cedar_policy_parser.specs.Applied.{seen_attributes}
 use Rattle.cedar_policy_parser.proofs.Outcomes.{gives_at, refuses}
 use Rattle.cedar_policy_parser.proofs.RightSides.{literal_begins, name_begins, ref_begins, slot_begins, parens_begin, list_begins, inits_begin, no_primary}
 use Rattle.cedar_policy_parser.proofs.has_side.begins_with.Goals as goal
+use Rattle.cedar_policy_parser.specs.machines.Applied.{seen_attributes}
 
 pub returns-in-Some-Literal : goal.returns-in-Some-Literal
 returns-in-Some-Literal g c = gives_at seen_attributes c.attributes_from.result _ _ (literal_begins c.args.side.loc.now (parts_of (map listed_access c.args.accesses.now)) c.args.node.now _ _ c.in-Some-Literal.is (rw c.in-Some-Literal.is at c.in-Some-Literal.field-0-is)) (c.attributes_from.ensures _ c.literal.ensures)

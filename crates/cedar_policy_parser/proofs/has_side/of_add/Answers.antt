@@ -1,9 +1,9 @@
 use Rattle.std.proofs.Common.{arith}
 use Rattle.std.proofs.lemmas.Grind.{common_steps}
-use Rattle.cedar_policy_parser.specs.Applied.{seen_attributes}
 use Rattle.cedar_policy_parser.proofs.Outcomes.{gives_at, refuses}
 use Rattle.cedar_policy_parser.proofs.RightSides.{lone_term, several_terms}
 use Rattle.cedar_policy_parser.proofs.has_side.of_add.Goals as goal
+use Rattle.cedar_policy_parser.specs.machines.Applied.{seen_attributes}
 
 pub returns-then-is_empty : goal.returns-then-is_empty
 returns-then-is_empty g c = gives_at seen_attributes c.of_mult.result _ _ (lone_term c.args.side.loc.now c.args.side.tree.now (grind (arith, common_steps))) c.of_mult.ensures

@@ -1,8 +1,8 @@
-use Rattle.cedar_policy_parser.specs.Applied.{seen_attributes}
 use Rattle.cedar_syntax.specs.Forms.{member_form}
 use Rattle.cedar_policy_parser.proofs.Outcomes.{gives_at, refuses}
 use Rattle.cedar_policy_parser.proofs.RightSides.{member_side, no_side}
 use Rattle.cedar_policy_parser.proofs.has_side.of_member.Goals as goal
+use Rattle.cedar_policy_parser.specs.machines.Applied.{seen_attributes}
 
 pub returns-in-Some : goal.returns-in-Some
 returns-in-Some g c = gives_at seen_attributes c.begins_with.result _ _ (member_side c.args.side.loc.now c.args.node.now _ c.in-Some.is) (rw c.as_slice.ensures at c.begins_with.ensures)

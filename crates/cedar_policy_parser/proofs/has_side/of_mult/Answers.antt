@@ -1,10 +1,10 @@
 use Rattle.std.proofs.Common.{arith}
 use Rattle.std.proofs.lemmas.Grind.{common_steps}
-use Rattle.cedar_policy_parser.specs.Applied.{seen_attributes}
 use Rattle.cedar_syntax.specs.Forms.{mult_form}
 use Rattle.cedar_policy_parser.proofs.Outcomes.{gives_at, refuses}
 use Rattle.cedar_policy_parser.proofs.RightSides.{lone_factor, several_factors, no_side}
 use Rattle.cedar_policy_parser.proofs.has_side.of_mult.Goals as goal
+use Rattle.cedar_policy_parser.specs.machines.Applied.{seen_attributes}
 
 pub returns-then-is_empty : goal.returns-then-is_empty
 returns-then-is_empty g c = gives_at seen_attributes c.of_unary.result _ _ (lone_factor c.args.side.loc.now c.args.node.now _ c.in-Some.is (grind (arith, common_steps))) c.of_unary.ensures

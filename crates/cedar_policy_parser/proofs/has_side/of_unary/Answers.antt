@@ -1,9 +1,9 @@
 use Rattle.std.proofs.Common.{sym, ◌∙◌}
-use Rattle.cedar_policy_parser.specs.Applied.{seen_attributes}
 use Rattle.cedar_syntax.specs.Forms.{unary_form}
 use Rattle.cedar_policy_parser.proofs.Outcomes.{gives_at, refuses}
 use Rattle.cedar_policy_parser.proofs.RightSides.{unsigned_side, signed_side, no_side}
 use Rattle.cedar_policy_parser.proofs.has_side.of_unary.Goals as goal
+use Rattle.cedar_policy_parser.specs.machines.Applied.{seen_attributes}
 
 pub returns-then-no_sign : goal.returns-then-no_sign
 returns-then-no_sign g c = gives_at seen_attributes c.of_member.result _ _ (unsigned_side c.args.side.loc.now c.args.node.now _ c.in-Some.is (sym c.no_sign.ensures ∙ c.if-no_sign.true)) c.of_member.ensures

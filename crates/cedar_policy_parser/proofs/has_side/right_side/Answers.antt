@@ -1,7 +1,7 @@
-use Rattle.cedar_policy_parser.specs.Applied.{seen_attributes}
 use Rattle.cedar_policy_parser.proofs.Outcomes.{gives_at, refuses}
 use Rattle.cedar_policy_parser.proofs.RightSides.{whole_side, no_whole_side}
 use Rattle.cedar_policy_parser.proofs.has_side.right_side.Goals as goal
+use Rattle.cedar_policy_parser.specs.machines.Applied.{seen_attributes}
 
 pub returns-in-Some : goal.returns-in-Some
 returns-in-Some g c = gives_at seen_attributes c.of_add.result _ _ (whole_side c.args.node.now _ c.in-Some.is) c.of_add.ensures

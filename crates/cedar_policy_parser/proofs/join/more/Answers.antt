@@ -1,6 +1,6 @@
-use Rattle.cedar_policy_parser.specs.Seen.{rest_view}
 use Rattle.cedar_policy_parser.proofs.Outcomes.{both_refused, passed_on, refused_next}
 use Rattle.cedar_policy_parser.proofs.join.more.Goals as goal
+use Rattle.cedar_policy_parser.specs.machines.Views.{rest_view}
 
 pub returns-in_err-all : goal.returns-in_err-all
 returns-in_err-all g c operator ps x h k =

@@ -1,9 +1,9 @@
 use Rattle.std.proofs.Common.{sym}
 use Rattle.cedar_policy_parser.specs.Outcome.{fault_outcome}
-use Rattle.cedar_policy_parser.specs.Seen.{empty_view}
 use Rattle.cedar_policy_parser.proofs.FaultLists.{one_behind, one_told}
 use Rattle.cedar_policy_parser.proofs.Outcomes.{both_refused, gives_at, passed_on, refused_next}
 use Rattle.cedar_policy_parser.proofs.joins.one_more_fault.Goals as goal
+use Rattle.cedar_policy_parser.specs.machines.Views.{empty_view}
 
 pub returns-in_err-flatten_tuple_2-clause-told : goal.returns-in_err-flatten_tuple_2-clause-told
 returns-in_err-flatten_tuple_2-clause-told c faults one h k =

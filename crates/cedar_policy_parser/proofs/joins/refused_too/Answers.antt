@@ -1,6 +1,6 @@
-use Rattle.cedar_policy_parser.specs.Seen.{empty_view}
 use Rattle.cedar_policy_parser.proofs.Outcomes.{both_refused, passed_on, refused_next}
 use Rattle.cedar_policy_parser.proofs.joins.refused_too.Goals as goal
+use Rattle.cedar_policy_parser.specs.machines.Views.{empty_view}
 
 pub returns-in_err-flatten_tuple_2-clause-told : goal.returns-in_err-flatten_tuple_2-clause-told
 returns-in_err-flatten_tuple_2-clause-told c o p h k =

@@ -2,13 +2,13 @@ use Rattle.std.proofs.Common.{◌≤◌, ◌∙◌, length, ap, arith}
 use Rattle.std.proofs.lemmas.Iterator.Adapters.{YieldsList-from_vec}
 use Rattle.std.proofs.lemmas.Iterator.Consumers.{YieldsList-turn, YieldsList-end}
 use Rattle.std.proofs.lemmas.List.{length_push}
-use Rattle.cedar_policy_parser.specs.Extensions.{table_of}
-use Rattle.cedar_policy_parser.specs.Seen.{plain}
 use Rattle.cedar_policy_parser.proofs.Accesses.{access_given, access_refused, none_left}
 use Rattle.cedar_policy_parser.specs.Held.{expression}
+use Rattle.cedar_policy_parser.specs.Table.{table_of}
 use Rattle.cedar_policy_parser.proofs.Inverted.{given_as, ok_is}
 use Rattle.cedar_policy_parser.proofs.Outcomes.{gives_at, passed_on}
 use Rattle.cedar_policy_parser.proofs.members.applied.Goals as goal
+use Rattle.cedar_policy_parser.specs.machines.Views.{plain}
 
 pub loop-access-preserved : goal.loop-access-preserved
 loop-access-preserved g c =

@@ -1,7 +1,7 @@
-use Rattle.cedar_policy_parser.specs.Applied.{seen_accesses}
-use Rattle.cedar_policy_parser.specs.Seen.{plain}
 use Rattle.cedar_policy_parser.proofs.Outcomes.{both_refused, passed_on, refused_next}
 use Rattle.cedar_policy_parser.proofs.members.member_from.Goals as goal
+use Rattle.cedar_policy_parser.specs.machines.Applied.{seen_accesses}
+use Rattle.cedar_policy_parser.specs.machines.Views.{plain}
 
 pub returns-in_err-item : goal.returns-in_err-item
 returns-in_err-item g c x all h k =

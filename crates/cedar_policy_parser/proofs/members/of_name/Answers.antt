@@ -1,8 +1,8 @@
 use Rattle.std.proofs.Common.{ap}
-use Rattle.cedar_policy_parser.specs.Applied.{seen_access, seen_accesses}
-use Rattle.cedar_policy_parser.specs.Extensions.{table_of}
+use Rattle.cedar_policy_parser.specs.Table.{table_of}
 use Rattle.cedar_policy_parser.proofs.Accesses.{field_of_name}
 use Rattle.cedar_policy_parser.proofs.members.of_name.Goals as goal
+use Rattle.cedar_policy_parser.specs.machines.Applied.{seen_access, seen_accesses}
 
 pub returns-in-Field : goal.returns-in-Field
 returns-in-Field g c =

@@ -3,16 +3,21 @@ use Rattle.cedar_policy_store.specs.PlaceFree.{set_meaning}
 use Rattle.cedar_syntax.specs.Leftmost.{HasLeftmost}
 use Rattle.cedar_syntax.specs.LoosePolicies.{ReadsPolicies}
 use Rattle.cedar_syntax.proofs.machines.Driving.{passed_on}
-use Rattle.cedar_policy_parser.specs.Extensions.{table_of}
 use Rattle.cedar_policy_parser.specs.Refused.{RefusesSet}
+use Rattle.cedar_policy_parser.specs.Table.{table_of}
 use Rattle.cedar_policy_parser.proofs.Parsed.{err_on}
 use Rattle.cedar_policy_parser.proofs.ParsedSets.{tree_found, read_value, read_only, told_tree, has_tree}
+use Rattle.cedar_policy_parser.proofs.RaisedLimit.{old_set}
+use Rattle.cedar_policy_parser.proofs.VariedTexts.{spaces_clause, parentheses_clause}
 use Rattle.cedar_policy_parser.proofs.parse.parse_policyset.Goals as goal
 
 pub returns-in_err-tree-clause-only : goal.returns-in_err-tree-clause-only
 returns-in_err-tree-clause-only c ts set cut means =
     let d = tree_found (table_of c.args.styles.now) c.args.text.now ts set cut means in
     passed_on c.from_residual.result c.in_err-tree.field-0.0 _ _ c.from_residual.ensures.1 (c.in_err-tree.ensures.only d.tree d.stands)
+
+pub returns-in_err-tree-clause-kept : goal.returns-in_err-tree-clause-kept
+returns-in_err-tree-clause-kept c ts set cut means = returns-in_err-tree-clause-only c ts set cut (old_set means)
 
 pub returns-clause-value : goal.returns-clause-value
 returns-clause-value c = read_value (table_of c.args.styles.now) set_meaning c.args.text.now c.in_ok-tree.tree c.to_policyset.result c.in_ok-tree.ensures.found c.to_policyset.ensures
@@ -34,3 +39,18 @@ returns-in_err-tree-clause-leftmost c ts cut fit none =
 
 pub returns-clause-leftmost : goal.returns-clause-leftmost
 returns-clause-leftmost c ts cut fit none = absurd (none (has_tree c.at_most_one_cut.ensures c.args.text.now c.in_ok-tree.tree ts c.in_ok-tree.ensures.found cut))
+
+pub returns-clause-kept : goal.returns-clause-kept
+returns-clause-kept c ts set cut means = returns-clause-only c ts set cut (old_set means)
+
+pub returns-clause-spaces : goal.returns-clause-spaces
+returns-clause-spaces c =
+    let e = table_of c.args.styles.now in
+    spaces_clause c.at_most_one_cut.ensures e set_meaning c.args.text.now c.to_policyset.result c.utf8.text
+    (read_value e set_meaning c.args.text.now c.in_ok-tree.tree c.to_policyset.result c.in_ok-tree.ensures.found c.to_policyset.ensures)
+
+pub returns-clause-parentheses : goal.returns-clause-parentheses
+returns-clause-parentheses c =
+    let e = table_of c.args.styles.now in
+    parentheses_clause c.at_most_one_cut.ensures e (c.one_set.ensures e) set_meaning c.args.text.now c.to_policyset.result c.utf8.text
+    (read_value e set_meaning c.args.text.now c.in_ok-tree.tree c.to_policyset.result c.in_ok-tree.ensures.found c.to_policyset.ensures)

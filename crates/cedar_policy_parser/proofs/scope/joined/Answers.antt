@@ -1,6 +1,7 @@
-use Rattle.cedar_policy_parser.specs.Seen.{itself, empty_view}
+use Rattle.cedar_policy_parser.specs.Seen.{itself}
 use Rattle.cedar_policy_parser.proofs.Outcomes.{both_gives, both_refused, refused_next, passed_on}
 use Rattle.cedar_policy_parser.proofs.scope.joined.Goals as goal
+use Rattle.cedar_policy_parser.specs.machines.Views.{empty_view}
 
 pub returns-in_err-principal : goal.returns-in_err-principal
 returns-in_err-principal c p a r x h k l m =

@@ -1,5 +1,5 @@
 use Rattle.std.proofs.Common.{option_copied}
-use Rattle.cedar_policy_parser.specs.Extensions.{table_of}
+use Rattle.cedar_policy_parser.specs.Table.{table_of}
 use Rattle.cedar_policy_parser.proofs.ScopeParts.{elements_given, got}
 use Rattle.cedar_policy_parser.proofs.scope.scope_of.Goals as goal
 

@@ -1,10 +1,11 @@
 use Rattle.std.proofs.Common.{◌<◌, length, take, arith}
-use Rattle.cedar_policy_parser.specs.Extensions.{table_of}
-use Rattle.cedar_policy_parser.specs.Policies.{set_view, policies_from, template_outcome}
+use Rattle.cedar_policy_parser.specs.Policies.{policies_from, template_outcome}
 use Rattle.cedar_policy_parser.specs.PolicyMeaning.{policy_id}
+use Rattle.cedar_policy_parser.specs.Table.{table_of}
 use Rattle.cedar_policy_parser.proofs.Outcomes.{gives_at}
 use Rattle.cedar_policy_parser.proofs.SetSteps.{nothing_kept, set_next}
 use Rattle.cedar_policy_parser.proofs.sets.policies.Goals as goal
+use Rattle.cedar_policy_parser.specs.machines.Filled.{set_view}
 
 pub loop-count-init : goal.loop-count-init
 loop-count-init c = nothing_kept (table_of c.args.styles.now) c.new-set.result c.new-set.ensures

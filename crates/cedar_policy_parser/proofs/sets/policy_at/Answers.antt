@@ -1,7 +1,7 @@
 use Rattle.std.proofs.Common.{subst}
-use Rattle.cedar_policy_parser.specs.Extensions.{table_of}
 use Rattle.cedar_policy_parser.specs.Policies.{either_outcome, either_parts}
 use Rattle.cedar_policy_parser.specs.Seen.{Gives}
+use Rattle.cedar_policy_parser.specs.Table.{table_of}
 use Rattle.cedar_policy_parser.proofs.sets.policy_at.Goals as goal
 
 pub returns : goal.returns

@@ -1,6 +1,6 @@
-use Rattle.cedar_policy_parser.specs.Seen.{plain}
 use Rattle.cedar_policy_parser.proofs.Outcomes.{gives_at, next_next}
 use Rattle.cedar_policy_parser.proofs.sides.like_from.Goals as goal
+use Rattle.cedar_policy_parser.specs.machines.Views.{plain}
 
 pub returns : goal.returns
 returns g c x h k l =

@@ -1,7 +1,7 @@
-use Rattle.cedar_policy_parser.specs.Applied.{seen_pattern}
 use Rattle.cedar_policy_parser.proofs.Identifiers.{items_of}
 use Rattle.cedar_policy_parser.proofs.Outcomes.{both_gives, given_next, gives_at}
 use Rattle.cedar_policy_parser.proofs.sides.pattern_beside.Goals as goal
+use Rattle.cedar_policy_parser.specs.machines.Applied.{seen_pattern}
 
 pub returns : goal.returns
 returns g c x h k l =

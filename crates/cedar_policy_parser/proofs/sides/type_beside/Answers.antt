@@ -1,8 +1,8 @@
-use Rattle.cedar_policy_parser.specs.Applied.{seen_type}
 use Rattle.cedar_policy_parser.specs.Conversion.{beside_type}
 use Rattle.cedar_policy_parser.specs.Seen.{itself}
 use Rattle.cedar_policy_parser.proofs.Outcomes.{both_gives, given_next, gives_at}
 use Rattle.cedar_policy_parser.proofs.sides.type_beside.Goals as goal
+use Rattle.cedar_policy_parser.specs.machines.Applied.{seen_type}
 
 pub returns : goal.returns
 returns g c x h k l =

@@ -1,9 +1,9 @@
 use Rattle.std.proofs.Common.{◌<◌, arith}
 use Rattle.cedar_expressions.specs.Value as v
-use Rattle.cedar_policy_parser.specs.Seen.{plain}
 use Rattle.cedar_policy_parser.proofs.Outcomes.{passed_on}
 use Rattle.cedar_policy_parser.proofs.Signed.{refused_by}
 use Rattle.cedar_policy_parser.proofs.signs.banged.Goals as goal
+use Rattle.cedar_policy_parser.specs.machines.Views.{plain}
 
 pub returns-in_err-inner : goal.returns-in_err-inner
 returns-in_err-inner g c x h =

@@ -1,7 +1,7 @@
-use Rattle.cedar_policy_parser.specs.Conditions.{meanings}
 use Rattle.cedar_policy_parser.specs.Seen.{itself}
 use Rattle.cedar_policy_parser.proofs.Outcomes.{both_gives}
 use Rattle.cedar_policy_parser.proofs.templates.parts.Goals as goal
+use Rattle.cedar_policy_parser.specs.machines.Views.{meanings}
 
 pub returns : goal.returns
 returns c =

@@ -1,7 +1,7 @@
 use Rattle.std.proofs.Common.{◌≡◌, true, is_some, slice_get, rules}
 use Rattle.cedar_policy_store.specs.TemplateSlots.{template_slots}
-use Rattle.cedar_policy_parser.specs.Extensions.{table_of}
 use Rattle.cedar_policy_parser.specs.Policies.{template_outcome}
+use Rattle.cedar_policy_parser.specs.Table.{table_of}
 use Rattle.cedar_policy_parser.proofs.ConditionFree.{template_free}
 use Rattle.cedar_policy_parser.proofs.PolicySides.{on_left, on_right}
 use Rattle.cedar_policy_parser.proofs.templates.static_or_template.Goals as goal

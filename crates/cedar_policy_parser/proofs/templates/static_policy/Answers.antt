@@ -1,6 +1,6 @@
 use Rattle.std.proofs.Common.{ap}
-use Rattle.cedar_policy_parser.specs.Extensions.{table_of}
 use Rattle.cedar_policy_parser.specs.Policies.{only_static, template_outcome, template_parts}
+use Rattle.cedar_policy_parser.specs.Table.{table_of}
 use Rattle.cedar_policy_parser.proofs.ConditionFree.{template_free}
 use Rattle.cedar_policy_parser.proofs.Outcomes.{gives_at}
 use Rattle.cedar_policy_parser.proofs.templates.static_policy.Goals as goal

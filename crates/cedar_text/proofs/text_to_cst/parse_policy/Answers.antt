@@ -1,8 +1,12 @@
+use Rattle.cedar_syntax.specs.LoosePolicies.{ReadsPolicy}
+use Rattle.cedar_syntax.specs.UnlocatedTrees.{unlocated_policy}
+use Rattle.cedar_syntax.specs.Unplaced.{policy_tree}
 use Rattle.cedar_syntax.specs.MendedFaults.{NothingBefore}
 use Rattle.cedar_text.proofs.machines.MendedClauses.{found_clause, only_clause, refused_clause, leftmost_clause}
 use Rattle.cedar_text.proofs.machines.PolicyParts.{policy_mends}
 use Rattle.cedar_syntax.proofs.machines.Told.{places_clause}
 use Rattle.cedar_syntax.proofs.PolicyPlaces.{policy_places_lie}
+use Rattle.cedar_text.proofs.machines.PrintLaws.{printed_clause, single_policies_printed}
 use Rattle.cedar_text.proofs.text_to_cst.parse_policy.Goals as goal
 
 pub returns-clause-found : goal.returns-clause-found
@@ -19,3 +23,6 @@ returns-clause-places c = places_clause _ (λ x g. policy_places_lie c.args.text
 
 pub returns-clause-leftmost : goal.returns-clause-leftmost
 returns-clause-leftmost c = λ ts k g. leftmost_clause NothingBefore (policy_mends c.args.text.now) _ c.parse_on.ensures c.utf8.text ts k g
+
+pub returns-clause-printed : goal.returns-clause-printed
+returns-clause-printed c = printed_clause ReadsPolicy unlocated_policy policy_tree single_policies_printed c.args.text.now _ (returns-clause-found c)

@@ -1,0 +1,30 @@
+//! `cedar-cases`: reads the files of cases that its arguments name, makes each case's call, and writes how many cases agree and
+//! what each other one wants and gets.
+#![tactic(auto)]
+
+mod calls;
+mod conversions;
+mod counted;
+mod escapes;
+mod faults;
+mod formatted;
+mod judge;
+mod parts;
+mod policies;
+mod policy_parts;
+mod reports;
+mod tables;
+mod texts;
+mod trees;
+mod values;
+
+use std::{env, fs, io};
+
+fn main(rt: HostRuntime) -> io::Result<()> {
+    for name in env::args(&rt)?.skip(1) {
+        let source = fs::read_to_string(&rt, name.as_str())?;
+        let judge = judge::judged(rt.alloc(), source.as_str())?;
+        println!(rt; "{name}: {judge}")?;
+    }
+    Ok(())
+}

@@ -1,0 +1,259 @@
+//! The conversions of trees and of their parts.
+
+use crate::counted::{Counted, CountingBuilder};
+use crate::faults::{Told, refused};
+use crate::policy_parts::{
+    ExtractScope, GetAstAnnotations, ToKvPair, ToPolicy, ToPolicyOrTemplate, ToPolicyTemplate,
+    ToTemplate,
+};
+use crate::reports::report;
+use crate::tables::styles;
+use crate::trees::{Tree, add_again};
+use cedar_expressions::{ExprBuilder, TryClone, Var};
+use cedar_policy_parser::cst_to_ast::{
+    ExprAst, IdentAst, MemberAst, OneOrMultipleRefs, PrimaryAst, RefAst,
+};
+use cedar_syntax::cst::{Expr, ExprData, Ident, Member, Primary, Ref, Relation};
+use cedar_syntax::err::Failure;
+use cedar_syntax::node::Node;
+use std::alloc::{AllocError, Global};
+use std::fmt::Display;
+
+/// The calls that there are.
+#[derive(Clone, Copy)]
+pub(crate) enum PartCall {
+    ExprToRef,
+    ExprToRefOrSlot,
+    ExprToRefs,
+    BuilderCalls,
+    MemberToLit,
+    PrimaryToStringLiteral,
+    RefToRef,
+    IdentToValidIdent,
+    IdentToAnyIdent,
+    AnnotationToKvPair,
+    GetAstAnnotations,
+    ExtractScope,
+    PolicyToTemplate,
+    PolicyToPolicyTemplate,
+    PolicyToPolicyOrTemplate,
+    PolicyToPolicy,
+}
+
+/// What a call gives for the tree of a text: a value, or faults. The words name the variable that is referred to, or what may be called.
+pub(crate) fn answer(
+    alloc: Global,
+    call: PartCall,
+    words: &str,
+    text: &str,
+) -> Result<String, AllocError> {
+    match call {
+        PartCall::ExprToRef => converted::<ToRef>(alloc, words, text),
+        PartCall::ExprToRefOrSlot => converted::<ToRefOrSlot>(alloc, words, text),
+        PartCall::ExprToRefs => converted::<ToRefs>(alloc, words, text),
+        PartCall::BuilderCalls => converted::<BuilderCalls>(alloc, words, text),
+        PartCall::MemberToLit => converted::<ToLit>(alloc, words, text),
+        PartCall::PrimaryToStringLiteral => converted::<ToStringLiteral>(alloc, words, text),
+        PartCall::RefToRef => converted::<RefToRef>(alloc, words, text),
+        PartCall::IdentToValidIdent => converted::<ToValidIdent>(alloc, words, text),
+        PartCall::IdentToAnyIdent => converted::<ToAnyIdent>(alloc, words, text),
+        PartCall::AnnotationToKvPair => converted::<ToKvPair>(alloc, words, text),
+        PartCall::GetAstAnnotations => converted::<GetAstAnnotations>(alloc, words, text),
+        PartCall::ExtractScope => converted::<ExtractScope>(alloc, words, text),
+        PartCall::PolicyToTemplate => converted::<ToTemplate>(alloc, words, text),
+        PartCall::PolicyToPolicyTemplate => converted::<ToPolicyTemplate>(alloc, words, text),
+        PartCall::PolicyToPolicyOrTemplate => converted::<ToPolicyOrTemplate>(alloc, words, text),
+        PartCall::PolicyToPolicy => converted::<ToPolicy>(alloc, words, text),
+    }
+}
+
+/// A call on the tree of a text.
+pub(crate) trait Conversion {
+    type From: Tree;
+
+    fn told(
+        alloc: Global,
+        words: &str,
+        node: &Node<Option<Self::From>>,
+    ) -> Result<String, AllocError>;
+}
+
+fn converted<C: Conversion>(alloc: Global, words: &str, text: &str) -> Result<String, AllocError> {
+    match C::From::read(alloc, text) {
+        Ok(node) => {
+            let mut lines = C::told(alloc, words, &node)?;
+            add_again(alloc, &mut lines, &node)?;
+            Ok(lines)
+        }
+        Err(failure) => refused(alloc, Told::Message, failure),
+    }
+}
+
+/// The value's text, or the faults.
+fn value<T: Display + TryClone + Clone + PartialEq + Drop>(
+    alloc: Global,
+    answer: Result<T, Failure>,
+) -> Result<String, AllocError> {
+    match answer {
+        Ok(value) => report(alloc, &value),
+        Err(failure) => refused(alloc, Told::Message, failure),
+    }
+}
+
+/// The variable that the words name; the action where they name none.
+fn var_of(words: &str) -> Var {
+    match words {
+        "principal" => Var::Principal,
+        "resource" => Var::Resource,
+        "context" => Var::Context,
+        _ => Var::Action,
+    }
+}
+
+struct ToRef;
+
+impl Conversion for ToRef {
+    type From = Expr;
+
+    fn told(alloc: Global, words: &str, node: &Node<Option<Expr>>) -> Result<String, AllocError> {
+        value(alloc, node.to_ref(alloc, var_of(words)))
+    }
+}
+
+struct ToRefOrSlot;
+
+impl Conversion for ToRefOrSlot {
+    type From = Expr;
+
+    fn told(alloc: Global, words: &str, node: &Node<Option<Expr>>) -> Result<String, AllocError> {
+        value(alloc, node.to_ref_or_slot(alloc, var_of(words)))
+    }
+}
+
+struct ToRefs;
+
+impl Conversion for ToRefs {
+    type From = Expr;
+
+    fn told(alloc: Global, words: &str, node: &Node<Option<Expr>>) -> Result<String, AllocError> {
+        match node.to_refs(alloc, var_of(words)) {
+            Ok(OneOrMultipleRefs::Single(entity)) => report(alloc, &entity),
+            Ok(OneOrMultipleRefs::Multiple(entities)) => list_text(alloc, entities.as_slice()),
+            Err(failure) => refused(alloc, Told::Message, failure),
+        }
+    }
+}
+
+/// The items' texts in brackets.
+fn list_text<T: Display>(alloc: Global, items: &[T]) -> Result<String, AllocError> {
+    let mut text = String::from_str(alloc, "[")?;
+    let mut comma = "";
+    for item in items {
+        let item = format!(in alloc; "{comma}{item}")?;
+        text.push_str(item.as_str())?;
+        comma = ", ";
+    }
+    text.push(']')?;
+    Ok(text)
+}
+
+struct BuilderCalls;
+
+impl Conversion for BuilderCalls {
+    type From = Expr;
+
+    fn told(alloc: Global, words: &str, node: &Node<Option<Expr>>) -> Result<String, AllocError> {
+        let styles = styles(alloc, words)?;
+        let answer = node.to_expr::<CountingBuilder<ExprBuilder<()>>>(alloc, &styles);
+        drop(styles);
+        counted(alloc, answer)
+    }
+}
+
+/// How many calls of the builder made an expression.
+fn counted<E: Drop>(
+    alloc: Global,
+    answer: Result<Counted<E>, Failure>,
+) -> Result<String, AllocError> {
+    match answer {
+        Ok(counted) => format!(in alloc; "{}", counted.nodes()),
+        Err(failure) => refused(alloc, Told::Message, failure),
+    }
+}
+
+struct ToLit;
+
+impl Conversion for ToLit {
+    type From = Expr;
+
+    fn told(alloc: Global, _words: &str, node: &Node<Option<Expr>>) -> Result<String, AllocError> {
+        let Some(member) = member_of(node) else {
+            return String::from_str(alloc, "no member");
+        };
+        match member.to_lit() {
+            Some(literal) => report(alloc, literal),
+            None => String::from_str(alloc, "None"),
+        }
+    }
+}
+
+/// The member that an expression is, if it is one without operators.
+fn member_of(node: &Node<Option<Expr>>) -> Option<&Node<Option<Member>>> {
+    let Expr::Expr(whole) = node.as_inner()?;
+    let ExprData::Or(or) = whole.expr.as_ref() else {
+        return None;
+    };
+    let and = &or.as_inner()?.initial;
+    let Relation::Common { initial: sum, .. } = and.as_inner()?.initial.as_inner()? else {
+        return None;
+    };
+    let product = &sum.as_inner()?.initial;
+    Some(&product.as_inner()?.initial.as_inner()?.item)
+}
+
+struct ToStringLiteral;
+
+impl Conversion for ToStringLiteral {
+    type From = Primary;
+
+    fn told(
+        alloc: Global,
+        _words: &str,
+        node: &Node<Option<Primary>>,
+    ) -> Result<String, AllocError> {
+        match node.to_string_literal::<ExprBuilder<()>>(alloc) {
+            Ok(text) => Ok(text),
+            Err(failure) => refused(alloc, Told::Message, failure),
+        }
+    }
+}
+
+struct RefToRef;
+
+impl Conversion for RefToRef {
+    type From = Ref;
+
+    fn told(alloc: Global, _words: &str, node: &Node<Option<Ref>>) -> Result<String, AllocError> {
+        value(alloc, node.to_ref(alloc))
+    }
+}
+
+struct ToValidIdent;
+
+impl Conversion for ToValidIdent {
+    type From = Ident;
+
+    fn told(alloc: Global, _words: &str, node: &Node<Option<Ident>>) -> Result<String, AllocError> {
+        value(alloc, node.to_valid_ident(alloc))
+    }
+}
+
+struct ToAnyIdent;
+
+impl Conversion for ToAnyIdent {
+    type From = Ident;
+
+    fn told(alloc: Global, _words: &str, node: &Node<Option<Ident>>) -> Result<String, AllocError> {
+        value(alloc, node.to_any_ident(alloc))
+    }
+}

@@ -1,0 +1,89 @@
+//! Trees of expressions that no text gives, and what hinders their conversion.
+use super::held::{made, refusal, says};
+use super::places::text;
+use super::texts::built;
+use cedar_expressions::{ExprBuilder, Var};
+use cedar_policy_parser::cst_to_ast::ExprAst;
+use cedar_syntax::cst::{
+    Add, And, Expr, ExprData, ExprImpl, Literal, Member, Mult, Name, NegOp, Or, Primary, Relation,
+    Slot, Str, Unary,
+};
+use cedar_syntax::node::Node;
+use cedar_syntax::{Boxed, Items};
+use std::process::Abort;
+
+/// A node without a place.
+fn node<T>(value: T) -> Node<Option<T>> {
+    Node::new(Some(value))
+}
+
+/// The sum that is this primary alone, with this sign.
+pub(super) fn sum(
+    rt: &(impl Abort + AllocGlobal),
+    op: Option<NegOp>,
+    primary: Node<Option<Primary>>,
+) -> Node<Option<Add>> {
+    let member = Member {
+        item: primary,
+        access: Items::new(rt.alloc()),
+    };
+    let unary = Unary {
+        op,
+        item: node(member),
+    };
+    let mult = Mult {
+        initial: node(unary),
+        extended: Items::new(rt.alloc()),
+    };
+    node(Add {
+        initial: node(mult),
+        extended: Items::new(rt.alloc()),
+    })
+}
+
+/// The expression that is this sum alone.
+pub(super) fn expr(rt: &(impl Abort + AllocGlobal), sum: Node<Option<Add>>) -> Node<Option<Expr>> {
+    let relation = Relation::Common {
+        initial: sum,
+        extended: Items::new(rt.alloc()),
+    };
+    let and = And {
+        initial: node(relation),
+        extended: Items::new(rt.alloc()),
+    };
+    let or = Or {
+        initial: node(and),
+        extended: Items::new(rt.alloc()),
+    };
+    let expr = made(rt, Boxed::new(rt.alloc(), ExprData::Or(node(or))));
+    node(Expr::Expr(ExprImpl { expr }))
+}
+
+/// The conversion of the expression that is this primary alone is refused, and says this.
+fn hinders(rt: &(impl Abort + AllocGlobal), primary: Node<Option<Primary>>, message: &str) {
+    let expr = expr(rt, sum(rt, None, primary));
+    let answer = built::<ExprBuilder<()>>(rt.alloc(), &expr);
+    drop(expr);
+    says(rt, refusal(rt, answer), message);
+}
+
+#[test]
+fn what_no_text_has_is_told(rt: HostRuntime) {
+    let empty = "internal invariant violated. Parsed data node should not be empty";
+    hinders(&rt, Node::new(None), empty);
+    hinders(&rt, node(Primary::Literal(Node::new(None))), empty);
+    hinders(&rt, node(Primary::Slot(Node::new(None))), empty);
+    let string = Str::Invalid(text(&rt, "a\"b"));
+    let literal = Primary::Literal(node(Literal::Str(node(string))));
+    hinders(&rt, node(literal), "invalid string literal: a\"b");
+}
+
+#[test]
+fn an_empty_name_is_told_as_a_name(rt: HostRuntime) {
+    let name = node(Primary::Name(Node::new(None)));
+    let expr = expr(&rt, sum(&rt, None, name));
+    let failure = refusal(&rt, expr.to_ref_or_slot(rt.alloc(), Var::Principal));
+    drop(expr);
+    let told = "expected an entity uid or matching template slot, found name";
+    says(&rt, failure, told);
+}

@@ -1,0 +1,85 @@
+-- What holds of each fault of what is joined, of what holds of each fault of the parts.
+use Rattle.std.proofs.Common.{◌≡◌, ◌≢◌, ℕ, Bool, true, false, cond, List, [], ◌∷◌, Option, Ok, Err, refl}
+use Rattle.std.specs.List.{All}
+use Rattle.std.proofs.lemmas.List.Elements.{All-nil, All-cons, All-append, All-weaker}
+use Rattle.cedar_syntax.specs.declared.err.escape.UnescapeError.{UnescapeError}
+use Rattle.cedar_syntax.specs.declared.loc.Loc.{Loc}
+use Rattle.cedar_policy_parser.specs.DueKinds.{IsDue, IsDueIn, AreDueIn}
+use Rattle.cedar_policy_parser.specs.Extensions.{Extensions}
+use Rattle.cedar_policy_parser.specs.Outcome.{Kind, NamedFault, Outcome, fault_outcome, both, next}
+use Rattle.cedar_policy_parser.specs.Sites as site
+use Rattle.cedar_policy_parser.specs.Sites.{Site, IsPart, IsSiteOf, site_place}
+use Rattle.cedar_policy_parser.specs.Standing.{LiesWithin}
+use Rattle.cedar_policy_parser.specs.Strings.{string_faults, unless_faulty, text_outcome, escape_faults, unescaped}
+use Rattle.cedar_policy_parser.specs.Outcome as k
+use Rattle.cedar_policy_parser.proofs.Standing.{Anything, BothHold}
+
+-- ---- joins
+
+abbrev pub Tells : {Y : Type 0} → (NamedFault → Type 0) → (Y → Type 0) → Outcome Y → Type 0
+Tells P Q (Ok y) = Q y
+Tells P Q (Err fs) = All P fs
+
+pub one : (P : NamedFault → Type 0) (kind : Kind) (p : Option Loc) → P (kind, p) → All P ((kind, p) ∷ [])
+one P kind p h = All-cons P (kind, p) [] h (All-nil P)
+
+pub both_tell : {X Y : Type 0} (P : NamedFault → Type 0) (Q : X → Type 0) (R : Y → Type 0) (x : Outcome X) (y : Outcome Y) → Tells P Q x → Tells P R y → Tells P (BothHold Q R) (both x y)
+both_tell P Q R (Ok x) (Ok y) a b = (a, b)
+both_tell P Q R (Ok x) (Err gs) a b = b
+both_tell P Q R (Err fs) (Ok y) a b = a
+both_tell P Q R (Err fs) (Err gs) a b = All-append P fs gs a b
+
+pub next_tells : {X Y : Type 0} (P : NamedFault → Type 0) (Q : X → Type 0) (R : Y → Type 0) (x : Outcome X) (f : X → Outcome Y) → Tells P Q x → ((y : X) → x ≡ Ok y → Q y → Tells P R (f y)) → Tells P R (next x f)
+next_tells P Q R (Ok x) f a k = k x refl a
+next_tells P Q R (Err fs) f a k = a
+
+-- the same of what is told elsewhere, where it implies what is to be told here
+pub lift : {X : Type 0} (P R : NamedFault → Type 0) (Q : X → Type 0) (x : Outcome X) → ((f : NamedFault) → P f → R f) → Tells P Q x → Tells R Q x
+lift P R Q (Ok x) g a = a
+lift P R Q (Err fs) g a = All-weaker P R g fs a
+
+pub forget : {X : Type 0} (P : NamedFault → Type 0) (Q : X → Type 0) (x : Outcome X) → Tells P Q x → Tells P Anything x
+forget P Q (Ok x) a = tt
+forget P Q (Err fs) a = a
+
+pub if_tells : {X : Type 0} (P : NamedFault → Type 0) (Q : X → Type 0) (b : Bool) (x y : Outcome X) → (b ≡ true → Tells P Q x) → (b ≡ false → Tells P Q y) → Tells P Q (cond b x y)
+if_tells P Q true x y h k = h refl
+if_tells P Q false x y h k = k refl
+
+-- ---- due faults
+
+abbrev pub Due : Extensions → Site → NamedFault → Type 0
+Due e s fault = IsDueIn e s fault
+
+pub in_part : (e : Extensions) (s t : Site) → IsPart s t → (fault : NamedFault) → Due e s fault → Due e t fault
+in_part e s t i fault d = (d.0, site.below i d.1, d.2, d.3)
+
+pub here : (e : Extensions) (s : Site) (kind : Kind) (p : Option Loc) → IsDue e kind s → LiesWithin (site_place s) p → Due e s (kind, p)
+here e s kind p d h = (s, site.itself, d, h)
+
+-- a part's faults are the whole's
+pub up : {X : Type 0} (e : Extensions) (s t : Site) (Q : X → Type 0) (x : Outcome X) → IsPart s t → Tells (Due e s) Q x → Tells (Due e t) Q x
+up e s t Q x i a = lift (Due e s) (Due e t) Q x (in_part e s t i) a
+
+pub are_due : {X : Type 0} (e : Extensions) (s : Site) (Q : X → Type 0) (x : Outcome X) → Tells (Due e s) Q x → AreDueIn e s x
+are_due e s Q (Ok x) a = tt
+are_due e s Q (Err fs) a = a
+
+-- ---- strings
+
+abbrev Faults : Type 0
+Faults = List UnescapeError
+
+told : (P : NamedFault → Type 0) (p : Option Loc) (faults : Faults) → P (k.unescape, p) → All P (string_faults p faults)
+told P p [] h = All-nil P
+told P p (fault ∷ faults) h = All-cons P (k.unescape, p) (string_faults p faults) h (told P p faults h)
+
+some : (fault : UnescapeError) (faults : Faults) → (fault ∷ faults) ≢ []
+some fault faults e = cc
+
+pub unless_tells : {X : Type 0} (P : NamedFault → Type 0) (p : Option Loc) (faults : Faults) (x : X) → (faults ≢ [] → P (k.unescape, p)) → Tells P Anything (unless_faulty p faults x)
+unless_tells P p [] x h = tt
+unless_tells P p (fault ∷ faults) x h = told P p (fault ∷ faults) (h (some fault faults))
+
+pub text_tells : (P : NamedFault → Type 0) (p : Option Loc) (raw : List ℕ) → (escape_faults raw ≢ [] → P (k.unescape, p)) → Tells P Anything (text_outcome p raw)
+text_tells P p raw h = unless_tells P p (escape_faults raw) (unescaped raw) h

@@ -1,0 +1,5 @@
+use Rattle.cedar_policy_parser.proofs.RaisedLimit.{raised}
+use Rattle.cedar_policy_parser.proofs.policy_laws.old_meaning_is_kept.Goals as goal
+
+pub returns : goal.returns
+returns c = raised

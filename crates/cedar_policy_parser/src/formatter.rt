@@ -1,0 +1,85 @@
+//! The text of policies laid out anew: each on a line of its own, one space between two tokens.
+ghost use Rattle.std.specs.Prelude.{◌≡◌, ◌++◌, List, codes, IfOk, OnOk, IfErr, string_bytes};
+ghost use Rattle.cedar_lexer.specs.Cut.{Cuts};
+ghost use Rattle.cedar_lexer.specs.Token.{Lexeme};
+ghost use Rattle.cedar_syntax.specs.Formatted.{formatted, lines_text};
+ghost use Rattle.cedar_syntax.specs.Leftmost.{HasLeftmost, NumbersFit};
+ghost use Rattle.cedar_syntax.specs.LoosePolicies.{ReadsPolicies};
+ghost use Rattle.cedar_syntax.specs.PrintLaw.{node_text};
+ghost use Rattle.cedar_syntax.specs.Sentences.{HasTree};
+ghost use Rattle.cedar_syntax.specs.Unplaced.{policy_tree};
+ghost use Rattle.cedar_policy_parser.specs.Table.{table_of};
+ghost use Rattle.cedar_policy_parser.specs.Formatted.{Formats, MeanTheSame, IsInLines, IsAnsweredAgain};
+ghost use Rattle.cedar_policy_parser.specs.Refused.{RefusesSet};
+
+use crate::cst_to_ast::ExtStyles;
+use crate::parse::parse_policyset;
+use cedar_syntax::cst::{Policies, Policy};
+use cedar_syntax::err::Failure;
+use cedar_syntax::laws::formatted_policies;
+use cedar_syntax::node::Node;
+use cedar_text::text_to_cst::laws::printed_texts;
+use cedar_text::text_to_cst::parse_policies;
+use std::alloc::{AllocError, Global};
+
+/// The policies that a text means, in lines: of each policy its tokens' texts as `Display` writes them, one space between two,
+/// and a line feed behind each policy. Comments are left out, and so are leading zeros and last commas.
+///
+/// It answers a text exactly if the tokens that `text` cuts into have a meaning in the strict grammar of policy sets under this
+/// table. The answer's tokens mean the same set, places aside, and a call on the answer gives the same bytes. Any other text is
+/// refused as `parse_policyset` refuses it, with one or more faults, each at its bytes of the text: those of `parse_policies`, all
+/// that there are, or those of `to_policyset`, all that there are. Or it is `Failure::Memory`.
+///
+/// The layout is this library's own: the crate that it ports has no formatter.
+pub fn format_policies(alloc: Global, text: &str, styles: &ExtStyles) -> Result<String, Failure>
+    ensures formats { Formats (table_of styles.now) text.now result }
+    ensures meaning { IfOk result (λ lines.
+        MeanTheSame (table_of styles.now) text.now (string_bytes lines)) }
+    ensures stays { IfOk result (λ lines. IsInLines (string_bytes lines)) }
+    ensures again { IfOk result (λ lines. IsAnsweredAgain (table_of styles.now) lines) }
+    ensures refused { IfErr result (λ failure. RefusesSet
+        (table_of styles.now) failure text.now) }
+    ensures leftmost { (ts : List Lexeme) → Cuts text.now ts → NumbersFit ts
+        → ¬ HasTree (ReadsPolicies text.now) ts
+        → IfErr result (λ failure. HasLeftmost ReadsPolicies text.now ts failure) }
+{
+    printed_texts();
+    formatted_policies();
+    let set = parse_policyset(alloc, text, styles)?;
+    drop(set);
+    let tree = parse_policies(alloc, text)?;
+    let lines = in_lines(alloc, &tree)?;
+    Ok(lines)
+}
+
+/// The policies of a tree in lines.
+fn in_lines(alloc: Global, tree: &Node<Option<Policies>>) -> Result<String, AllocError>
+    ensures { IfOk result (λ text. string_bytes text ≡ formatted tree.now) }
+{
+    match tree.as_inner() {
+        Some(policies) => lines(alloc, policies.0.as_slice()),
+        None => Ok(String::new(alloc)),
+    }
+}
+
+/// Policies in lines.
+fn lines(alloc: Global, policies: &[Node<Option<Policy>>]) -> Result<String, AllocError>
+    ensures { IfOk result (λ text. string_bytes text ≡ lines_text policies.now) }
+{
+    let mut text = String::new(alloc);
+    for policy in policies {
+        add_line(&mut text, policy)?;
+    }
+    Ok(text)
+}
+
+/// Adds a policy's printed text, and a line feed behind it.
+fn add_line(text: &mut String, node: &Node<Option<Policy>>) -> Result<(), AllocError>
+    ensures { OnOk result (string_bytes text.new
+        ≡ string_bytes text.old ++ (node_text policy_tree node.now ++ codes "\n")) }
+{
+    match node.as_inner() {
+        Some(policy) => writeln!(text, "{policy}"),
+        None => text.push_str("\n"),
+    }
+}

@@ -1,0 +1,15 @@
+pub mod Cases
+pub mod Chains
+pub mod Expressions
+pub mod Induction
+pub mod Law
+pub mod Leaves
+pub mod Lines
+pub mod Lists
+pub mod Policies
+pub mod PolicyParts
+pub mod Rereading
+pub mod SameExpressions
+pub mod SamePolicies
+pub mod SameWords
+pub mod Whole

@@ -1,0 +1,12 @@
+//! Tests of the trees, the places, the faults and the values, made by hand.
+mod builder;
+mod copies;
+mod faults;
+mod held;
+mod kinds;
+mod names;
+mod places;
+mod shapes;
+mod slots;
+mod store;
+mod stored_sets;
