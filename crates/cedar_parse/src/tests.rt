@@ -1,5 +1,4 @@
 //! Runs of the program.
-mod formatted;
 mod held;
 mod program;
 mod styles;

@@ -43,7 +43,7 @@ const ENDED_EARLY: [Row; 9] = [
 
 /// What each command writes of a text that means something and of one that doesn't. (What texts mean, and what they are refused for, stands
 /// in the cases of `cedar_cases`.)
-const ANSWERED: [Row; 6] = [
+const ANSWERED: [Row; 10] = [
     (
         EXPR,
         b"1 + 2 == 3 && !true",
@@ -79,6 +79,28 @@ const ANSWERED: [Row; 6] = [
         1,
         "16..16: this policy is missing the `action` variable in the scope\n16..16: this policy is missing the `resource` variable in the scope\n",
         "",
+    ),
+    (&["format"], b"// x", 0, "", ""),
+    (
+        &["format", "fn:ip", "method:isIpv4"],
+        b"permit(principal,action,resource)when{ip(\"1.2.3.4\").isIpv4()}; // c\nforbid(principal,action,resource,);",
+        0,
+        "permit ( principal , action , resource ) when { ip ( \"1.2.3.4\" ) . isIpv4 ( ) } ;\nforbid ( principal , action , resource ) ;\n",
+        "",
+    ),
+    (
+        &["format"],
+        b"permit(principal, action, resource) when {",
+        1,
+        "42..42: unexpected end of input\n",
+        "",
+    ),
+    (
+        &["format"],
+        b"permit(\xff",
+        4,
+        "",
+        "input or output failed\n",
     ),
 ];
 
