@@ -17,5 +17,6 @@ pub mod Written
 pub mod machines
 mod ConjoinedLemmas
 mod KeptLemmas
+mod Positions
 mod TableLemmas
 pub mod again

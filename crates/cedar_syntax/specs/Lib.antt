@@ -25,6 +25,7 @@ pub mod Pattern
 pub mod Piece
 pub mod PieceAhead
 pub mod Place
+pub mod Position
 pub mod PrintLaw
 pub mod Printed
 pub mod Printing

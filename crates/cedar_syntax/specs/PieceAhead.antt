@@ -1,5 +1,6 @@
 -- The first piece of a text, found from the left, character by character. Contracts of private
--- functions alone speak of it; that it is the one piece with which the text begins is proved.
+-- functions speak of it, and `layout` of `cedar_conversion`; that it is the one piece with which
+-- the text begins is proved.
 use Rattle.std.specs.Prelude.{◌≡◌, ℕ, ◌+◌, ◌*◌, Bool, false, ◌&&◌, ◌==◌, min, nat_lt, List, [], ◌∷◌, ◌++◌, Option, Some, None, if◌then◌else◌}
 use lib.Utf8.{scalar}
 use Rattle.std.specs.Char.{digit_value}

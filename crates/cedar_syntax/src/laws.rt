@@ -1,6 +1,8 @@
-//! Laws of the definitions: the printed text of a tree, policies in lines, tokens with the same words, the limit of signs. Each is
-//! a function that does nothing: its contract is the law.
+//! Laws of the definitions: the printed text of a tree, policies in lines, tokens with the same words, the limit of signs, the
+//! order of places. Each is a function that does nothing: its contract is the law.
 ghost use Rattle.std.specs.Prelude.{◌≡◌, ℕ, List};
+ghost use Rattle.std.specs.Cmp.Lexicographic.{slice_cmp};
+ghost use Rattle.std.specs.Ordering.{nat_cmp, ordering_then};
 ghost use Rattle.cedar_syntax.specs.declared.cst.Policies.{Policies};
 ghost use Rattle.cedar_syntax.specs.declared.cst.TheConstants.{SIGN_LIMIT};
 ghost use Rattle.cedar_syntax.specs.FirstFault.{HasOneTree};
@@ -12,10 +14,14 @@ ghost use Rattle.cedar_syntax.specs.LooseWords.{ReadsIdent, ReadsName, ReadsRef}
 ghost use Rattle.cedar_syntax.specs.PrintLaw.{PrintLaw, HasSameTree, SameUpToPlaces};
 ghost use Rattle.cedar_syntax.specs.SameWords.{SameWordsLaw};
 ghost use Rattle.cedar_syntax.specs.Signs.{sign_limit};
+ghost use Rattle.cedar_syntax.specs.Span.{Span};
 ghost use Rattle.cedar_syntax.specs.Trees.{Cell};
 ghost use Rattle.cedar_syntax.specs.Unlocated.{unlocated_name, unlocated_ref};
 ghost use Rattle.cedar_syntax.specs.UnlocatedTrees.{unlocated_expr, unlocated_ident, unlocated_primary, unlocated_policy, unlocated_policies};
 ghost use Rattle.cedar_syntax.specs.Unplaced.{expr_tree, primary_tree, name_tree, ref_tree, ident_tree, policy_tree, policies_tree};
+
+use crate::loc::{Loc, SourceSpan};
+use crate::position::Position;
 
 /// So many signs before an operand are counted by the code as by the definitions.
 pub fn one_sign_limit()
@@ -55,4 +61,15 @@ pub fn same_words()
     ensures identifiers { SameWordsLaw ReadsIdent unlocated_ident }
     ensures single_policies { SameWordsLaw ReadsPolicy unlocated_policy }
     ensures policies { SameWordsLaw ReadsPolicies unlocated_policies }
+{}
+
+/// Ranges are ordered by where they begin, then by their length; places by their range, then by the
+/// bytes of their text; lines and columns by the line first.
+pub fn places_in_order()
+    ensures ranges { (a b : Span) → ⟦<SourceSpan as Ord>⟧.cmp a b
+        ≡ ordering_then (nat_cmp a.offset b.offset) (nat_cmp a.len b.len) }
+    ensures places { (a b : Loc) → ⟦<Loc as Ord>⟧.cmp a b
+        ≡ ordering_then (⟦<SourceSpan as Ord>⟧.cmp a.span b.span) (slice_cmp nat_cmp a.src b.src) }
+    ensures positions { (a b : Position) → ⟦<Position as Ord>⟧.cmp a b
+        ≡ ordering_then (nat_cmp a.line b.line) (nat_cmp a.column b.column) }
 {}

@@ -12,6 +12,7 @@ pub mod laws;
 mod leaves;
 pub mod loc;
 pub mod node;
+pub mod position;
 mod print;
 mod print_policies;
 pub mod reading;

@@ -6,6 +6,7 @@ mod held;
 mod kinds;
 mod names;
 mod places;
+mod reading;
 mod shapes;
 mod slots;
 mod store;

@@ -34,7 +34,8 @@ use Rattle.cedar_syntax.proofs.again.Cases.{there}
 use Rattle.cedar_syntax.proofs.again.Rereading.{ReadAs, beside_as, halves, words-append}
 use Rattle.cedar_lexer.proofs.Spaced.{behind, some_laid, feed_at}
 
-lines_snoc : (xs : List (Cell Policy)) (p : Cell Policy) → lines_text (xs ++ p ∷ []) ≡ lines_text xs ++ (node_text policy_tree p ++ (10 ∷ []))
+-- one line more
+pub lines_snoc : (xs : List (Cell Policy)) (p : Cell Policy) → lines_text (xs ++ p ∷ []) ≡ lines_text xs ++ (node_text policy_tree p ++ (10 ∷ []))
 lines_snoc [] p = refl
 lines_snoc (x ∷ xs) p = ap (λ t. node_text policy_tree x ++ (10 ∷ t)) (lines_snoc xs p) ∙ sym (append_assoc (node_text policy_tree x) (10 ∷ lines_text xs) (node_text policy_tree p ++ (10 ∷ [])))
 

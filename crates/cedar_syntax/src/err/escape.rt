@@ -46,6 +46,21 @@ pub enum EscapeError {
     OutOfRangeUnicodeEscape,
 }
 
+impl EscapeError {
+    /// A copy that equals its source.
+    pub fn try_clone(&self) -> Result<EscapeError, AllocError>
+        ensures { IfOk result (λ copy. copy ≡ self.now) }
+    {
+        Ok(*self)
+    }
+}
+
+impl TryClone for EscapeError {
+    fn try_clone(&self) -> Result<EscapeError, AllocError> {
+        EscapeError::try_clone(self)
+    }
+}
+
 /// A piece of a string's raw text that is no escape: what is wrong, the whole raw text, and the bytes of the piece in it.
 #[derive(Debug, Drop, PartialEq, Eq)]
 pub struct UnescapeError {

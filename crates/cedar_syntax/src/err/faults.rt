@@ -21,6 +21,9 @@ pub enum ParseError {
 }
 
 impl ParseError {
+    ghost use Rattle.std.specs.Prelude.{string_bytes};
+    ghost use Rattle.std.specs.Option.{option_map};
+    ghost use Rattle.cedar_syntax.specs.Help.{SaysLabel, fault_help};
     ghost use Rattle.cedar_syntax.specs.ParseErrors.{span_of};
 
     /// The bytes at which the fault stands, or `None` where it has no place.
@@ -30,6 +33,29 @@ impl ParseError {
         match self {
             ParseError::ToCST(fault) => fault.primary_source_span(),
             ParseError::ToAST(fault) => fault.span(),
+        }
+    }
+
+    /// What could have stood where a parse stopped, in Cedar's own words for tokens, or `None`; of a
+    /// tree's fault always `None`. Only want of memory refuses it.
+    pub fn label(&self, alloc: Global) -> Result<Option<String>, AllocError>
+        ensures { IfOk result (λ label.
+            SaysLabel self.now (option_map (λ text. string_bytes text) label)) }
+    {
+        match self {
+            ParseError::ToCST(fault) => fault.label(alloc),
+            ParseError::ToAST(_) => Ok(None),
+        }
+    }
+
+    /// A hint at what to change, or `None`. Only want of memory refuses it.
+    pub fn help(&self, alloc: Global) -> Result<Option<String>, AllocError>
+        ensures { IfOk result (λ help.
+            option_map (λ text. string_bytes text) help ≡ fault_help self.now) }
+    {
+        match self {
+            ParseError::ToCST(fault) => fault.help(alloc),
+            ParseError::ToAST(fault) => fault.help(alloc),
         }
     }
 

@@ -31,9 +31,18 @@ impl From<UnexpectedSlotError> for ExpectedStaticPolicy {
     }
 }
 
+impl ExpectedStaticPolicy {
+    /// A copy that equals its source.
+    pub fn try_clone(&self) -> Result<ExpectedStaticPolicy, AllocError>
+        ensures { IfOk result (λ copy. copy ≡ self.now) }
+    {
+        Ok(*self)
+    }
+}
+
 impl TryClone for ExpectedStaticPolicy {
     fn try_clone(&self) -> Result<ExpectedStaticPolicy, AllocError> {
-        Ok(*self)
+        ExpectedStaticPolicy::try_clone(self)
     }
 }
 
@@ -55,9 +64,18 @@ impl Error for ExpectedStaticPolicy {}
 #[derive(Debug, Clone, Copy, PartialEq, Eq)]
 pub struct ExpectedTemplate {}
 
+impl ExpectedTemplate {
+    /// A copy that equals its source.
+    pub fn try_clone(&self) -> Result<ExpectedTemplate, AllocError>
+        ensures { IfOk result (λ copy. copy ≡ self.now) }
+    {
+        Ok(*self)
+    }
+}
+
 impl TryClone for ExpectedTemplate {
     fn try_clone(&self) -> Result<ExpectedTemplate, AllocError> {
-        Ok(*self)
+        ExpectedTemplate::try_clone(self)
     }
 }
 
@@ -80,9 +98,18 @@ pub struct SlotsInConditionClause {
     pub clause_type: &'static str,
 }
 
+impl SlotsInConditionClause {
+    /// A copy that equals its source.
+    pub fn try_clone(&self) -> Result<SlotsInConditionClause, AllocError>
+        ensures { IfOk result (λ copy. copy ≡ self.now) }
+    {
+        Ok(*self)
+    }
+}
+
 impl TryClone for SlotsInConditionClause {
     fn try_clone(&self) -> Result<SlotsInConditionClause, AllocError> {
-        Ok(*self)
+        SlotsInConditionClause::try_clone(self)
     }
 }
 
@@ -167,6 +194,21 @@ pub enum Ref {
     Template,
 }
 
+impl Ref {
+    /// A copy that equals its source.
+    pub fn try_clone(&self) -> Result<Ref, AllocError>
+        ensures { IfOk result (λ copy. copy ≡ self.now) }
+    {
+        Ok(*self)
+    }
+}
+
+impl TryClone for Ref {
+    fn try_clone(&self) -> Result<Ref, AllocError> {
+        Ref::try_clone(self)
+    }
+}
+
 impl fmt::Display for Ref {
     ghost output = { λ reference. Some (argument_text reference) };
 
@@ -188,9 +230,18 @@ pub struct WrongEntityArgument {
     pub got: Ref,
 }
 
+impl WrongEntityArgument {
+    /// A copy that equals its source.
+    pub fn try_clone(&self) -> Result<WrongEntityArgument, AllocError>
+        ensures { IfOk result (λ copy. copy ≡ self.now) }
+    {
+        Ok(*self)
+    }
+}
+
 impl TryClone for WrongEntityArgument {
     fn try_clone(&self) -> Result<WrongEntityArgument, AllocError> {
-        Ok(*self)
+        WrongEntityArgument::try_clone(self)
     }
 }
 

@@ -1,11 +1,11 @@
 //! Trees made by hand: a copy of each type equals its source, and its text under `{:#}` is that under `{}`.
-use super::held::{made, shows_alike_and_copies};
+use super::held::{agrees, made, shows_alike_and_copies};
 use super::names::text;
-use cedar_expressions::TryClone;
+use cedar_expressions::{AddOp, TryClone};
 use cedar_syntax::cst::{
-    Add, Annotation, Cond, Expr, ExprData, ExprImpl, Ident, Literal, MemAccess, MultOp, Name,
-    NegOp, Or, Policies, Policy, PolicyImpl, Primary, RecInit, Ref, RefInit, RelOp, Relation, Slot,
-    Str, VariableDef,
+    Add, And, Annotation, Cond, Expr, ExprData, ExprImpl, Ident, Literal, MemAccess, Member, Mult,
+    MultOp, Name, NegOp, Or, Policies, Policy, PolicyImpl, Primary, RecInit, Ref, RefInit, RelOp,
+    Relation, Slot, Str, Unary, VariableDef,
 };
 use cedar_syntax::node::Node;
 use cedar_syntax::{Boxed, Items};
@@ -42,6 +42,14 @@ fn words_and_names_are_copied(rt: HostRuntime) {
     copies(&rt, Str::Invalid(text(&rt, "a")));
     copies(&rt, literal(&rt));
     copies(&rt, name(&rt));
+}
+
+#[test]
+fn operators_are_copied_by_their_own_calls(rt: HostRuntime) {
+    agrees(&rt, made(&rt, RelOp::In.try_clone()), RelOp::In, "in");
+    agrees(&rt, made(&rt, MultOp::Mod.try_clone()), MultOp::Mod, "%");
+    let signs = NegOp::Dash(3);
+    agrees(&rt, made(&rt, signs.try_clone()), signs, "---");
 }
 
 /// `"a"`.
@@ -110,6 +118,63 @@ fn relations_are_copied(rt: HostRuntime) {
         in_entity: Some(boxed(&rt)),
     };
     copies(&rt, is_in);
+}
+
+#[test]
+fn chains_are_copied(rt: HostRuntime) {
+    let or = Or {
+        initial: Node::new(None),
+        extended: one(&rt, Node::new(None)),
+    };
+    copies(&rt, or);
+    let and = And {
+        initial: Node::new(None),
+        extended: one(&rt, Node::new(None)),
+    };
+    copies(&rt, and);
+    let relation = Relation::Common {
+        initial: Node::new(None),
+        extended: one(&rt, (RelOp::Less, Node::new(None))),
+    };
+    copies(&rt, relation);
+    let add = Add {
+        initial: Node::new(None),
+        extended: one(&rt, (AddOp::Minus, Node::new(None))),
+    };
+    copies(&rt, add);
+}
+
+#[test]
+fn products_and_their_parts_are_copied(rt: HostRuntime) {
+    let mult = Mult {
+        initial: Node::new(None),
+        extended: one(&rt, (MultOp::Divide, Node::new(None))),
+    };
+    copies(&rt, mult);
+    let unary = Unary {
+        op: Some(NegOp::Bang(2)),
+        item: Node::new(None),
+    };
+    copies(&rt, unary);
+    let member = Member {
+        item: Node::new(None),
+        access: one(&rt, node(MemAccess::Field(node(Ident::In)))),
+    };
+    copies(&rt, member);
+}
+
+#[test]
+fn expressions_are_copied(rt: HostRuntime) {
+    copies(&rt, choice(&rt));
+    let expr = made(&rt, Boxed::new(rt.alloc(), choice(&rt)));
+    copies(&rt, ExprImpl { expr });
+    let expr = made(&rt, Boxed::new(rt.alloc(), choice(&rt)));
+    copies(&rt, Expr::Expr(ExprImpl { expr }));
+}
+
+/// An `if` that holds nothing.
+fn choice(rt: &(impl Abort + AllocGlobal)) -> ExprData {
+    ExprData::If(nothing(rt), Node::new(None), nothing(rt))
 }
 
 /// An annotation without a value.

@@ -65,6 +65,7 @@ fn escape_faults_tell_their_piece(rt: HostRuntime) {
 
 #[test]
 fn escape_faults_are_copied(rt: HostRuntime) {
+    copies(&rt, EscapeError::LoneSlash);
     says_and_copies(&rt, first_escape(&rt), FIRST_MESSAGE);
     copies(&rt, both_escapes(&rt));
     let failure = UnescapeFailure::from(both_escapes(&rt));
@@ -227,6 +228,54 @@ fn faults_of_trees_are_copied(rt: HostRuntime) {
     copies(&rt, ParseError::from(large_number(&rt, 3)));
     copies(&rt, three_faults(&rt));
     says_and_copies(&rt, Failure::from(three_faults(&rt)), LARGE);
+}
+
+/// This is told beside a fault; nothing where the empty text is wanted.
+fn is_told_beside(rt: &impl Abort, told: Result<Option<String>, AllocError>, wanted: &str) {
+    let told = made(rt, told);
+    match &told {
+        Some(text) => holds(rt, text.as_str() == wanted),
+        None => holds(rt, wanted.is_empty()),
+    }
+    drop(told);
+}
+
+/// The fault of a quote of the wrong kind.
+fn single_quote(rt: &(impl Abort + AllocGlobal)) -> ToCSTError {
+    in_text(rt, RawFault::InvalidToken { location: 0 }, "'a'")
+}
+
+const QUOTE_HELP: &str = "strings must use double quotes, not single quotes";
+
+#[test]
+fn faults_of_texts_tell_their_label_and_their_hint(rt: HostRuntime) {
+    let early = early_end(&rt);
+    is_told_beside(&rt, early.label(rt.alloc()), "expected identifier");
+    is_told_beside(&rt, early.help(rt.alloc()), "");
+    drop(early);
+    let quote = single_quote(&rt);
+    is_told_beside(&rt, quote.label(rt.alloc()), "");
+    is_told_beside(&rt, quote.help(rt.alloc()), QUOTE_HELP);
+    drop(quote);
+}
+
+#[test]
+fn faults_tell_the_label_and_the_hint_of_what_they_hold(rt: HostRuntime) {
+    let early = ParseError::from(early_end(&rt));
+    is_told_beside(&rt, early.label(rt.alloc()), "expected identifier");
+    is_told_beside(&rt, early.help(rt.alloc()), "");
+    drop(early);
+    let quote = ParseError::from(single_quote(&rt));
+    is_told_beside(&rt, quote.help(rt.alloc()), QUOTE_HELP);
+    drop(quote);
+    let large = ParseError::from(large_number(&rt, 3));
+    is_told_beside(&rt, large.label(rt.alloc()), "");
+    is_told_beside(
+        &rt,
+        large.help(rt.alloc()),
+        "the largest number is 9223372036854775807",
+    );
+    drop(large);
 }
 
 /// Whether the fault is of ambiguous operators at 43..49.

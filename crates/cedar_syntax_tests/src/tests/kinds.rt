@@ -1,7 +1,7 @@
 //! What each kind of fault of a tree says, and the hints.
 use super::builder::long;
 use super::faults::three_faults;
-use super::held::{holds, holds_for, made, refusal, says_and_copies, shows};
+use super::held::{copies, holds, holds_for, made, refusal, says_and_copies, shows};
 use super::names::{entity, id, internal_name, name, text};
 use cedar_expressions::{
     AnyId, Boxed, ExpressionConstructionError, Name, ReservedNameError, Slot, SlotId, UnaryOp,
@@ -9,9 +9,13 @@ use cedar_expressions::{
 };
 use cedar_policy_store::{PolicyID, UnexpectedSlotError};
 use cedar_syntax::cst::{Ident, RelOp, VariableDef};
-use cedar_syntax::err::parse_errors::{ExpectedStaticPolicy, InvalidActionType, Ref};
+use cedar_syntax::err::parse_errors::{
+    ExpectedStaticPolicy, ExpectedTemplate, InvalidActionType, Ref, SlotsInConditionClause,
+    WrongEntityArgument,
+};
 use cedar_syntax::err::{LiteralParseError, NonEmpty, ToASTError, ToASTErrorKind};
 use cedar_syntax::node::Node;
+use either::Either;
 use std::process::Abort;
 
 /// The kinds that hold no text of their own, and what they say.
@@ -405,6 +409,21 @@ fn what_the_scope_cannot_have_is_told(rt: HostRuntime) {
 }
 
 #[test]
+fn faults_of_trees_that_are_types_are_copied(rt: HostRuntime) {
+    let slot = PRINCIPAL_SLOT;
+    copies(&rt, ExpectedStaticPolicy { slot });
+    copies(&rt, ExpectedTemplate {});
+    let clause_type = "unless";
+    copies(&rt, SlotsInConditionClause { slot, clause_type });
+    let euids = NonEmpty::new(rt.alloc(), entity(&rt));
+    copies(&rt, InvalidActionType { euids });
+    copies(&rt, Ref::Template);
+    let expected = Either::Right((Ref::Single, Ref::Set));
+    let got = Ref::Template;
+    copies(&rt, WrongEntityArgument { expected, got });
+}
+
+#[test]
 fn what_is_no_literal_is_told(rt: HostRuntime) {
     let faults = LiteralParseError::from(three_faults(&rt));
     says_and_copies(
@@ -442,4 +461,18 @@ fn hints_say_what_to_change(rt: HostRuntime) {
         ToASTErrorKind::wrong_node("an entity uid", found, Some(hint)),
         "use another",
     );
+}
+
+#[test]
+fn an_unknown_function_is_hinted(rt: HostRuntime) {
+    let id = function(&rt, "f");
+    let hint = None;
+    is_hinted(
+        &rt,
+        ToASTErrorKind::UnknownFunction { id, hint },
+        "the table of extensions has no function of this name",
+    );
+    let (id, hint) = (function(&rt, "f"), Some(text(&rt, "use another")));
+    let unknown = ToASTErrorKind::UnknownFunction { id, hint };
+    is_hinted(&rt, unknown, "use another");
 }

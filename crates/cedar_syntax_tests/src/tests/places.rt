@@ -1,9 +1,10 @@
 //! Places and nodes, as a caller meets them.
-use super::held::{copies, holds, made, refusal, says};
+use super::held::{copies, holds, holds_for, made, refusal, says};
 use super::names::text;
 use cedar_syntax::err::Failure;
 use cedar_syntax::loc::{Loc, SourceSpan};
 use cedar_syntax::node::Node;
+use cedar_syntax::position::Position;
 use std::process::Abort;
 use std::rc::RcStr;
 
@@ -66,6 +67,36 @@ fn a_place_that_is_no_range_has_no_snippet(rt: HostRuntime) {
     let whole = made(&rt, cut.span(SourceSpan::between(2, 4)));
     holds(&rt, whole.snippet() == Some("é"));
     drop((long, cut, whole));
+}
+
+/// Three lines, of which the second begins with a character of two bytes and ends with a carriage return.
+const LINES: &str = "a\né\r\nb";
+
+/// An offset in these lines, its line and its column.
+const POSITIONS: [(usize, usize, usize); 9] = [
+    (0, 1, 1),
+    (1, 1, 2),
+    (2, 2, 1),
+    (3, 2, 2),
+    (4, 2, 2),
+    (5, 2, 3),
+    (6, 3, 1),
+    (7, 3, 2),
+    (100, 3, 2),
+];
+
+#[test]
+fn an_offset_has_a_line_and_a_column(rt: HostRuntime) {
+    for (offset, line, column) in &POSITIONS {
+        let wanted = Position {
+            line: *line,
+            column: *column,
+        };
+        holds_for(&rt, Position::of(LINES, *offset) == wanted, offset);
+        let place = place_in(&rt, LINES, *offset, 100);
+        holds_for(&rt, place.position() == wanted, offset);
+        drop(place);
+    }
 }
 
 #[test]
