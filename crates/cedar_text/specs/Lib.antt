@@ -1,3 +1,5 @@
 pub mod GoesOn
+pub mod Nesting
 pub mod StandsInText
+pub mod TreeDepth
 pub mod machines

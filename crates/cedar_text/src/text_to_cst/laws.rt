@@ -29,6 +29,7 @@ ghost use Rattle.cedar_syntax.specs.Unplaced.{expr_tree, primary_tree, name_tree
 ghost use Rattle.cedar_syntax.specs.machines.Door.{Door, IsOutside, Shapes};
 ghost use Rattle.cedar_text.specs.GoesOn.{GoesOnInText};
 ghost use Rattle.cedar_text.specs.StandsInText.{StandsInText};
+ghost use Rattle.cedar_text.specs.TreeDepth.{NestsAsTold};
 ghost use Rattle.cedar_text.specs.machines.Words.{paths, words_machine};
 ghost use Rattle.cedar_text.specs.machines.WordsRead.{ReadsWholePath, ReadsWords};
 ghost use Rattle.cedar_text.specs.machines.WordShapes.{path_shapes, path_shape, path_kind, words_shapes, words_shape, words_kind};
@@ -163,4 +164,13 @@ pub(crate) fn words_have_doors()
         (words_machine src) words_shapes words_shape words_kind }
     ensures outside { (src : List ℕ) (k : TokenKind) → ((text : List ℕ) → any_of k text ≡ None)
         → k ≢ kind.ColonColon → IsOutside (words_machine src) k }
+{}
+
+/// The tree of a text nests no deeper than `nesting` tells of the text: an expression of it stands
+/// in no more brackets and `if`s.
+pub fn trees_nest_as_told()
+    ensures expressions { NestsAsTold ReadsExpr expr_tree }
+    ensures primaries { NestsAsTold ReadsPrimary primary_tree }
+    ensures policies { NestsAsTold ReadsPolicies policies_tree }
+    ensures policy { NestsAsTold ReadsPolicy policy_tree }
 {}
