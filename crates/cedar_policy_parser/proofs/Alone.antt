@@ -18,15 +18,15 @@ use Rattle.cedar_syntax.specs.Tree as t
 use Rattle.cedar_syntax.specs.Tree.{Level, Operator, disjunction, conjunction, relation, sum, product}
 use Rattle.cedar_policy_parser.specs.Alone as way
 use Rattle.cedar_policy_parser.specs.Alone.{HasValue, HaveValues, OperandsHaveValues, quotient, quotients, IsPair, ArePairs, ComesTo, IsAlone, IsBareName}
-use Rattle.cedar_policy_parser.specs.Conversion.{Part, outcome, form_outcome, operands, pairs_outcome, pair_outcome, pair_form_outcome, value_outcome, accesses_outcome, tree_place, expression_at, chain_outcome, record_outcome, factor, with_part, signs_outcome, number_in, lone_literal}
-use Rattle.cedar_policy_parser.specs.Extensions.{Extensions}
-use Rattle.cedar_policy_parser.specs.HasSide.{no_sign}
-use Rattle.cedar_policy_parser.specs.Held.{Held, bare_name, as_expression, as_attribute}
-use Rattle.cedar_policy_parser.specs.Leaves.{name_leaf, variable_or_name}
-use Rattle.cedar_policy_parser.specs.Members.{member_outcome}
-use Rattle.cedar_policy_parser.specs.Names.{name_outcome, named_variable}
-use Rattle.cedar_policy_parser.specs.Outcome.{NamedFault, Outcome, fault_outcome, both, next, ambiguous_operators, invalid_single_eq, unary_op_limit, expression_construction_error, arbitrary_variable}
-use Rattle.cedar_policy_parser.proofs.Inverted.{next_ok}
+use Rattle.cedar_conversion.specs.Conversion.{Part, outcome, form_outcome, operands, pairs_outcome, pair_outcome, pair_form_outcome, value_outcome, accesses_outcome, tree_place, expression_at, chain_outcome, record_outcome, factor, with_part, signs_outcome, number_in, lone_literal}
+use Rattle.cedar_conversion.specs.Extensions.{Extensions}
+use Rattle.cedar_conversion.specs.HasSide.{no_sign}
+use Rattle.cedar_conversion.specs.Held.{Held, bare_name, as_expression, as_attribute}
+use Rattle.cedar_conversion.specs.Leaves.{name_leaf, variable_or_name}
+use Rattle.cedar_conversion.specs.Members.{member_outcome}
+use Rattle.cedar_conversion.specs.Names.{name_outcome, named_variable}
+use Rattle.cedar_conversion.specs.Outcome.{NamedFault, Outcome, fault_outcome, both, next, ambiguous_operators, invalid_single_eq, unary_op_limit, expression_construction_error, arbitrary_variable}
+use Rattle.cedar_conversion.proofs.Inverted.{next_ok}
 
 -- ---- a node alone
 

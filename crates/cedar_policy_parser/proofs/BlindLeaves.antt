@@ -22,15 +22,15 @@ use Rattle.cedar_syntax.specs.declared.err.escape.UnescapeError.{UnescapeError}
 use Rattle.cedar_syntax.specs.Unlocated.{unlocated_cell, unlocated_literal, unlocated_name, unlocated_node, unlocated_ref}
 use Rattle.cedar_syntax.specs.Pattern.{pattern_faults, pattern_pieces}
 use Rattle.cedar_policy_parser.proofs.Alike.{Alike, Same}
-use Rattle.cedar_policy_parser.specs.Conversion.{Part}
-use Rattle.cedar_policy_parser.specs.Entities.{id_text, id_outcome, reference_outcome, slot_id}
-use Rattle.cedar_policy_parser.specs.Held.{Held, expression, variable, bare_name, bare_truth, bare_string, as_expression, as_pattern, as_entity_type, as_string, as_attribute, text_value, unqualified}
-use Rattle.cedar_policy_parser.specs.Leaves.{name_leaf, variable_or_name, slot_leaf, entity_leaf}
-use Rattle.cedar_policy_parser.specs.Literals.{held_string, literal_outcome}
-use Rattle.cedar_policy_parser.specs.Names.{content_outcome, all_of, valid_ident_of, valid_ident, unreserved_ident, path_outcome, name_outcome, named_variable}
-use Rattle.cedar_policy_parser.specs.Outcome.{Outcome, both, next}
-use Rattle.cedar_policy_parser.specs.Strict.{largest}
-use Rattle.cedar_policy_parser.specs.Strings.{layout, escape_faults, unescaped, unless_faulty, text_outcome, pattern_outcome}
+use Rattle.cedar_conversion.specs.Conversion.{Part}
+use Rattle.cedar_conversion.specs.Entities.{id_text, id_outcome, reference_outcome, slot_id}
+use Rattle.cedar_conversion.specs.Held.{Held, expression, variable, bare_name, bare_truth, bare_string, as_expression, as_pattern, as_entity_type, as_string, as_attribute, text_value, unqualified}
+use Rattle.cedar_conversion.specs.Leaves.{name_leaf, variable_or_name, slot_leaf, entity_leaf}
+use Rattle.cedar_conversion.specs.Literals.{held_string, literal_outcome}
+use Rattle.cedar_conversion.specs.Names.{content_outcome, all_of, valid_ident_of, valid_ident, unreserved_ident, path_outcome, name_outcome, named_variable}
+use Rattle.cedar_conversion.specs.Outcome.{Outcome, both, next}
+use Rattle.cedar_conversion.specs.Strict.{largest}
+use Rattle.cedar_conversion.specs.Strings.{layout, escape_faults, unescaped, unless_faulty, text_outcome, pattern_outcome}
 
 -- ---- the two congruences
 

@@ -18,19 +18,18 @@ use Rattle.cedar_syntax.specs.Trees.{Cell}
 use Rattle.cedar_syntax.specs.Unlocated.{unlocated, unlocated_form, unlocated_node}
 use Rattle.cedar_syntax.specs.UnlocatedTrees.{bare_cell, bare_cells, unlocated_expr, unlocated_annotation, BareCondition, unlocated_clause}
 use Rattle.cedar_policy_parser.proofs.Alike.{Alike}
-use Rattle.cedar_policy_parser.specs.AnnotationKeys.{AnnotationContent, value_text_outcome, key_value_outcome, annotation_outcome, has_key, with_new_key, converted_key, Gathering, gathering_with, gathering_with_node, empty_gathering, annotations_outcome}
-use Rattle.cedar_policy_parser.specs.Conditions.{is_when_of, clause, condition_value, condition_slot_fault, without_slots, condition_of, condition_outcome, conditions_outcome}
-use Rattle.cedar_policy_parser.specs.Conversion.{value_outcome}
-use Rattle.cedar_policy_parser.specs.Entities.{id_text, id_outcome}
-use Rattle.cedar_policy_parser.specs.Extensions.{Extensions}
-use Rattle.cedar_policy_parser.specs.Names.{content_outcome, spelling_outcome, any_ident_of}
+use Rattle.cedar_policy_conversion.specs.AnnotationKeys.{AnnotationContent, value_text_outcome, key_value_outcome, annotation_outcome, has_key, with_new_key, converted_key, Gathering, gathering_with, gathering_with_node, empty_gathering, annotations_outcome}
+use Rattle.cedar_policy_conversion.specs.Conditions.{is_when_of, clause, condition_value, condition_slot_fault, without_slots, condition_of, condition_outcome, conditions_outcome}
+use Rattle.cedar_conversion.specs.Conversion.{value_outcome}
+use Rattle.cedar_conversion.specs.Entities.{id_text, id_outcome}
+use Rattle.cedar_conversion.specs.Extensions.{Extensions}
+use Rattle.cedar_conversion.specs.Names.{content_outcome, spelling_outcome, any_ident_of}
 use Rattle.cedar_expressions.specs.Path.{is_identifier}
-use Rattle.cedar_policy_parser.specs.Outcome.{Outcome, fault_outcome, next, invalid_identifier, duplicate_annotation}
-use Rattle.cedar_policy_parser.specs.Policies.{effect_of, effect_outcome}
-use Rattle.cedar_policy_parser.specs.Scope.{faults_outcome}
+use Rattle.cedar_conversion.specs.Outcome.{Outcome, fault_outcome, next, invalid_identifier, duplicate_annotation, faults_outcome}
+use Rattle.cedar_policy_conversion.specs.Policies.{effect_of, effect_outcome}
 use Rattle.cedar_policy_parser.proofs.Blind.{outcome_alike}
 use Rattle.cedar_policy_parser.proofs.BlindLeaves.{Equal, Pairs, Aside, both_alike, next_alike, then_alike, if_alike, value_alike, text_alike}
-use Rattle.cedar_policy_parser.proofs.SlotFree.{no_place, none_hidden}
+use Rattle.cedar_policy_conversion.proofs.SlotFree.{no_place, none_hidden}
 
 -- ---- the kit
 

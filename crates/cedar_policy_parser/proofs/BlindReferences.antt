@@ -15,10 +15,10 @@ use Rattle.cedar_syntax.specs.Trees.{Cell}
 use Rattle.cedar_syntax.specs.Unlocated.{unlocated, unlocated_form, unlocated_parts}
 use Rattle.cedar_syntax.specs.UnlocatedTrees.{bare_cell, unlocated_expr}
 use Rattle.cedar_policy_parser.proofs.Alike.{Alike}
-use Rattle.cedar_policy_parser.specs.HasSide.{no_sign}
-use Rattle.cedar_policy_parser.specs.Names.{content_outcome}
-use Rattle.cedar_policy_parser.specs.Outcome.{Outcome, fault_outcome, next, wrong_node}
-use Rattle.cedar_policy_parser.specs.References.{RefKind, single_entity, entity_or_slot, one_or_multiple, lone, lone_form, entity_at, lone_entity, entities, of_variable, several_outcome, referred_form, referent_at, referent_outcome}
+use Rattle.cedar_conversion.specs.HasSide.{no_sign}
+use Rattle.cedar_conversion.specs.Names.{content_outcome}
+use Rattle.cedar_conversion.specs.Outcome.{Outcome, fault_outcome, next, wrong_node}
+use Rattle.cedar_policy_conversion.specs.References.{RefKind, single_entity, entity_or_slot, one_or_multiple, lone, lone_form, entity_at, lone_entity, entities, of_variable, several_outcome, referred_form, referent_at, referent_outcome}
 use Rattle.cedar_policy_parser.proofs.BlindLeaves.{Equal, Pairs, both_alike, next_alike, then_alike, if_alike, entity_in_alike}
 use Rattle.cedar_policy_parser.proofs.BlindParts.{meet, same_form_cell}
 

@@ -31,12 +31,12 @@ use Rattle.cedar_syntax.specs.Trees.{Cell}
 use Rattle.cedar_syntax.specs.Unlocated.{unlocated, unlocated_name}
 use Rattle.cedar_syntax.specs.UnlocatedTrees.{bare_cell, bare_cells, unlocated_expr, unlocated_add, unlocated_constraint, BareElement, unlocated_element}
 use Rattle.cedar_policy_parser.proofs.Alike.{Alike, Same}
-use Rattle.cedar_policy_parser.specs.Conversion.{outcome}
-use Rattle.cedar_policy_parser.specs.Extensions.{Extensions}
-use Rattle.cedar_policy_parser.specs.Held.{as_entity_type}
-use Rattle.cedar_policy_parser.specs.Outcome.{Outcome, fault_outcome, next, incorrect_variable}
-use Rattle.cedar_policy_parser.specs.References.{single_entity, entity_or_slot, one_or_multiple}
-use Rattle.cedar_policy_parser.specs.Scope.{scope_variable_of, scope_variable, type_name, no_type_name, element_variable, made_by_is, is_made_by_is, is_inverted, type_outcome, operator_outcome, asked_type, constraint_outcome, stands_there, in_its_place, element_of, element_outcome, principal_outcome, resource_outcome, action_alone, no_entity_type, action_by, unless_others, asked_action, action_of, action_outcome, Scope, place_behind, if_there, no_extra, scope_of, scope_outcome}
+use Rattle.cedar_conversion.specs.Conversion.{outcome}
+use Rattle.cedar_conversion.specs.Extensions.{Extensions}
+use Rattle.cedar_conversion.specs.Held.{as_entity_type}
+use Rattle.cedar_conversion.specs.Outcome.{Outcome, fault_outcome, next, incorrect_variable}
+use Rattle.cedar_policy_conversion.specs.References.{single_entity, entity_or_slot, one_or_multiple}
+use Rattle.cedar_policy_conversion.specs.Scope.{scope_variable_of, scope_variable, type_name, no_type_name, element_variable, made_by_is, is_made_by_is, is_inverted, type_outcome, operator_outcome, asked_type, constraint_outcome, stands_there, in_its_place, element_of, element_outcome, principal_outcome, resource_outcome, action_alone, no_entity_type, action_by, unless_others, asked_action, action_of, action_outcome, Scope, place_behind, if_there, no_extra, scope_of, scope_outcome}
 use Rattle.cedar_policy_parser.proofs.Blind.{outcome_alike}
 use Rattle.cedar_policy_parser.proofs.BlindLeaves.{Equal, Pairs, both_alike, next_alike, then_alike, if_alike, as_type_alike}
 use Rattle.cedar_policy_parser.proofs.BlindParts.{meet, some_same, none_some, content_same, same_form_cell, Both, expr_same, word_same, heads, tails}

@@ -18,16 +18,16 @@ use Rattle.cedar_syntax.specs.PrintLaw.{SameUpToPlaces}
 use Rattle.cedar_syntax.specs.Trees.{Cell}
 use Rattle.cedar_syntax.specs.UnlocatedTrees.{bare_cell, bare_cells, unlocated_annotation, BarePolicy, unlocated_policy, unlocated_policies}
 use Rattle.cedar_policy_parser.proofs.Alike.{Alike}
-use Rattle.cedar_policy_parser.specs.AnnotationKeys.{AnnotationContent, kept_annotation, with_annotation}
-use Rattle.cedar_policy_parser.specs.Extensions.{Extensions}
-use Rattle.cedar_policy_parser.specs.Outcome.{Outcome, outcome_value}
-use Rattle.cedar_policy_parser.specs.Policies.{TemplateParts, Given, given_parts, kept_outcome, parts_outcome, template_of, template_outcome, meaning_of, policies_from, with_parts, set_outcome, policies_outcome}
-use Rattle.cedar_policy_parser.specs.PolicyMeaning.{joint_condition, policy_id, with_policy, no_policies}
-use Rattle.cedar_policy_parser.specs.Scope.{Scope}
+use Rattle.cedar_policy_conversion.specs.AnnotationKeys.{AnnotationContent, kept_annotation, with_annotation}
+use Rattle.cedar_conversion.specs.Extensions.{Extensions}
+use Rattle.cedar_conversion.specs.Outcome.{Outcome, outcome_value}
+use Rattle.cedar_policy_conversion.specs.Policies.{TemplateParts, Given, given_parts, kept_outcome, parts_outcome, template_of, template_outcome, meaning_of, policies_from, with_parts, set_outcome, policies_outcome}
+use Rattle.cedar_policy_conversion.specs.PolicyMeaning.{joint_condition, policy_id, with_policy, no_policies}
+use Rattle.cedar_policy_conversion.specs.Scope.{Scope}
 use Rattle.cedar_policy_parser.proofs.BlindLeaves.{Equal, Pairs, both_alike, next_alike}
 use Rattle.cedar_policy_parser.proofs.BlindParts.{content_same, effect_same, KeyText, key_text, SameContents, annotations_same, conditions_same, heads, tails}
 use Rattle.cedar_policy_parser.proofs.BlindScopes.{SameScope, scope_same}
-use Rattle.cedar_policy_parser.proofs.MappedValues.{with-insert}
+use Rattle.cedar_policy_conversion.proofs.MappedValues.{with-insert}
 
 -- ---- the annotations of a policy, by their keys
 

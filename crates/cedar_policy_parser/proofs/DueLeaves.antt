@@ -22,22 +22,22 @@ use Rattle.cedar_syntax.specs.Located as f
 use Rattle.cedar_syntax.specs.Located.{Located, Form, at}
 use Rattle.cedar_policy_parser.specs.Alone as way
 use Rattle.cedar_policy_parser.specs.Alone.{ComesTo}
-use Rattle.cedar_policy_parser.specs.Conversion.{tree_place}
+use Rattle.cedar_conversion.specs.Conversion.{tree_place}
 use Rattle.cedar_policy_parser.specs.DueKinds as due
 use Rattle.cedar_policy_parser.specs.DueKinds.{IsDue, IsMisspelled, IsReservedWord}
-use Rattle.cedar_policy_parser.specs.Entities.{entity_outcome, id_text, id_outcome, reference_outcome, slot_id, slot_outcome}
-use Rattle.cedar_policy_parser.specs.Extensions.{Extensions}
-use Rattle.cedar_policy_parser.specs.Held.{Held, expression, variable, bare_name, bare_truth, bare_string}
-use Rattle.cedar_policy_parser.specs.Leaves.{name_leaf, variable_or_name, slot_leaf, entity_leaf}
-use Rattle.cedar_policy_parser.specs.Literals.{held_string, literal_outcome}
-use Rattle.cedar_policy_parser.specs.Names.{content_outcome, all_of, valid_ident_of, valid_ident, unreserved_ident, identifiers, path_of, path_outcome, name_outcome, named_variable}
-use Rattle.cedar_policy_parser.specs.Outcome as k
-use Rattle.cedar_policy_parser.specs.Outcome.{NamedFault, Outcome, fault_outcome, both, next}
+use Rattle.cedar_conversion.specs.Entities.{entity_outcome, id_text, id_outcome, reference_outcome, slot_id, slot_outcome}
+use Rattle.cedar_conversion.specs.Extensions.{Extensions}
+use Rattle.cedar_conversion.specs.Held.{Held, expression, variable, bare_name, bare_truth, bare_string}
+use Rattle.cedar_conversion.specs.Leaves.{name_leaf, variable_or_name, slot_leaf, entity_leaf}
+use Rattle.cedar_conversion.specs.Literals.{held_string, literal_outcome}
+use Rattle.cedar_conversion.specs.Names.{content_outcome, all_of, valid_ident_of, valid_ident, unreserved_ident, identifiers, path_of, path_outcome, name_outcome, named_variable}
+use Rattle.cedar_conversion.specs.Outcome as k
+use Rattle.cedar_conversion.specs.Outcome.{NamedFault, Outcome, fault_outcome, both, next}
 use Rattle.cedar_policy_parser.specs.Sites as site
 use Rattle.cedar_policy_parser.specs.Sites.{Site, IsPart, IsName, IsNameNode, IsNamed, IsVariable, IsLiteral, IsTruth, IsTruthValue, IsQuoted, IsString, IsSiteOf}
 use Rattle.cedar_policy_parser.specs.Standing.{LiesWithin}
-use Rattle.cedar_policy_parser.specs.Strict.{largest}
-use Rattle.cedar_policy_parser.specs.Strings.{escape_faults}
+use Rattle.cedar_conversion.specs.Strict.{largest}
+use Rattle.cedar_conversion.specs.Strings.{escape_faults}
 use Rattle.cedar_policy_parser.proofs.Standing.{parsed, self_within, within_within, Anything, BothHold}
 use Rattle.cedar_policy_parser.proofs.Tidy.{Holding, NodeTidy, Each, IdentHeld, IdentTidy, NameTidy, LiteralTidy, RefTidy}
 use Rattle.cedar_policy_parser.proofs.Telling.{Tells, one, both_tell, next_tells, if_tells, Due, here, up, text_tells}

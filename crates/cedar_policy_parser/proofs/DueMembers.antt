@@ -12,19 +12,19 @@ use Rattle.cedar_syntax.specs.Located.{Located, Form, Parts, at}
 use Rattle.cedar_syntax.specs.Tree.{Operator}
 use Rattle.cedar_policy_parser.specs.Sites as site
 use Rattle.cedar_policy_parser.specs.Sites.{Site, IsName, IsNamed, IsVariable}
-use Rattle.cedar_policy_parser.specs.declared.methods.Standard.{Standard}
-use Rattle.cedar_policy_parser.specs.Conversion.{tree_place, outcome}
+use Rattle.cedar_conversion.specs.declared.methods.Standard.{Standard}
+use Rattle.cedar_conversion.specs.Conversion.{tree_place, outcome}
 use Rattle.cedar_policy_parser.specs.DueKinds as due
 use Rattle.cedar_policy_parser.specs.DueKinds.{IsDueFunction, IsDueMember, IsDueMethod, OnValue, count, arity}
-use Rattle.cedar_policy_parser.specs.Extensions.{Extensions}
-use Rattle.cedar_policy_parser.specs.Held.{Held, expression, variable, bare_name, bare_truth, bare_string, as_expression, text_value}
-use Rattle.cedar_policy_parser.specs.Members.{Access, field, call, index, takes_one, with_arguments, plain_name, method_by, function_outcome, accesses_of, name_accesses, variable_accesses, some_accesses, member_outcome}
-use Rattle.cedar_policy_parser.specs.Names.{unreserved_ident}
-use Rattle.cedar_policy_parser.specs.Outcome as k
-use Rattle.cedar_policy_parser.specs.Outcome.{Kind, NamedFault, Outcome, fault_outcome, both, next}
+use Rattle.cedar_conversion.specs.Extensions.{Extensions}
+use Rattle.cedar_conversion.specs.Held.{Held, expression, variable, bare_name, bare_truth, bare_string, as_expression, text_value}
+use Rattle.cedar_conversion.specs.Members.{Access, field, call, index, takes_one, with_arguments, plain_name, method_by, function_outcome, accesses_of, name_accesses, variable_accesses, some_accesses, member_outcome}
+use Rattle.cedar_conversion.specs.Names.{unreserved_ident}
+use Rattle.cedar_conversion.specs.Outcome as k
+use Rattle.cedar_conversion.specs.Outcome.{Kind, NamedFault, Outcome, fault_outcome, both, next}
 use Rattle.cedar_policy_parser.specs.Standing.{LiesWithin}
-use Rattle.cedar_policy_parser.specs.StrictCalls.{standard_method, names_method}
-use Rattle.cedar_policy_parser.specs.Strings.{text_outcome}
+use Rattle.cedar_conversion.specs.StrictCalls.{standard_method, names_method}
+use Rattle.cedar_conversion.specs.Strings.{text_outcome}
 use Rattle.cedar_policy_parser.proofs.Standing.{Anything}
 use Rattle.cedar_policy_parser.proofs.Telling.{Tells, one, next_tells, lift, if_tells, Due, in_part, here, text_tells}
 use Rattle.cedar_policy_parser.proofs.DueLeaves.{HeldAt, string_below}

@@ -14,22 +14,22 @@ use Rattle.cedar_syntax.specs.declared.cst.Str.TheVariants as str
 use Rattle.cedar_syntax.specs.Located as f
 use Rattle.cedar_syntax.specs.Located.{Located, Form, Parts, at}
 use Rattle.cedar_syntax.specs.Tree.{Operator}
-use Rattle.cedar_policy_parser.specs.Conversion.{tree_place}
+use Rattle.cedar_conversion.specs.Conversion.{tree_place}
 use Rattle.cedar_policy_parser.specs.DueKinds as due
 use Rattle.cedar_policy_parser.specs.DueKinds.{IsDue, IsDueRight, IsFieldForm, IsFieldNode, AreFields, NamesAttributes, one_member}
-use Rattle.cedar_policy_parser.specs.Extensions.{Extensions}
-use Rattle.cedar_policy_parser.specs.HasSide.{attributes_of, begins_with, beginning_outcome, behind_first, field_form, field_of, fields_of, no_sign, right_form, right_side, string_alone}
-use Rattle.cedar_policy_parser.specs.Held.{Held, expression, variable, bare_name, bare_truth, bare_string, unqualified}
-use Rattle.cedar_policy_parser.specs.Leaves.{name_leaf, variable_or_name}
-use Rattle.cedar_policy_parser.specs.Literals.{held_string, literal_outcome}
-use Rattle.cedar_policy_parser.specs.Names.{name_outcome, named_variable, unreserved_ident}
-use Rattle.cedar_policy_parser.specs.Outcome as k
-use Rattle.cedar_policy_parser.specs.Outcome.{Kind, NamedFault, Outcome, fault_outcome, both, next}
+use Rattle.cedar_conversion.specs.Extensions.{Extensions}
+use Rattle.cedar_conversion.specs.HasSide.{attributes_of, begins_with, beginning_outcome, behind_first, field_form, field_of, fields_of, no_sign, right_form, right_side, string_alone}
+use Rattle.cedar_conversion.specs.Held.{Held, expression, variable, bare_name, bare_truth, bare_string, unqualified}
+use Rattle.cedar_conversion.specs.Leaves.{name_leaf, variable_or_name}
+use Rattle.cedar_conversion.specs.Literals.{held_string, literal_outcome}
+use Rattle.cedar_conversion.specs.Names.{name_outcome, named_variable, unreserved_ident}
+use Rattle.cedar_conversion.specs.Outcome as k
+use Rattle.cedar_conversion.specs.Outcome.{Kind, NamedFault, Outcome, fault_outcome, both, next}
 use Rattle.cedar_policy_parser.specs.Sites as site
 use Rattle.cedar_policy_parser.specs.Sites.{Site, IsPart, IsAmong, IsTruth, IsQuoted}
 use Rattle.cedar_policy_parser.specs.Standing.{LiesWithin}
-use Rattle.cedar_policy_parser.specs.Strings.{text_outcome}
-use Rattle.cedar_policy_parser.proofs.Inverted.{ok_is}
+use Rattle.cedar_conversion.specs.Strings.{text_outcome}
+use Rattle.cedar_conversion.proofs.Inverted.{ok_is}
 use Rattle.cedar_policy_parser.proofs.Nested.{Nested, FormNested, AccessesNested, AccessNested, AccessFormNested}
 use Rattle.cedar_policy_parser.proofs.Standing.{self_within, within_within, Anything}
 use Rattle.cedar_policy_parser.proofs.Telling.{Tells, one, next_tells, lift, if_tells, Due, in_part, here, text_tells}

@@ -13,22 +13,22 @@ use Rattle.cedar_syntax.specs.declared.cst.Str.TheVariants as str
 use Rattle.cedar_syntax.specs.Located as f
 use Rattle.cedar_syntax.specs.Located.{Located, Form, at}
 use Rattle.cedar_syntax.specs.Pattern.{pattern_faults, pattern_pieces}
-use Rattle.cedar_policy_parser.specs.Conversion.{tree_place, outcome, form_outcome}
+use Rattle.cedar_conversion.specs.Conversion.{tree_place, outcome, form_outcome}
 use Rattle.cedar_policy_parser.specs.DueKinds as due
 use Rattle.cedar_policy_parser.specs.DueKinds.{IsDue}
-use Rattle.cedar_policy_parser.specs.Extensions.{Extensions}
-use Rattle.cedar_policy_parser.specs.Held.{Held, expression, variable, bare_name, bare_truth, bare_string, as_expression, as_pattern, as_entity_type, as_string, as_attribute, unqualified, text_value}
-use Rattle.cedar_policy_parser.specs.Leaves.{variable_or_name}
-use Rattle.cedar_policy_parser.specs.Literals.{held_string, literal_outcome}
-use Rattle.cedar_policy_parser.specs.Names.{name_outcome, named_variable}
-use Rattle.cedar_policy_parser.specs.Outcome as k
-use Rattle.cedar_policy_parser.specs.Outcome.{NamedFault, Outcome, both, next}
+use Rattle.cedar_conversion.specs.Extensions.{Extensions}
+use Rattle.cedar_conversion.specs.Held.{Held, expression, variable, bare_name, bare_truth, bare_string, as_expression, as_pattern, as_entity_type, as_string, as_attribute, unqualified, text_value}
+use Rattle.cedar_conversion.specs.Leaves.{variable_or_name}
+use Rattle.cedar_conversion.specs.Literals.{held_string, literal_outcome}
+use Rattle.cedar_conversion.specs.Names.{name_outcome, named_variable}
+use Rattle.cedar_conversion.specs.Outcome as k
+use Rattle.cedar_conversion.specs.Outcome.{NamedFault, Outcome, both, next}
 use Rattle.cedar_policy_parser.specs.Sites as site
 use Rattle.cedar_policy_parser.specs.Sites.{Site, IsPart, IsName, IsNameNode, IsNamed, IsVariable, IsLiteral, IsTruth, IsTruthValue, IsQuoted, IsString, IsAnyString}
 use Rattle.cedar_policy_parser.specs.Standing.{LiesWithin}
-use Rattle.cedar_policy_parser.specs.Strings.{layout, text_outcome}
+use Rattle.cedar_conversion.specs.Strings.{layout, text_outcome}
 use Rattle.cedar_policy_parser.proofs.Alone.{comes_to}
-use Rattle.cedar_policy_parser.proofs.Inverted.{ok_is}
+use Rattle.cedar_conversion.proofs.Inverted.{ok_is}
 use Rattle.cedar_policy_parser.proofs.Standing.{Anything}
 use Rattle.cedar_policy_parser.proofs.Telling.{Tells, one, next_tells, Due, in_part, here, up, text_tells, unless_tells}
 use Rattle.cedar_policy_parser.proofs.DueLeaves.{HeldAt, is_string, string_below}

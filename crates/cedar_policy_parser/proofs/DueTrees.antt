@@ -17,20 +17,20 @@ use Rattle.cedar_syntax.specs.Tree as t
 use Rattle.cedar_syntax.specs.Tree.{Level, Operator, disjunction, conjunction, relation, sum, product}
 use Rattle.cedar_policy_parser.specs.Alone as way
 use Rattle.cedar_policy_parser.specs.Alone.{ComesTo, IsPair, ArePairs}
-use Rattle.cedar_policy_parser.specs.Conversion.{Part, bodies, outcome, form_outcome, operands, accesses_outcome, access_outcome, access_form_outcome, pairs_outcome, pair_outcome, pair_form_outcome, value_outcome, comparison_outcome, relation_outcome, level_outcome, joint_outcome, operator_limit, chain_outcome, factor, application_outcome, dashes_outcome, signs_outcome, beside_type, tree_place, record_outcome, number_in, lone_literal}
+use Rattle.cedar_conversion.specs.Conversion.{Part, bodies, outcome, form_outcome, operands, accesses_outcome, access_outcome, access_form_outcome, pairs_outcome, pair_outcome, pair_form_outcome, value_outcome, comparison_outcome, relation_outcome, level_outcome, joint_outcome, operator_limit, chain_outcome, factor, application_outcome, dashes_outcome, signs_outcome, beside_type, tree_place, record_outcome, number_in, lone_literal}
 use Rattle.cedar_policy_parser.specs.DueKinds as due
 use Rattle.cedar_policy_parser.specs.DueKinds.{IsDue, IsDueIn, AreDueIn, count}
-use Rattle.cedar_policy_parser.specs.Extensions.{Extensions}
-use Rattle.cedar_policy_parser.specs.HasSide.{right_side, no_sign}
-use Rattle.cedar_policy_parser.specs.Held.{Held, as_expression, as_pattern, as_entity_type, as_string, as_attribute}
-use Rattle.cedar_policy_parser.specs.Members.{Access}
-use Rattle.cedar_policy_parser.specs.Names.{unreserved_ident}
-use Rattle.cedar_policy_parser.specs.Outcome as k
-use Rattle.cedar_policy_parser.specs.Outcome.{NamedFault, Outcome, both, next}
+use Rattle.cedar_conversion.specs.Extensions.{Extensions}
+use Rattle.cedar_conversion.specs.HasSide.{right_side, no_sign}
+use Rattle.cedar_conversion.specs.Held.{Held, as_expression, as_pattern, as_entity_type, as_string, as_attribute}
+use Rattle.cedar_conversion.specs.Members.{Access}
+use Rattle.cedar_conversion.specs.Names.{unreserved_ident}
+use Rattle.cedar_conversion.specs.Outcome as k
+use Rattle.cedar_conversion.specs.Outcome.{NamedFault, Outcome, both, next}
 use Rattle.cedar_policy_parser.specs.Sites as site
 use Rattle.cedar_policy_parser.specs.Sites.{Site, IsPart, IsAmong, is_negated, IsName}
 use Rattle.cedar_policy_parser.specs.Standing.{LiesWithin}
-use Rattle.cedar_policy_parser.specs.Strict.{largest}
+use Rattle.cedar_conversion.specs.Strict.{largest}
 use Rattle.cedar_policy_parser.proofs.Alone.{chain_alone, member_alone}
 use Rattle.cedar_policy_parser.proofs.Nested.{IsOfLevel, IsBefore, Nested, FormNested, PartsNested, AccessesNested, AccessNested, AccessFormNested, PairsNested, PairNested, PairFormNested}
 use Rattle.cedar_policy_parser.proofs.Standing.{self_within, Anything, BothHold}

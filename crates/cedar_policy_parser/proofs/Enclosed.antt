@@ -9,14 +9,14 @@ use Rattle.cedar_policy_store.specs.declared.constraints.ActionConstraint.{Actio
 use Rattle.cedar_policy_store.specs.declared.constraints.ActionConstraint.TheVariants as action
 use Rattle.cedar_policy_store.specs.PlaceFree.{Constraint, equal_to, inside, typed_inside, Policy, Policies, Reference}
 use Rattle.cedar_expressions.specs.Value as v
-use Rattle.cedar_policy_parser.specs.StrictWords.{path_value}
+use Rattle.cedar_conversion.specs.StrictWords.{path_value}
 use Rattle.cedar_syntax.specs.Tokens.{Spot, one}
-use Rattle.cedar_policy_parser.specs.Extensions.{Extensions}
-use Rattle.cedar_policy_parser.specs.PolicyMeaning.{policy_id}
+use Rattle.cedar_conversion.specs.Extensions.{Extensions}
+use Rattle.cedar_policy_conversion.specs.PolicyMeaning.{policy_id}
 use Rattle.cedar_policy_parser.specs.StandsWhole as w
 use Rattle.cedar_policy_parser.specs.StandsWhole.{InReference, InEntity, InAsks, InEntities, InActions, InAsksAction, InScope, InCondition, InConditions, InPolicy, InPolicies, StandsWhole}
-use Rattle.cedar_policy_parser.specs.Strict as m
-use Rattle.cedar_policy_parser.specs.Strict.{Means, expression}
+use Rattle.cedar_conversion.specs.Strict as m
+use Rattle.cedar_conversion.specs.Strict.{Means, expression}
 use Rattle.cedar_policy_parser.specs.StrictPolicy as p
 use Rattle.cedar_policy_parser.specs.StrictPolicy.{IsCondition, AreConditions, IsPolicy, ArePolicies, IsPolicySet}
 use Rattle.cedar_policy_parser.specs.StrictScope as s

@@ -1,6 +1,7 @@
 -- Policies in lines: what they mean, and that they stay as they are.
-use Rattle.std.proofs.Common.{◌≡◌, if◌then◌else◌, is_ok, OnOk, option_map, ◌<◌, ℕ, ◌+◌, List, [], ◌∷◌, ◌++◌, append_assoc, codes, length, get_or, take, refl, Option, None, IsErrAnd, Result, Ok, Err, MatchResult, String, string_bytes, sym, ap, subst, ◌∙◌}
+use Rattle.std.proofs.Common.{◌≡◌, if◌then◌else◌, is_ok, OnOk, option_map, ◌<◌, ℕ, ◌+◌, List, ◌++◌, codes, length, get_or, take, Option, None, IsErrAnd, Result, Ok, Err, MatchResult, String, string_bytes, sym, ap, subst, ◌∙◌}
 use Rattle.cedar_policy_store.specs.PlaceFree as free
+use Rattle.cedar_syntax.proofs.again.Lines.{lines_snoc}
 use Rattle.cedar_syntax.specs.declared.cst.Policies.{Policies}
 use Rattle.cedar_syntax.specs.declared.cst.Policy.{Policy}
 use Rattle.cedar_syntax.specs.declared.err.faults.Failure.{Failure}
@@ -13,11 +14,11 @@ use Rattle.cedar_syntax.specs.Trees.{Cell}
 use Rattle.cedar_syntax.specs.UnlocatedTrees.{BarePolicy, unlocated_policies}
 use Rattle.cedar_syntax.specs.Printed.{tokens_text, printed}
 use Rattle.cedar_syntax.specs.Unplaced.{or_missing, policy_tree}
-use Rattle.cedar_policy_parser.specs.Extensions.{Extensions}
+use Rattle.cedar_conversion.specs.Extensions.{Extensions}
 use Rattle.cedar_policy_parser.specs.Formatted.{MeansSet, MeanTheSame, IsInLines, Formats}
-use Rattle.cedar_policy_parser.specs.Policies.{policies_outcome}
+use Rattle.cedar_policy_conversion.specs.Policies.{policies_outcome}
 use Rattle.cedar_policy_parser.proofs.BlindSets.{sets_same}
-use Rattle.cedar_policy_parser.proofs.Loops.{take_next}
+use Rattle.cedar_conversion.proofs.Loops.{take_next}
 use Rattle.cedar_policy_parser.proofs.ParsedSets.{tree_found, tree_meant}
 
 -- ---- one line more
@@ -27,10 +28,6 @@ pub empty_line : {A E : Type 0} (n : Cell Policy) (before after : List ℕ) (r :
 unfolding printed
 empty_line n before after (Ok done) none is = is ∙ ap (λ (o : Option Policy). before ++ (tokens_text (printed (or_missing (option_map policy_tree o))) ++ codes "\n")) (sym none)
 empty_line n before after (Err e) none is = tt
-
-lines_snoc : (ps : List (Cell Policy)) (p : Cell Policy) → lines_text (ps ++ p ∷ []) ≡ lines_text ps ++ (node_text policy_tree p ++ codes "\n")
-lines_snoc [] p = refl
-lines_snoc (q ∷ ps) p = ap (λ t. node_text policy_tree q ++ (codes "\n" ++ t)) (lines_snoc ps p) ∙ sym (append_assoc (node_text policy_tree q) (codes "\n" ++ lines_text ps) (node_text policy_tree p ++ codes "\n"))
 
 pub line_next : (ps : List (Cell Policy)) (i : ℕ) (p : Cell Policy) (before after : List ℕ) → i < length ps → p ≡ get_or ps i p → before ≡ lines_text (take i ps) → after ≡ before ++ (node_text policy_tree p ++ codes "\n") → after ≡ lines_text (take (i + 1) ps)
 line_next ps i p before after more is so_far grown = grown ∙ ap (λ t. t ++ (node_text policy_tree p ++ codes "\n")) so_far ∙ sym (ap lines_text (take_next ps i p more is) ∙ lines_snoc (take i ps) p)

@@ -7,15 +7,15 @@ use Rattle.cedar_syntax.specs.declared.cst.Policy.TheVariants as trees
 use Rattle.cedar_syntax.specs.declared.cst.PolicyImpl.{PolicyImpl}
 use Rattle.cedar_syntax.specs.declared.loc.Loc.{Loc}
 use Rattle.cedar_syntax.specs.declared.node.Node.{Node}
-use Rattle.cedar_policy_parser.specs.AnnotationKeys.{AnnotationContent, annotation_outcome, converted_key, with_new_key, Gathering, gathering_with, gathering_with_node, empty_gathering, annotations_outcome}
+use Rattle.cedar_policy_conversion.specs.AnnotationKeys.{AnnotationContent, annotation_outcome, converted_key, with_new_key, Gathering, gathering_with, gathering_with_node, empty_gathering, annotations_outcome}
 use Rattle.cedar_policy_parser.specs.Blocks.{faults_from, annotation_faults, policy_faults, set_faults}
-use Rattle.cedar_policy_parser.specs.Conditions.{condition_outcome, conditions_outcome}
-use Rattle.cedar_policy_parser.specs.Extensions.{Extensions}
-use Rattle.cedar_policy_parser.specs.Names.{content_outcome, all_of}
-use Rattle.cedar_policy_parser.specs.Outcome.{Outcome, both, next, item_more}
-use Rattle.cedar_policy_parser.specs.Policies.{effect_outcome, kept_outcome, parts_outcome, template_of, template_outcome, policies_from, set_outcome}
-use Rattle.cedar_policy_parser.specs.PolicyMeaning.{policy_id}
-use Rattle.cedar_policy_parser.specs.Scope.{scope_outcome}
+use Rattle.cedar_policy_conversion.specs.Conditions.{condition_outcome, conditions_outcome}
+use Rattle.cedar_conversion.specs.Extensions.{Extensions}
+use Rattle.cedar_conversion.specs.Names.{content_outcome, all_of}
+use Rattle.cedar_conversion.specs.Outcome.{Outcome, both, next, item_more}
+use Rattle.cedar_policy_conversion.specs.Policies.{effect_outcome, kept_outcome, parts_outcome, template_of, template_outcome, policies_from, set_outcome}
+use Rattle.cedar_policy_conversion.specs.PolicyMeaning.{policy_id}
+use Rattle.cedar_policy_conversion.specs.Scope.{scope_outcome}
 
 -- ---- the joins
 

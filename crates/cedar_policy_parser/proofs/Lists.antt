@@ -4,7 +4,7 @@ use Rattle.cedar_expressions.specs.declared.operators.AddOp.{AddOp}
 use Rattle.cedar_expressions.specs.Value.{Value}
 use Rattle.cedar_syntax.specs.Tree as t
 use Rattle.cedar_syntax.specs.Tree.{Operator}
-use Rattle.cedar_policy_parser.specs.Conversion.{Part, bodies, sum_terms, add_op}
+use Rattle.cedar_conversion.specs.Conversion.{Part, bodies, sum_terms, add_op}
 
 pub no_snoc : {A : Type 0} (xs : List A) (x : A) → xs ++ x ∷ [] ≡ [] → ⊥
 no_snoc [] x e = cc

@@ -30,15 +30,15 @@ use Rattle.cedar_syntax.specs.Located.{Located, Form, at}
 use Rattle.cedar_syntax.specs.Tree.{disjunction, conjunction, relation, sum, product}
 use Rattle.cedar_syntax.proofs.FormLevels.{expr_out, impl_out, data_or, data_if, or_out, and_out, relation_common, add_out, mult_out, unary_out, member_out, init_out, relation_has, relation_like, relation_is, relation_is_in, access_field, access_call, access_index, primary_literal, primary_ref, primary_name, primary_slot, primary_expr, primary_list, primary_inits}
 use Rattle.cedar_syntax.specs.Trees.{Cell, expr_of, if_of, or_of, and_of, common_of, add_of, mult_of, unary_of, member_of, has_of, like_of, is_of, rec_init_of}
-use Rattle.cedar_policy_parser.specs.Conversion.{outcome, form_outcome, operands, value_outcome, chain_outcome, conditional_outcome, signs_outcome, expression_at, tree_place, bodies, set_value_outcome, record_outcome, accesses_outcome, access_outcome, access_form_outcome, pairs_outcome, pair_outcome, pair_form_outcome, with_attributes, match_outcome, beside_type, type_test_outcome, type_within_outcome}
-use Rattle.cedar_policy_parser.specs.HasSide.{right_side}
-use Rattle.cedar_policy_parser.specs.Leaves.{name_leaf, slot_leaf, entity_leaf}
-use Rattle.cedar_policy_parser.specs.Literals.{number_in, lone_literal, literal_alone, literal_outcome}
-use Rattle.cedar_policy_parser.specs.Members.{field, call, index, member_outcome}
-use Rattle.cedar_policy_parser.specs.Names.{unreserved_ident}
-use Rattle.cedar_policy_parser.specs.Extensions.{Extensions}
-use Rattle.cedar_policy_parser.specs.Held.{as_pattern, as_string, as_attribute}
-use Rattle.cedar_policy_parser.specs.Outcome.{both, next}
+use Rattle.cedar_conversion.specs.Conversion.{outcome, form_outcome, operands, value_outcome, chain_outcome, conditional_outcome, signs_outcome, expression_at, tree_place, bodies, set_value_outcome, record_outcome, accesses_outcome, access_outcome, access_form_outcome, pairs_outcome, pair_outcome, pair_form_outcome, with_attributes, match_outcome, beside_type, type_test_outcome, type_within_outcome}
+use Rattle.cedar_conversion.specs.HasSide.{right_side}
+use Rattle.cedar_conversion.specs.Leaves.{name_leaf, slot_leaf, entity_leaf}
+use Rattle.cedar_conversion.specs.Literals.{number_in, lone_literal, literal_alone, literal_outcome}
+use Rattle.cedar_conversion.specs.Members.{field, call, index, member_outcome}
+use Rattle.cedar_conversion.specs.Names.{unreserved_ident}
+use Rattle.cedar_conversion.specs.Extensions.{Extensions}
+use Rattle.cedar_conversion.specs.Held.{as_pattern, as_string, as_attribute}
+use Rattle.cedar_conversion.specs.Outcome.{both, next}
 
 at_form : (e : Extensions) (p : Option Loc) (t u : Form) → t ≡ u → outcome e (at p t) ≡ form_outcome e p u
 unfolding outcome

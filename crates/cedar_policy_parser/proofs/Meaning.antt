@@ -7,10 +7,10 @@ use Rattle.cedar_syntax.specs.Signs.{sign_limit}
 use Rattle.cedar_syntax.specs.Forms.{located, expr_form}
 use Rattle.cedar_syntax.specs.LooseExpressions.{ReadsExpr}
 use Rattle.cedar_syntax.specs.Place.{placed}
-use Rattle.cedar_policy_parser.specs.Conversion.{Converts, value_outcome}
-use Rattle.cedar_policy_parser.specs.Extensions.{Extensions}
-use Rattle.cedar_policy_parser.specs.Strict.{Means, expression}
-use Rattle.cedar_policy_parser.proofs.Inverted.{ok_is}
+use Rattle.cedar_conversion.specs.Conversion.{Converts, value_outcome}
+use Rattle.cedar_conversion.specs.Extensions.{Extensions}
+use Rattle.cedar_conversion.specs.Strict.{Means, expression}
+use Rattle.cedar_conversion.proofs.Inverted.{ok_is}
 use Rattle.cedar_policy_parser.proofs.complete.Whole.{complete}
 
 -- tokens have at most one tree, whatever the source

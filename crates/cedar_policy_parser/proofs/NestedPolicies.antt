@@ -19,12 +19,12 @@ use Rattle.cedar_syntax.specs.Tokens.{one}
 use Rattle.cedar_syntax.specs.Trees.{Cell}
 use Rattle.cedar_syntax.specs.LoosePolicies.{ReadsBody, no_body, body, ReadsCond, cond, ReadsPolicy, policy, ReadsPolicies, policies}
 use Rattle.cedar_syntax.proofs.ExpressionTokens.{expr_some}
-use Rattle.cedar_policy_parser.specs.Conditions.{condition_outcome}
-use Rattle.cedar_policy_parser.specs.Conversion.{value_outcome}
+use Rattle.cedar_policy_conversion.specs.Conditions.{condition_outcome}
+use Rattle.cedar_conversion.specs.Conversion.{value_outcome}
 use Rattle.cedar_policy_parser.specs.Due.{HoldsCondition, IsWhenOrUnless, OfParts, HasDueFaults, HaveDueFaults}
 use Rattle.cedar_policy_parser.specs.DueKinds.{IsDueIn, AreDueIn}
-use Rattle.cedar_policy_parser.specs.Extensions.{Extensions}
-use Rattle.cedar_policy_parser.specs.Outcome.{NamedFault}
+use Rattle.cedar_conversion.specs.Extensions.{Extensions}
+use Rattle.cedar_conversion.specs.Outcome.{NamedFault}
 use Rattle.cedar_policy_parser.specs.Sites.{wanted, expression}
 use Rattle.cedar_policy_parser.proofs.DueTrees.{faults_are_due}
 use Rattle.cedar_policy_parser.proofs.Fitting.{Fits, parts, own_fit}

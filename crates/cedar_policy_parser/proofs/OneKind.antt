@@ -19,21 +19,21 @@ use Rattle.cedar_expressions.specs.Path.{Path}
 use Rattle.cedar_syntax.specs.Located as f
 use Rattle.cedar_syntax.specs.Located.{Located, Form, Parts, at, none, more}
 use Rattle.cedar_syntax.specs.Tree.{Operator}
-use Rattle.cedar_policy_parser.specs.Conversion.{outcome, form_outcome}
+use Rattle.cedar_conversion.specs.Conversion.{outcome, form_outcome}
 use Rattle.cedar_policy_parser.specs.DueKinds as due
 use Rattle.cedar_policy_parser.specs.DueKinds.{BeginsWithTruth, BeginsWithPath, BeginsWithCall, IsReservedWord, IsMisspelled, IsDue, IsDueRight, IsDueMethod, IsDueFunction, IsBehindLink, OnValue, IsDueBehind, IsDueMember, kinds_of_site, IsProduct}
-use Rattle.cedar_policy_parser.specs.Extensions.{Extensions}
-use Rattle.cedar_policy_parser.specs.Held.{bare_name}
-use Rattle.cedar_policy_parser.specs.Leaves.{variable_or_name}
-use Rattle.cedar_policy_parser.specs.Names.{name_outcome, named_variable}
-use Rattle.cedar_policy_parser.specs.Outcome as k
-use Rattle.cedar_policy_parser.specs.Outcome.{Kind, Outcome, next}
+use Rattle.cedar_conversion.specs.Extensions.{Extensions}
+use Rattle.cedar_conversion.specs.Held.{bare_name}
+use Rattle.cedar_conversion.specs.Leaves.{variable_or_name}
+use Rattle.cedar_conversion.specs.Names.{name_outcome, named_variable}
+use Rattle.cedar_conversion.specs.Outcome as k
+use Rattle.cedar_conversion.specs.Outcome.{Kind, Outcome, next}
 use Rattle.cedar_policy_parser.specs.Sites as site
 use Rattle.cedar_policy_parser.specs.Sites.{Site, IsName, IsNamed, IsVariable, IsTruthValue, IsQuoted}
 use Rattle.cedar_policy_parser.proofs.Alone.{comes_to}
 use Rattle.cedar_policy_parser.proofs.DueMembers.{not_standard, not_other}
 use Rattle.cedar_policy_parser.proofs.DueSides.{of_truth, of_variable}
-use Rattle.cedar_policy_parser.proofs.Inverted.{ok_is}
+use Rattle.cedar_conversion.proofs.Inverted.{ok_is}
 
 -- ---- names
 

@@ -6,10 +6,10 @@ use Rattle.cedar_syntax.specs.Signs.{sign_limit}
 use Rattle.cedar_syntax.specs.FirstFault.{HasOneTree}
 use Rattle.cedar_syntax.specs.LoosePolicies.{ReadsPolicies, ReadsPolicy}
 use Rattle.cedar_syntax.specs.Place.{placed}
-use Rattle.cedar_policy_parser.specs.Extensions.{Extensions}
-use Rattle.cedar_policy_parser.specs.Policies.{meaning_of, policies_outcome, template_outcome}
+use Rattle.cedar_conversion.specs.Extensions.{Extensions}
+use Rattle.cedar_policy_conversion.specs.Policies.{meaning_of, policies_outcome, template_outcome}
 use Rattle.cedar_policy_parser.specs.StrictPolicy.{IsPolicy, IsPolicySet}
-use Rattle.cedar_policy_parser.proofs.Inverted.{ok_is}
+use Rattle.cedar_conversion.proofs.Inverted.{ok_is}
 use Rattle.cedar_policy_parser.proofs.complete.Sets.{PolicyRead, policy_read, SetRead, set_read}
 
 pub one_policy_meaning : HasOneTree ReadsPolicy → (e : Extensions) (id : List ℕ) (ts : List Lexeme) (v w : free.Policy) → IsPolicy e sign_limit id ts v → IsPolicy e sign_limit id ts w → v ≡ w

@@ -30,7 +30,7 @@ use Rattle.cedar_syntax.proofs.FormLevels.{and_out, member_out, relation_common,
 use Rattle.cedar_syntax.proofs.WordPlaces.{start_is}
 use Rattle.cedar_policy_parser.specs.Alone as way
 use Rattle.cedar_policy_parser.specs.Alone.{ComesTo}
-use Rattle.cedar_policy_parser.specs.HasSide.{no_sign}
+use Rattle.cedar_conversion.specs.HasSide.{no_sign}
 use Rattle.cedar_policy_parser.proofs.TidyTrees.{expr_is, if_is, or_is, add_is, mult_is, unary_is}
 use Rattle.cedar_policy_parser.proofs.sound.Lones.{some_behind, signs_some, bangs_sign, dashes_sign}
 

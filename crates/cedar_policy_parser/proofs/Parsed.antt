@@ -14,14 +14,14 @@ use Rattle.cedar_syntax.specs.Grammar.{IsTreeOf}
 use Rattle.cedar_syntax.specs.LooseExpressions.{ReadsExpr}
 use Rattle.cedar_syntax.specs.Place.{placed_or_start}
 use Rattle.cedar_syntax.specs.Trees.{Cell}
-use Rattle.cedar_policy_parser.specs.Conversion.{Converts, value_outcome}
-use Rattle.cedar_policy_parser.specs.Extensions.{Extensions}
-use Rattle.cedar_policy_parser.specs.Outcome.{Outcome}
+use Rattle.cedar_conversion.specs.Conversion.{Converts, value_outcome}
+use Rattle.cedar_conversion.specs.Extensions.{Extensions}
+use Rattle.cedar_conversion.specs.Outcome.{Outcome}
 use Rattle.cedar_policy_parser.specs.Refused.{RefusesText}
-use Rattle.cedar_policy_parser.specs.Seen.{Gives, Refuses}
-use Rattle.cedar_policy_parser.specs.Strict as m
-use Rattle.cedar_policy_parser.specs.Strict.{Means}
-use Rattle.cedar_policy_parser.proofs.Inverted.{ok_is}
+use Rattle.cedar_conversion.specs.Seen.{Gives, Refuses}
+use Rattle.cedar_conversion.specs.Strict as m
+use Rattle.cedar_conversion.specs.Strict.{Means}
+use Rattle.cedar_conversion.proofs.Inverted.{ok_is}
 use Rattle.cedar_policy_parser.proofs.complete.Reads.{ExprRead}
 use Rattle.cedar_policy_parser.proofs.complete.Whole.{complete}
 use Rattle.cedar_policy_parser.proofs.sound.Whole.{sound_value}

@@ -9,9 +9,9 @@ use Rattle.cedar_syntax.specs.Place.{placed}
 use Rattle.cedar_syntax.specs.Trees.{Cell}
 use Rattle.cedar_syntax.proofs.ExpressionTokens.{expr_some}
 use Rattle.cedar_syntax.proofs.WordPlaces.{start_is}
-use Rattle.cedar_policy_parser.specs.Conversion.{value_outcome}
+use Rattle.cedar_conversion.specs.Conversion.{value_outcome}
 use Rattle.cedar_policy_parser.specs.DueKinds.{AreDueIn}
-use Rattle.cedar_policy_parser.specs.Extensions.{Extensions}
+use Rattle.cedar_conversion.specs.Extensions.{Extensions}
 use Rattle.cedar_policy_parser.specs.Sites.{wanted, expression}
 use Rattle.cedar_policy_parser.proofs.Fitting.{all_fit}
 use Rattle.cedar_policy_parser.proofs.NestedTrees.{sits, expr_holds}

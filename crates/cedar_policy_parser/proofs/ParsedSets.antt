@@ -13,13 +13,13 @@ use Rattle.cedar_syntax.specs.LoosePolicies.{ReadsPolicies}
 use Rattle.cedar_syntax.specs.Place.{placed, placed_or_start}
 use Rattle.cedar_syntax.specs.Sentences.{HasTree}
 use Rattle.cedar_syntax.specs.Trees.{Cell}
-use Rattle.cedar_policy_parser.specs.Extensions.{Extensions}
-use Rattle.cedar_policy_parser.specs.Outcome.{Outcome}
-use Rattle.cedar_policy_parser.specs.Policies.{policies_outcome}
+use Rattle.cedar_conversion.specs.Extensions.{Extensions}
+use Rattle.cedar_conversion.specs.Outcome.{Outcome}
+use Rattle.cedar_policy_conversion.specs.Policies.{policies_outcome}
 use Rattle.cedar_policy_parser.specs.Refused.{RefusesSet}
-use Rattle.cedar_policy_parser.specs.Seen.{Gives, Refuses}
+use Rattle.cedar_conversion.specs.Seen.{Gives, Refuses}
 use Rattle.cedar_policy_parser.specs.StrictPolicy.{IsPolicySet}
-use Rattle.cedar_policy_parser.proofs.Inverted.{ok_is}
+use Rattle.cedar_conversion.proofs.Inverted.{ok_is}
 use Rattle.cedar_policy_parser.proofs.complete.Sets.{SetRead, set_read}
 use Rattle.cedar_policy_parser.proofs.sound.Sets.{set_meant}
 

@@ -20,21 +20,21 @@ use Rattle.cedar_syntax.specs.Forms.{located, expr_form}
 use Rattle.cedar_syntax.specs.Grammar.{IsTreeOf}
 use Rattle.cedar_syntax.specs.LoosePolicies.{ReadsPolicies, ReadsPolicy}
 use Rattle.cedar_syntax.specs.Trees.{Cell}
-use Rattle.cedar_policy_parser.specs.AnnotationKeys.{annotation_outcome, with_new_key}
+use Rattle.cedar_policy_conversion.specs.AnnotationKeys.{annotation_outcome, with_new_key}
 use Rattle.cedar_policy_parser.specs.Blocks.{faults_from}
-use Rattle.cedar_policy_parser.specs.Conditions.{is_when_of, condition_value, condition_slot_fault, slots_outcome, without_slots, condition_of, condition_outcome}
-use Rattle.cedar_policy_parser.specs.Conversion.{Converts}
-use Rattle.cedar_policy_parser.specs.Due.{HoldsCondition, IsWhenOrUnless, is_missing_variable, is_extra_element, count, OfParts, RefusesEffect, TellsMissing, TellsExtra, IsOfNoName}
-use Rattle.cedar_policy_parser.specs.Extensions.{Extensions}
-use Rattle.cedar_policy_parser.specs.Names.{content_outcome}
-use Rattle.cedar_policy_parser.specs.Outcome.{Kind, NamedFault, Outcome, fault_outcome, both, next, invalid_effect, invalid_condition, empty_clause, missing_scope_variable, extra_scope_element, expected_static_policy, duplicate_policy_id, duplicate_template_id}
-use Rattle.cedar_policy_parser.specs.Places.{place_within}
-use Rattle.cedar_policy_parser.specs.Policies.{TemplateParts, effect_of, effect_outcome, template_outcome, scope_slots, unless_slots, is_slot_fault, slot_faults, only_static, static_outcome, side_outcome, either_outcome, policies_outcome}
-use Rattle.cedar_policy_parser.specs.Scope.{principal_outcome, action_outcome, resource_outcome, place_behind, if_there, extra_element_fault, faults_outcome, no_extra, scope_of, elements_outcome, scope_outcome}
+use Rattle.cedar_policy_conversion.specs.Conditions.{is_when_of, condition_value, condition_slot_fault, slots_outcome, without_slots, condition_of, condition_outcome}
+use Rattle.cedar_conversion.specs.Conversion.{Converts}
+use Rattle.cedar_policy_parser.specs.Due.{HoldsCondition, IsWhenOrUnless, is_missing_variable, is_extra_element, count, OfParts, RefusesEffect, TellsMissing, TellsExtra, IsTellable}
+use Rattle.cedar_conversion.specs.Extensions.{Extensions}
+use Rattle.cedar_conversion.specs.Names.{content_outcome}
+use Rattle.cedar_conversion.specs.Outcome.{Kind, NamedFault, Outcome, fault_outcome, both, next, invalid_effect, invalid_condition, empty_clause, missing_scope_variable, extra_scope_element, expected_static_policy, duplicate_policy_id, duplicate_template_id, membership_invariant_violation, faults_outcome}
+use Rattle.cedar_conversion.specs.Places.{place_within}
+use Rattle.cedar_policy_conversion.specs.Policies.{TemplateParts, effect_of, effect_outcome, template_outcome, scope_slots, unless_slots, is_slot_fault, slot_faults, only_static, static_outcome, side_outcome, either_outcome, policies_outcome}
+use Rattle.cedar_policy_conversion.specs.Scope.{principal_outcome, action_outcome, resource_outcome, place_behind, if_there, extra_element_fault, no_extra, scope_of, elements_outcome, scope_outcome}
 use Rattle.cedar_expressions.specs.Slots.{slots_of}
 use Rattle.cedar_policy_parser.proofs.ByHand.{any_annotation_stands, any_condition_stands, any_effect_stands, any_policy_stands, any_scope_stands, any_set_stands}
 use Rattle.cedar_policy_parser.proofs.InBlocks.{made_told, joined_told}
-use Rattle.cedar_policy_parser.proofs.Standing.{Origin, by_hand, parsed, IsTold, IsPlain, KindWithin, Stands, Anything, no_policy_name, no_template_name, some_told}
+use Rattle.cedar_policy_parser.proofs.Standing.{Origin, by_hand, parsed, IsTold, IsPlain, KindWithin, Stands, Anything, no_policy_name, no_template_name, no_text_fault, some_told}
 use Rattle.cedar_policy_parser.proofs.StandingScopes.{principal_stands, action_stands, resource_stands}
 use Rattle.cedar_policy_parser.proofs.StandingTexts.{parsed_tidy, each_policy}
 use Rattle.cedar_policy_parser.proofs.Tidy.{Holding, NodeTidy, Each, IdentHeld}
@@ -256,13 +256,13 @@ member_missing_due e = of_members (TellsMissing e) (missing_told e)
 pub member_extra_due : (e : Extensions) (text : List ℕ) (tree : Cell Policies) (x : Policies) → IsTreeOf ReadsPolicies text tree → tree.node ≡ Some x → All (OfParts (TellsExtra e)) x.0
 member_extra_due e = of_members (TellsExtra e) (extra_told e)
 
--- ---- names of policies
+-- ---- what is never told
 
-no_names : {X : Type 0} (o : Origin) (x : Outcome X) → Stands IsTold o Anything x → All IsOfNoName (faults_from x)
-no_names o (Ok x) h = All-nil IsOfNoName
-no_names o (Err fs) h = All-weaker (KindWithin IsTold o) IsOfNoName (λ f i. (no_policy_name o f.0 i.0, no_template_name o f.0 i.0)) fs h.1
+no_names : {X : Type 0} (o : Origin) (x : Outcome X) → Stands IsTold o Anything x → All IsTellable (faults_from x)
+no_names o (Ok x) h = All-nil IsTellable
+no_names o (Err fs) h = All-weaker (KindWithin IsTold o) IsTellable (λ f i. (no_policy_name o f.0 i.0, no_template_name o f.0 i.0, no_text_fault o f.0 i.0)) fs h.1
 
-pub policy_names : (e : Extensions) (id : List ℕ) (tree : Cell Policy) → All IsOfNoName (faults_from (template_outcome e id tree))
+pub policy_names : (e : Extensions) (id : List ℕ) (tree : Cell Policy) → All IsTellable (faults_from (template_outcome e id tree))
 policy_names e id tree = no_names by_hand (template_outcome e id tree) (any_policy_stands e id tree)
 
 static_no_policy : expected_static_policy ≢ duplicate_policy_id
@@ -271,29 +271,32 @@ static_no_policy e = cc
 static_no_template : expected_static_policy ≢ duplicate_template_id
 static_no_template e = cc
 
-wanted_names : (faults : List NamedFault) → All IsOfNoName (map (λ f. (expected_static_policy, f.1)) faults)
-wanted_names [] = All-nil IsOfNoName
-wanted_names (f ∷ fs) = All-cons IsOfNoName (expected_static_policy, f.1) (map (λ f. (expected_static_policy, f.1)) fs) (static_no_policy, static_no_template) (wanted_names fs)
+static_no_text : expected_static_policy ≢ membership_invariant_violation
+static_no_text e = cc
 
-unless_names : (p : Option Loc) (slots : List Slot) (t : TemplateParts) → All IsOfNoName (faults_from (unless_slots p slots t))
-unless_names p [] t = All-nil IsOfNoName
-unless_names p (s ∷ slots) t = All-cons IsOfNoName (expected_static_policy, place_within p s.place) [] (static_no_policy, static_no_template) (All-nil IsOfNoName)
+wanted_names : (faults : List NamedFault) → All IsTellable (map (λ f. (expected_static_policy, f.1)) faults)
+wanted_names [] = All-nil IsTellable
+wanted_names (f ∷ fs) = All-cons IsTellable (expected_static_policy, f.1) (map (λ f. (expected_static_policy, f.1)) fs) (static_no_policy, static_no_template, static_no_text) (wanted_names fs)
 
-only_names : (p : Option Loc) (o : Outcome TemplateParts) → All IsOfNoName (faults_from o) → All IsOfNoName (faults_from (only_static p o))
+unless_names : (p : Option Loc) (slots : List Slot) (t : TemplateParts) → All IsTellable (faults_from (unless_slots p slots t))
+unless_names p [] t = All-nil IsTellable
+unless_names p (s ∷ slots) t = All-cons IsTellable (expected_static_policy, place_within p s.place) [] (static_no_policy, static_no_template, static_no_text) (All-nil IsTellable)
+
+only_names : (p : Option Loc) (o : Outcome TemplateParts) → All IsTellable (faults_from o) → All IsTellable (faults_from (only_static p o))
 only_names p (Ok t) h = unless_names p (scope_slots t) t
-only_names p (Err fs) h = All-append IsOfNoName fs (slot_faults fs) h (wanted_names (filter (λ f. is_slot_fault f.0) fs))
+only_names p (Err fs) h = All-append IsTellable fs (slot_faults fs) h (wanted_names (filter (λ f. is_slot_fault f.0) fs))
 
-pub static_names : (e : Extensions) (id : List ℕ) (tree : Cell Policy) → All IsOfNoName (faults_from (static_outcome e id tree))
+pub static_names : (e : Extensions) (id : List ℕ) (tree : Cell Policy) → All IsTellable (faults_from (static_outcome e id tree))
 static_names e id tree = only_names tree.loc (template_outcome e id tree) (policy_names e id tree)
 
-side_names : (o : Outcome TemplateParts) → All IsOfNoName (faults_from o) → All IsOfNoName (faults_from (side_outcome o))
+side_names : (o : Outcome TemplateParts) → All IsTellable (faults_from o) → All IsTellable (faults_from (side_outcome o))
 side_names (Ok t) h = h
 side_names (Err fs) h = h
 
-pub either_names : (e : Extensions) (id : List ℕ) (tree : Cell Policy) → All IsOfNoName (faults_from (either_outcome e id tree))
+pub either_names : (e : Extensions) (id : List ℕ) (tree : Cell Policy) → All IsTellable (faults_from (either_outcome e id tree))
 either_names e id tree = side_names (template_outcome e id tree) (policy_names e id tree)
 
-pub set_names : (e : Extensions) (tree : Cell Policies) → All IsOfNoName (faults_from (policies_outcome e tree))
+pub set_names : (e : Extensions) (tree : Cell Policies) → All IsTellable (faults_from (policies_outcome e tree))
 set_names e tree = no_names by_hand (policies_outcome e tree) (any_set_stands e tree)
 
 -- ---- what is refused is told

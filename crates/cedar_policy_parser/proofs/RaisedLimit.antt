@@ -6,10 +6,10 @@ use Rattle.cedar_expressions.specs.Value.{Value}
 use Rattle.cedar_expressions.specs.declared.operators.AddOp.{AddOp}
 use Rattle.cedar_policy_store.specs.PlaceFree.{Policy, Policies}
 use Rattle.cedar_syntax.specs.Signs.{sign_limit}
-use Rattle.cedar_policy_parser.specs.Extensions.{Extensions}
+use Rattle.cedar_conversion.specs.Extensions.{Extensions}
 use Rattle.cedar_policy_parser.specs.OldMeaning.{old_limit, IsOldPolicySet}
-use Rattle.cedar_policy_parser.specs.Strict as m
-use Rattle.cedar_policy_parser.specs.Strict.{Sort, Means, Joined, Added, Listed, Entries, JoinedEntries, Entry}
+use Rattle.cedar_conversion.specs.Strict as m
+use Rattle.cedar_conversion.specs.Strict.{Sort, Means, Joined, Added, Listed, Entries, JoinedEntries, Entry}
 use Rattle.cedar_policy_parser.specs.StrictPolicy as p
 use Rattle.cedar_policy_parser.specs.StrictPolicy.{IsCondition, AreConditions, IsPolicy, ArePolicies, IsPolicySet}
 

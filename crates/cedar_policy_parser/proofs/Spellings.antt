@@ -20,8 +20,8 @@ use Rattle.cedar_syntax.specs.LooseWords.{ReadsAny, any, ReadsIdent}
 use Rattle.cedar_syntax.specs.Place.{placed, placed_or_start}
 use Rattle.cedar_syntax.specs.Tokens.{one, any_of}
 use Rattle.cedar_syntax.specs.Trees.{Cell}
-use Rattle.cedar_policy_parser.specs.Names.{spelling_outcome as spelled_text, any_ident_of, any_ident}
-use Rattle.cedar_policy_parser.specs.Outcome.{Outcome, fault_outcome, invalid_identifier}
+use Rattle.cedar_conversion.specs.Names.{spelling_outcome as spelled_text, any_ident_of, any_ident}
+use Rattle.cedar_conversion.specs.Outcome.{Outcome, fault_outcome, invalid_identifier}
 use Rattle.cedar_policy_parser.proofs.Fitting.{Spelled, laid_spelled}
 
 abbrev given_text : List ℕ → Outcome (List ℕ)

@@ -3,7 +3,7 @@ use Rattle.std.proofs.Common.{◌≡◌, ◌≢◌, Bool, true, false, cond, Lis
 use Rattle.std.specs.List.{All}
 use Rattle.std.proofs.lemmas.List.Elements.{All-nil, All-cons, All-append, All-weaker}
 use Rattle.cedar_syntax.specs.declared.loc.Loc.{Loc}
-use Rattle.cedar_policy_parser.specs.Outcome.{Kind, NamedFault, Outcome, both, next, empty_node, invalid_identifier, duplicate_policy_id, duplicate_template_id, missing_scope_variable, extra_scope_element}
+use Rattle.cedar_conversion.specs.Outcome.{Kind, NamedFault, Outcome, both, next, empty_node, invalid_identifier, duplicate_policy_id, duplicate_template_id, membership_invariant_violation, missing_scope_variable, extra_scope_element}
 use Rattle.cedar_policy_parser.specs.Standing.{LiesWithin, FaultWithin, StandWithin}
 
 -- which tree: any, by hand too; or one that is read from tokens and stands within a place
@@ -62,12 +62,14 @@ BothHold Q R p = Q p.0 × R p.1
 
 -- ---- kinds
 
--- the kinds of a policy: no name that another policy has; and of one that is read no empty node and no identifier's spelling
+-- the kinds of a policy: no name that another policy has, nor what stands for a fault of a text; and of one that is read no empty
+-- node and no identifier's spelling
 abbrev pub IsTold : Kinds
 IsTold o empty_node = ByHand o
 IsTold o invalid_identifier = ByHand o
 IsTold o duplicate_policy_id = ⊥
 IsTold o duplicate_template_id = ⊥
+IsTold o membership_invariant_violation = ⊥
 IsTold o _ = Unit {0}
 
 -- and those of an expression or an element of the scope: nothing is missing there, and nothing is too much
@@ -76,6 +78,7 @@ IsPlain o empty_node = ByHand o
 IsPlain o invalid_identifier = ByHand o
 IsPlain o duplicate_policy_id = ⊥
 IsPlain o duplicate_template_id = ⊥
+IsPlain o membership_invariant_violation = ⊥
 IsPlain o missing_scope_variable = ⊥
 IsPlain o extra_scope_element = ⊥
 IsPlain o _ = Unit {0}
@@ -85,6 +88,7 @@ plain_told o empty_node h = h
 plain_told o invalid_identifier h = h
 plain_told o duplicate_policy_id h = h
 plain_told o duplicate_template_id h = h
+plain_told o membership_invariant_violation h = h
 plain_told o missing_scope_variable h = tt
 plain_told o extra_scope_element h = tt
 plain_told o kind h = tt
@@ -100,6 +104,9 @@ no_policy_name o kind h e = subst (IsTold o) e h
 
 pub no_template_name : (o : Origin) (kind : Kind) → IsTold o kind → kind ≢ duplicate_template_id
 no_template_name o kind h e = subst (IsTold o) e h
+
+pub no_text_fault : (o : Origin) (kind : Kind) → IsTold o kind → kind ≢ membership_invariant_violation
+no_text_fault o kind h e = subst (IsTold o) e h
 
 -- ---- a fault alone
 

@@ -15,11 +15,11 @@ use Rattle.cedar_syntax.specs.Place.{placed}
 use Rattle.cedar_syntax.specs.Trees.{Cell}
 use Rattle.cedar_syntax.proofs.ExpressionTokens.{primary_some}
 use Rattle.cedar_syntax.proofs.WordPlaces.{any_some, ref_some, start_is}
-use Rattle.cedar_policy_parser.specs.Entities.{entity_outcome}
-use Rattle.cedar_policy_parser.specs.Held.{as_string}
-use Rattle.cedar_policy_parser.specs.Literals.{literal_outcome, string_outcome}
-use Rattle.cedar_policy_parser.specs.Names.{valid_ident}
-use Rattle.cedar_policy_parser.specs.Outcome.{Outcome, empty_node, invalid_string}
+use Rattle.cedar_conversion.specs.Entities.{entity_outcome}
+use Rattle.cedar_conversion.specs.Held.{as_string}
+use Rattle.cedar_conversion.specs.Literals.{literal_outcome, string_outcome}
+use Rattle.cedar_conversion.specs.Names.{valid_ident}
+use Rattle.cedar_conversion.specs.Outcome.{Outcome, empty_node, invalid_string}
 use Rattle.cedar_policy_parser.specs.Standing.{StandWithin}
 use Rattle.cedar_policy_parser.proofs.Fitting.{all_fit}
 use Rattle.cedar_policy_parser.proofs.Standing.{Origin, parsed, LiesIn, anywhere, IsPlain, Stands, Anything, alone, next_stands, weaker, stand_within}

@@ -18,14 +18,14 @@ use Rattle.cedar_syntax.specs.declared.cst.Str.{Str}
 use Rattle.cedar_syntax.specs.declared.cst.Str.TheVariants as str
 use Rattle.cedar_syntax.specs.declared.err.escape.UnescapeError.{UnescapeError}
 use Rattle.cedar_syntax.specs.Pattern.{pattern_faults, pattern_pieces}
-use Rattle.cedar_policy_parser.specs.Entities.{entity_outcome, id_text, id_outcome, reference_outcome, slot_id, slot_outcome}
-use Rattle.cedar_policy_parser.specs.Held.{Held, expression, variable, bare_name, bare_truth, bare_string, as_expression, as_pattern, as_entity_type, as_string, as_attribute, unqualified}
-use Rattle.cedar_policy_parser.specs.Leaves.{name_leaf, variable_or_name, slot_leaf, entity_leaf}
-use Rattle.cedar_policy_parser.specs.Literals.{held_string, literal_outcome}
-use Rattle.cedar_policy_parser.specs.Names.{content_outcome, all_of, spelling_outcome, valid_text, valid_ident_of, valid_ident, any_ident_of, any_ident, unreserved_ident, path_outcome, name_outcome, named_variable}
-use Rattle.cedar_policy_parser.specs.Outcome.{Outcome, fault_outcome, next, empty_node, arbitrary_variable, invalid_pattern, invalid_is_type, invalid_string, invalid_attribute, path_as_attribute, reserved_identifier, invalid_identifier, reserved_namespace, integer_literal_too_large, invalid_entity_literal, invalid_slot, unescape}
-use Rattle.cedar_policy_parser.specs.Strict.{largest}
-use Rattle.cedar_policy_parser.specs.Strings.{layout, escape_faults, unescaped, string_faults, unless_faulty, text_outcome, pattern_outcome}
+use Rattle.cedar_conversion.specs.Entities.{entity_outcome, id_text, id_outcome, reference_outcome, slot_id, slot_outcome}
+use Rattle.cedar_conversion.specs.Held.{Held, expression, variable, bare_name, bare_truth, bare_string, as_expression, as_pattern, as_entity_type, as_string, as_attribute, unqualified}
+use Rattle.cedar_conversion.specs.Leaves.{name_leaf, variable_or_name, slot_leaf, entity_leaf}
+use Rattle.cedar_conversion.specs.Literals.{held_string, literal_outcome}
+use Rattle.cedar_conversion.specs.Names.{content_outcome, all_of, spelling_outcome, valid_text, valid_ident_of, valid_ident, any_ident_of, any_ident, unreserved_ident, path_outcome, name_outcome, named_variable}
+use Rattle.cedar_conversion.specs.Outcome.{Outcome, fault_outcome, next, empty_node, arbitrary_variable, invalid_pattern, invalid_is_type, invalid_string, invalid_attribute, path_as_attribute, reserved_identifier, invalid_identifier, reserved_namespace, integer_literal_too_large, invalid_entity_literal, invalid_slot, unescape}
+use Rattle.cedar_conversion.specs.Strict.{largest}
+use Rattle.cedar_conversion.specs.Strings.{layout, escape_faults, unescaped, string_faults, unless_faulty, text_outcome, pattern_outcome}
 use Rattle.cedar_policy_parser.proofs.Standing.{Origin, by_hand, parsed, ByHand, LiesIn, Kinds, IsPlain, KindWithin, Stands, Anything, alone, one_before, some_faults, no_faults, both_any, next_stands, then_stands, if_stands}
 use Rattle.cedar_policy_parser.proofs.Tidy.{Holding, NodeTidy, Each, IsValid, IdentHeld, IdentTidy, NameTidy, LiteralTidy, RefTidy}
 

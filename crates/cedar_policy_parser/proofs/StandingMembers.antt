@@ -8,15 +8,15 @@ use Rattle.cedar_expressions.specs.Written.{var_text}
 use Rattle.cedar_syntax.specs.declared.loc.Loc.{Loc}
 use Rattle.cedar_syntax.specs.Located as f
 use Rattle.cedar_syntax.specs.Located.{Located, Form, Parts}
-use Rattle.cedar_policy_parser.specs.declared.methods.Standard.{Standard}
-use Rattle.cedar_policy_parser.specs.Extensions.{Extensions}
-use Rattle.cedar_policy_parser.specs.HasSide.{attributes_of, begins_with, beginning_outcome, behind_first, field_form, field_of, fields_of, no_sign, right_form, right_side, string_alone}
-use Rattle.cedar_policy_parser.specs.Held.{Held, expression, variable, bare_name, bare_truth, bare_string, as_expression}
-use Rattle.cedar_policy_parser.specs.Literals.{literal_outcome}
-use Rattle.cedar_policy_parser.specs.Leaves.{name_leaf}
-use Rattle.cedar_policy_parser.specs.Members.{Access, field, call, index, takes_one, with_arguments, plain_name, extension_method, method_by, method_outcome, function_outcome, accesses_of, name_accesses, variable_accesses, some_accesses, member_outcome}
-use Rattle.cedar_policy_parser.specs.Outcome.{variable_call, no_methods, invalid_access, invalid_index, expression_call, wrong_arity, function_call_on_method, method_call_on_function, unknown_method, unknown_function, invalid_has_rhs, reserved_identifier, empty_node}
-use Rattle.cedar_policy_parser.specs.StrictCalls.{standard_method, names_method}
+use Rattle.cedar_conversion.specs.declared.methods.Standard.{Standard}
+use Rattle.cedar_conversion.specs.Extensions.{Extensions}
+use Rattle.cedar_conversion.specs.HasSide.{attributes_of, begins_with, beginning_outcome, behind_first, field_form, field_of, fields_of, no_sign, right_form, right_side, string_alone}
+use Rattle.cedar_conversion.specs.Held.{Held, expression, variable, bare_name, bare_truth, bare_string, as_expression}
+use Rattle.cedar_conversion.specs.Literals.{literal_outcome}
+use Rattle.cedar_conversion.specs.Leaves.{name_leaf}
+use Rattle.cedar_conversion.specs.Members.{Access, field, call, index, takes_one, with_arguments, plain_name, extension_method, method_by, method_outcome, function_outcome, accesses_of, name_accesses, variable_accesses, some_accesses, member_outcome}
+use Rattle.cedar_conversion.specs.Outcome.{variable_call, no_methods, invalid_access, invalid_index, expression_call, wrong_arity, function_call_on_method, method_call_on_function, unknown_method, unknown_function, invalid_has_rhs, reserved_identifier, empty_node}
+use Rattle.cedar_conversion.specs.StrictCalls.{standard_method, names_method}
 use Rattle.cedar_policy_parser.proofs.Standing.{Origin, LiesIn, anywhere, IsPlain, Stands, Anything, alone, next_stands, then_stands, if_stands}
 use Rattle.cedar_policy_parser.proofs.StandingLeaves.{HeldWithin, as_value, text_stands, unqualified_stands, unreserved_stands, literal_stands, named_stands}
 use Rattle.cedar_policy_parser.proofs.Tidy.{Tidy, FormTidy, AccessesTidy, AccessTidy, AccessFormTidy}

@@ -15,17 +15,17 @@ use Rattle.cedar_syntax.specs.declared.cst.Policy.{Policy}
 use Rattle.cedar_syntax.specs.declared.cst.Policy.TheVariants as trees
 use Rattle.cedar_syntax.specs.declared.cst.Str.{Str}
 use Rattle.cedar_syntax.specs.Forms.{located, expr_form}
-use Rattle.cedar_policy_parser.specs.AnnotationKeys.{AnnotationContent, value_text_outcome, key_value_outcome, annotation_outcome, has_key, with_new_key, Gathering, gathering_with, gathering_with_node, empty_gathering, annotations_outcome}
-use Rattle.cedar_policy_parser.specs.Conditions.{is_when_of, is_when, clause, condition_slot_fault, slots_outcome, condition_of, condition_outcome, conditions_outcome}
-use Rattle.cedar_policy_parser.specs.Places.{lies_within, bytes_at, place_within}
-use Rattle.cedar_policy_parser.specs.Conversion.{value_outcome}
-use Rattle.cedar_policy_parser.specs.Entities.{id_outcome}
-use Rattle.cedar_policy_parser.specs.Extensions.{Extensions}
-use Rattle.cedar_policy_parser.specs.Names.{any_ident}
-use Rattle.cedar_policy_parser.specs.Outcome.{Outcome, next, duplicate_annotation, invalid_condition, empty_clause, slots_in_condition_clause, invalid_effect, item_more}
-use Rattle.cedar_policy_parser.specs.Policies.{effect_of, effect_outcome, kept_outcome, parts_outcome, template_of, template_outcome, policies_from, set_outcome, policies_outcome}
-use Rattle.cedar_policy_parser.specs.PolicyMeaning.{policy_id}
-use Rattle.cedar_policy_parser.specs.Scope.{scope_outcome}
+use Rattle.cedar_policy_conversion.specs.AnnotationKeys.{AnnotationContent, value_text_outcome, key_value_outcome, annotation_outcome, has_key, with_new_key, Gathering, gathering_with, gathering_with_node, empty_gathering, annotations_outcome}
+use Rattle.cedar_policy_conversion.specs.Conditions.{is_when_of, is_when, clause, condition_slot_fault, slots_outcome, condition_of, condition_outcome, conditions_outcome}
+use Rattle.cedar_conversion.specs.Places.{lies_within, bytes_at, place_within}
+use Rattle.cedar_conversion.specs.Conversion.{value_outcome}
+use Rattle.cedar_conversion.specs.Entities.{id_outcome}
+use Rattle.cedar_conversion.specs.Extensions.{Extensions}
+use Rattle.cedar_conversion.specs.Names.{any_ident}
+use Rattle.cedar_conversion.specs.Outcome.{Outcome, next, duplicate_annotation, invalid_condition, empty_clause, slots_in_condition_clause, invalid_effect, item_more}
+use Rattle.cedar_policy_conversion.specs.Policies.{effect_of, effect_outcome, kept_outcome, parts_outcome, template_of, template_outcome, policies_from, set_outcome, policies_outcome}
+use Rattle.cedar_policy_conversion.specs.PolicyMeaning.{policy_id}
+use Rattle.cedar_policy_conversion.specs.Scope.{scope_outcome}
 use Rattle.cedar_policy_parser.specs.Standing.{LiesWithin}
 use Rattle.cedar_expressions.specs.Slots.{slots_of}
 use Rattle.cedar_policy_parser.proofs.Standing.{Origin, by_hand, parsed, LiesIn, IsTold, KindWithin, weaker, Stands, Anything, alone, one_before, no_faults, both_any, next_stands, then_stands, if_stands}

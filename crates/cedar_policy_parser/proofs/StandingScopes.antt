@@ -26,14 +26,14 @@ use Rattle.cedar_syntax.specs.Forms.{located, expr_form, add_form}
 use Rattle.cedar_syntax.specs.Located as f
 use Rattle.cedar_syntax.specs.Located.{Located, Form, Parts}
 use Rattle.cedar_syntax.specs.Slots.{matches}
-use Rattle.cedar_policy_parser.specs.Conversion.{outcome}
-use Rattle.cedar_policy_parser.specs.Entities.{entity_outcome}
-use Rattle.cedar_policy_parser.specs.Extensions.{Extensions}
-use Rattle.cedar_policy_parser.specs.HasSide.{no_sign}
-use Rattle.cedar_policy_parser.specs.Held.{as_entity_type}
-use Rattle.cedar_policy_parser.specs.Outcome.{NamedFault, Outcome, empty_node, invalid_scope_variable, type_constraints, inverted_is_in, is_with_eq, invalid_single_eq, invalid_scope_operator, incorrect_variable, is_in_action_scope, invalid_action_scope_operator, invalid_action_type, missing_scope_variable, extra_scope_element, wrong_node, wrong_entity_argument}
-use Rattle.cedar_policy_parser.specs.References.{RefKind, single_entity, entity_or_slot, one_or_multiple, lone, lone_form, literal_fault, form_fault, entity_form, entity_at, lone_entity, entities, of_variable, several_outcome, referred_form, referent_at, referent_outcome}
-use Rattle.cedar_policy_parser.specs.Scope.{scope_variable_of, scope_variable, type_name, no_type_name, element_variable, is_inverted, type_outcome, operator_outcome, asked_type, constraint_outcome, stands_there, in_its_place, element_of, element_outcome, principal_outcome, resource_outcome, action_alone, no_entity_type, action_in, action_by, unless_others, asked_action, action_variable, action_of, action_outcome, or_before, place_behind, end_place, if_there, extra_element_fault, faults_outcome, no_extra, scope_of, scope_outcome}
+use Rattle.cedar_conversion.specs.Conversion.{outcome}
+use Rattle.cedar_conversion.specs.Entities.{entity_outcome}
+use Rattle.cedar_conversion.specs.Extensions.{Extensions}
+use Rattle.cedar_conversion.specs.HasSide.{no_sign}
+use Rattle.cedar_conversion.specs.Held.{as_entity_type}
+use Rattle.cedar_conversion.specs.Outcome.{NamedFault, Outcome, empty_node, invalid_scope_variable, type_constraints, inverted_is_in, is_with_eq, invalid_single_eq, invalid_scope_operator, incorrect_variable, is_in_action_scope, invalid_action_scope_operator, invalid_action_type, missing_scope_variable, extra_scope_element, wrong_node, wrong_entity_argument, faults_outcome}
+use Rattle.cedar_policy_conversion.specs.References.{RefKind, single_entity, entity_or_slot, one_or_multiple, lone, lone_form, literal_fault, form_fault, entity_form, entity_at, lone_entity, entities, of_variable, several_outcome, referred_form, referent_at, referent_outcome}
+use Rattle.cedar_policy_conversion.specs.Scope.{scope_variable_of, scope_variable, type_name, no_type_name, element_variable, is_inverted, type_outcome, operator_outcome, asked_type, constraint_outcome, stands_there, in_its_place, element_of, element_outcome, principal_outcome, resource_outcome, action_alone, no_entity_type, action_in, action_by, unless_others, asked_action, action_variable, action_of, action_outcome, or_before, place_behind, end_place, if_there, extra_element_fault, no_extra, scope_of, scope_outcome}
 use Rattle.cedar_policy_parser.specs.Standing.{LiesWithin}
 use Rattle.cedar_policy_parser.proofs.Standing.{Origin, by_hand, parsed, LiesIn, anywhere, IsPlain, IsTold, KindWithin, weaker, Stands, Anything, alone, one_before, some_faults, no_faults, both_any, next_stands, then_stands, if_stands}
 use Rattle.cedar_policy_parser.proofs.StandingLeaves.{HeldWithin, filled_then, type_held, entity_stands}

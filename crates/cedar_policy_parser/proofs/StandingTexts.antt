@@ -18,14 +18,14 @@ use Rattle.cedar_syntax.specs.Place.{placed, placed_or_start, extent, loc_at}
 use Rattle.cedar_syntax.specs.Trees.{Cell}
 use Rattle.cedar_syntax.proofs.ExpressionTokens.{expr_some}
 use Rattle.cedar_syntax.proofs.WordPlaces.{start_is}
-use Rattle.cedar_policy_parser.specs.AnnotationKeys.{annotation_outcome, with_new_key}
+use Rattle.cedar_policy_conversion.specs.AnnotationKeys.{annotation_outcome, with_new_key}
 use Rattle.cedar_policy_parser.specs.Blocks.{PartsStandWithin}
-use Rattle.cedar_policy_parser.specs.Conditions.{condition_outcome}
-use Rattle.cedar_policy_parser.specs.Conversion.{value_outcome}
-use Rattle.cedar_policy_parser.specs.Extensions.{Extensions}
-use Rattle.cedar_policy_parser.specs.Outcome.{next}
-use Rattle.cedar_policy_parser.specs.Policies.{effect_outcome, template_outcome, policies_outcome}
-use Rattle.cedar_policy_parser.specs.Scope.{scope_outcome}
+use Rattle.cedar_policy_conversion.specs.Conditions.{condition_outcome}
+use Rattle.cedar_conversion.specs.Conversion.{value_outcome}
+use Rattle.cedar_conversion.specs.Extensions.{Extensions}
+use Rattle.cedar_conversion.specs.Outcome.{next}
+use Rattle.cedar_policy_conversion.specs.Policies.{effect_outcome, template_outcome, policies_outcome}
+use Rattle.cedar_policy_conversion.specs.Scope.{scope_outcome}
 use Rattle.cedar_policy_parser.specs.Standing.{LiesWithin, StandWithin}
 use Rattle.cedar_policy_parser.proofs.Fitting.{Fits, all_fit, within}
 use Rattle.cedar_policy_parser.proofs.Standing.{Origin, parsed, IsTold, Stands, Anything, self_within, stand_within}

@@ -14,14 +14,14 @@ use Rattle.cedar_syntax.specs.Located as f
 use Rattle.cedar_syntax.specs.Located.{Located, Form, Parts}
 use Rattle.cedar_syntax.specs.Tree as t
 use Rattle.cedar_syntax.specs.Tree.{Level, Operator, disjunction, conjunction, relation, sum, product}
-use Rattle.cedar_policy_parser.specs.Conversion.{Part, outcome, form_outcome, operands, accesses_outcome, access_outcome, access_form_outcome, pairs_outcome, pair_outcome, pair_form_outcome, value_outcome, comparison_outcome, relation_outcome, level_outcome, joint_outcome, operator_limit, chain_outcome, factor, application_outcome, dashes_outcome, signs_outcome, beside_type, tree_place, record_outcome, number_in, lone_literal}
-use Rattle.cedar_policy_parser.specs.Extensions.{Extensions}
-use Rattle.cedar_policy_parser.specs.HasSide.{right_side}
-use Rattle.cedar_policy_parser.specs.Held.{Held, as_expression, as_pattern, as_entity_type, as_string, as_attribute}
-use Rattle.cedar_policy_parser.specs.Names.{unreserved_ident}
-use Rattle.cedar_policy_parser.specs.Outcome.{Outcome, both, next, empty_node, ambiguous_operators, invalid_single_eq, unary_op_limit, integer_literal_too_large, unsupported_division, unsupported_modulo, expression_construction_error}
+use Rattle.cedar_conversion.specs.Conversion.{Part, outcome, form_outcome, operands, accesses_outcome, access_outcome, access_form_outcome, pairs_outcome, pair_outcome, pair_form_outcome, value_outcome, comparison_outcome, relation_outcome, level_outcome, joint_outcome, operator_limit, chain_outcome, factor, application_outcome, dashes_outcome, signs_outcome, beside_type, tree_place, record_outcome, number_in, lone_literal}
+use Rattle.cedar_conversion.specs.Extensions.{Extensions}
+use Rattle.cedar_conversion.specs.HasSide.{right_side}
+use Rattle.cedar_conversion.specs.Held.{Held, as_expression, as_pattern, as_entity_type, as_string, as_attribute}
+use Rattle.cedar_conversion.specs.Names.{unreserved_ident}
+use Rattle.cedar_conversion.specs.Outcome.{Outcome, both, next, empty_node, ambiguous_operators, invalid_single_eq, unary_op_limit, integer_literal_too_large, unsupported_division, unsupported_modulo, expression_construction_error}
 use Rattle.cedar_policy_parser.specs.Standing.{StandWithin}
-use Rattle.cedar_policy_parser.specs.Strict.{largest}
+use Rattle.cedar_conversion.specs.Strict.{largest}
 use Rattle.cedar_policy_parser.proofs.Standing.{Origin, parsed, LiesIn, anywhere, IsPlain, Stands, Anything, BothHold, alone, both_stand, both_any, next_stands, then_stands, if_stands, weaker, stand_within}
 use Rattle.cedar_policy_parser.proofs.StandingLeaves.{HeldWithin, as_value, value_stands, pattern_held, type_held, string_held, attribute_held, unreserved_stands, literal_stands, named_stands, slot_stands, entity_held_stands}
 use Rattle.cedar_policy_parser.proofs.StandingMembers.{member_stands, right_stands}

@@ -10,13 +10,13 @@ use Rattle.cedar_syntax.specs.Signs.{sign_limit}
 use Rattle.cedar_syntax.specs.declared.loc.Loc.{Loc}
 use Rattle.cedar_syntax.specs.LoosePolicies.{ReadsPolicy}
 use Rattle.cedar_syntax.specs.Place.{placed}
-use Rattle.cedar_policy_parser.specs.Extensions.{Extensions}
-use Rattle.cedar_policy_parser.specs.Outcome.{Outcome}
-use Rattle.cedar_policy_parser.specs.Policies.{TemplateParts, either_outcome, meaning_of, only_static, scope_slots, side_outcome, policy_side, static_outcome, template_outcome, unless_slots}
-use Rattle.cedar_policy_parser.specs.PolicyMeaning.{IsStatic}
+use Rattle.cedar_conversion.specs.Extensions.{Extensions}
+use Rattle.cedar_conversion.specs.Outcome.{Outcome}
+use Rattle.cedar_policy_conversion.specs.Policies.{TemplateParts, either_outcome, meaning_of, only_static, scope_slots, side_outcome, policy_side, static_outcome, template_outcome, unless_slots}
+use Rattle.cedar_policy_conversion.specs.PolicyMeaning.{IsStatic}
 use Rattle.cedar_policy_parser.specs.StrictPolicy.{IsPolicy}
-use Rattle.cedar_policy_parser.proofs.Inverted.{ok_is}
-use Rattle.cedar_policy_parser.proofs.PolicySides.{side_of, is_left, is_right}
+use Rattle.cedar_conversion.proofs.Inverted.{ok_is}
+use Rattle.cedar_policy_conversion.proofs.PolicySides.{side_of, is_left, is_right}
 use Rattle.cedar_policy_parser.proofs.complete.Sets.{policy_read}
 use Rattle.cedar_policy_parser.proofs.sound.Sets.{policy_meant}
 

@@ -17,7 +17,7 @@ use Rattle.cedar_lexer.specs.Varied.{IsPadding, BeginsAt, NoSlashBefore, FitsBef
 use Rattle.cedar_lexer.specs.Words.{words_of}
 use Rattle.cedar_lexer.proofs.Padded.{padded_cut, enclosed_cut, words_join}
 use Rattle.cedar_syntax.proofs.again.SamePolicies.{policies_same}
-use Rattle.cedar_policy_parser.specs.Extensions.{Extensions}
+use Rattle.cedar_conversion.specs.Extensions.{Extensions}
 use Rattle.cedar_policy_parser.specs.StrictPolicy.{IsPolicySet}
 use Rattle.cedar_policy_parser.specs.VariedTexts.{SpacesKeep, ParenthesesKeep}
 use Rattle.cedar_policy_parser.proofs.BlindSets.{sets_same}

@@ -11,12 +11,12 @@ use Rattle.cedar_syntax.specs.declared.cst.NegOp.{NegOp}
 use Rattle.cedar_syntax.specs.Located as f
 use Rattle.cedar_syntax.specs.Located.{Located, Parts, at, only, chain, unary, member, parens, init, none, more}
 use Rattle.cedar_syntax.specs.Tree.{Level, Operator, multiply}
-use Rattle.cedar_policy_parser.specs.Conversion.{Part, Converts, operands, outcome}
-use Rattle.cedar_policy_parser.specs.Extensions.{Extensions}
-use Rattle.cedar_policy_parser.specs.HasSide.{no_sign}
-use Rattle.cedar_policy_parser.specs.Held.{as_attribute}
-use Rattle.cedar_policy_parser.specs.Names.{name_outcome, named_variable}
-use Rattle.cedar_policy_parser.specs.Outcome.{NamedFault, next, unsupported_division, unsupported_modulo}
+use Rattle.cedar_conversion.specs.Conversion.{Part, Converts, operands, outcome}
+use Rattle.cedar_conversion.specs.Extensions.{Extensions}
+use Rattle.cedar_conversion.specs.HasSide.{no_sign}
+use Rattle.cedar_conversion.specs.Held.{as_attribute}
+use Rattle.cedar_conversion.specs.Names.{name_outcome, named_variable}
+use Rattle.cedar_conversion.specs.Outcome.{NamedFault, next, unsupported_division, unsupported_modulo}
 
 abbrev pub HasValue : Extensions → Located → Type 0
 HasValue e n = (w : Value) × Converts e n w

@@ -7,12 +7,12 @@ use Rattle.cedar_syntax.specs.declared.cst.Policy.{Policy}
 use Rattle.cedar_syntax.specs.declared.cst.PolicyImpl.{PolicyImpl}
 use Rattle.cedar_syntax.specs.declared.loc.Loc.{Loc}
 use Rattle.cedar_syntax.specs.declared.node.Node.{Node}
-use Rattle.cedar_policy_parser.specs.AnnotationKeys.{annotation_outcome, converted_key, with_new_key}
-use Rattle.cedar_policy_parser.specs.Conditions.{condition_outcome}
-use Rattle.cedar_policy_parser.specs.Extensions.{Extensions}
-use Rattle.cedar_policy_parser.specs.Outcome.{NamedFault, Outcome, next}
-use Rattle.cedar_policy_parser.specs.Policies.{effect_outcome, template_outcome}
-use Rattle.cedar_policy_parser.specs.Scope.{scope_outcome}
+use Rattle.cedar_policy_conversion.specs.AnnotationKeys.{annotation_outcome, converted_key, with_new_key}
+use Rattle.cedar_policy_conversion.specs.Conditions.{condition_outcome}
+use Rattle.cedar_conversion.specs.Extensions.{Extensions}
+use Rattle.cedar_conversion.specs.Outcome.{NamedFault, Outcome, next}
+use Rattle.cedar_policy_conversion.specs.Policies.{effect_outcome, template_outcome}
+use Rattle.cedar_policy_conversion.specs.Scope.{scope_outcome}
 use Rattle.cedar_policy_parser.specs.Standing.{StandWithin}
 
 -- the faults of what isn't given

@@ -12,13 +12,13 @@ use Rattle.cedar_syntax.specs.declared.loc.Loc.{Loc}
 use Rattle.cedar_syntax.specs.declared.node.Node.{Node}
 use Rattle.cedar_syntax.specs.Forms.{located, expr_form}
 use Rattle.cedar_policy_parser.specs.Blocks.{faults_from}
-use Rattle.cedar_policy_parser.specs.Conditions.{condition_outcome}
-use Rattle.cedar_policy_parser.specs.Conversion.{value_outcome}
+use Rattle.cedar_policy_conversion.specs.Conditions.{condition_outcome}
+use Rattle.cedar_conversion.specs.Conversion.{value_outcome}
 use Rattle.cedar_policy_parser.specs.DueKinds.{IsDueIn}
-use Rattle.cedar_policy_parser.specs.Extensions.{Extensions}
-use Rattle.cedar_policy_parser.specs.Outcome.{Kind, NamedFault, invalid_effect, missing_scope_variable, extra_scope_element, duplicate_policy_id, duplicate_template_id}
-use Rattle.cedar_policy_parser.specs.Policies.{effect_outcome}
-use Rattle.cedar_policy_parser.specs.Scope.{scope_outcome}
+use Rattle.cedar_conversion.specs.Extensions.{Extensions}
+use Rattle.cedar_conversion.specs.Outcome.{Kind, NamedFault, invalid_effect, missing_scope_variable, extra_scope_element, duplicate_policy_id, duplicate_template_id, membership_invariant_violation}
+use Rattle.cedar_policy_conversion.specs.Policies.{effect_outcome}
+use Rattle.cedar_policy_conversion.specs.Scope.{scope_outcome}
 use Rattle.cedar_policy_parser.specs.Sites.{wanted, expression}
 
 -- a condition that isn't empty, nor is its word, which has a place; it may have an expression
@@ -84,8 +84,11 @@ HasDueFaults e n =
 abbrev pub HaveDueFaults : Extensions → PolicyImpl → Type 0
 HaveDueFaults e parts = All (HasDueFaults e) parts.conds
 
--- ---- names of policies
+-- ---- what is never told
 
--- a fault that isn't of a name that two policies have
-abbrev pub IsOfNoName : NamedFault → Type 0
-IsOfNoName fault = (fault.0 ≢ duplicate_policy_id) × (fault.0 ≢ duplicate_template_id)
+-- a fault that isn't of a name that two policies have, nor of the kind that a text's own fault is
+-- seen as
+abbrev pub IsTellable : NamedFault → Type 0
+IsTellable fault =
+    (fault.0 ≢ duplicate_policy_id) × (fault.0 ≢ duplicate_template_id)
+    × (fault.0 ≢ membership_invariant_violation)

@@ -29,20 +29,20 @@ use Rattle.cedar_syntax.specs.Located as f
 use Rattle.cedar_syntax.specs.Located.{Located, Form, Parts, at, none, more}
 use Rattle.cedar_syntax.specs.Pattern.{pattern_faults}
 use Rattle.cedar_syntax.specs.Tree.{Operator, relation, product, compare, multiply}
-use Rattle.cedar_policy_parser.specs.declared.methods.Standard.{Standard}
+use Rattle.cedar_conversion.specs.declared.methods.Standard.{Standard}
 use Rattle.cedar_policy_parser.specs.Alone.{ArePairs}
-use Rattle.cedar_policy_parser.specs.Extensions.{Extensions}
-use Rattle.cedar_policy_parser.specs.HasSide.{no_sign}
-use Rattle.cedar_policy_parser.specs.Literals.{number_in, lone_literal}
-use Rattle.cedar_policy_parser.specs.Members.{takes_one, plain_name}
-use Rattle.cedar_policy_parser.specs.Names.{name_outcome, named_variable, valid_ident, unreserved_ident, identifiers, path_of}
-use Rattle.cedar_policy_parser.specs.Outcome as k
-use Rattle.cedar_policy_parser.specs.Outcome.{Kind, NamedFault, Outcome}
+use Rattle.cedar_conversion.specs.Extensions.{Extensions}
+use Rattle.cedar_conversion.specs.HasSide.{no_sign}
+use Rattle.cedar_conversion.specs.Literals.{number_in, lone_literal}
+use Rattle.cedar_conversion.specs.Members.{takes_one, plain_name}
+use Rattle.cedar_conversion.specs.Names.{name_outcome, named_variable, valid_ident, unreserved_ident, identifiers, path_of}
+use Rattle.cedar_conversion.specs.Outcome as k
+use Rattle.cedar_conversion.specs.Outcome.{Kind, NamedFault, Outcome}
 use Rattle.cedar_policy_parser.specs.Sites.{Role, Site, node, wanted, name, identifier, expression, attributes, pattern, entity_type, string, key, site_place, IsSiteOf, IsAmong, IsName, IsVariable, IsNamed, IsTruth, IsTruthValue, IsQuoted, IsString, IsAnyString}
 use Rattle.cedar_policy_parser.specs.Standing.{LiesWithin}
-use Rattle.cedar_policy_parser.specs.Strict.{largest}
-use Rattle.cedar_policy_parser.specs.StrictCalls.{standard_method, names_method}
-use Rattle.cedar_policy_parser.specs.Strings.{layout, escape_faults}
+use Rattle.cedar_conversion.specs.Strict.{largest}
+use Rattle.cedar_conversion.specs.StrictCalls.{standard_method, names_method}
+use Rattle.cedar_conversion.specs.Strings.{layout, escape_faults}
 
 -- ---- identifiers
 

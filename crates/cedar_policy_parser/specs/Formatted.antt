@@ -11,7 +11,7 @@ use Rattle.cedar_syntax.specs.Grammar.{IsTreeOf}
 use Rattle.cedar_syntax.specs.LoosePolicies.{ReadsPolicies}
 use Rattle.cedar_syntax.specs.Signs.{sign_limit}
 use Rattle.cedar_syntax.specs.Trees.{Cell}
-use Rattle.cedar_policy_parser.specs.Extensions.{Extensions}
+use Rattle.cedar_conversion.specs.Extensions.{Extensions}
 use Rattle.cedar_policy_parser.specs.StrictPolicy.{IsPolicySet}
 
 -- the text's tokens mean this set under this table

@@ -11,10 +11,10 @@ use Rattle.cedar_syntax.specs.LooseExpressions.{ReadsExpr}
 use Rattle.cedar_syntax.specs.LoosePolicies.{ReadsPolicies}
 use Rattle.cedar_syntax.specs.MendedFaults.{IsMendedRefusal, PoliciesBefore}
 use Rattle.cedar_syntax.specs.Trees.{Cell}
-use Rattle.cedar_policy_parser.specs.Conversion.{value_outcome}
-use Rattle.cedar_policy_parser.specs.Extensions.{Extensions}
-use Rattle.cedar_policy_parser.specs.Policies.{policies_outcome}
-use Rattle.cedar_policy_parser.specs.Seen.{Refuses}
+use Rattle.cedar_conversion.specs.Conversion.{value_outcome}
+use Rattle.cedar_conversion.specs.Extensions.{Extensions}
+use Rattle.cedar_policy_conversion.specs.Policies.{policies_outcome}
+use Rattle.cedar_conversion.specs.Seen.{Refuses}
 
 -- a tree is refused with its faults, all that there are
 abbrev pub TellsTree : Extensions → Failure → Cell Expr → Type 0

@@ -21,10 +21,10 @@ use Rattle.cedar_syntax.specs.Located as f
 use Rattle.cedar_syntax.specs.Located.{Located, Parts, at, none, more}
 use Rattle.cedar_syntax.specs.Tree.{Level, Operator}
 use Rattle.cedar_policy_parser.specs.Alone.{ComesTo}
-use Rattle.cedar_policy_parser.specs.Conversion.{tree_place}
-use Rattle.cedar_policy_parser.specs.HasSide.{no_sign}
-use Rattle.cedar_policy_parser.specs.Literals.{number_in, lone_literal}
-use Rattle.cedar_policy_parser.specs.Names.{name_outcome, named_variable}
+use Rattle.cedar_conversion.specs.Conversion.{tree_place}
+use Rattle.cedar_conversion.specs.HasSide.{no_sign}
+use Rattle.cedar_conversion.specs.Literals.{number_in, lone_literal}
+use Rattle.cedar_conversion.specs.Names.{name_outcome, named_variable}
 
 -- what is wanted where a node stands: an expression and nothing else; attributes right of `has`; a
 -- pattern right of `like`; an entity type right of `is`; a string inside an index; a key before a

@@ -3,7 +3,7 @@ use Rattle.std.specs.Prelude.{◌≢◌, ◌≤◌, [], Option, Some, Ok, Err, �
 use Rattle.std.specs.List.{All}
 use Rattle.cedar_syntax.specs.declared.loc.Loc.{Loc}
 use Rattle.cedar_syntax.specs.Span.{end_of}
-use Rattle.cedar_policy_parser.specs.Outcome.{Outcome, NamedFault, empty_node, invalid_identifier}
+use Rattle.cedar_conversion.specs.Outcome.{Outcome, NamedFault, empty_node, invalid_identifier}
 
 -- both places are known and of the same text, and the bytes of the second are some of the first's
 abbrev pub LiesWithin : Option Loc → Option Loc → Type 0

@@ -20,12 +20,12 @@ use Rattle.cedar_policy_store.specs.declared.effect.Effect.{Effect}
 use Rattle.cedar_policy_store.specs.Actions.{is_action}
 use Rattle.cedar_policy_store.specs.PlaceFree.{Constraint, equal_to, inside, typed_inside, Reference, Policy, Policies}
 use Rattle.cedar_syntax.specs.Tokens.{Spot, one}
-use Rattle.cedar_policy_parser.specs.Extensions.{Extensions}
-use Rattle.cedar_policy_parser.specs.PolicyMeaning.{joint_condition, no_policies, policy_id, with_policy}
-use Rattle.cedar_policy_parser.specs.Strict.{Means, expression}
+use Rattle.cedar_conversion.specs.Extensions.{Extensions}
+use Rattle.cedar_policy_conversion.specs.PolicyMeaning.{joint_condition, no_policies, policy_id, with_policy}
+use Rattle.cedar_conversion.specs.Strict.{Means, expression}
 use Rattle.cedar_policy_parser.specs.StrictPolicy.{AreAnnotations, by_key, IsCondition, AreConditions, IsEffect, IsPolicy, ArePolicies}
 use Rattle.cedar_policy_parser.specs.StrictScope.{IsEntityAlone, IsReference, AreEntities, Asks, AsksAction, IsLastComma, IsScope}
-use Rattle.cedar_policy_parser.specs.StrictWords.{IsName, IsEntity, path_value}
+use Rattle.cedar_conversion.specs.StrictWords.{IsName, IsEntity, path_value}
 
 -- an entity or a slot itself, or that in parentheses
 pub data InReference (slot : TokenKind) : List Lexeme → List Lexeme → List Lexeme → Reference

@@ -7,7 +7,7 @@ use Rattle.cedar_lexer.specs.Token.{Lexeme}
 use Rattle.cedar_policy_store.specs.PlaceFree.{Policies}
 use Rattle.cedar_syntax.specs.Place.{extent}
 use Rattle.cedar_lexer.specs.Varied.{IsPadding, BeginsAt}
-use Rattle.cedar_policy_parser.specs.Extensions.{Extensions}
+use Rattle.cedar_conversion.specs.Extensions.{Extensions}
 use Rattle.cedar_policy_parser.specs.StandsWhole.{StandsWhole}
 use Rattle.cedar_policy_parser.specs.StrictPolicy.{IsPolicySet}
 

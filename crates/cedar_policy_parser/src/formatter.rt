@@ -8,12 +8,12 @@ ghost use Rattle.cedar_syntax.specs.LoosePolicies.{ReadsPolicies};
 ghost use Rattle.cedar_syntax.specs.PrintLaw.{node_text};
 ghost use Rattle.cedar_syntax.specs.Sentences.{HasTree};
 ghost use Rattle.cedar_syntax.specs.Unplaced.{policy_tree};
-ghost use Rattle.cedar_policy_parser.specs.Table.{table_of};
+ghost use Rattle.cedar_conversion.specs.Table.{table_of};
 ghost use Rattle.cedar_policy_parser.specs.Formatted.{Formats, MeanTheSame, IsInLines, IsAnsweredAgain};
 ghost use Rattle.cedar_policy_parser.specs.Refused.{RefusesSet};
 
-use crate::cst_to_ast::ExtStyles;
 use crate::parse::parse_policyset;
+use cedar_policy_conversion::cst_to_ast::ExtStyles;
 use cedar_syntax::cst::{Policies, Policy};
 use cedar_syntax::err::Failure;
 use cedar_syntax::laws::formatted_policies;

@@ -33,19 +33,19 @@ ghost use Rattle.cedar_syntax.specs.Piece.{IsLaidOut};
 ghost use Rattle.cedar_syntax.specs.Place.{placed};
 ghost use Rattle.cedar_syntax.specs.Trees.{Cell};
 ghost use Rattle.cedar_policy_parser.specs.Alone.{HasValue, HaveValues, OperandsHaveValues, quotients, ArePairs, ComesTo, IsAlone, IsBareName};
-ghost use Rattle.cedar_policy_parser.specs.Conversion.{Converts, outcome, value_outcome};
+ghost use Rattle.cedar_conversion.specs.Conversion.{Converts, outcome, value_outcome};
 ghost use Rattle.cedar_policy_parser.specs.Due.{HaveDueFaults, OfParts};
 ghost use Rattle.cedar_policy_parser.specs.DueKinds.{AreDueIn, IsDue, IsProduct, kinds_of_site};
-ghost use Rattle.cedar_policy_parser.specs.Entities.{entity_outcome};
-ghost use Rattle.cedar_policy_parser.specs.Extensions.{Extensions};
-ghost use Rattle.cedar_policy_parser.specs.Literals.{string_outcome};
-ghost use Rattle.cedar_policy_parser.specs.Names.{any_ident, valid_ident};
-ghost use Rattle.cedar_policy_parser.specs.Outcome.{Kind, outcome_value, fault_outcome, ambiguous_operators, arbitrary_variable, expression_construction_error, invalid_single_eq, unary_op_limit};
+ghost use Rattle.cedar_conversion.specs.Entities.{entity_outcome};
+ghost use Rattle.cedar_conversion.specs.Extensions.{Extensions};
+ghost use Rattle.cedar_conversion.specs.Literals.{string_outcome};
+ghost use Rattle.cedar_conversion.specs.Names.{any_ident, valid_ident};
+ghost use Rattle.cedar_conversion.specs.Outcome.{Kind, outcome_value, fault_outcome, ambiguous_operators, arbitrary_variable, expression_construction_error, invalid_single_eq, unary_op_limit};
 ghost use Rattle.cedar_policy_parser.specs.Sites as sites;
 ghost use Rattle.cedar_policy_parser.specs.Sites.{Site};
 ghost use Rattle.cedar_policy_parser.specs.Standing.{StandWithin};
-ghost use Rattle.cedar_policy_parser.specs.Strict.{Means, expression};
-ghost use Rattle.cedar_policy_parser.specs.Strings.{layout};
+ghost use Rattle.cedar_conversion.specs.Strict.{Means, expression};
+ghost use Rattle.cedar_conversion.specs.Strings.{layout};
 
 use cedar_text::text_to_cst::laws::expressions;
 

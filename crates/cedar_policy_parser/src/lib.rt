@@ -1,44 +1,34 @@
-//! Converts placed trees to expressions, policies and sets of them.
+//! From texts to expressions, policies and sets of them; the conversions of trees, and the laws
+//! that join text and meaning.
+//!
+//! It passes on what its calls take and give: the modules of the crates below under their names,
+//! the values, the policies, and the owners of text and lists. So a program names this crate alone.
 #![tactic(auto)]
 
-mod annotations;
-mod answer;
-mod chain;
-mod collections;
-mod conditional;
-mod conditions;
-mod convert;
-pub mod cst_to_ast;
-mod entities;
 pub mod formatter;
-mod has_side;
-mod join;
-mod joins;
 pub mod laws;
-mod literals;
-mod lone;
-mod members;
-mod methods;
-mod names;
+pub mod lexer;
 mod parse;
-mod places;
-mod policy_ids;
 pub mod policy_laws;
-mod primaries;
-mod scope;
-mod sets;
-mod sides;
-mod signs;
-mod slots;
-mod special;
-mod strings;
-mod templates;
-mod to_ref_or_refs;
-mod wanted;
 
-pub use cst_to_ast::{
+pub use cedar_conversion::names;
+pub use cedar_expressions::{
+    AddOp, AnyId, BinaryCall, BinaryOp, Boxed, Eid, EntityType, EntityUID, Expr, ExprBuilder,
+    ExprBuilderInfallibleBuild, ExprKind, ExpressionConstructionError, Id, InternalName, Items,
+    ListCall, Literal, Name, NaryOp, PatternElem, Place, RecordError, ReservedNameError, Slot,
+    SlotId, Source, Text, TryClone, UnaryCall, UnaryOp, UnreservedId, Var,
+};
+pub use cedar_policy_conversion::cst_to_ast::{
     AnnotationAst, ExprAst, ExtStyles, GeneratedPolicyIds, IdentAst, MemberAst, OneOrMultipleRefs,
     PoliciesAst, PolicyAst, PolicyImplAst, PrimaryAst, RefAst, Scope,
 };
+pub use cedar_policy_conversion::{cst_to_ast, to_ref_or_refs};
+pub use cedar_policy_store::{
+    ActionConstraint, Annotation, Annotations, Effect, EntityReference, PolicyID, PolicySet,
+    PolicySetError, PrincipalConstraint, PrincipalOrResourceConstraint, ResourceConstraint,
+    StaticPolicy, Template, UnexpectedSlotError,
+};
+pub use cedar_syntax::{cst, err, loc, node, position, unescape, util};
+pub use cedar_text::{nesting, text_to_cst};
 pub use formatter::format_policies;
 pub use parse::{parse_expression, parse_policyset};

@@ -12,15 +12,15 @@ ghost use Rattle.cedar_syntax.specs.Sentences.{HasTree};
 ghost use Rattle.cedar_syntax.specs.Signs.{sign_limit};
 ghost use Rattle.cedar_policy_parser.specs.OldMeaning.{IsOldPolicySet};
 ghost use Rattle.cedar_policy_parser.specs.Refused.{RefusesSet, RefusesText};
-ghost use Rattle.cedar_policy_parser.specs.Strict.{Means, expression};
+ghost use Rattle.cedar_conversion.specs.Strict.{Means, expression};
 ghost use Rattle.cedar_policy_parser.specs.StrictPolicy.{IsPolicySet};
-ghost use Rattle.cedar_policy_parser.specs.Table.{table_of};
+ghost use Rattle.cedar_conversion.specs.Table.{table_of};
 ghost use Rattle.cedar_policy_parser.specs.VariedTexts.{SpacesKeep, ParenthesesKeep};
 
-use crate::cst_to_ast::{ExprAst, ExtStyles, PoliciesAst};
 use crate::policy_laws::one_set;
 use cedar_expressions::{Expr, ExprBuilder};
 use cedar_lexer::laws::at_most_one_cut;
+use cedar_policy_conversion::cst_to_ast::{ExprAst, ExtStyles, PoliciesAst};
 use cedar_policy_store::PolicySet;
 use cedar_syntax::err::Failure;
 use cedar_text::text_to_cst::{parse_expr, parse_policies};

@@ -25,17 +25,17 @@ ghost use Rattle.cedar_syntax.specs.Place.{placed};
 ghost use Rattle.cedar_syntax.specs.PrintLaw.{SameUpToPlaces};
 ghost use Rattle.cedar_syntax.specs.Trees.{Cell};
 ghost use Rattle.cedar_syntax.specs.UnlocatedTrees.{unlocated_policies};
-ghost use Rattle.cedar_policy_parser.specs.AnnotationKeys.{annotation_outcome, with_new_key};
+ghost use Rattle.cedar_policy_conversion.specs.AnnotationKeys.{annotation_outcome, with_new_key};
 ghost use Rattle.cedar_policy_parser.specs.Blocks.{PartsStandWithin, faults_from, policy_faults, set_faults};
-ghost use Rattle.cedar_policy_parser.specs.Conditions.{condition_outcome, condition_slot_fault};
-ghost use Rattle.cedar_policy_parser.specs.Conversion.{Converts};
-ghost use Rattle.cedar_policy_parser.specs.Due.{HoldsCondition, IsWhenOrUnless, IsOfNoName, OfParts, RefusesEffect, TellsExtra, TellsMissing};
-ghost use Rattle.cedar_policy_parser.specs.Extensions.{Extensions};
-ghost use Rattle.cedar_policy_parser.specs.Outcome.{NamedFault, fault_outcome, next, outcome_value, empty_clause, invalid_condition};
-ghost use Rattle.cedar_policy_parser.specs.Policies as k;
-ghost use Rattle.cedar_policy_parser.specs.Policies.{TemplateParts, meaning_of};
-ghost use Rattle.cedar_policy_parser.specs.PolicyMeaning.{IsStatic};
-ghost use Rattle.cedar_policy_parser.specs.Scope.{scope_outcome};
+ghost use Rattle.cedar_policy_conversion.specs.Conditions.{condition_outcome, condition_slot_fault};
+ghost use Rattle.cedar_conversion.specs.Conversion.{Converts};
+ghost use Rattle.cedar_policy_parser.specs.Due.{HoldsCondition, IsWhenOrUnless, IsTellable, OfParts, RefusesEffect, TellsExtra, TellsMissing};
+ghost use Rattle.cedar_conversion.specs.Extensions.{Extensions};
+ghost use Rattle.cedar_conversion.specs.Outcome.{NamedFault, fault_outcome, next, outcome_value, empty_clause, invalid_condition};
+ghost use Rattle.cedar_policy_conversion.specs.Policies as k;
+ghost use Rattle.cedar_policy_conversion.specs.Policies.{TemplateParts, meaning_of};
+ghost use Rattle.cedar_policy_conversion.specs.PolicyMeaning.{IsStatic};
+ghost use Rattle.cedar_policy_conversion.specs.Scope.{scope_outcome};
 ghost use Rattle.cedar_policy_parser.specs.Standing.{StandWithin};
 ghost use Rattle.cedar_policy_parser.specs.StrictPolicy.{IsPolicy, IsPolicySet};
 ghost use Rattle.cedar_expressions.specs.Slots.{slots_of};
@@ -195,7 +195,8 @@ pub fn blocks()
 /// condition whose word is neither `when` nor `unless` is `InvalidCondition` alone; with one of them it is `EmptyClause` alone
 /// if it has no expression, and, if its expression converts, just a `SlotsInConditionClause` for each slot, in order, where the
 /// slot stands within the condition. No fault of a policy's or a set's tree, by hand too, is of a name that two policies have,
-/// whatever of the two kinds of policy is wanted; and where such a tree, or a part of a policy, is refused there is a fault.
+/// nor a text's own, whatever of the two kinds of policy is wanted; and where such a tree, or a part of a policy, is refused
+/// there is a fault.
 pub fn due()
     ensures effect { (text : List ℕ) (tree : Cell PolicyTree)
         → IsTreeOf ReadsPolicy text tree → OfParts RefusesEffect tree }
@@ -216,15 +217,15 @@ pub fn due()
         → All (OfParts (TellsExtra table)) set.0 }
     ensures policy_names { (table : Extensions) (id : List ℕ)
         (tree : Cell PolicyTree)
-        → All IsOfNoName (faults_from (k.template_outcome table id tree)) }
+        → All IsTellable (faults_from (k.template_outcome table id tree)) }
     ensures static_names { (table : Extensions) (id : List ℕ)
         (tree : Cell PolicyTree)
-        → All IsOfNoName (faults_from (k.static_outcome table id tree)) }
+        → All IsTellable (faults_from (k.static_outcome table id tree)) }
     ensures either_names { (table : Extensions) (id : List ℕ)
         (tree : Cell PolicyTree)
-        → All IsOfNoName (faults_from (k.either_outcome table id tree)) }
+        → All IsTellable (faults_from (k.either_outcome table id tree)) }
     ensures set_names { (table : Extensions) (tree : Cell SetTree)
-        → All IsOfNoName (faults_from (k.policies_outcome table tree)) }
+        → All IsTellable (faults_from (k.policies_outcome table tree)) }
     ensures policy_refused { (table : Extensions) (id : List ℕ)
         (tree : Cell PolicyTree) (faults : List NamedFault)
         → k.template_outcome table id tree ≡ Err faults → faults ≢ [] }

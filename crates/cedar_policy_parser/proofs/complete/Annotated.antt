@@ -20,15 +20,15 @@ use Rattle.cedar_syntax.specs.LooseWords.{ReadsAny}
 use Rattle.cedar_syntax.specs.Place.{placed}
 use Rattle.cedar_syntax.specs.Tokens.{Spot, one, between_quotes}
 use Rattle.cedar_syntax.specs.Trees.{Cell, annotation_of}
-use Rattle.cedar_policy_parser.specs.AnnotationKeys.{AnnotationContent, annotation_at, annotation_outcome, gathering_with_node, gathering, has_key, converted_key, empty_gathering, key_value_outcome, with_new_key}
-use Rattle.cedar_policy_parser.specs.Names.{any_ident, any_ident_of}
-use Rattle.cedar_policy_parser.specs.Outcome.{Outcome, both, next, item_more}
+use Rattle.cedar_policy_conversion.specs.AnnotationKeys.{AnnotationContent, annotation_at, annotation_outcome, gathering_with_node, gathering, has_key, converted_key, empty_gathering, key_value_outcome, with_new_key}
+use Rattle.cedar_conversion.specs.Names.{any_ident, any_ident_of}
+use Rattle.cedar_conversion.specs.Outcome.{Outcome, both, next, item_more}
 use Rattle.cedar_policy_parser.specs.StrictPolicy as m
 use Rattle.cedar_policy_parser.specs.StrictPolicy.{AreAnnotations, IsAnnotation, IsAnyWord}
-use Rattle.cedar_policy_parser.specs.StrictWords as w
-use Rattle.cedar_policy_parser.proofs.Loops.{map_snoc}
-use Rattle.cedar_policy_parser.proofs.MappedValues.{fold_snoc}
-use Rattle.cedar_policy_parser.proofs.Quoted.{text_expected}
+use Rattle.cedar_conversion.specs.StrictWords as w
+use Rattle.cedar_conversion.proofs.Loops.{map_snoc}
+use Rattle.cedar_policy_conversion.proofs.MappedValues.{fold_snoc}
+use Rattle.cedar_conversion.proofs.Quoted.{text_expected}
 use Rattle.cedar_policy_parser.proofs.sound.Annotated.{text_in, texts}
 
 -- ---- keys

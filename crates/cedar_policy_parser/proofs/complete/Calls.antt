@@ -3,12 +3,12 @@ use Rattle.std.proofs.Common.{◌≡◌, ℕ, true, false, List, [], ◌∷◌, 
 use Rattle.cedar_expressions.specs.Value as v
 use Rattle.cedar_expressions.specs.Value.{Value, values}
 use Rattle.cedar_syntax.specs.declared.loc.Loc.{Loc}
-use Rattle.cedar_policy_parser.specs.declared.methods.Standard.{Standard}
-use Rattle.cedar_policy_parser.specs.Extensions.{Extensions}
-use Rattle.cedar_policy_parser.specs.Members.{method_outcome, method_by, function_outcome}
-use Rattle.cedar_policy_parser.specs.StrictCalls as m
-use Rattle.cedar_policy_parser.specs.StrictCalls.{CallsMethod, IsFunction, standard_method, names_method}
-use Rattle.cedar_policy_parser.specs.StrictWords.{path_value}
+use Rattle.cedar_conversion.specs.declared.methods.Standard.{Standard}
+use Rattle.cedar_conversion.specs.Extensions.{Extensions}
+use Rattle.cedar_conversion.specs.Members.{method_outcome, method_by, function_outcome}
+use Rattle.cedar_conversion.specs.StrictCalls as m
+use Rattle.cedar_conversion.specs.StrictCalls.{CallsMethod, IsFunction, standard_method, names_method}
+use Rattle.cedar_conversion.specs.StrictWords.{path_value}
 
 by_table : (e : Extensions) (place : Option Loc) (id : List ℕ) (o : Option Standard) (a : Value) (args : List Value) → o ≡ None → e.methods id ≡ true
     → method_by e place id o a args ≡ Ok (v.call_extension_fn (path_value [] id) (values (a ∷ args)))

@@ -16,16 +16,15 @@ use Rattle.cedar_syntax.specs.LooseWords as lw
 use Rattle.cedar_syntax.specs.Place.{placed}
 use Rattle.cedar_syntax.specs.Tokens.{one}
 use Rattle.cedar_syntax.specs.Trees.{Cell, cond_of}
-use Rattle.cedar_policy_parser.specs.Conditions.{condition_of, condition_outcome, conditions_outcome, condition_slot_fault, without_slots}
-use Rattle.cedar_policy_parser.specs.Conversion.{value_outcome}
-use Rattle.cedar_policy_parser.specs.Extensions.{Extensions}
-use Rattle.cedar_policy_parser.specs.Names.{all_of}
-use Rattle.cedar_policy_parser.specs.Outcome.{Outcome, both, next}
-use Rattle.cedar_policy_parser.specs.Scope.{faults_outcome}
+use Rattle.cedar_policy_conversion.specs.Conditions.{condition_of, condition_outcome, conditions_outcome, condition_slot_fault, without_slots}
+use Rattle.cedar_conversion.specs.Conversion.{value_outcome}
+use Rattle.cedar_conversion.specs.Extensions.{Extensions}
+use Rattle.cedar_conversion.specs.Names.{all_of}
+use Rattle.cedar_conversion.specs.Outcome.{Outcome, both, next, faults_outcome}
 use Rattle.cedar_policy_parser.specs.StrictPolicy as m
 use Rattle.cedar_policy_parser.specs.StrictPolicy.{AreConditions, IsCondition}
 use Rattle.cedar_expressions.specs.Slots.{slots_of}
-use Rattle.cedar_policy_parser.proofs.Inverted.{ok_is, next_ok, both_ok}
+use Rattle.cedar_conversion.proofs.Inverted.{ok_is, next_ok, both_ok}
 use Rattle.cedar_policy_parser.proofs.complete.Whole.{complete}
 
 record ConditionRead (e : Extensions) (src : List ℕ) (ts : List Lexeme) (c : Value) : Type 0 where

@@ -30,16 +30,16 @@ use Rattle.cedar_syntax.specs.LooseWords as lw
 use Rattle.cedar_syntax.specs.Place.{placed}
 use Rattle.cedar_syntax.specs.Tokens.{Spot, one}
 use Rattle.cedar_syntax.specs.Trees.{Cell, variable_def_of}
-use Rattle.cedar_policy_parser.specs.declared.to_ref_or_refs.OneOrMultipleRefs.{OneOrMultipleRefs}
-use Rattle.cedar_policy_parser.specs.declared.to_ref_or_refs.SingleEntity.{SingleEntity}
-use Rattle.cedar_policy_parser.specs.Extensions.{Extensions}
-use Rattle.cedar_policy_parser.specs.Held.{type_of_name}
-use Rattle.cedar_policy_parser.specs.Outcome.{Outcome, next}
-use Rattle.cedar_policy_parser.specs.References.{entity_or_slot, one_or_multiple, referent_outcome, single_entity}
-use Rattle.cedar_policy_parser.specs.Scope as s
+use Rattle.cedar_policy_conversion.specs.declared.to_ref_or_refs.OneOrMultipleRefs.{OneOrMultipleRefs}
+use Rattle.cedar_policy_conversion.specs.declared.to_ref_or_refs.SingleEntity.{SingleEntity}
+use Rattle.cedar_conversion.specs.Extensions.{Extensions}
+use Rattle.cedar_conversion.specs.Held.{type_of_name}
+use Rattle.cedar_conversion.specs.Outcome.{Outcome, next}
+use Rattle.cedar_policy_conversion.specs.References.{entity_or_slot, one_or_multiple, referent_outcome, single_entity}
+use Rattle.cedar_policy_conversion.specs.Scope as s
 use Rattle.cedar_policy_parser.specs.StrictScope as z
 use Rattle.cedar_policy_parser.specs.StrictScope.{Asks, AsksAction}
-use Rattle.cedar_policy_parser.specs.StrictWords.{path_value}
+use Rattle.cedar_conversion.specs.StrictWords.{path_value}
 use Rattle.cedar_policy_parser.proofs.complete.Lone.{type_read}
 use Rattle.cedar_policy_parser.proofs.complete.Referred.{actions_read, reference_read, single_read}
 use Rattle.cedar_policy_parser.proofs.sound.Elements.{within_is}

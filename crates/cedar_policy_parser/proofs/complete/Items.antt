@@ -15,13 +15,13 @@ use Rattle.cedar_syntax.specs.LooseExpressions as l
 use Rattle.cedar_syntax.specs.Place.{placed}
 use Rattle.cedar_syntax.specs.Tokens.{Spot, one}
 use Rattle.cedar_syntax.specs.Trees.{rec_init_of}
-use Rattle.cedar_policy_parser.specs.Conversion.{Part, operands, pairs_outcome, pair_outcome, set_value_outcome, record_outcome, expression_at}
-use Rattle.cedar_policy_parser.specs.Extensions.{Extensions}
-use Rattle.cedar_policy_parser.specs.Held.{Held, as_expression, as_attribute}
-use Rattle.cedar_policy_parser.specs.Outcome.{Outcome, both, next}
-use Rattle.cedar_policy_parser.specs.StrictWords.{IsKey}
-use Rattle.cedar_policy_parser.proofs.Inverted.{ok_is, value_from}
-use Rattle.cedar_policy_parser.proofs.Loops.{map_snoc}
+use Rattle.cedar_conversion.specs.Conversion.{Part, operands, pairs_outcome, pair_outcome, set_value_outcome, record_outcome, expression_at}
+use Rattle.cedar_conversion.specs.Extensions.{Extensions}
+use Rattle.cedar_conversion.specs.Held.{Held, as_expression, as_attribute}
+use Rattle.cedar_conversion.specs.Outcome.{Outcome, both, next}
+use Rattle.cedar_conversion.specs.StrictWords.{IsKey}
+use Rattle.cedar_conversion.proofs.Inverted.{ok_is, value_from}
+use Rattle.cedar_conversion.proofs.Loops.{map_snoc}
 use Rattle.cedar_policy_parser.proofs.Made.{gives_set, gives_braces, gives_paren, gives_entry}
 use Rattle.cedar_policy_parser.proofs.complete.Lone.{key_read}
 use Rattle.cedar_policy_parser.proofs.complete.Reads.{ExprAs, ExprRead, PrimaryRead, ItemsRead, ListRead, EntryRead, PairsRead, EntriesRead, under, bodies-under}

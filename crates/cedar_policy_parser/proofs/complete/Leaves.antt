@@ -26,20 +26,20 @@ use Rattle.cedar_syntax.specs.LooseWords.{ReadsLiteral, is_common}
 use Rattle.cedar_syntax.specs.Place.{placed}
 use Rattle.cedar_syntax.specs.Tokens.{Spot, one, number_of, any_of}
 use Rattle.cedar_syntax.specs.Trees.{name_of as tree_name}
-use Rattle.cedar_policy_parser.specs.Entities.{slot_id}
-use Rattle.cedar_policy_parser.specs.Extensions.{Extensions}
-use Rattle.cedar_policy_parser.specs.Held.{expression, as_expression}
-use Rattle.cedar_policy_parser.specs.Leaves.{slot_value, variable_or_name}
-use Rattle.cedar_policy_parser.specs.Literals.{literal_outcome}
-use Rattle.cedar_policy_parser.specs.Names.{variable_of}
-use Rattle.cedar_policy_parser.specs.Outcome.{next}
-use Rattle.cedar_policy_parser.specs.Strict.{largest, slot_there}
-use Rattle.cedar_policy_parser.specs.StrictWords as m
-use Rattle.cedar_policy_parser.specs.StrictWords.{IsVariable, IsText, IsEntity}
-use Rattle.cedar_policy_parser.proofs.Inverted.{value_from}
+use Rattle.cedar_conversion.specs.Entities.{slot_id}
+use Rattle.cedar_conversion.specs.Extensions.{Extensions}
+use Rattle.cedar_conversion.specs.Held.{expression, as_expression}
+use Rattle.cedar_conversion.specs.Leaves.{slot_value, variable_or_name}
+use Rattle.cedar_conversion.specs.Literals.{literal_outcome}
+use Rattle.cedar_conversion.specs.Names.{variable_of}
+use Rattle.cedar_conversion.specs.Outcome.{next}
+use Rattle.cedar_conversion.specs.Strict.{largest, slot_there}
+use Rattle.cedar_conversion.specs.StrictWords as m
+use Rattle.cedar_conversion.specs.StrictWords.{IsVariable, IsText, IsEntity}
+use Rattle.cedar_conversion.proofs.Inverted.{value_from}
 use Rattle.cedar_policy_parser.proofs.Made.{gives_literally, gives_named, gives_slot, gives_referred}
-use Rattle.cedar_policy_parser.proofs.Quoted.{text_expected}
-use Rattle.cedar_policy_parser.proofs.Signed.{literal_gives}
+use Rattle.cedar_conversion.proofs.Quoted.{text_expected}
+use Rattle.cedar_conversion.proofs.Signed.{literal_gives}
 use Rattle.cedar_policy_parser.proofs.complete.Reads.{PrimaryRead}
 use Rattle.cedar_policy_parser.proofs.complete.Signs.{number_fits}
 use Rattle.cedar_policy_parser.proofs.complete.Words.{TextRead, EntityRead, text_read, entity_read}

@@ -21,18 +21,18 @@ use Rattle.cedar_syntax.specs.LooseExpressions.{ReadsAnds, ReadsRelations, Reads
 use Rattle.cedar_syntax.specs.Place.{placed}
 use Rattle.cedar_syntax.specs.Tokens.{Spot, one}
 use Rattle.cedar_syntax.specs.Trees.{Cell, expr_of, or_of, and_of, add_of, mult_of}
-use Rattle.cedar_policy_parser.specs.Conversion.{Part, Converts, outcome, operands, chain_outcome, level_outcome, operator_limit, expression_at}
-use Rattle.cedar_policy_parser.specs.Extensions.{Extensions}
-use Rattle.cedar_policy_parser.specs.Held.{Held, as_expression}
-use Rattle.cedar_policy_parser.specs.Outcome.{Outcome, next}
-use Rattle.cedar_policy_parser.specs.Strict as m
-use Rattle.cedar_policy_parser.specs.Strict.{Sort}
-use Rattle.cedar_policy_parser.proofs.Inverted.{value_from}
-use Rattle.cedar_policy_parser.proofs.Loops.{map_snoc}
+use Rattle.cedar_conversion.specs.Conversion.{Part, Converts, outcome, operands, chain_outcome, level_outcome, operator_limit, expression_at}
+use Rattle.cedar_conversion.specs.Extensions.{Extensions}
+use Rattle.cedar_conversion.specs.Held.{Held, as_expression}
+use Rattle.cedar_conversion.specs.Outcome.{Outcome, next}
+use Rattle.cedar_conversion.specs.Strict as m
+use Rattle.cedar_conversion.specs.Strict.{Sort}
+use Rattle.cedar_conversion.specs.machines.Views.{one_more}
+use Rattle.cedar_conversion.proofs.Inverted.{value_from}
+use Rattle.cedar_conversion.proofs.Loops.{map_snoc}
 use Rattle.cedar_policy_parser.proofs.Made.{gives_or_alone, gives_or, gives_and, gives_add, gives_mult}
-use Rattle.cedar_policy_parser.proofs.Outcomes.{operand, operands_snoc, settled}
+use Rattle.cedar_conversion.proofs.Outcomes.{operand, operands_snoc, settled}
 use Rattle.cedar_policy_parser.proofs.complete.Reads.{ExprRead, OrRead, AndRead, RelationRead, AddRead, MultRead, UnaryRead, MemberRead, PrimaryRead, ItemsRead, under, summed, under-snoc, summed-snoc, bodies-under, added-summed}
-use Rattle.cedar_policy_parser.specs.machines.Views.{one_more}
 
 abbrev pub Read : Extensions → List ℕ → Sort → List Lexeme → Value → Type 0
 Read e src m.expression ts w = ExprRead e src ts w

@@ -22,19 +22,19 @@ use Rattle.cedar_syntax.specs.Pattern.{IsPattern}
 use Rattle.cedar_syntax.specs.Place.{placed}
 use Rattle.cedar_syntax.specs.Tokens.{Spot, one, between_quotes}
 use Rattle.cedar_syntax.specs.Trees.{Cell, member_of}
-use Rattle.cedar_policy_parser.specs.Conversion.{outcome, accesses_outcome}
-use Rattle.cedar_policy_parser.specs.Extensions.{Extensions}
-use Rattle.cedar_policy_parser.specs.HasSide.{Attributes, right_side, attributes_of, behind_first, fields_of, field_of, field_form}
-use Rattle.cedar_policy_parser.specs.Held.{Held, bare_string, as_entity_type, as_pattern, as_string, as_attribute, type_of_name}
-use Rattle.cedar_policy_parser.specs.Members.{member_outcome}
-use Rattle.cedar_policy_parser.specs.Names.{unreserved_ident}
-use Rattle.cedar_policy_parser.specs.Outcome.{Outcome, next}
-use Rattle.cedar_policy_parser.specs.StrictWords as m
-use Rattle.cedar_policy_parser.specs.StrictWords.{IsIdentifier, IsName, IsText, IsKey, IsSought, AreAttributes, path_value}
-use Rattle.cedar_policy_parser.proofs.Inverted.{ok_is, next_ok}
-use Rattle.cedar_policy_parser.proofs.Loops.{map_snoc}
+use Rattle.cedar_conversion.specs.Conversion.{outcome, accesses_outcome}
+use Rattle.cedar_conversion.specs.Extensions.{Extensions}
+use Rattle.cedar_conversion.specs.HasSide.{Attributes, right_side, attributes_of, behind_first, fields_of, field_of, field_form}
+use Rattle.cedar_conversion.specs.Held.{Held, bare_string, as_entity_type, as_pattern, as_string, as_attribute, type_of_name}
+use Rattle.cedar_conversion.specs.Members.{member_outcome}
+use Rattle.cedar_conversion.specs.Names.{unreserved_ident}
+use Rattle.cedar_conversion.specs.Outcome.{Outcome, next}
+use Rattle.cedar_conversion.specs.StrictWords as m
+use Rattle.cedar_conversion.specs.StrictWords.{IsIdentifier, IsName, IsText, IsKey, IsSought, AreAttributes, path_value}
+use Rattle.cedar_conversion.proofs.Inverted.{ok_is, next_ok}
+use Rattle.cedar_conversion.proofs.Loops.{map_snoc}
 use Rattle.cedar_policy_parser.proofs.Made.{gives_member, gives_named, gives_literally}
-use Rattle.cedar_policy_parser.proofs.Quoted.{text_expected, pattern_expected}
+use Rattle.cedar_conversion.proofs.Quoted.{text_expected, pattern_expected}
 use Rattle.cedar_policy_parser.proofs.complete.Links.{two_given}
 use Rattle.cedar_policy_parser.proofs.complete.Reads.{ExprAs, AddAs, SoughtRead}
 use Rattle.cedar_policy_parser.proofs.complete.Words.{NameRead, TextRead, IsHeldName, word_read, word_given, word_name, name_read, text_read, name_type, name_key, name_begins, string_tree}

@@ -14,12 +14,12 @@ use Rattle.cedar_syntax.specs.LooseExpressions.{ReadsExpr, ReadsMember, ReadsPri
 use Rattle.cedar_syntax.specs.Place.{placed}
 use Rattle.cedar_syntax.specs.Tokens.{Spot, one}
 use Rattle.cedar_syntax.specs.Trees.{add_of, and_of, common_of, member_of, mult_of, or_of, unary_of}
-use Rattle.cedar_policy_parser.specs.Conversion.{expression_at, outcome, tree_place, value_outcome}
-use Rattle.cedar_policy_parser.specs.Extensions.{Extensions}
-use Rattle.cedar_policy_parser.specs.Held.{as_expression}
-use Rattle.cedar_policy_parser.specs.Outcome.{Outcome, next}
-use Rattle.cedar_policy_parser.specs.References.{lone, lone_form}
-use Rattle.cedar_policy_parser.specs.Scope.{is_made_by_is}
+use Rattle.cedar_conversion.specs.Conversion.{expression_at, outcome, tree_place, value_outcome}
+use Rattle.cedar_conversion.specs.Extensions.{Extensions}
+use Rattle.cedar_conversion.specs.Held.{as_expression}
+use Rattle.cedar_conversion.specs.Outcome.{Outcome, next}
+use Rattle.cedar_policy_conversion.specs.References.{lone, lone_form}
+use Rattle.cedar_policy_conversion.specs.Scope.{is_made_by_is}
 use Rattle.cedar_policy_parser.proofs.Made.{gives_paren}
 use Rattle.cedar_policy_parser.proofs.MadeLones as lones
 use Rattle.cedar_policy_parser.proofs.complete.Lone.{alone_gives, alone_reads, expr_reads}

@@ -17,16 +17,16 @@ use Rattle.cedar_syntax.specs.LooseExpressions.{ReadsMember, ReadsAccess}
 use Rattle.cedar_syntax.specs.Place.{placed}
 use Rattle.cedar_syntax.specs.Tokens.{Spot, one}
 use Rattle.cedar_syntax.specs.Trees.{Cell, member_of}
-use Rattle.cedar_policy_parser.specs.Conversion.{Converts, Part, outcome, operands, accesses_outcome, access_outcome, bodies}
-use Rattle.cedar_policy_parser.specs.Extensions.{Extensions}
-use Rattle.cedar_policy_parser.specs.Held.{Held, expression, bare_name, as_expression}
-use Rattle.cedar_policy_parser.specs.Members.{Access, field, call, index, accesses_of, member_outcome, method_outcome, function_outcome}
-use Rattle.cedar_policy_parser.specs.Names.{unreserved_ident}
-use Rattle.cedar_policy_parser.specs.Outcome.{Outcome, next}
-use Rattle.cedar_policy_parser.specs.StrictCalls.{CallsMethod, IsFunction}
-use Rattle.cedar_policy_parser.specs.StrictWords.{IsIdentifier, IsName, IsText, IsVariableWord, path_value}
-use Rattle.cedar_policy_parser.proofs.Inverted.{value_from}
-use Rattle.cedar_policy_parser.proofs.Loops.{map_snoc}
+use Rattle.cedar_conversion.specs.Conversion.{Converts, Part, outcome, operands, accesses_outcome, access_outcome, bodies}
+use Rattle.cedar_conversion.specs.Extensions.{Extensions}
+use Rattle.cedar_conversion.specs.Held.{Held, expression, bare_name, as_expression}
+use Rattle.cedar_conversion.specs.Members.{Access, field, call, index, accesses_of, member_outcome, method_outcome, function_outcome}
+use Rattle.cedar_conversion.specs.Names.{unreserved_ident}
+use Rattle.cedar_conversion.specs.Outcome.{Outcome, next}
+use Rattle.cedar_conversion.specs.StrictCalls.{CallsMethod, IsFunction}
+use Rattle.cedar_conversion.specs.StrictWords.{IsIdentifier, IsName, IsText, IsVariableWord, path_value}
+use Rattle.cedar_conversion.proofs.Inverted.{value_from}
+use Rattle.cedar_conversion.proofs.Loops.{map_snoc}
 use Rattle.cedar_policy_parser.proofs.Made.{gives_member, gives_field, gives_call, gives_index, gives_named}
 use Rattle.cedar_policy_parser.proofs.complete.Calls.{method_given, function_given}
 use Rattle.cedar_policy_parser.proofs.complete.Links.{NoCall, accesses_more, member_more, two_given}

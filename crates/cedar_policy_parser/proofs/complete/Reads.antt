@@ -19,12 +19,12 @@ use Rattle.cedar_syntax.specs.Located.{at}
 use Rattle.cedar_syntax.specs.Tree.{Operator, add, beside}
 use Rattle.cedar_syntax.specs.LooseExpressions.{ReadsExpr, ReadsOr, ReadsAnd, ReadsRelation, ReadsAdd, ReadsMult, ReadsUnary, ReadsAccesses, ReadsPrimary, ReadsExprItems, ReadsExprs, ReadsRecInit, ReadsInitItems, ReadsRecInits}
 use Rattle.cedar_syntax.specs.Trees.{Cell}
-use Rattle.cedar_policy_parser.specs.Conversion.{Part, Converts, outcome, operands, accesses_outcome, pair_outcome, pairs_outcome, bodies, sum_terms}
-use Rattle.cedar_policy_parser.specs.Extensions.{Extensions}
-use Rattle.cedar_policy_parser.specs.HasSide.{Attributes, right_side}
-use Rattle.cedar_policy_parser.specs.Held.{Held, as_expression}
-use Rattle.cedar_policy_parser.specs.Members.{Access, member_outcome}
-use Rattle.cedar_policy_parser.specs.Outcome.{Outcome, next}
+use Rattle.cedar_conversion.specs.Conversion.{Part, Converts, outcome, operands, accesses_outcome, pair_outcome, pairs_outcome, bodies, sum_terms}
+use Rattle.cedar_conversion.specs.Extensions.{Extensions}
+use Rattle.cedar_conversion.specs.HasSide.{Attributes, right_side}
+use Rattle.cedar_conversion.specs.Held.{Held, as_expression}
+use Rattle.cedar_conversion.specs.Members.{Access, member_outcome}
+use Rattle.cedar_conversion.specs.Outcome.{Outcome, next}
 
 -- ---- one tree
 

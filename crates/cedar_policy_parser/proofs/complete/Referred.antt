@@ -27,23 +27,23 @@ use Rattle.cedar_syntax.specs.LooseExpressions.{ReadsExprs, ReadsExprItems, Read
 use Rattle.cedar_syntax.specs.Place.{placed}
 use Rattle.cedar_syntax.specs.Tokens.{Spot, one}
 use Rattle.cedar_syntax.specs.Trees.{Cell}
-use Rattle.cedar_policy_parser.specs.declared.to_ref_or_refs.OneOrMultipleRefs.{OneOrMultipleRefs}
-use Rattle.cedar_policy_parser.specs.declared.to_ref_or_refs.OneOrMultipleRefs.TheVariants as refs
-use Rattle.cedar_policy_parser.specs.Conversion.{Part, operands, outcome, set_value_outcome}
-use Rattle.cedar_policy_parser.specs.Entities.{entity_outcome}
-use Rattle.cedar_policy_parser.specs.Extensions.{Extensions}
-use Rattle.cedar_policy_parser.specs.Held.{as_expression, expression}
-use Rattle.cedar_policy_parser.specs.Outcome.{Outcome, both, next, item_more}
-use Rattle.cedar_policy_parser.specs.References.{RefKind, entities, entity_at, entity_form, entity_or_slot, lone, lone_form, lone_entity, one_or_multiple, referent_at, referred_form, single_entity}
-use Rattle.cedar_policy_parser.specs.Places.{place_mark}
-use Rattle.cedar_policy_parser.specs.Scope.{is_made_by_is}
+use Rattle.cedar_policy_conversion.specs.declared.to_ref_or_refs.OneOrMultipleRefs.{OneOrMultipleRefs}
+use Rattle.cedar_policy_conversion.specs.declared.to_ref_or_refs.OneOrMultipleRefs.TheVariants as refs
+use Rattle.cedar_conversion.specs.Conversion.{Part, operands, outcome, set_value_outcome}
+use Rattle.cedar_conversion.specs.Entities.{entity_outcome}
+use Rattle.cedar_conversion.specs.Extensions.{Extensions}
+use Rattle.cedar_conversion.specs.Held.{as_expression, expression}
+use Rattle.cedar_conversion.specs.Outcome.{Outcome, both, next, item_more}
+use Rattle.cedar_policy_conversion.specs.References.{RefKind, entities, entity_at, entity_form, entity_or_slot, lone, lone_form, lone_entity, one_or_multiple, referent_at, referred_form, single_entity}
+use Rattle.cedar_conversion.specs.Places.{place_mark}
+use Rattle.cedar_policy_conversion.specs.Scope.{is_made_by_is}
 use Rattle.cedar_policy_parser.specs.StrictScope as m
 use Rattle.cedar_policy_parser.specs.StrictScope.{AreActions, AreEntities, IsEntityAlone, IsEntityList, IsReference}
-use Rattle.cedar_policy_parser.specs.StrictWords.{IsEntity}
-use Rattle.cedar_policy_parser.proofs.Loops.{map_snoc}
+use Rattle.cedar_conversion.specs.StrictWords.{IsEntity}
+use Rattle.cedar_conversion.proofs.Loops.{map_snoc}
 use Rattle.cedar_policy_parser.proofs.Made.{gives_referred, gives_set, gives_slot}
 use Rattle.cedar_policy_parser.proofs.MadeLones as made
-use Rattle.cedar_policy_parser.proofs.ReferredNodes.{entities_snoc}
+use Rattle.cedar_policy_conversion.proofs.ReferredNodes.{entities_snoc}
 use Rattle.cedar_policy_parser.proofs.complete.Lones.{LoneAs, alone_as, in_parentheses}
 use Rattle.cedar_policy_parser.proofs.complete.Words.{entity_read}
 use Rattle.cedar_policy_parser.proofs.sound.Referred.{SlotOf, principal, resource, uids_of}

@@ -14,9 +14,9 @@ use Rattle.cedar_syntax.specs.LooseWords.{ReadsItems, ReadsList}
 use Rattle.cedar_syntax.specs.Place.{placed}
 use Rattle.cedar_syntax.specs.Tokens.{one}
 use Rattle.cedar_syntax.specs.Trees.{Cell}
-use Rattle.cedar_policy_parser.specs.Extensions.{Extensions}
-use Rattle.cedar_policy_parser.specs.Scope as s
-use Rattle.cedar_policy_parser.specs.Scope.{Scope}
+use Rattle.cedar_conversion.specs.Extensions.{Extensions}
+use Rattle.cedar_policy_conversion.specs.Scope as s
+use Rattle.cedar_policy_conversion.specs.Scope.{Scope}
 use Rattle.cedar_policy_parser.specs.StrictScope as z
 use Rattle.cedar_policy_parser.specs.StrictScope.{IsLastComma, IsScope}
 use Rattle.cedar_policy_parser.proofs.complete.Elements.{ActionRead, ElementRead, action_read, element_read}

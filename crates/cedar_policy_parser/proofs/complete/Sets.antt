@@ -20,22 +20,23 @@ use Rattle.cedar_syntax.specs.LooseWords.{ReadsAny}
 use Rattle.cedar_syntax.specs.Place.{placed}
 use Rattle.cedar_syntax.specs.Tokens.{Spot, one}
 use Rattle.cedar_syntax.specs.Trees.{Cell, policies_of, policy_of}
-use Rattle.cedar_policy_parser.specs.AnnotationKeys.{AnnotationContent, annotation_map, annotations_outcome}
-use Rattle.cedar_policy_parser.specs.Conditions.{conditions_outcome}
-use Rattle.cedar_policy_parser.specs.Extensions.{Extensions}
-use Rattle.cedar_policy_parser.specs.Outcome.{Outcome, both, next, item_more}
-use Rattle.cedar_policy_parser.specs.Policies as k
-use Rattle.cedar_policy_parser.specs.Policies.{TemplateParts}
-use Rattle.cedar_policy_parser.specs.PolicyMeaning.{joint_condition, no_policies, policy_id, with_policy}
-use Rattle.cedar_policy_parser.specs.Scope.{elements_outcome}
+use Rattle.cedar_policy_conversion.specs.AnnotationKeys.{AnnotationContent, annotation_map, annotations_outcome}
+use Rattle.cedar_policy_conversion.specs.Conditions.{conditions_outcome}
+use Rattle.cedar_conversion.specs.Extensions.{Extensions}
+use Rattle.cedar_conversion.specs.Outcome.{Outcome, both, next, item_more}
+use Rattle.cedar_policy_conversion.specs.Policies as k
+use Rattle.cedar_policy_conversion.specs.Policies.{TemplateParts}
+use Rattle.cedar_policy_conversion.specs.PolicyMeaning.{joint_condition, no_policies, policy_id, with_policy}
+use Rattle.cedar_policy_conversion.specs.Scope.{elements_outcome}
+use Rattle.cedar_policy_conversion.proofs.SetSteps.{numbered_snoc, zero-plus}
 use Rattle.cedar_policy_parser.specs.StrictPolicy as m
 use Rattle.cedar_policy_parser.specs.StrictPolicy.{ArePolicies, IsEffect, IsPolicy, IsPolicySet, by_key}
-use Rattle.cedar_policy_parser.proofs.Loops.{map_snoc}
+use Rattle.cedar_conversion.proofs.Loops.{map_snoc}
 use Rattle.cedar_policy_parser.proofs.complete.Annotated.{annotations_read}
 use Rattle.cedar_policy_parser.proofs.complete.Clauses.{conditions_read}
 use Rattle.cedar_policy_parser.proofs.complete.Scopes.{scope_read}
 use Rattle.cedar_policy_parser.proofs.sound.Annotated.{kept_by_key}
-use Rattle.cedar_policy_parser.proofs.sound.Sets.{folded_meanings, meant_length, given_many, numbered_snoc, value_of, zero-plus}
+use Rattle.cedar_policy_parser.proofs.sound.Sets.{folded_meanings, meant_length, given_many, value_of}
 
 -- ---- a policy
 

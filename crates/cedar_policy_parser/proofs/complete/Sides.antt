@@ -18,16 +18,16 @@ use Rattle.cedar_syntax.specs.LooseExpressions.{ReadsRelOp}
 use Rattle.cedar_syntax.specs.Place.{placed}
 use Rattle.cedar_syntax.specs.Tokens.{Spot, one}
 use Rattle.cedar_syntax.specs.Trees.{if_of, common_of, has_of, like_of, is_of}
-use Rattle.cedar_policy_parser.specs.Conversion.{outcome, operands, comparison_outcome, expression_at, conditional_outcome, with_attributes, match_outcome, beside_type, type_test_outcome, type_within_outcome}
-use Rattle.cedar_policy_parser.specs.Extensions.{Extensions}
-use Rattle.cedar_policy_parser.specs.HasSide.{Attributes}
-use Rattle.cedar_policy_parser.specs.Held.{Held, as_expression, as_pattern, as_entity_type}
-use Rattle.cedar_policy_parser.specs.Outcome.{Outcome, both, next}
-use Rattle.cedar_policy_parser.specs.Strict as m
-use Rattle.cedar_policy_parser.specs.Strict.{Relates}
-use Rattle.cedar_policy_parser.proofs.Inverted.{value_from}
+use Rattle.cedar_conversion.specs.Conversion.{outcome, operands, comparison_outcome, expression_at, conditional_outcome, with_attributes, match_outcome, beside_type, type_test_outcome, type_within_outcome}
+use Rattle.cedar_conversion.specs.Extensions.{Extensions}
+use Rattle.cedar_conversion.specs.HasSide.{Attributes}
+use Rattle.cedar_conversion.specs.Held.{Held, as_expression, as_pattern, as_entity_type}
+use Rattle.cedar_conversion.specs.Outcome.{Outcome, both, next}
+use Rattle.cedar_conversion.specs.Strict as m
+use Rattle.cedar_conversion.specs.Strict.{Relates}
+use Rattle.cedar_conversion.proofs.Inverted.{value_from}
 use Rattle.cedar_policy_parser.proofs.Made.{gives_if, gives_common, gives_has, gives_like, gives_is, gives_is_in}
-use Rattle.cedar_policy_parser.proofs.Outcomes.{operand, settled}
+use Rattle.cedar_conversion.proofs.Outcomes.{operand, settled}
 use Rattle.cedar_policy_parser.proofs.complete.Levels.{chain_gives, alone_gives}
 use Rattle.cedar_policy_parser.proofs.complete.Reads.{ExprRead, RelationRead, AddAs, AddRead, SoughtRead}
 

@@ -21,13 +21,13 @@ use Rattle.cedar_syntax.specs.Place.{placed}
 use Rattle.cedar_syntax.specs.Tokens.{Spot, one, number_of, fits}
 use Rattle.cedar_syntax.specs.Trees.{Cell, unary_of, member_of, bangs_of, dashes_of}
 use Rattle.cedar_syntax.specs.Signs.{sign_limit}
-use Rattle.cedar_policy_parser.specs.Conversion.{number_in, lone_literal, literal_alone}
-use Rattle.cedar_policy_parser.specs.Extensions.{Extensions}
-use Rattle.cedar_policy_parser.specs.Strict.{iteration, IsNumeral}
-use Rattle.cedar_policy_parser.proofs.Inverted.{value_from}
+use Rattle.cedar_conversion.specs.Conversion.{number_in, lone_literal, literal_alone}
+use Rattle.cedar_conversion.specs.Extensions.{Extensions}
+use Rattle.cedar_conversion.specs.Strict.{iteration, IsNumeral}
+use Rattle.cedar_conversion.proofs.Inverted.{value_from}
 use Rattle.cedar_policy_parser.proofs.Lists.{no_snoc}
 use Rattle.cedar_policy_parser.proofs.Made.{gives_unary, lone_member, lone_accessed, lone_literally, lone_named, lone_slot, lone_referred, lone_paren, lone_set, lone_braces}
-use Rattle.cedar_policy_parser.proofs.Signed.{bangs_give, dashes_give, negative_gives, literal_of}
+use Rattle.cedar_conversion.proofs.Signed.{bangs_give, dashes_give, negative_gives, literal_of}
 use Rattle.cedar_policy_parser.proofs.complete.Lone.{alone_reads}
 use Rattle.cedar_policy_parser.proofs.complete.Members.{tree_of, tree_reads, tree_gives}
 use Rattle.cedar_policy_parser.proofs.complete.Reads.{UnaryRead, MemberRead}

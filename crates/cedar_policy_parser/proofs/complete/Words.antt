@@ -23,18 +23,18 @@ use Rattle.cedar_syntax.specs.LooseWords as l
 use Rattle.cedar_syntax.specs.LooseWords.{ReadsAny, ReadsLiteral, ReadsName, ReadsPath, ReadsRef, is_common}
 use Rattle.cedar_syntax.specs.Tokens.{Spot, one, between_quotes}
 use Rattle.cedar_syntax.specs.Trees.{Cell, name_of as tree_name}
-use Rattle.cedar_policy_parser.specs.Entities.{entity_of, reference_outcome}
-use Rattle.cedar_policy_parser.specs.Held.{Held, variable, bare_name, bare_string, as_entity_type, as_attribute, type_of_name}
-use Rattle.cedar_policy_parser.specs.HasSide.{attributes_of, behind_first}
-use Rattle.cedar_policy_parser.specs.Leaves.{name_leaf, variable_or_name}
-use Rattle.cedar_policy_parser.specs.Literals.{literal_outcome}
-use Rattle.cedar_policy_parser.specs.Names.{all_of, valid_ident, valid_ident_of, unreserved_ident, unreserved, path_outcome, variable_of}
-use Rattle.cedar_policy_parser.specs.Outcome.{Outcome, both, next}
-use Rattle.cedar_policy_parser.specs.StrictWords as m
-use Rattle.cedar_policy_parser.specs.StrictWords.{IsVariable, IsVariableWord, IsIdentifier, IsName, IsText, IsEntity, path_value}
+use Rattle.cedar_conversion.specs.Entities.{entity_of, reference_outcome}
+use Rattle.cedar_conversion.specs.Held.{Held, variable, bare_name, bare_string, as_entity_type, as_attribute, type_of_name}
+use Rattle.cedar_conversion.specs.HasSide.{attributes_of, behind_first}
+use Rattle.cedar_conversion.specs.Leaves.{name_leaf, variable_or_name}
+use Rattle.cedar_conversion.specs.Literals.{literal_outcome}
+use Rattle.cedar_conversion.specs.Names.{all_of, valid_ident, valid_ident_of, unreserved_ident, unreserved, path_outcome, variable_of}
+use Rattle.cedar_conversion.specs.Outcome.{Outcome, both, next}
+use Rattle.cedar_conversion.specs.StrictWords as m
+use Rattle.cedar_conversion.specs.StrictWords.{IsVariable, IsVariableWord, IsIdentifier, IsName, IsText, IsEntity, path_value}
 use Rattle.cedar_syntax.specs.Located.{Parts}
-use Rattle.cedar_policy_parser.proofs.Inverted.{next_ok, both_ok, ok_is}
-use Rattle.cedar_policy_parser.proofs.Quoted.{text_expected}
+use Rattle.cedar_conversion.proofs.Inverted.{next_ok, both_ok, ok_is}
+use Rattle.cedar_conversion.proofs.Quoted.{text_expected}
 
 -- ---- identifiers
 

@@ -22,16 +22,16 @@ use Rattle.cedar_syntax.specs.LooseWords.{ReadsAny}
 use Rattle.cedar_syntax.specs.Place.{placed}
 use Rattle.cedar_syntax.specs.Tokens.{Spot, one, any_of, between_quotes}
 use Rattle.cedar_syntax.specs.Trees.{Cell}
-use Rattle.cedar_policy_parser.specs.AnnotationKeys.{AnnotationContent, annotation_at, annotation_map, annotation_outcome, gathering_with_node, gathering, has_key, with_annotation, kept_annotation, converted_key, empty_gathering, key_value_outcome, value_text_outcome, with_new_key}
-use Rattle.cedar_policy_parser.specs.Names.{any_ident, any_ident_of, content_outcome}
-use Rattle.cedar_policy_parser.specs.Outcome.{Outcome, both, next, item_more}
-use Rattle.cedar_policy_parser.specs.Strings.{text_outcome}
+use Rattle.cedar_policy_conversion.specs.AnnotationKeys.{AnnotationContent, annotation_at, annotation_map, annotation_outcome, gathering_with_node, gathering, has_key, with_annotation, kept_annotation, converted_key, empty_gathering, key_value_outcome, value_text_outcome, with_new_key}
+use Rattle.cedar_conversion.specs.Names.{any_ident, any_ident_of, content_outcome}
+use Rattle.cedar_conversion.specs.Outcome.{Outcome, both, next, item_more}
+use Rattle.cedar_conversion.specs.Strings.{text_outcome}
 use Rattle.cedar_policy_parser.specs.StrictPolicy as m
 use Rattle.cedar_policy_parser.specs.StrictPolicy.{AreAnnotations, IsAnnotation, IsAnyWord, by_key}
-use Rattle.cedar_policy_parser.specs.StrictWords as w
-use Rattle.cedar_policy_parser.proofs.Inverted.{ok_is, next_ok, both_ok, if_ok, unless_ok}
-use Rattle.cedar_policy_parser.proofs.Loops.{map_snoc}
-use Rattle.cedar_policy_parser.proofs.MappedValues.{fold_snoc, with-empty, with-insert}
+use Rattle.cedar_conversion.specs.StrictWords as w
+use Rattle.cedar_conversion.proofs.Inverted.{ok_is, next_ok, both_ok, if_ok, unless_ok}
+use Rattle.cedar_conversion.proofs.Loops.{map_snoc}
+use Rattle.cedar_policy_conversion.proofs.MappedValues.{fold_snoc, with-empty, with-insert}
 use Rattle.cedar_policy_parser.proofs.sound.Words.{string_is_text}
 
 -- ---- keys

@@ -5,15 +5,15 @@ use Rattle.cedar_expressions.specs.Path.{Path}
 use Rattle.cedar_expressions.specs.Value as v
 use Rattle.cedar_expressions.specs.Value.{Value, values}
 use Rattle.cedar_syntax.specs.declared.loc.Loc.{Loc}
-use Rattle.cedar_policy_parser.specs.declared.methods.Standard.{Standard}
-use Rattle.cedar_policy_parser.specs.declared.methods.Standard.TheVariants as standard
-use Rattle.cedar_policy_parser.specs.Extensions.{Extensions}
-use Rattle.cedar_policy_parser.specs.Members as g
-use Rattle.cedar_policy_parser.specs.Members.{takes_one, with_arguments, method_outcome, method_by, function_outcome}
-use Rattle.cedar_policy_parser.specs.StrictCalls as m
-use Rattle.cedar_policy_parser.specs.StrictCalls.{CallsMethod, IsFunction, names_method, standard_method}
-use Rattle.cedar_policy_parser.specs.StrictWords.{path_value}
-use Rattle.cedar_policy_parser.proofs.Inverted.{ok_is}
+use Rattle.cedar_conversion.specs.declared.methods.Standard.{Standard}
+use Rattle.cedar_conversion.specs.declared.methods.Standard.TheVariants as standard
+use Rattle.cedar_conversion.specs.Extensions.{Extensions}
+use Rattle.cedar_conversion.specs.Members as g
+use Rattle.cedar_conversion.specs.Members.{takes_one, with_arguments, method_outcome, method_by, function_outcome}
+use Rattle.cedar_conversion.specs.StrictCalls as m
+use Rattle.cedar_conversion.specs.StrictCalls.{CallsMethod, IsFunction, names_method, standard_method}
+use Rattle.cedar_conversion.specs.StrictWords.{path_value}
+use Rattle.cedar_conversion.proofs.Inverted.{ok_is}
 
 -- the six tests, one after another
 abbrev chosen : Bool → Bool → Bool → Bool → Bool → Bool → Option Standard

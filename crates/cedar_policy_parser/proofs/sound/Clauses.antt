@@ -1,9 +1,8 @@
 -- Conditions are held of their tokens.
-use Rattle.std.proofs.Common.{◌≡◌, ℕ, Bool, true, false, List, [], ◌∷◌, ◌++◌, map, Option, Some, None, Ok, refl, sym, ap, ◌∙◌}
+use Rattle.std.proofs.Common.{◌≡◌, ℕ, Bool, true, false, List, [], ◌∷◌, ◌++◌, Option, Some, None, Ok, refl, sym, ap, ◌∙◌}
 use Rattle.cedar_lexer.specs.Token.{Lexeme}
 use Rattle.cedar_lexer.specs.declared.token.TokenKind.{TokenKind}
 use Rattle.cedar_lexer.specs.declared.token.TokenKind.TheVariants as kind
-use Rattle.cedar_expressions.specs.declared.place.Slot.{Slot}
 use Rattle.cedar_expressions.specs.Value.{Value}
 use Rattle.cedar_syntax.specs.declared.loc.Loc.{Loc}
 use Rattle.cedar_syntax.specs.declared.cst.Cond.{Cond}
@@ -16,18 +15,18 @@ use Rattle.cedar_syntax.specs.LooseWords.{ReadsAny}
 use Rattle.cedar_syntax.specs.Place.{placed}
 use Rattle.cedar_syntax.specs.Tokens.{Spot, one, any_of}
 use Rattle.cedar_syntax.specs.Trees.{Cell}
-use Rattle.cedar_policy_parser.specs.Conditions.{clause, condition_of, condition_outcome, conditions_outcome, is_when, is_when_of, condition_value, condition_slot_fault, slots_outcome, without_slots}
-use Rattle.cedar_policy_parser.specs.Extensions.{Extensions}
-use Rattle.cedar_policy_parser.specs.Names.{content_outcome}
-use Rattle.cedar_policy_parser.specs.Outcome.{next}
-use Rattle.cedar_policy_parser.specs.Scope.{faults_outcome}
-use Rattle.cedar_policy_parser.specs.Strict.{Means, expression}
+use Rattle.cedar_policy_conversion.specs.Conditions.{clause, condition_of, condition_outcome, conditions_outcome, is_when, is_when_of, condition_value, slots_outcome, without_slots}
+use Rattle.cedar_conversion.specs.Extensions.{Extensions}
+use Rattle.cedar_conversion.specs.Names.{content_outcome}
+use Rattle.cedar_conversion.specs.Outcome.{next}
+use Rattle.cedar_conversion.specs.Strict.{Means, expression}
 use Rattle.cedar_policy_parser.specs.StrictPolicy as m
 use Rattle.cedar_policy_parser.specs.StrictPolicy.{AreConditions, IsCondition}
 use Rattle.cedar_expressions.specs.Slots.{slots_of}
-use Rattle.cedar_policy_parser.proofs.Inverted.{ok_is, next_ok}
+use Rattle.cedar_conversion.proofs.Inverted.{ok_is, next_ok}
 use Rattle.cedar_policy_parser.proofs.sound.Whole.{sound_value}
 use Rattle.cedar_policy_parser.proofs.sound.Words.{all_snoc}
+use Rattle.cedar_policy_conversion.proofs.ConditionValues.{no_slots}
 
 -- the token that is a condition's word
 pub data ClauseOf : Bool → TokenKind → Type 0 where
@@ -45,10 +44,6 @@ kind_clause _ text place b h = cc
 clause_word : (src : List ℕ) {ts : List Lexeme} {i : Ident} (b : Bool) → ReadsAny ts i → is_when (placed src ts i) ≡ Ok b → (k : TokenKind) × (p : Spot) × ClauseOf b k × (ts ≡ one k p)
 clause_word src {ts = ts} {i = i} b (lw.any {k = k} p h) g =
     (k, p, kind_clause k p.text (placed src ts i).loc b (ap (λ o. next (content_outcome (placed src ts i).loc o) (is_when_of (placed src ts i).loc)) h ∙ g), refl)
-
-pub no_slots : (place : Option Loc) (slots : List Slot) (u : Unit {0}) → faults_outcome (map (condition_slot_fault place) slots) ≡ Ok u → slots ≡ []
-no_slots place [] u h = refl
-no_slots place (s ∷ slots) u h = cc
 
 clause_meant : {k : TokenKind} {ts us : List Lexeme} (e : Extensions) (b : Bool) (x c : Value) (p a z : Spot) → ClauseOf b k → ts ≡ one k p → Means e sign_limit expression us x → slots_of x ≡ [] → condition_value b x ≡ c
     → IsCondition e sign_limit (ts ++ one kind.OpenBrace a ++ us ++ one kind.CloseBrace z) c

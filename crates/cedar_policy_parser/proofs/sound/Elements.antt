@@ -33,20 +33,20 @@ use Rattle.cedar_syntax.specs.LooseWords as lw
 use Rattle.cedar_syntax.specs.LooseWords.{ReadsAny}
 use Rattle.cedar_syntax.specs.Tokens.{Spot, one, any_of}
 use Rattle.cedar_syntax.specs.Trees.{Cell}
-use Rattle.cedar_policy_parser.specs.declared.to_ref_or_refs.OneOrMultipleRefs.{OneOrMultipleRefs}
-use Rattle.cedar_policy_parser.specs.declared.to_ref_or_refs.OneOrMultipleRefs.TheVariants as refs
-use Rattle.cedar_policy_parser.specs.Conversion.{outcome}
-use Rattle.cedar_policy_parser.specs.Extensions.{Extensions}
-use Rattle.cedar_policy_parser.specs.Held.{as_entity_type}
-use Rattle.cedar_policy_parser.specs.Names.{content_outcome}
-use Rattle.cedar_policy_parser.specs.Outcome.{next, is_in_action_scope}
-use Rattle.cedar_policy_parser.specs.References.{entity_or_slot, one_or_multiple, referent_outcome, single_entity}
-use Rattle.cedar_policy_parser.specs.Scope as s
-use Rattle.cedar_policy_parser.specs.Strict as m
+use Rattle.cedar_policy_conversion.specs.declared.to_ref_or_refs.OneOrMultipleRefs.{OneOrMultipleRefs}
+use Rattle.cedar_policy_conversion.specs.declared.to_ref_or_refs.OneOrMultipleRefs.TheVariants as refs
+use Rattle.cedar_conversion.specs.Conversion.{outcome}
+use Rattle.cedar_conversion.specs.Extensions.{Extensions}
+use Rattle.cedar_conversion.specs.Held.{as_entity_type}
+use Rattle.cedar_conversion.specs.Names.{content_outcome}
+use Rattle.cedar_conversion.specs.Outcome.{next, is_in_action_scope}
+use Rattle.cedar_policy_conversion.specs.References.{entity_or_slot, one_or_multiple, referent_outcome, single_entity}
+use Rattle.cedar_policy_conversion.specs.Scope as s
+use Rattle.cedar_conversion.specs.Strict as m
 use Rattle.cedar_policy_parser.specs.StrictScope as z
 use Rattle.cedar_policy_parser.specs.StrictScope.{Asks, AsksAction}
-use Rattle.cedar_policy_parser.specs.StrictWords.{IsName, path_value}
-use Rattle.cedar_policy_parser.proofs.Inverted.{ok_is, next_ok, if_ok, unless_ok}
+use Rattle.cedar_conversion.specs.StrictWords.{IsName, path_value}
+use Rattle.cedar_conversion.proofs.Inverted.{ok_is, next_ok, if_ok, unless_ok}
 use Rattle.cedar_policy_parser.proofs.sound.Bare.{held_type}
 use Rattle.cedar_policy_parser.proofs.sound.Referred.{SlotOf, principal, resource, reference_meant, several_meant, single_meant, uids_of}
 use Rattle.cedar_policy_parser.proofs.sound.Whole.{sound_add}

@@ -19,15 +19,15 @@ use Rattle.cedar_syntax.specs.LooseExpressions.{if_name, lone_add, lone_expr}
 use Rattle.cedar_syntax.specs.Place.{placed}
 use Rattle.cedar_syntax.specs.Tokens.{Spot, one}
 use Rattle.cedar_syntax.specs.Trees.{Cell, or_of, and_of, common_of, mult_of, unary_of, member_of, name_of}
-use Rattle.cedar_policy_parser.specs.Conversion.{outcome, operands, accesses_outcome}
-use Rattle.cedar_policy_parser.specs.Extensions.{Extensions}
-use Rattle.cedar_policy_parser.specs.HasSide.{Attributes, right_side, right_form, begins_with, attributes_of}
-use Rattle.cedar_policy_parser.specs.Held.{Held}
-use Rattle.cedar_policy_parser.specs.Leaves.{name_leaf}
-use Rattle.cedar_policy_parser.specs.Outcome.{both}
-use Rattle.cedar_policy_parser.proofs.Inverted.{next_ok, both_ok}
+use Rattle.cedar_conversion.specs.Conversion.{outcome, operands, accesses_outcome}
+use Rattle.cedar_conversion.specs.Extensions.{Extensions}
+use Rattle.cedar_conversion.specs.HasSide.{Attributes, right_side, right_form, begins_with, attributes_of}
+use Rattle.cedar_conversion.specs.Held.{Held}
+use Rattle.cedar_conversion.specs.Leaves.{name_leaf}
+use Rattle.cedar_conversion.specs.Outcome.{both}
+use Rattle.cedar_conversion.proofs.Inverted.{next_ok, both_ok}
 use Rattle.cedar_policy_parser.proofs.Made.{gives_or_alone, gives_or, gives_and, gives_common, gives_add, gives_mult, gives_unary, gives_member, gives_named}
-use Rattle.cedar_policy_parser.proofs.Parts.{alone}
+use Rattle.cedar_conversion.proofs.Parts.{alone}
 use Rattle.cedar_policy_parser.proofs.sound.Sought.{begins_at, right_member, right_unary, right_mult, right_add}
 
 -- ---- a member alone at the levels above

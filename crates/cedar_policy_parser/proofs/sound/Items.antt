@@ -12,14 +12,14 @@ use Rattle.cedar_syntax.specs.Forms.{parts_of}
 use Rattle.cedar_syntax.specs.Located.{Located}
 use Rattle.cedar_syntax.specs.Tree.{Operator}
 use Rattle.cedar_syntax.specs.Tokens.{Spot, one}
-use Rattle.cedar_policy_parser.specs.Conversion.{Part, bodies, accesses_outcome, access_outcome, pairs_outcome, pair_outcome, with_first, set_value_outcome, record_outcome}
-use Rattle.cedar_policy_parser.specs.Extensions.{Extensions}
-use Rattle.cedar_policy_parser.specs.Held.{Held, expression}
-use Rattle.cedar_policy_parser.specs.Members.{Access}
-use Rattle.cedar_policy_parser.specs.Outcome.{Outcome, both, next}
-use Rattle.cedar_policy_parser.specs.Strict as m
-use Rattle.cedar_policy_parser.specs.Strict.{Listed, Entries}
-use Rattle.cedar_policy_parser.proofs.Inverted.{ok_is, next_ok, both_ok, unless_ok}
+use Rattle.cedar_conversion.specs.Conversion.{Part, bodies, accesses_outcome, access_outcome, pairs_outcome, pair_outcome, with_first, set_value_outcome, record_outcome}
+use Rattle.cedar_conversion.specs.Extensions.{Extensions}
+use Rattle.cedar_conversion.specs.Held.{Held, expression}
+use Rattle.cedar_conversion.specs.Members.{Access}
+use Rattle.cedar_conversion.specs.Outcome.{Outcome, both, next}
+use Rattle.cedar_conversion.specs.Strict as m
+use Rattle.cedar_conversion.specs.Strict.{Listed, Entries}
+use Rattle.cedar_conversion.proofs.Inverted.{ok_is, next_ok, both_ok, unless_ok}
 use Rattle.cedar_policy_parser.proofs.sound.Bare.{HeldAs}
 use Rattle.cedar_policy_parser.proofs.sound.Leaves.{held_as}
 

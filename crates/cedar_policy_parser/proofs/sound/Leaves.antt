@@ -20,19 +20,19 @@ use Rattle.cedar_syntax.specs.LooseWords as lw
 use Rattle.cedar_syntax.specs.LooseWords.{ReadsLiteral, ReadsAny, ReadsPath, ReadsName, ReadsRef}
 use Rattle.cedar_syntax.specs.Tokens.{Spot, one, number_of, any_of}
 use Rattle.cedar_syntax.specs.Trees.{Cell, name_of}
-use Rattle.cedar_policy_parser.specs.Extensions.{Extensions}
-use Rattle.cedar_policy_parser.specs.Entities.{entity_outcome}
-use Rattle.cedar_policy_parser.specs.Held.{Held, expression, as_expression}
-use Rattle.cedar_policy_parser.specs.Leaves.{name_leaf, variable_or_name, slot_leaf, entity_leaf}
-use Rattle.cedar_policy_parser.specs.Literals.{literal_outcome}
-use Rattle.cedar_policy_parser.specs.Names.{name_outcome, variable_in, lone_variable}
-use Rattle.cedar_policy_parser.specs.Outcome.{next}
-use Rattle.cedar_policy_parser.specs.Strict as m
-use Rattle.cedar_policy_parser.specs.Strict.{Sort, largest}
-use Rattle.cedar_policy_parser.specs.StrictWords as w
-use Rattle.cedar_policy_parser.specs.StrictWords.{IsVariable, IsVariableWord}
-use Rattle.cedar_policy_parser.proofs.Inverted.{ok_is, next_ok, unless_ok}
-use Rattle.cedar_policy_parser.proofs.Signed.{literal_value}
+use Rattle.cedar_conversion.specs.Extensions.{Extensions}
+use Rattle.cedar_conversion.specs.Entities.{entity_outcome}
+use Rattle.cedar_conversion.specs.Held.{Held, expression, as_expression}
+use Rattle.cedar_conversion.specs.Leaves.{name_leaf, variable_or_name, slot_leaf, entity_leaf}
+use Rattle.cedar_conversion.specs.Literals.{literal_outcome}
+use Rattle.cedar_conversion.specs.Names.{name_outcome, variable_in, lone_variable}
+use Rattle.cedar_conversion.specs.Outcome.{next}
+use Rattle.cedar_conversion.specs.Strict as m
+use Rattle.cedar_conversion.specs.Strict.{Sort, largest}
+use Rattle.cedar_conversion.specs.StrictWords as w
+use Rattle.cedar_conversion.specs.StrictWords.{IsVariable, IsVariableWord}
+use Rattle.cedar_conversion.proofs.Inverted.{ok_is, next_ok, unless_ok}
+use Rattle.cedar_conversion.proofs.Signed.{literal_value}
 use Rattle.cedar_policy_parser.proofs.sound.Bare.{HeldAs}
 use Rattle.cedar_policy_parser.proofs.sound.Words.{name_meant, entity_meant}
 

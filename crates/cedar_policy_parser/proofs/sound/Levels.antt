@@ -10,13 +10,13 @@ use Rattle.cedar_syntax.specs.Signs.{sign_limit}
 use Rattle.cedar_syntax.specs.Located.{Parts}
 use Rattle.cedar_syntax.specs.Tree.{Level, Operator, disjunction, conjunction, product}
 use Rattle.cedar_syntax.specs.Tokens.{Spot, one}
-use Rattle.cedar_policy_parser.specs.Conversion.{Part, chain_outcome, level_outcome, joint_outcome, operator_limit, bodies}
-use Rattle.cedar_policy_parser.specs.Extensions.{Extensions}
-use Rattle.cedar_policy_parser.specs.Held.{Held, as_expression}
-use Rattle.cedar_policy_parser.specs.Outcome.{Outcome, both}
-use Rattle.cedar_policy_parser.specs.Strict as m
-use Rattle.cedar_policy_parser.specs.Strict.{Sort, Joined, Added, Relates}
-use Rattle.cedar_policy_parser.proofs.Inverted.{ok_is, next_ok, both_ok}
+use Rattle.cedar_conversion.specs.Conversion.{Part, chain_outcome, level_outcome, joint_outcome, operator_limit, bodies}
+use Rattle.cedar_conversion.specs.Extensions.{Extensions}
+use Rattle.cedar_conversion.specs.Held.{Held, as_expression}
+use Rattle.cedar_conversion.specs.Outcome.{Outcome, both}
+use Rattle.cedar_conversion.specs.Strict as m
+use Rattle.cedar_conversion.specs.Strict.{Sort, Joined, Added, Relates}
+use Rattle.cedar_conversion.proofs.Inverted.{ok_is, next_ok, both_ok}
 use Rattle.cedar_policy_parser.proofs.Lists.{no_snoc, bodies-snoc, length-bodies}
 use Rattle.cedar_policy_parser.proofs.sound.Bare.{Meant, HeldAs, held_means, held_up}
 use Rattle.cedar_policy_parser.proofs.sound.Leaves.{held_as}

@@ -35,11 +35,11 @@ use Rattle.cedar_syntax.specs.LooseWords.{ReadsLiteral, ReadsName, ReadsRef}
 use Rattle.cedar_syntax.specs.Tokens.{Spot, one}
 use Rattle.cedar_syntax.specs.Trees.{Cell, bangs_of, dashes_of}
 use Rattle.cedar_syntax.specs.Signs.{sign_limit}
-use Rattle.cedar_policy_parser.specs.HasSide.{no_sign}
-use Rattle.cedar_policy_parser.specs.Outcome.{NamedFault, Outcome, fault_outcome, wrong_node}
-use Rattle.cedar_policy_parser.specs.References.{lone, lone_form}
-use Rattle.cedar_policy_parser.proofs.Inverted.{ok_is}
-use Rattle.cedar_policy_parser.proofs.Loops.{map_snoc}
+use Rattle.cedar_conversion.specs.HasSide.{no_sign}
+use Rattle.cedar_conversion.specs.Outcome.{NamedFault, Outcome, fault_outcome, wrong_node}
+use Rattle.cedar_policy_conversion.specs.References.{lone, lone_form}
+use Rattle.cedar_conversion.proofs.Inverted.{ok_is}
+use Rattle.cedar_conversion.proofs.Loops.{map_snoc}
 use Rattle.cedar_policy_parser.proofs.MadeLones as made
 
 -- tokens that are others in so many parentheses

@@ -21,8 +21,8 @@ use Rattle.cedar_syntax.specs.LooseWords as lw
 use Rattle.cedar_syntax.specs.LooseWords.{ReadsAny, ReadsLiteral, ReadsName, ReadsRef}
 use Rattle.cedar_syntax.specs.Tokens.{Spot, one, number_of, any_of}
 use Rattle.cedar_syntax.specs.Trees.{Cell, member_of}
-use Rattle.cedar_policy_parser.specs.Conversion.{number_in, lone_literal, literal_alone}
-use Rattle.cedar_policy_parser.specs.Strict.{IsNumeral}
+use Rattle.cedar_conversion.specs.Conversion.{number_in, lone_literal, literal_alone}
+use Rattle.cedar_conversion.specs.Strict.{IsNumeral}
 use Rattle.cedar_policy_parser.proofs.Made.{lone_member, lone_accessed, lone_literally, lone_named, lone_slot, lone_referred, lone_paren, lone_set, lone_braces}
 use Rattle.cedar_policy_parser.proofs.sound.Leaves.{path_head}
 

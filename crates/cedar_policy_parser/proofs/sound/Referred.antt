@@ -22,20 +22,20 @@ use Rattle.cedar_syntax.specs.LooseExpressions as l
 use Rattle.cedar_syntax.specs.LooseExpressions.{ReadsExpr, ReadsExprs, ReadsExprItems, ReadsPrimary, ReadsSlot}
 use Rattle.cedar_syntax.specs.Tokens.{Spot, one}
 use Rattle.cedar_syntax.specs.Trees.{Cell}
-use Rattle.cedar_policy_parser.specs.declared.to_ref_or_refs.OneOrMultipleRefs.{OneOrMultipleRefs}
-use Rattle.cedar_policy_parser.specs.declared.to_ref_or_refs.OneOrMultipleRefs.TheVariants as refs
-use Rattle.cedar_policy_parser.specs.declared.to_ref_or_refs.SingleEntity.{SingleEntity}
-use Rattle.cedar_policy_parser.specs.Conversion.{with_first}
-use Rattle.cedar_policy_parser.specs.Entities.{entity_outcome}
-use Rattle.cedar_policy_parser.specs.Outcome.{NamedFault, Outcome, both, item_more}
-use Rattle.cedar_policy_parser.specs.References.{RefKind, entities, entity_at, entity_form, entity_or_slot, lone, lone_entity, of_variable, one_or_multiple, referent_outcome, referent_at, referred_form, single_entity}
-use Rattle.cedar_policy_parser.specs.Places.{place_mark}
+use Rattle.cedar_policy_conversion.specs.declared.to_ref_or_refs.OneOrMultipleRefs.{OneOrMultipleRefs}
+use Rattle.cedar_policy_conversion.specs.declared.to_ref_or_refs.OneOrMultipleRefs.TheVariants as refs
+use Rattle.cedar_policy_conversion.specs.declared.to_ref_or_refs.SingleEntity.{SingleEntity}
+use Rattle.cedar_conversion.specs.Conversion.{with_first}
+use Rattle.cedar_conversion.specs.Entities.{entity_outcome}
+use Rattle.cedar_conversion.specs.Outcome.{NamedFault, Outcome, both, item_more}
+use Rattle.cedar_policy_conversion.specs.References.{RefKind, entities, entity_at, entity_form, entity_or_slot, lone, lone_entity, of_variable, one_or_multiple, referent_outcome, referent_at, referred_form, single_entity}
+use Rattle.cedar_conversion.specs.Places.{place_mark}
 use Rattle.cedar_policy_parser.specs.StrictScope as m
 use Rattle.cedar_policy_parser.specs.StrictScope.{AreActions, AreEntities, IsEntityAlone, IsEntityList, IsReference}
-use Rattle.cedar_policy_parser.specs.StrictWords.{IsEntity}
-use Rattle.cedar_policy_parser.proofs.Inverted.{ok_is, next_ok, both_ok}
-use Rattle.cedar_policy_parser.proofs.Loops.{map_snoc}
-use Rattle.cedar_policy_parser.proofs.ReferredNodes.{entities_snoc}
+use Rattle.cedar_conversion.specs.StrictWords.{IsEntity}
+use Rattle.cedar_conversion.proofs.Inverted.{ok_is, next_ok, both_ok}
+use Rattle.cedar_conversion.proofs.Loops.{map_snoc}
+use Rattle.cedar_policy_conversion.proofs.ReferredNodes.{entities_snoc}
 use Rattle.cedar_policy_parser.proofs.sound.Lones.{InParens, bare, wrapped, lone_expr}
 use Rattle.cedar_policy_parser.proofs.sound.Words.{entity_meant}
 

@@ -17,13 +17,13 @@ use Rattle.cedar_syntax.specs.LooseWords.{ReadsItems, ReadsList}
 use Rattle.cedar_syntax.specs.Place.{placed}
 use Rattle.cedar_syntax.specs.Tokens.{Spot, one}
 use Rattle.cedar_syntax.specs.Trees.{Cell}
-use Rattle.cedar_policy_parser.specs.Extensions.{Extensions}
-use Rattle.cedar_policy_parser.specs.Outcome.{NamedFault, Outcome, both, next}
-use Rattle.cedar_policy_parser.specs.Scope as s
-use Rattle.cedar_policy_parser.specs.Scope.{Scope}
+use Rattle.cedar_conversion.specs.Extensions.{Extensions}
+use Rattle.cedar_conversion.specs.Outcome.{NamedFault, Outcome, both, next}
+use Rattle.cedar_policy_conversion.specs.Scope as s
+use Rattle.cedar_policy_conversion.specs.Scope.{Scope}
 use Rattle.cedar_policy_parser.specs.StrictScope as z
 use Rattle.cedar_policy_parser.specs.StrictScope.{Asks, AsksAction, IsLastComma, IsScope}
-use Rattle.cedar_policy_parser.proofs.Inverted.{ok_is, next_ok, both_ok}
+use Rattle.cedar_conversion.proofs.Inverted.{ok_is, next_ok, both_ok}
 use Rattle.cedar_policy_parser.proofs.Lists.{no_snoc, snoc_one}
 use Rattle.cedar_policy_parser.proofs.sound.Elements.{ActionMeant, ElementMeant, WordOf, principal_word, resource_word, action_meant, element_meant}
 use Rattle.cedar_policy_parser.proofs.sound.Referred.{principal, resource}

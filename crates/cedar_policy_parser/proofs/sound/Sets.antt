@@ -1,5 +1,5 @@
 -- What a text's policies are converted to is what their tokens mean.
-use Rattle.std.proofs.Common.{◌≡◌, ◌+◌, ℕ, zero, suc, List, [], ◌∷◌, ◌++◌, map, length, Option, Ok, refl, sym, ap, ◌∙◌, arith, false}
+use Rattle.std.proofs.Common.{◌≡◌, ◌+◌, ℕ, suc, List, [], ◌∷◌, ◌++◌, map, length, Option, Ok, refl, sym, ap, ◌∙◌, false}
 use Rattle.std.specs.FinMap.{FinMap}
 use Rattle.std.specs.List.{fold}
 use Rattle.std.specs.Map.{keys_of}
@@ -23,35 +23,24 @@ use Rattle.cedar_syntax.specs.Place.{placed}
 use Rattle.cedar_syntax.specs.Tokens.{Spot, one, any_of}
 use Rattle.cedar_syntax.specs.Trees.{Cell}
 use Rattle.cedar_expressions.specs.Keys.{repeats_key}
-use Rattle.cedar_policy_parser.specs.AnnotationKeys.{AnnotationContent, annotations_outcome}
-use Rattle.cedar_policy_parser.specs.Conditions.{conditions_outcome}
-use Rattle.cedar_policy_parser.specs.Conversion.{with_first}
-use Rattle.cedar_policy_parser.specs.Extensions.{Extensions}
-use Rattle.cedar_policy_parser.specs.Names.{content_outcome}
-use Rattle.cedar_policy_parser.specs.Outcome.{Outcome, both, next, item_more}
-use Rattle.cedar_policy_parser.specs.Policies as k
-use Rattle.cedar_policy_parser.specs.Policies.{TemplateParts}
-use Rattle.cedar_policy_parser.specs.PolicyMeaning.{joint_condition, no_policies, policy_id, with_policy}
-use Rattle.cedar_policy_parser.specs.Scope.{elements_outcome}
+use Rattle.cedar_policy_conversion.specs.AnnotationKeys.{AnnotationContent, annotations_outcome}
+use Rattle.cedar_policy_conversion.specs.Conditions.{conditions_outcome}
+use Rattle.cedar_conversion.specs.Conversion.{with_first}
+use Rattle.cedar_conversion.specs.Extensions.{Extensions}
+use Rattle.cedar_conversion.specs.Names.{content_outcome}
+use Rattle.cedar_conversion.specs.Outcome.{Outcome, both, next, item_more}
+use Rattle.cedar_policy_conversion.specs.Policies as k
+use Rattle.cedar_policy_conversion.specs.Policies.{TemplateParts}
+use Rattle.cedar_policy_conversion.specs.PolicyMeaning.{joint_condition, no_policies, policy_id, with_policy}
+use Rattle.cedar_policy_conversion.specs.Scope.{elements_outcome}
 use Rattle.cedar_policy_parser.specs.StrictPolicy as m
 use Rattle.cedar_policy_parser.specs.StrictPolicy.{ArePolicies, IsEffect, IsPolicy, IsPolicySet, by_key}
-use Rattle.cedar_policy_parser.proofs.Gathered.{last, shifted}
-use Rattle.cedar_policy_parser.proofs.Inverted.{ok_is, next_ok, both_ok}
-use Rattle.cedar_policy_parser.proofs.Loops.{map_snoc}
+use Rattle.cedar_conversion.proofs.Inverted.{ok_is, next_ok, both_ok}
+use Rattle.cedar_conversion.proofs.Loops.{map_snoc}
 use Rattle.cedar_policy_parser.proofs.sound.Annotated.{annotation_keys, annotations_meant, kept_by_key, texts}
 use Rattle.cedar_policy_parser.proofs.sound.Clauses.{conditions_meant}
 use Rattle.cedar_policy_parser.proofs.sound.Scopes.{scope_meant}
-
--- ---- numbers
-
-plus-zero : (n : ℕ) → n + zero ≡ n
-plus-zero n = omega arith
-
-pub zero-plus : (n : ℕ) → 0 + n ≡ n
-zero-plus n = omega arith
-
-plus-suc : (m n : ℕ) → suc m + n ≡ m + suc n
-plus-suc m n = omega arith
+use Rattle.cedar_policy_conversion.proofs.SetSteps.{zero-plus, numbered_snoc}
 
 -- ---- a policy
 
@@ -109,12 +98,6 @@ policy_meant {src = src} {ts = all} e id t (l.policy {ts = ts} {us = us} {vs = v
     policy_at (value_of id a.0 (by_key (texts n.0))) (k.meaning_of t) tokens value (m.policy word.1 o c s notes.mean (texts_differ n.0 notes.differ) word.2 scope conds)
 
 -- ---- sets
-
-pub numbered_snoc : (e : Extensions) (i : ℕ) (ps : List (Cell Policy)) (p : Cell Policy) → k.policies_from e i (ps ++ p ∷ []) ≡ item_more (k.policies_from e i ps) (k.template_outcome e (policy_id (i + length ps)) p)
-numbered_snoc e i [] p = rw (plus-zero i) (last (k.template_outcome e (policy_id i) p))
-numbered_snoc e i (q ∷ ps) p =
-    ap (λ o. next (both (k.template_outcome e (policy_id i) q) o) with_first) (numbered_snoc e (suc i) ps p ∙ ap (λ j. item_more (k.policies_from e (suc i) ps) (k.template_outcome e (policy_id j) p)) (plus-suc i (length ps)))
-    ∙ shifted (k.template_outcome e (policy_id i) q) (k.policies_from e (suc i) ps) (k.template_outcome e (policy_id (i + suc (length ps))) p)
 
 pub given_many : (e : Extensions) (i : ℕ) (ps : List (Cell Policy)) (ts : List TemplateParts) → k.policies_from e i ps ≡ Ok ts → length ts ≡ length ps
 given_many e i [] ts h = ap length (sym (ok_is h))

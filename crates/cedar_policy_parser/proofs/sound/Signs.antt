@@ -12,14 +12,14 @@ use Rattle.cedar_syntax.specs.LooseExpressions.{ReadsSigns}
 use Rattle.cedar_syntax.specs.Tokens.{number_of}
 use Rattle.cedar_syntax.specs.Trees.{bangs_of, dashes_of}
 use Rattle.cedar_syntax.specs.Signs.{sign_limit}
-use Rattle.cedar_policy_parser.specs.Conversion.{application_outcome, dashes_outcome, signs_outcome, expression_at, negative}
-use Rattle.cedar_policy_parser.specs.Extensions.{Extensions}
-use Rattle.cedar_policy_parser.specs.Held.{Held, expression, as_expression}
-use Rattle.cedar_policy_parser.specs.Outcome.{Outcome, next, integer_literal_too_large}
-use Rattle.cedar_policy_parser.specs.Strict as m
-use Rattle.cedar_policy_parser.specs.Strict.{largest}
-use Rattle.cedar_policy_parser.proofs.Inverted.{ok_is, next_ok, if_ok}
-use Rattle.cedar_policy_parser.proofs.Signed.{banged_value, bangs_value, dashed_value, dashes_value, literal_of}
+use Rattle.cedar_conversion.specs.Conversion.{application_outcome, dashes_outcome, signs_outcome, expression_at, negative}
+use Rattle.cedar_conversion.specs.Extensions.{Extensions}
+use Rattle.cedar_conversion.specs.Held.{Held, expression, as_expression}
+use Rattle.cedar_conversion.specs.Outcome.{Outcome, next, integer_literal_too_large}
+use Rattle.cedar_conversion.specs.Strict as m
+use Rattle.cedar_conversion.specs.Strict.{largest}
+use Rattle.cedar_conversion.proofs.Inverted.{ok_is, next_ok, if_ok}
+use Rattle.cedar_conversion.proofs.Signed.{banged_value, bangs_value, dashed_value, dashes_value, literal_of}
 use Rattle.cedar_policy_parser.proofs.sound.Bare.{Meant, HeldAs, means_at}
 use Rattle.cedar_policy_parser.proofs.sound.Leaves.{held_as}
 use Rattle.cedar_policy_parser.proofs.sound.Numerals.{IsBareAs}

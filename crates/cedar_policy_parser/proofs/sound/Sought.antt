@@ -27,17 +27,17 @@ use Rattle.cedar_syntax.specs.LooseExpressions.{ReadsAdd, ReadsMults, ReadsMult,
 use Rattle.cedar_syntax.specs.Tokens.{Spot, one}
 use Rattle.cedar_syntax.specs.Trees.{Cell, add_of, mult_of, unary_of, member_of, bangs_of, dashes_of}
 use Rattle.cedar_syntax.specs.Signs.{sign_limit}
-use Rattle.cedar_policy_parser.specs.Extensions.{Extensions}
-use Rattle.cedar_policy_parser.specs.HasSide.{Attributes, right_side, right_form, begins_with, beginning_outcome, attributes_of, behind_first, fields_of, field_of, field_form, string_alone, no_sign}
-use Rattle.cedar_policy_parser.specs.Held.{Held, expression, variable, bare_name, bare_truth, bare_string, unqualified, as_string}
-use Rattle.cedar_policy_parser.specs.Leaves.{name_leaf}
-use Rattle.cedar_policy_parser.specs.Literals.{literal_outcome}
-use Rattle.cedar_policy_parser.specs.Outcome.{Outcome, NamedFault, fault_outcome, invalid_has_rhs}
-use Rattle.cedar_policy_parser.specs.Strict as m
-use Rattle.cedar_policy_parser.specs.StrictWords as w
-use Rattle.cedar_policy_parser.specs.StrictWords.{IsIdentifier, AreAttributes, IsSought}
-use Rattle.cedar_policy_parser.proofs.Inverted.{ok_is, next_ok}
-use Rattle.cedar_policy_parser.proofs.Loops.{map_snoc}
+use Rattle.cedar_conversion.specs.Extensions.{Extensions}
+use Rattle.cedar_conversion.specs.HasSide.{Attributes, right_side, right_form, begins_with, beginning_outcome, attributes_of, behind_first, fields_of, field_of, field_form, string_alone, no_sign}
+use Rattle.cedar_conversion.specs.Held.{Held, expression, variable, bare_name, bare_truth, bare_string, unqualified, as_string}
+use Rattle.cedar_conversion.specs.Leaves.{name_leaf}
+use Rattle.cedar_conversion.specs.Literals.{literal_outcome}
+use Rattle.cedar_conversion.specs.Outcome.{Outcome, NamedFault, fault_outcome, invalid_has_rhs}
+use Rattle.cedar_conversion.specs.Strict as m
+use Rattle.cedar_conversion.specs.StrictWords as w
+use Rattle.cedar_conversion.specs.StrictWords.{IsIdentifier, AreAttributes, IsSought}
+use Rattle.cedar_conversion.proofs.Inverted.{ok_is, next_ok}
+use Rattle.cedar_conversion.proofs.Loops.{map_snoc}
 use Rattle.cedar_policy_parser.proofs.sound.Bare.{HeldAs, held_word, unqualified_word, held_string}
 use Rattle.cedar_policy_parser.proofs.sound.Leaves.{literal_held, name_held}
 use Rattle.cedar_policy_parser.proofs.sound.Words.{unreserved_meant}

@@ -15,16 +15,16 @@ use Rattle.cedar_syntax.specs.Tree.{Operator, compare, add, multiply, relation, 
 use Rattle.cedar_syntax.specs.LooseExpressions as l
 use Rattle.cedar_syntax.specs.LooseExpressions.{ReadsRelOp, ReadsAddOp, ReadsMultOp}
 use Rattle.cedar_syntax.specs.Tokens.{Spot, one}
-use Rattle.cedar_policy_parser.specs.Conversion.{Part, value_outcome, operands, chain_outcome, comparison_outcome, relation_outcome, factor, sum_terms}
-use Rattle.cedar_policy_parser.specs.Extensions.{Extensions}
-use Rattle.cedar_policy_parser.specs.Held.{Held, expression, as_expression}
-use Rattle.cedar_policy_parser.specs.Outcome.{Outcome, next}
-use Rattle.cedar_policy_parser.specs.Strict as m
-use Rattle.cedar_policy_parser.specs.Strict.{Sort, Joined, Added, Relates}
-use Rattle.cedar_policy_parser.proofs.Inverted.{ok_is, more_ok, one_operator}
+use Rattle.cedar_conversion.specs.Conversion.{Part, value_outcome, operands, chain_outcome, comparison_outcome, relation_outcome, factor, sum_terms}
+use Rattle.cedar_conversion.specs.Extensions.{Extensions}
+use Rattle.cedar_conversion.specs.Held.{Held, expression, as_expression}
+use Rattle.cedar_conversion.specs.Outcome.{Outcome, next}
+use Rattle.cedar_conversion.specs.Strict as m
+use Rattle.cedar_conversion.specs.Strict.{Sort, Joined, Added, Relates}
+use Rattle.cedar_conversion.proofs.Inverted.{ok_is, more_ok, one_operator}
 use Rattle.cedar_policy_parser.proofs.Lists.{no_snoc, snoc_one, added-snoc, length-added}
-use Rattle.cedar_policy_parser.proofs.Loops.{map_snoc}
-use Rattle.cedar_policy_parser.proofs.Outcomes.{operand, operands_snoc, settled}
+use Rattle.cedar_conversion.proofs.Loops.{map_snoc}
+use Rattle.cedar_conversion.proofs.Outcomes.{operand, operands_snoc, settled}
 use Rattle.cedar_policy_parser.proofs.sound.Bare.{Meant, HeldAs, held_means, held_up}
 use Rattle.cedar_policy_parser.proofs.sound.Leaves.{held_as}
 use Rattle.cedar_policy_parser.proofs.sound.Levels.{AddedAs, chain_held}

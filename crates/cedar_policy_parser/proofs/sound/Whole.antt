@@ -28,18 +28,18 @@ use Rattle.cedar_syntax.specs.LooseExpressions as l
 use Rattle.cedar_syntax.specs.LooseExpressions.{ReadsExpr, ReadsOr, ReadsAnds, ReadsAnd, ReadsRelations, ReadsRelation, ReadsAdds, ReadsAdd, ReadsMults, ReadsMult, ReadsUnaries, ReadsUnary, ReadsMember, ReadsAccesses, ReadsAccess, ReadsPrimary, ReadsExprs, ReadsExprItems, ReadsRecInits, ReadsInitItems, ReadsRecInit, if_name, lone_add}
 use Rattle.cedar_syntax.specs.Tokens.{Spot, one}
 use Rattle.cedar_syntax.specs.Trees.{Cell, member_of, bangs_of, dashes_of}
-use Rattle.cedar_policy_parser.specs.Conversion.{Part, outcome, operands, value_outcome, accesses_outcome, access_outcome, pairs_outcome, pair_outcome, expression_at, number_in, lone_literal, bodies}
-use Rattle.cedar_policy_parser.specs.Extensions.{Extensions}
-use Rattle.cedar_policy_parser.specs.HasSide.{right_side}
-use Rattle.cedar_policy_parser.specs.Held.{Held, expression, as_expression, as_string, as_attribute}
-use Rattle.cedar_policy_parser.specs.Members.{Access, field, call, index, member_outcome}
-use Rattle.cedar_policy_parser.specs.Names.{unreserved_ident}
-use Rattle.cedar_policy_parser.specs.Outcome.{Outcome, both, next}
-use Rattle.cedar_policy_parser.specs.Strict as m
-use Rattle.cedar_policy_parser.specs.Strict.{Sort, Listed, Entries, JoinedEntries, Entry}
-use Rattle.cedar_policy_parser.proofs.Inverted.{ok_is, next_ok, both_ok}
+use Rattle.cedar_conversion.specs.Conversion.{Part, outcome, operands, value_outcome, accesses_outcome, access_outcome, pairs_outcome, pair_outcome, expression_at, number_in, lone_literal, bodies}
+use Rattle.cedar_conversion.specs.Extensions.{Extensions}
+use Rattle.cedar_conversion.specs.HasSide.{right_side}
+use Rattle.cedar_conversion.specs.Held.{Held, expression, as_expression, as_string, as_attribute}
+use Rattle.cedar_conversion.specs.Members.{Access, field, call, index, member_outcome}
+use Rattle.cedar_conversion.specs.Names.{unreserved_ident}
+use Rattle.cedar_conversion.specs.Outcome.{Outcome, both, next}
+use Rattle.cedar_conversion.specs.Strict as m
+use Rattle.cedar_conversion.specs.Strict.{Sort, Listed, Entries, JoinedEntries, Entry}
+use Rattle.cedar_conversion.proofs.Inverted.{ok_is, next_ok, both_ok}
 use Rattle.cedar_policy_parser.proofs.Lists.{bodies-snoc}
-use Rattle.cedar_policy_parser.proofs.Loops.{map_snoc}
+use Rattle.cedar_conversion.proofs.Loops.{map_snoc}
 use Rattle.cedar_policy_parser.proofs.Made.{gives_or_alone, gives_if, gives_or, gives_and, gives_common, gives_add, gives_mult, gives_unary, gives_has, gives_like, gives_is, gives_is_in, gives_member, gives_field, gives_call, gives_index, gives_literally, gives_named, gives_slot, gives_referred, gives_paren, gives_set, gives_braces, gives_entry}
 use Rattle.cedar_policy_parser.proofs.sound.Bare.{Meant, HeldAs, held_means, held_up, held_string, held_key}
 use Rattle.cedar_policy_parser.proofs.sound.Ifs.{if_sought, if_given}

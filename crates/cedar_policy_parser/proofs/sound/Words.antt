@@ -15,14 +15,14 @@ use Rattle.cedar_syntax.specs.LooseWords as l
 use Rattle.cedar_syntax.specs.LooseWords.{ReadsAny, ReadsPath, ReadsName, ReadsRef}
 use Rattle.cedar_syntax.specs.Tokens.{Spot, one, any_of, between_quotes}
 use Rattle.cedar_syntax.specs.Trees.{Cell, name_of}
-use Rattle.cedar_policy_parser.specs.Entities.{entity_of, reference_outcome}
-use Rattle.cedar_policy_parser.specs.Names.{content_outcome, all_of, valid_ident_of, valid_ident, unreserved, unreserved_ident, path_of, identifiers, path_outcome, name_outcome}
-use Rattle.cedar_policy_parser.specs.Outcome.{Outcome, both, next}
-use Rattle.cedar_policy_parser.specs.Strings.{text_outcome}
-use Rattle.cedar_policy_parser.specs.StrictWords as m
-use Rattle.cedar_policy_parser.specs.StrictWords.{IsVariable, IsIdentifier, IsName, IsText, IsEntity}
-use Rattle.cedar_policy_parser.proofs.Inverted.{ok_is, next_ok, both_ok, if_ok, unless_ok}
-use Rattle.cedar_policy_parser.proofs.Quoted.{text_meant}
+use Rattle.cedar_conversion.specs.Entities.{entity_of, reference_outcome}
+use Rattle.cedar_conversion.specs.Names.{content_outcome, all_of, valid_ident_of, valid_ident, unreserved, unreserved_ident, path_of, identifiers, path_outcome, name_outcome}
+use Rattle.cedar_conversion.specs.Outcome.{Outcome, both, next}
+use Rattle.cedar_conversion.specs.Strings.{text_outcome}
+use Rattle.cedar_conversion.specs.StrictWords as m
+use Rattle.cedar_conversion.specs.StrictWords.{IsVariable, IsIdentifier, IsName, IsText, IsEntity}
+use Rattle.cedar_conversion.proofs.Inverted.{ok_is, next_ok, both_ok, if_ok, unless_ok}
+use Rattle.cedar_conversion.proofs.Quoted.{text_meant}
 
 -- ---- identifiers
 

@@ -1,5 +1,5 @@
 use Rattle.cedar_policy_parser.proofs.Formatting.{line_next}
-use Rattle.cedar_policy_parser.proofs.Loops.{take_whole}
+use Rattle.cedar_conversion.proofs.Loops.{take_whole}
 use Rattle.cedar_policy_parser.proofs.formatter.lines.Goals as goal
 
 pub loop-policy-preserved : goal.loop-policy-preserved

@@ -4,7 +4,7 @@ use Rattle.cedar_syntax.specs.Leftmost.{HasLeftmost}
 use Rattle.cedar_syntax.specs.LoosePolicies.{ReadsPolicies}
 use Rattle.cedar_syntax.proofs.machines.Driving.{passed_on}
 use Rattle.cedar_policy_parser.specs.Refused.{RefusesSet}
-use Rattle.cedar_policy_parser.specs.Table.{table_of}
+use Rattle.cedar_conversion.specs.Table.{table_of}
 use Rattle.cedar_policy_parser.proofs.Parsed.{err_on}
 use Rattle.cedar_policy_parser.proofs.ParsedSets.{tree_found, read_value, read_only, told_tree, has_tree}
 use Rattle.cedar_policy_parser.proofs.RaisedLimit.{old_set}

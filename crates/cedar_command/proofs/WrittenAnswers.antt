@@ -1,0 +1,84 @@
+-- What is written of an answer, from the calls that write it.
+use Rattle.std.proofs.Common.{◌≡◌, ◌<◌, ◌+◌, ℕ, List, [], ◌∷◌, ◌++◌, length, take, get_or, flat_map, Option, Some, None, Result, Ok, Err, IfOk, OnOk, ap, subst, append-nil, ◌∙◌, arith}
+use Rattle.std.proofs.KnownBytes.{Appends-trans}
+use Rattle.std.proofs.lemmas.List.Concat.{flat_map-append}
+use Rattle.std.specs.Io.KnownBytes.{Appends, Keeps}
+use Rattle.cedar_syntax.specs.declared.cst.Expr.{Expr}
+use Rattle.cedar_syntax.specs.declared.err.faults.Failure.{Failure}
+use Rattle.cedar_syntax.specs.declared.err.faults.Failure.TheVariants.{Memory, Errors}
+use Rattle.cedar_syntax.specs.declared.err.faults.ParseError.{ParseError}
+use Rattle.cedar_syntax.specs.FirstFault.{IsMemory}
+use Rattle.cedar_syntax.specs.Grammar.{IsTreeOf}
+use Rattle.cedar_syntax.specs.LooseExpressions.{ReadsExpr}
+use Rattle.cedar_syntax.specs.ParseErrors.{faults_of}
+use Rattle.cedar_syntax.specs.Trees.{Cell}
+use Rattle.cedar_conversion.proofs.Loops.{take_next, take_whole}
+use Rattle.cedar_conversion.specs.Extensions.{Extensions}
+use Rattle.cedar_policy_parser.specs.Formatted.{AreLinesOf, MeansSet}
+use Rattle.cedar_policy_store.specs.PlaceFree.{set_meaning}
+use Rattle.cedar_policy_store.specs.PolicyMaps.{PolicyMaps}
+use Rattle.cedar_command.specs.FaultLines.{AreFaultsWritten, fault_line}
+use Rattle.cedar_command.specs.PolicyLines.{set_lines}
+use Rattle.cedar_command.specs.declared.run.Verdict.{Verdict}
+use Rattle.cedar_command.specs.declared.run.Verdict.TheVariants.{Accepted, Refused}
+use Rattle.cedar_command.specs.declared.streams.Stop.{Stop}
+use Rattle.cedar_command.specs.declared.words.Command.{Command}
+use Rattle.cedar_command.specs.declared.words.Command.TheVariants.{Expression, Policies, Format}
+use Rattle.cedar_command.specs.Ends.{IsAnswerWritten, RefusesFor, tree_lines}
+
+appended : (a b c : Option (List ℕ)) (bytes : List ℕ) → Appends a b bytes → Keeps b c → Appends a c bytes
+appended None b c bytes h k = tt
+appended (Some x) None c bytes h k = absurd h
+appended (Some x) (Some y) None bytes h k = absurd k
+appended (Some x) (Some y) (Some z) bytes h k = k ∙ h
+
+failure_passed : (failure : Failure) (a b c : Option (List ℕ)) → AreFaultsWritten failure (record { before = a; after = b }) → Keeps b c → AreFaultsWritten failure (record { before = a; after = c })
+failure_passed (Memory e) a b c h k = h
+failure_passed (Errors faults) a b c h k = appended a b c (flat_map fault_line (faults_of faults)) h k
+
+-- what was written stays so when it is passed on
+pub passed : (command : Command) (table : Extensions) (text : List ℕ) (verdict : Verdict) (a b c : Option (List ℕ)) → IsAnswerWritten command table text verdict (record { before = a; after = b })
+    → Keeps b c → IsAnswerWritten command table text verdict (record { before = a; after = c })
+passed Expression table text Accepted a b c (tree, has, h) k = (tree, has, appended a b c (tree_lines tree.node) h k)
+passed Expression table text Refused a b c (failure, tells, h) k = (failure, tells, failure_passed failure a b c h k)
+passed Policies table text Accepted a b c (set, means, h) k = (set, means, appended a b c (set_lines set) h k)
+passed Policies table text Refused a b c (failure, tells, h) k = (failure, tells, failure_passed failure a b c h k)
+passed Format table text Accepted a b c (lines, are, h) k = (lines, are, appended a b c lines h k)
+passed Format table text Refused a b c (failure, tells, h) k = (failure, tells, failure_passed failure a b c h k)
+
+-- the faults for which a text is refused are written
+pub faults_written : (command : Command) (table : Extensions) (r : Result Verdict Stop) (text : List ℕ) (failure : Failure) (a b : Option (List ℕ)) → RefusesFor command table text failure
+    → IfOk r (λ v. (v ≡ Refused) × ¬ IsMemory failure) → OnOk r (AreFaultsWritten failure (record { before = a; after = b })) → IfOk r (λ v. IsAnswerWritten command table text v (record { before = a; after = b }))
+faults_written Expression table (Ok v) text failure a b tells is wrote = rw is.0 (failure, tells, wrote)
+faults_written Policies table (Ok v) text failure a b tells is wrote = rw is.0 (failure, tells, wrote)
+faults_written Format table (Ok v) text failure a b tells is wrote = rw is.0 (failure, tells, wrote)
+faults_written command table (Err stop) text failure a b tells is wrote = tt
+
+-- a loop over faults has written one line more, and all lines at its end
+pub line_more : (fs : List ParseError) (i : ℕ) (f : ParseError) (a b c : Option (List ℕ)) → i < length fs → f ≡ get_or fs i f → Appends a b (flat_map fault_line (take i fs)) → Appends b c (fault_line f)
+    → Appends a c (flat_map fault_line (take (i + 1) fs))
+line_more fs i f a b c more is h k =
+    let one : flat_map fault_line (take (i + 1) fs) ≡ flat_map fault_line (take i fs) ++ fault_line f =
+    ap (flat_map fault_line) (take_next fs i f more is) ∙ flat_map-append fault_line (take i fs) (f ∷ []) ∙ ap (λ l. flat_map fault_line (take i fs) ++ l) (append-nil (fault_line f)) in
+    rw one (Appends-trans a b c (flat_map fault_line (take i fs)) (fault_line f) h k)
+
+pub lines_whole : (fs : List ParseError) (i : ℕ) (a b : Option (List ℕ)) → i ≡ length fs → Appends a b (flat_map fault_line (take i fs)) → Appends a b (flat_map fault_line fs)
+lines_whole fs i a b all h = subst (λ gs. Appends a b (flat_map fault_line gs)) (take_whole fs i (omega arith)) h
+
+-- the lines of a text are written where it is accepted, and nothing is said where it is refused
+pub lines_written : (table : Extensions) (r : Result Verdict Stop) (text lines : List ℕ) (a b : Option (List ℕ)) → AreLinesOf lines text → IfOk r (λ v. v ≡ Accepted) → OnOk r (Appends a b lines)
+    → IfOk r (λ v. IsAnswerWritten Format table text v (record { before = a; after = b }))
+lines_written table (Ok v) text lines a b are is wrote = rw is (lines, are, wrote)
+lines_written table (Err stop) text lines a b are is wrote = tt
+
+-- the same of the lines of a set that the text means
+pub set_written : (table : Extensions) (r : Result Verdict Stop) (text : List ℕ) (set : PolicyMaps) (a b : Option (List ℕ)) → MeansSet table text (set_meaning set) → IfOk r (λ v. v ≡ Accepted) → OnOk r (Appends a b (set_lines set))
+    → IfOk r (λ v. IsAnswerWritten Policies table text v (record { before = a; after = b }))
+set_written table (Ok v) text set a b means is wrote = rw is (set, means, wrote)
+set_written table (Err stop) text set a b means is wrote = tt
+
+-- and of the tree that the text has
+pub tree_written : (table : Extensions) (r : Result Verdict Stop) (text : List ℕ) (tree : Cell Expr) (a b : Option (List ℕ)) → IsTreeOf ReadsExpr text tree → IfOk r (λ v. v ≡ Accepted) → OnOk r (Appends a b (tree_lines tree.node))
+    → IfOk r (λ v. IsAnswerWritten Expression table text v (record { before = a; after = b }))
+tree_written table (Ok v) text tree a b has is wrote = rw is (tree, has, wrote)
+tree_written table (Err stop) text tree a b has is wrote = tt

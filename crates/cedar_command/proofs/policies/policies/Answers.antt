@@ -1,0 +1,12 @@
+use Rattle.cedar_command.specs.Words.{styles_of}
+use Rattle.cedar_command.specs.declared.words.Command.TheVariants as command
+use Rattle.cedar_command.proofs.WrittenAnswers.{faults_written, set_written}
+use Rattle.cedar_command.proofs.policies.policies.Goals as goal
+
+pub returns-in-Ok-clause-written : goal.returns-in-Ok-clause-written
+returns-in-Ok-clause-written g c =
+    set_written (styles_of c.args.words.now) c.print_policies.result c.args.text.now c.in-Ok.set _ _ c.in-Ok.ensures.set c.print_policies.ensures.verdict c.print_policies.ensures.written
+
+pub returns-in-Err-clause-written : goal.returns-in-Err-clause-written
+returns-in-Err-clause-written g c =
+    faults_written command.Policies (styles_of c.args.words.now) c.refused.result c.args.text.now c.in-Err.failure _ _ c.in-Err.ensures.refused c.refused.ensures.verdict c.refused.ensures.written

@@ -1,0 +1,5 @@
+pub mod Ends
+pub mod FaultLines
+pub mod PolicyLines
+pub mod Streams
+pub mod Words

@@ -1,0 +1,62 @@
+-- What is seen of a run's streams, and what a call leaves.
+use Rattle.std.specs.Prelude.{◌≡◌, ◌↔◌, ℕ, List, Option, Result, Ok, Err, IfSome, IsErrAnd}
+use Rattle.std.specs.Str.{IsUtf8}
+use Rattle.std.specs.Io.KnownBytes.{Appends}
+use Rattle.std.specs.IoError.{error_kind}
+use Rattle.std.specs.declared.io.ErrorKind.TheVariants as kind
+use Rattle.std.specs.declared.io.Error.{Error}
+use Rattle.cedar_command.specs.declared.streams.Stop.{Stop}
+use Rattle.cedar_command.specs.declared.streams.Stop.TheVariants.{Memory}
+use Rattle.cedar_command.specs.declared.streams.Input.{Input}
+use Rattle.cedar_command.specs.declared.streams.Output.{Output}
+use Rattle.cedar_command.specs.declared.streams.WriterState.{WriterState}
+use Rattle.cedar_command.specs.declared.streams.WriterState.TheVariants.{Failed}
+
+-- want of memory stands for the errors of its own kind, and for no other
+abbrev pub StandsFor : Stop → Error → Type 0
+StandsFor stop error = (stop ≡ Memory) ↔ (error_kind error ≡ kind.OutOfMemory)
+
+abbrev pub reader_of : {R : Type 0} → Input R → R
+reader_of input = input.reader
+
+-- why reading failed, if it did
+abbrev pub read_failure : {R : Type 0} → Input R → Option Stop
+read_failure input = input.failure
+
+-- what a reader gives isn't UTF-8, where that is known before it is read
+abbrev pub IsNoText : Option (List ℕ) → Type 0
+IsNoText known = IfSome known (λ bytes. ¬ IsUtf8 bytes)
+
+abbrev pub writer_state : {W : Type 0} → Output W → WriterState
+writer_state output = output.state
+
+abbrev pub writer_of : {W : Type 0} → Output W → W
+writer_of output = output.writer
+
+-- what a writer held before some calls and holds after them, where that is known
+pub record Writing : Type 0 where
+  pub before : Option (List ℕ)
+  pub after : Option (List ℕ)
+
+-- of a writer of a type whose bytes are known so
+abbrev pub writing : {W : Type 0} → (W → Option (List ℕ)) → Output W → Output W → Writing
+writing contents old new =
+    record { before = contents (writer_of old); after = contents (writer_of new) }
+
+-- just these bytes were written, where what the writer holds is known
+abbrev pub IsWritten : List ℕ → Writing → Type 0
+IsWritten bytes w = Appends w.before w.after bytes
+
+-- What the writer itself answers to a call is answered, but where a call failed before, that
+-- failure.
+abbrev pub Repeats : {A : Type 0} → WriterState → Result A Error → Result A Stop → Type 0
+Repeats (Failed first) given answer = answer ≡ Err first
+Repeats _ (Ok done) answer = answer ≡ Ok done
+Repeats _ (Err error) answer = IsErrAnd answer (λ stop. StandsFor stop error)
+
+-- The state before a call of a writer that comes to the state `next` where it succeeds, its
+-- answer, and the state behind it.
+abbrev pub Leaves : {A : Type 0} → WriterState → WriterState → Result A Stop → WriterState → Type 0
+Leaves next (Failed first) answer state = (answer ≡ Err first) × (state ≡ Failed first)
+Leaves next _ (Ok done) state = state ≡ next
+Leaves next _ (Err stop) state = state ≡ Failed stop

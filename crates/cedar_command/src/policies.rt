@@ -1,0 +1,139 @@
+//! The command `policies`: a text's policies, each by its name, and how many they are.
+ghost use Rattle.std.specs.Prelude.{◌≡◌, IfOk, IfErr, OnOk};
+ghost use Rattle.cedar_policy_conversion.specs.PolicyMeaning.{policy_id};
+ghost use Rattle.cedar_policy_parser.specs.Formatted.{MeansSet};
+ghost use Rattle.cedar_policy_store.specs.PlaceFree.{set_meaning};
+ghost use Rattle.cedar_command.specs.Ends.{IsMeant, IsVerdict, IsAnswerWritten, RefusesFor, StopsWriting};
+ghost use Rattle.cedar_command.specs.PolicyLines.{kind_line, policy_line, policy_lines, set_lines, set_size};
+ghost use Rattle.cedar_command.specs.Streams.{writer_state, writing, IsWritten};
+ghost use Rattle.cedar_command.specs.Words.{styles_of};
+ghost use Rattle.cedar_command.specs.declared.run.Verdict.TheVariants as verdict;
+ghost use Rattle.cedar_command.specs.declared.words.Command.TheVariants as command;
+ghost use Rattle.cedar_syntax.specs.FirstFault.{IsMemory};
+
+use crate::run::{Verdict, refused};
+use crate::streams::{Output, Stop, WriterState};
+use crate::words::table_named;
+use cedar_policy_parser::parse_policyset;
+use cedar_policy_store::{PolicyID, PolicySet};
+use cedar_syntax::err::Failure;
+use std::alloc::{AllocError, Global};
+use std::io::Write;
+
+/// Prints the text's policies and how many they are, or its faults.
+pub(crate) fn policies<O: Write>(
+    alloc: Global,
+    words: &[String],
+    text: &str,
+    out: &mut Output<O>,
+) -> Result<Verdict, Stop>
+    ensures verdict { IfOk result (λ v. IsVerdict command.Policies words.now text.now v) }
+    ensures written { IfOk result (λ v. IsAnswerWritten command.Policies
+        (styles_of words.now) text.now v (writing O.contents out.old out.new)) }
+    ensures stops { IfErr result (λ stop. StopsWriting (writer_state out.new) stop) }
+{
+    match meant(alloc, words, text) {
+        Ok(set) => print_policies(alloc, &set, out),
+        Err(failure) => refused(&failure, out),
+    }
+}
+
+/// The set that a text means under the table that the words name.
+fn meant(alloc: Global, words: &[String], text: &str) -> Result<PolicySet, Failure>
+    ensures meant { IfOk result (λ set. IsMeant command.Policies words.now text.now) }
+    ensures set { IfOk result (λ set. MeansSet
+        (styles_of words.now) text.now (set_meaning set)) }
+    ensures only { IsMeant command.Policies words.now text.now → IfErr result IsMemory }
+    ensures refused { IfErr result (λ failure.
+        RefusesFor command.Policies (styles_of words.now) text.now failure) }
+{
+    let styles = table_named(alloc, words)?;
+    parse_policyset(alloc, text, &styles)
+}
+
+/// One line a policy, in the order of the text, and one with their number.
+fn print_policies<O: Write>(
+    alloc: Global,
+    set: &PolicySet,
+    out: &mut Output<O>,
+) -> Result<Verdict, Stop>
+    ensures verdict { IfOk result (λ v. v ≡ verdict.Accepted) }
+    ensures written { OnOk result (IsWritten (set_lines set.now)
+        (writing O.contents out.old out.new)) }
+    ensures stops { IfErr result (λ stop. StopsWriting (writer_state out.new) stop) }
+{
+    let count = set_size(set);
+    print_numbered(alloc, set, count, out)?;
+    writeln!(out, "ok {count}")?;
+    Ok(Verdict::Accepted)
+}
+
+/// How many policies a set has, the templates among them.
+fn set_size(set: &PolicySet) -> usize
+    ensures { result ≡ set_size set.now }
+{
+    let templates = set.templates().count();
+    set.static_policies().count().saturating_add(templates)
+}
+
+/// The policies of the first numbers.
+fn print_numbered<O: Write>(
+    alloc: Global,
+    set: &PolicySet,
+    count: usize,
+    out: &mut Output<O>,
+) -> Result<(), Stop>
+    ensures written { OnOk result (IsWritten (policy_lines set.now count)
+        (writing O.contents out.old out.new)) }
+    ensures stops { IfErr result (λ stop. StopsWriting (writer_state out.new) stop) }
+{
+    for number in 0..count {
+        print_policy(alloc, set, number, out)?;
+    }
+    Ok(())
+}
+
+/// The policy of a number: `policy3 static`, or `policy3 template`.
+fn print_policy<O: Write>(
+    alloc: Global,
+    set: &PolicySet,
+    number: usize,
+    out: &mut Output<O>,
+) -> Result<(), Stop>
+    ensures written { OnOk result (IsWritten (policy_line set.now (policy_id number))
+        (writing O.contents out.old out.new)) }
+    ensures stops { IfErr result (λ stop. StopsWriting (writer_state out.new) stop) }
+{
+    let Ok(id) = named(alloc, number) else {
+        return Err(Stop::Memory);
+    };
+    print_kind(set.static_policy(&id).is_some(), &id, "static", out)?;
+    print_kind(set.template(&id).is_some(), &id, "template", out)
+}
+
+/// A policy's line, where it is of this kind.
+fn print_kind<O: Write>(
+    is_kind: bool,
+    id: &PolicyID,
+    kind: &str,
+    out: &mut Output<O>,
+) -> Result<(), Stop>
+    ensures written { OnOk result (IsWritten (kind_line is_kind id.now kind.now)
+        (writing O.contents out.old out.new)) }
+    ensures stops { IfErr result (λ stop. StopsWriting (writer_state out.new) stop) }
+{
+    if is_kind {
+        writeln!(out, "{} {kind}", id.as_str())?;
+    }
+    Ok(())
+}
+
+/// The name that a set gives the policy of a number.
+fn named(alloc: Global, number: usize) -> Result<PolicyID, AllocError>
+    ensures { IfOk result (λ id. id ≡ policy_id number) }
+{
+    match format!(in alloc; "policy{number}") {
+        Ok(text) => Ok(PolicyID::new(text)),
+        Err(error) => Err(AllocError::from(error)),
+    }
+}

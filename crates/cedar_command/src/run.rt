@@ -1,0 +1,292 @@
+//! A run of the program: its words, its text, what it writes and its status.
+ghost use Rattle.std.specs.Prelude.{◌≡◌, ◌≢◌, None, OnOk, IfOk, IfErr, IfSome, flat_map};
+ghost use Rattle.std.specs.IoError.{error_kind};
+ghost use Rattle.cedar_expressions.specs.Value.{Value};
+ghost use Rattle.cedar_syntax.specs.Forms.{located, expr_form};
+ghost use Rattle.cedar_syntax.specs.Grammar.{IsTreeOf};
+ghost use Rattle.cedar_syntax.specs.LooseExpressions.{ReadsExpr};
+ghost use Rattle.cedar_syntax.specs.ParseErrors.{faults_of};
+ghost use Rattle.cedar_conversion.specs.Conversion.{Converts};
+ghost use Rattle.cedar_policy_parser.specs.Refused.{TellsTree};
+ghost use Rattle.cedar_command.specs.Ends.{IsMeant, IsVerdict, IsAnswerWritten, RefusesFor, tree_lines, streams_at, Ends, Stops, StopsWriting, TellsEnd, status_of};
+ghost use Rattle.cedar_command.specs.FaultLines.{AreFaultsWritten, fault_line};
+ghost use Rattle.cedar_command.specs.Streams.{IsWritten, writing, reader_of, read_failure, writer_state};
+ghost use Rattle.cedar_command.specs.Words.{AsksForNothing, styles_of};
+ghost use Rattle.cedar_command.specs.declared.run.Ending.{Ending as How};
+ghost use Rattle.cedar_command.specs.declared.run.Ending.TheVariants.{Stopped, Usage};
+ghost use Rattle.cedar_command.specs.declared.run.Verdict.TheVariants as verdict;
+ghost use Rattle.cedar_command.specs.declared.words.Command.TheVariants as command;
+ghost use Rattle.cedar_syntax.specs.FirstFault.{IsMemory};
+
+use crate::format::format;
+use crate::policies::policies;
+use crate::streams::{Input, Output, Stop, WriterState};
+use crate::words::{Command, command_of, table_named};
+use cedar_expressions::ExprBuilder;
+use cedar_policy_parser::cst_to_ast::ExprAst;
+use cedar_policy_parser::laws::{converted_is_meant, meant_is_converted};
+use cedar_syntax::cst::Expr;
+use cedar_syntax::err::{Failure, ParseError, ParseErrors};
+use cedar_syntax::node::Node;
+use cedar_text::text_to_cst::parse_expr;
+use std::alloc::Global;
+use std::env::Env;
+use std::io::{ErrorKind, Read, Write};
+use std::{env, io};
+
+const USAGE: &str = "usage: cedar-parse expr|policies|format [fn:NAME | method:NAME]*";
+
+/// What the text turned out to be.
+#[derive(Clone, Copy)]
+pub enum Verdict {
+    Accepted,
+    Refused,
+}
+
+/// How a run ends.
+#[derive(Clone, Copy)]
+pub enum Ending {
+    Answered(Verdict),
+    Usage,
+    Stopped(Stop),
+}
+
+impl Ending {
+    fn status(&self) -> u8
+        ensures { result ≡ status_of self.now }
+    {
+        match self {
+            Ending::Answered(Verdict::Accepted) => 0,
+            Ending::Answered(Verdict::Refused) => 1,
+            Ending::Usage => 2,
+            Ending::Stopped(Stop::Memory) => 3,
+            Ending::Stopped(Stop::InputOutput) => 4,
+        }
+    }
+}
+
+/// The arguments without the program's name.
+pub fn arguments<R: Env + AllocGlobal>(rt: &R) -> io::Result<Vec<String>> {
+    let mut words = Vec::new(rt.alloc());
+    for word in env::args(rt)?.skip(1) {
+        words.push(word)?;
+    }
+    Ok(words)
+}
+
+/// Does what `words` (the arguments without the program's name) ask of the text that `input` gives, and answers the
+/// status: 0 where the text is accepted, 1 where it has faults, 2 for a usage fault, 3 for want of memory, 4 where
+/// reading or writing failed, also for input that isn't UTF-8. The answer, or the faults, go to `out`; what ended a run
+/// goes to `err`. A text may call the extension functions and methods that the words name, and no others.
+pub fn run<R: Read + Drop, O: Write, E: Write>(
+    alloc: Global,
+    words: &[String],
+    input: &mut Input<R>,
+    out: &mut Output<O>,
+    err: &mut Output<E>,
+) -> u8
+    ensures ends { (end : How) × (result ≡ status_of end)
+        × Ends words.now (streams_at (R.remaining (reader_of input.old)) input.new
+        (writing O.contents out.old out.new) out.new err.new) end }
+    ensures unread { AsksForNothing words.now → input.new ≡ input.old }
+{
+    match command_of(words) {
+        None => tell(Ending::Usage, USAGE, err),
+        Some(command) => match answer(alloc, command, words, input, out) {
+            Ok(verdict) => Ending::Answered(verdict).status(),
+            Err(stop) => tell(Ending::Stopped(stop), stop.message(), err),
+        },
+    }
+}
+
+/// Ends a run for which no memory was left before it began.
+pub fn refuse<E: Write>(err: &mut Output<E>) -> u8
+    ensures { TellsEnd (Stopped Stop.Memory) (writer_state err.new) result }
+{
+    tell(Ending::Stopped(Stop::Memory), Stop::Memory.message(), err)
+}
+
+/// Ends a run whose arguments can't be had: a usage fault where one isn't UTF-8, else want of
+/// memory.
+pub fn refuse_arguments<E: Write>(error: io::Error, err: &mut Output<E>) -> u8
+    ensures usage { error_kind error ≡ ErrorKind.InvalidData
+        → TellsEnd Usage (writer_state err.new) result }
+    ensures memory { error_kind error ≢ ErrorKind.InvalidData
+        → TellsEnd (Stopped Stop.Memory) (writer_state err.new) result }
+{
+    match error.kind() {
+        ErrorKind::InvalidData => tell(Ending::Usage, USAGE, err),
+        _ => refuse(err),
+    }
+}
+
+/// Says on `err` why the run ended, and answers its status, or that of a write that failed.
+fn tell<E: Write>(ending: Ending, message: &str, err: &mut Output<E>) -> u8
+    ensures { TellsEnd ending (writer_state err.new) result }
+{
+    match writeln!(err, "{message}") {
+        Ok(()) => ending.status(),
+        Err(_) => Ending::Stopped(Stop::InputOutput).status(),
+    }
+}
+
+/// Reads the text and answers it.
+fn answer<R: Read + Drop, O: Write>(
+    alloc: Global,
+    command: Command,
+    words: &[String],
+    input: &mut Input<R>,
+    out: &mut Output<O>,
+) -> Result<Verdict, Stop>
+    ensures verdict { IfOk result (λ v.
+        IfSome (R.remaining (reader_of input.old)) (λ text. IsVerdict command words.now text v)) }
+    ensures written { IfOk result (λ v. IfSome (R.remaining (reader_of input.old))
+        (λ text. IsAnswerWritten command (styles_of words.now) text v
+        (writing O.contents out.old out.new))) }
+    ensures read { OnOk result (read_failure input.new ≡ None) }
+    ensures flushed { OnOk result (writer_state out.new ≡ WriterState.Flushed) }
+    ensures stops { IfErr result (λ stop.
+        Stops (R.remaining (reader_of input.old)) (read_failure input.new)
+        (writer_state out.new) stop) }
+{
+    let text = input.text(alloc)?;
+    passed_on(alloc, command, words, text.as_str(), out)
+}
+
+/// Prints the answer and passes on what the writer holds back.
+fn passed_on<O: Write>(
+    alloc: Global,
+    command: Command,
+    words: &[String],
+    text: &str,
+    out: &mut Output<O>,
+) -> Result<Verdict, Stop>
+    ensures verdict { IfOk result (λ v. IsVerdict command words.now text.now v) }
+    ensures written { IfOk result (λ v. IsAnswerWritten command
+        (styles_of words.now) text.now v (writing O.contents out.old out.new)) }
+    ensures flushed { OnOk result (writer_state out.new ≡ WriterState.Flushed) }
+    ensures stops { IfErr result (λ stop. StopsWriting (writer_state out.new) stop) }
+{
+    let verdict = answered(alloc, command, words, text, out)?;
+    out.flush()?;
+    Ok(verdict)
+}
+
+/// Prints what the command asks for, or the text's faults.
+fn answered<O: Write>(
+    alloc: Global,
+    command: Command,
+    words: &[String],
+    text: &str,
+    out: &mut Output<O>,
+) -> Result<Verdict, Stop>
+    ensures verdict { IfOk result (λ v. IsVerdict command words.now text.now v) }
+    ensures written { IfOk result (λ v. IsAnswerWritten command
+        (styles_of words.now) text.now v (writing O.contents out.old out.new)) }
+    ensures stops { IfErr result (λ stop. StopsWriting (writer_state out.new) stop) }
+{
+    match command {
+        Command::Expression => expression(alloc, words, text, out),
+        Command::Policies => policies(alloc, words, text, out),
+        Command::Format => format(alloc, words, text, out),
+    }
+}
+
+/// Prints the text's tree and `ok`, or its faults.
+fn expression<O: Write>(
+    alloc: Global,
+    words: &[String],
+    text: &str,
+    out: &mut Output<O>,
+) -> Result<Verdict, Stop>
+    ensures verdict { IfOk result (λ v. IsVerdict command.Expression words.now text.now v) }
+    ensures written { IfOk result (λ v. IsAnswerWritten command.Expression
+        (styles_of words.now) text.now v (writing O.contents out.old out.new)) }
+    ensures stops { IfErr result (λ stop. StopsWriting (writer_state out.new) stop) }
+{
+    match meant(alloc, words, text) {
+        Ok(tree) => print_tree(&tree, out),
+        Err(failure) => refused(&failure, out),
+    }
+}
+
+/// The tree of a text that means an expression under the table that the words name.
+fn meant(alloc: Global, words: &[String], text: &str) -> Result<Node<Option<Expr>>, Failure>
+    ensures meant { IfOk result (λ tree. IsMeant command.Expression words.now text.now) }
+    ensures tree { IfOk result (λ tree. IsTreeOf ReadsExpr text.now tree) }
+    ensures only { IsMeant command.Expression words.now text.now → IfErr result IsMemory }
+    ensures refused { IfErr result (λ failure.
+        RefusesFor command.Expression (styles_of words.now) text.now failure) }
+{
+    meant_is_converted();
+    converted_is_meant();
+    let tree = parse_expr(alloc, text)?;
+    convert(alloc, words, &tree)?;
+    Ok(tree)
+}
+
+/// Refuses a tree that stands for no expression.
+fn convert(alloc: Global, words: &[String], tree: &Node<Option<Expr>>) -> Result<(), Failure>
+    ensures value { IfOk result (λ done.
+        (w : Value) × Converts (styles_of words.now) (located expr_form tree.now) w) }
+    ensures refused { IfErr result (λ failure.
+        TellsTree (styles_of words.now) failure tree.now) }
+{
+    let styles = table_named(alloc, words)?;
+    tree.to_expr::<ExprBuilder<()>>(alloc, &styles).and(Ok(()))
+}
+
+/// A tree on a line of its own, and `ok` on the next one.
+fn print_tree<O: Write>(tree: &Node<Option<Expr>>, out: &mut Output<O>) -> Result<Verdict, Stop>
+    ensures verdict { IfOk result (λ v. v ≡ verdict.Accepted) }
+    ensures written { OnOk result (IsWritten (tree_lines tree.now.node)
+        (writing O.contents out.old out.new)) }
+    ensures failed { IfErr result (λ stop. writer_state out.new ≡ WriterState.Failed stop) }
+{
+    match tree.as_inner() {
+        Some(expr) => writeln!(out, "{expr}\nok")?,
+        None => writeln!(out, "ok")?,
+    }
+    Ok(Verdict::Accepted)
+}
+
+/// Prints the faults of a text; want of memory is none of them.
+pub(crate) fn refused<O: Write>(failure: &Failure, out: &mut Output<O>) -> Result<Verdict, Stop>
+    ensures verdict { IfOk result (λ v. (v ≡ verdict.Refused) × ¬ (IsMemory failure.now)) }
+    ensures written { OnOk result (AreFaultsWritten failure.now
+        (writing O.contents out.old out.new)) }
+    ensures stops { IfErr result (λ stop. StopsWriting (writer_state out.new) stop) }
+{
+    match failure {
+        Failure::Memory(_) => Err(Stop::Memory),
+        Failure::Errors(faults) => {
+            print_faults(faults, out)?;
+            Ok(Verdict::Refused)
+        }
+    }
+}
+
+/// One line a fault.
+fn print_faults<O: Write>(faults: &ParseErrors, out: &mut Output<O>) -> Result<(), Stop>
+    ensures written { OnOk result (IsWritten (flat_map fault_line (faults_of faults.now))
+        (writing O.contents out.old out.new)) }
+    ensures failed { IfErr result (λ stop. writer_state out.new ≡ WriterState.Failed stop) }
+{
+    for fault in faults.iter() {
+        print_fault(fault, out)?;
+    }
+    Ok(())
+}
+
+/// A fault's place and what is said of it; a dash where it has no place.
+pub fn print_fault<O: Write>(fault: &ParseError, out: &mut Output<O>) -> Result<(), Stop>
+    ensures written { OnOk result (IsWritten (fault_line fault.now)
+        (writing O.contents out.old out.new)) }
+    ensures failed { IfErr result (λ stop. writer_state out.new ≡ WriterState.Failed stop) }
+{
+    match fault.primary_source_span() {
+        Some(span) => writeln!(out, "{}..{}: {fault}", span.offset(), span.end())?,
+        None => writeln!(out, "-: {fault}")?,
+    }
+    Ok(())
+}

@@ -1,0 +1,169 @@
+//! The streams of a run: a reader and writers, each with how its calls went.
+ghost use Rattle.std.specs.Prelude.{◌≡◌, ◌⊎◌, None, Some, OnOk, IfOk, IfErr, IfSome, string_bytes};
+ghost use Rattle.std.specs.Io.KnownBytes.{Keeps};
+
+use std::alloc::Global;
+use std::fmt::Display;
+use std::io;
+use std::io::{ErrorKind, Read, Write};
+
+/// Why a run ends with no answer about the text.
+#[derive(Clone, Copy)]
+pub enum Stop {
+    Memory,
+    InputOutput,
+}
+
+impl Stop {
+    /// What is said of it on the stream of errors.
+    pub fn message(&self) -> &'static str {
+        match self {
+            Stop::Memory => "want of memory",
+            Stop::InputOutput => "input or output failed",
+        }
+    }
+}
+
+impl From<io::Error> for Stop {
+    ghost use Rattle.cedar_command.specs.Streams.{StandsFor};
+
+    ghost from_gives = { λ error stop. StandsFor stop error };
+
+    fn from(error: io::Error) -> Stop {
+        match error.kind() {
+            ErrorKind::OutOfMemory => Stop::Memory,
+            _ => Stop::InputOutput,
+        }
+    }
+}
+
+/// A reader, and why reading failed, if it did.
+#[derive(Drop)]
+pub struct Input<R> {
+    reader: R,
+    failure: Option<Stop>,
+}
+
+impl<R: Read + Drop> Input<R> {
+    ghost use Rattle.cedar_command.specs.Streams.{reader_of, read_failure, IsNoText};
+
+    /// A reader that wasn't read yet.
+    pub fn new(reader: R) -> Input<R>
+        ensures reader { reader_of result ≡ reader }
+        ensures failure { read_failure result ≡ None }
+    {
+        Input {
+            reader,
+            failure: None,
+        }
+    }
+
+    /// The text up to the reader's end. Refused where reading failed, now or before, and where what
+    /// was read isn't UTF-8.
+    pub fn text(&mut self, alloc: Global) -> Result<String, Stop>
+        ensures text { IfOk result (λ text.
+            IfSome (R.remaining (reader_of self.old)) (λ known. string_bytes text ≡ known)) }
+        ensures ok { OnOk result (read_failure self.new ≡ None) }
+        ensures err { IfErr result (λ stop. (read_failure self.new ≡ Some stop)
+            ⊎ ((stop ≡ Stop.InputOutput) × IsNoText (R.remaining (reader_of self.old)))) }
+    {
+        if let Some(stop) = self.failure {
+            return Err(stop);
+        }
+        let mut bytes = Vec::new(alloc);
+        if let Err(error) = self.reader.read_to_end(&mut bytes) {
+            let stop = Stop::from(error);
+            self.failure = Some(stop);
+            return Err(stop);
+        }
+        match String::from_utf8(bytes) {
+            Ok(text) => Ok(text),
+            Err(_) => Err(Stop::InputOutput),
+        }
+    }
+}
+
+/// How the calls of a writer went so far.
+#[derive(Clone, Copy)]
+pub enum WriterState {
+    /// Each write succeeded, and a flush behind the last one.
+    Flushed,
+    /// Each write succeeded, and no flush stands behind the last one.
+    Written,
+    /// A write or a flush failed; the first that did.
+    Failed(Stop),
+}
+
+/// A writer, and how its calls went. Behind one that failed each call answers that failure.
+#[derive(Drop)]
+pub struct Output<W> {
+    writer: W,
+    state: WriterState,
+}
+
+impl<W: Write> Output<W> {
+    ghost use Rattle.cedar_command.specs.Streams.{writer_state, writer_of, writing, IsWritten, Repeats, Leaves};
+
+    /// A writer that nothing was written to yet.
+    pub fn new(writer: W) -> Output<W>
+        ensures writer { writer_of result ≡ writer }
+        ensures state { writer_state result ≡ WriterState.Flushed }
+    {
+        Output {
+            writer,
+            state: WriterState::Flushed,
+        }
+    }
+
+    /// The writer itself, with what was written to it.
+    pub fn into_writer(self) -> W
+        ensures { result ≡ writer_of self }
+    {
+        let Output { writer, state: _ } = self;
+        writer
+    }
+
+    /// Writes a text: the call of `write!` and `writeln!`.
+    pub fn write_fmt<D: Display + Drop>(&mut self, text: D) -> Result<(), Stop>
+        ensures left { Leaves WriterState.Written (writer_state self.old) result
+            (writer_state self.new) }
+        ensures written { OnOk result (IfSome (D.output text)
+            (λ bytes. IsWritten bytes (writing W.contents self.old self.new))) }
+    {
+        let answer = self.writer.write_fmt(text);
+        self.heard(answer, WriterState::Written)
+    }
+
+    /// Passes on what the writer holds back.
+    pub fn flush(&mut self) -> Result<(), Stop>
+        ensures left { Leaves WriterState.Flushed (writer_state self.old) result
+            (writer_state self.new) }
+        ensures kept { Keeps
+            (W.contents (writer_of self.old)) (W.contents (writer_of self.new)) }
+    {
+        let answer = self.writer.flush();
+        self.heard(answer, WriterState::Flushed)
+    }
+
+    /// Keeps what a call answered: that it failed, or that it comes to this state.
+    fn heard(&mut self, answer: io::Result<()>, state: WriterState) -> Result<(), Stop>
+        ensures repeated { Repeats (writer_state self.old) answer result }
+        ensures left { Leaves state (writer_state self.old) result (writer_state self.new) }
+        ensures kept { writer_of self.new ≡ writer_of self.old }
+    {
+        if let WriterState::Failed(stop) = self.state {
+            return Err(stop);
+        }
+        match answer {
+            Ok(()) => {
+                self.state = state;
+                Ok(())
+            }
+            Err(error) => {
+                let stop = Stop::from(error);
+                self.state = WriterState::Failed(stop);
+                Err(stop)
+            }
+        }
+    }
+}

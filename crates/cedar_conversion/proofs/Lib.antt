@@ -1,0 +1,16 @@
+pub mod Accesses
+pub mod Bare
+pub mod FaultLists
+pub mod Fields
+pub mod FilledSets
+pub mod Gathered
+pub mod Identifiers
+pub mod Inverted
+pub mod Loops
+pub mod Nodes
+pub mod Outcomes
+pub mod Parts
+pub mod Quoted
+pub mod RightSides
+pub mod Signed
+pub mod StringLiterals

@@ -1,0 +1,157 @@
+-- Answers held against outcomes that are joined.
+use Rattle.std.proofs.Common.{append-nil, ◌≡◌, ◌<◌, ◌+◌, ℕ, List, [], ◌∷◌, ◌++◌, append_assoc, map, take, length, get_or, Option, Result, Ok, Err, IfOk, IfErr, IsErrAnd, alloc_error, refl, sym, ap, ◌∙◌}
+use Rattle.cedar_expressions.specs.Value.{Value}
+use Rattle.cedar_syntax.specs.ParseErrors.{faults_of}
+use Rattle.cedar_syntax.specs.declared.loc.Loc.{Loc}
+use Rattle.cedar_syntax.specs.declared.err.faults.Failure.{Failure}
+use Rattle.cedar_syntax.specs.declared.err.faults.Failure.TheVariants.{Memory, Errors}
+use Rattle.cedar_syntax.specs.declared.err.faults.ParseError.{ParseError}
+use Rattle.cedar_syntax.specs.Forms.{parts_of}
+use Rattle.cedar_syntax.specs.Located.{Located, none}
+use Rattle.cedar_syntax.specs.Tree.{Operator}
+use Rattle.cedar_syntax.specs.Joined.{TellsBoth, WantsMemory}
+use Rattle.cedar_conversion.specs.Conversion.{Part, operands, with_part, factor, value_outcome}
+use Rattle.cedar_conversion.specs.Extensions.{Extensions}
+use Rattle.cedar_conversion.specs.Outcome.{Kind, Outcome, both, next, fault_outcome}
+use Rattle.cedar_conversion.specs.Seen.{Refuses, Gives, named_faults, named_fault}
+use Rattle.cedar_conversion.specs.machines.Views.{TellsAlone, one_more}
+use Rattle.cedar_conversion.proofs.Loops.{take_next, map_snoc}
+
+-- ---- faults
+
+pub told-append : (fs gs : List ParseError) → named_faults (fs ++ gs) ≡ named_faults fs ++ named_faults gs
+told-append [] gs = refl
+told-append (f ∷ fs) gs = ap (λ hs. named_fault f ∷ hs) (told-append fs gs)
+
+-- one fault alone is a refusal with it
+pub refused_at : (Y : Type 0) (f : Failure) (kind : Kind) (place : Option Loc) → TellsAlone f kind place → Refuses {Y = Y} f (fault_outcome kind place)
+refused_at Y (Memory e) kind place h = tt
+refused_at Y (Errors es) kind place h = ap Err (sym h)
+
+-- an outcome that is one fault refuses with what tells it
+pub refuses : {Y : Type 0} (f : Failure) (o : Outcome Y) (kind : Kind) (place : Option Loc) → o ≡ fault_outcome kind place → TellsAlone f kind place → Refuses f o
+refuses {Y = Y} f o kind place e h = rw e (refused_at Y f kind place h)
+
+-- ---- what is joined
+
+-- what refuses what is wanted first refuses all that comes next
+pub refused_next : {X Y : Type 0} (f : Failure) (x : Outcome X) (g : X → Outcome Y) → Refuses f x → Refuses f (next x g)
+refused_next (Memory e) x g h = tt
+refused_next (Errors es) (Ok x) g h = cc
+refused_next (Errors es) (Err fs) g h = let same : fs ≡ named_faults (faults_of es) = cc in ap Err same
+
+pub given_next : {X Y : Type 0} (o : Outcome X) (x : X) (g : X → Outcome Y) → o ≡ Ok x → next o g ≡ g x
+given_next o x g e = rw e refl
+
+pub next_next : {X Y Z : Type 0} (o : Outcome X) (f : X → Outcome Y) (g : Y → Outcome Z) → next o (λ x. next (f x) g) ≡ next (next o f) g
+next_next (Ok x) f g = refl
+next_next (Err fs) f g = refl
+
+joined_faults : (es fs gs : List ParseError) → es ≡ fs ++ gs → named_faults fs ++ named_faults gs ≡ named_faults es
+joined_faults es fs gs e = sym (told-append fs gs) ∙ ap named_faults (sym e)
+
+-- the failure of two parts refuses both
+pub both_refused : {A B X Y : Type 0} (u : A → X) (v : B → Y) (a : Result A Failure) (b : Result B Failure) (x : Outcome X) (y : Outcome Y) (f : Failure) → Gives u a x → Gives v b y → TellsBoth f a b
+    → Refuses f (both x y)
+both_refused u v a b x y (Memory e) h k t = tt
+both_refused u v (Ok a) (Ok b) x y (Errors es) h k t = let impossible = t.0 in cc
+both_refused u v (Ok a) (Err (Memory e)) x y (Errors es) h k t = absurd (t.2 tt)
+both_refused u v (Err (Memory e)) b x y (Errors es) h k t = absurd (t.1 tt)
+both_refused u v (Ok a) (Err (Errors gs)) x y (Errors es) h k t = rw (h, k) (ap (λ fs. Err (named_faults fs)) (sym t.0))
+both_refused u v (Err (Errors gs)) (Ok b) x y (Errors es) h k t = rw (h, k) (ap (λ fs. Err (named_faults fs)) (sym (t.0 ∙ append-nil (faults_of gs))))
+both_refused u v (Err (Errors gs)) (Err (Memory e)) x y (Errors es) h k t = absurd (t.2 tt)
+both_refused u v (Err (Errors fs)) (Err (Errors gs)) x y (Errors es) h k t = rw (h, k) (ap Err (joined_faults (faults_of es) (faults_of fs) (faults_of gs) t.0))
+
+pub both_given : {A B X Y : Type 0} (u : A → X) (v : B → Y) (a : Result A Failure) (b : Result B Failure) (x : Outcome X) (y : Outcome Y) (p : A) (q : B) → Gives u a x → Gives v b y → a ≡ Ok p → b ≡ Ok q
+    → both x y ≡ Ok (u p, v q)
+both_given u v a b x y p q h k e f =
+    let first : x ≡ Ok (u p) = rw e at h in
+    let second : y ≡ Ok (v q) = rw f at k in
+    rw (first, second) refl
+
+-- two results joined are the outcomes joined
+pub both_gives : {A B X Y : Type 0} (u : A → X) (v : B → Y) (a : Result A Failure) (b : Result B Failure) (r : Result (A × B) Failure) (x : Outcome X) (y : Outcome Y)
+    → IfOk r (λ p. (a ≡ Ok p.0) × (b ≡ Ok p.1)) → IfErr r (λ f. TellsBoth f a b) → Gives u a x → Gives v b y → Gives (λ p. (u p.0, v p.1)) r (both x y)
+both_gives u v a b (Ok p) x y ok err h k = both_given u v a b x y p.0 p.1 h k ok.0 ok.1
+both_gives u v a b (Err f) x y ok err h k = both_refused u v a b x y f h k err
+
+-- what is made of a value
+pub then_gives : {X Y Z : Type 0} (u : X → Y) (f : Y → Z) (r : Result X Failure) (o : Outcome Y) → Gives u r o → Gives (λ x. f (u x)) r (next o (λ y. Ok (f y)))
+then_gives u f (Ok x) o h = rw h refl
+then_gives u f (Err e) o h = refused_next e o (λ y. Ok (f y)) h
+
+-- what `?` passes on
+pub passed_on : {X Y : Type 0} (u : X → Y) (r : Result X Failure) (f : Failure) (o : Outcome Y) → IsErrAnd r (λ e. e ≡ f) → Refuses f o → Gives u r o
+passed_on u (Ok x) f o is h = absurd is
+passed_on u (Err e) f o is h = rw is h
+
+-- want of memory, which `?` passes on
+pub wanting : {X Y : Type 0} (u : X → Y) (r : Result X Failure) (o : Outcome Y) → IsErrAnd r (λ e. e ≡ Memory alloc_error) → Gives u r o
+wanting u (Ok x) o is = absurd is
+wanting u (Err e) o is = rw is tt
+
+pub wants : {X : Type 0} (r : Result X Failure) → IsErrAnd r (λ e. e ≡ Memory alloc_error) → WantsMemory r
+wants (Ok x) is = absurd is
+wants (Err (Memory e)) is = tt
+wants (Err (Errors es)) is = cc
+
+-- an outcome in other words
+pub gives_at : {X Y : Type 0} (u : X → Y) (r : Result X Failure) (o p : Outcome Y) → o ≡ p → Gives u r p → Gives u r o
+gives_at u r o p e h = rw e h
+
+-- the same of an answer that is left in its place
+pub gives_left : {X Y : Type 0} (u : X → Y) (place r : Result X Failure) (o p : Outcome Y) → place ≡ r → o ≡ p → Gives u r p → Gives u place o
+gives_left u place r o p i e h = rw (i, e) h
+
+-- the same of an answer that was taken from its place
+pub given_in : {X Y : Type 0} (u : X → Y) (r place : Result X Failure) (o : Outcome Y) → r ≡ place → Gives u place o → Gives u r o
+given_in u r place o i h = rw i h
+
+-- ---- operands, from the last
+
+pub none_yet : (e : Extensions) (place : Option Loc) → operands e place none ≡ Ok []
+unfolding operands
+none_yet e place = refl
+
+last : (op : Operator) (x : Outcome Value) → next (both x (Ok [])) (with_part op) ≡ one_more op (Ok []) x
+last op (Ok v) = refl
+last op (Err fs) = refl
+
+shifted : (a b : Operator) (x : Outcome Value) (o : Outcome (List Part)) (y : Outcome Value) → next (both x (one_more b o y)) (with_part a) ≡ one_more b (next (both x o) (with_part a)) y
+shifted a b (Ok x) (Ok o) (Ok y) = refl
+shifted a b (Ok x) (Ok o) (Err hs) = refl
+shifted a b (Ok x) (Err gs) (Ok y) = refl
+shifted a b (Ok x) (Err gs) (Err hs) = refl
+shifted a b (Err fs) (Ok o) (Ok y) = refl
+shifted a b (Err fs) (Ok o) (Err hs) = refl
+shifted a b (Err fs) (Err gs) (Ok y) = refl
+shifted a b (Err fs) (Err gs) (Err hs) = ap Err (sym (append_assoc fs gs hs))
+
+-- a part's value where its operator lets it stand
+abbrev pub operand : Extensions → Option Loc → Operator × Located → Outcome Value
+operand e place p = next (value_outcome e p.1) (factor place p.0)
+
+pub operands_snoc : (e : Extensions) (place : Option Loc) (ps : List (Operator × Located)) (p : Operator × Located)
+    → operands e place (parts_of (ps ++ p ∷ [])) ≡ one_more p.0 (operands e place (parts_of ps)) (operand e place p)
+unfolding operands
+operands_snoc e place [] p = last p.0 (operand e place p)
+operands_snoc e place (q ∷ ps) p =
+    ap (λ o. next (both (operand e place q) o) (with_part q.0)) (operands_snoc e place ps p)
+    ∙ shifted q.0 p.0 (operand e place q) (operands e place (parts_of ps)) (operand e place p)
+
+-- one part more than those that a loop has gone over
+pub part_more : {X : Type 0} (e : Extensions) (place : Option Loc) (g : X → Operator × Located) (xs : List X) (i : ℕ) (x : X) → i < length xs → x ≡ get_or xs i x
+    → operands e place (parts_of (map g (take (i + 1) xs))) ≡ one_more (g x).0 (operands e place (parts_of (map g (take i xs)))) (operand e place (g x))
+part_more e place g xs i x h k = rw (take_next xs i x h k, map_snoc g (take i xs) x) (operands_snoc e place (map g (take i xs)) (g x))
+
+-- an operator that lets every value stand
+pub settled : (place : Option Loc) (op : Operator) (x : Outcome Value) → ((v : Value) → factor place op v ≡ Ok v) → next x (factor place op) ≡ x
+settled place op (Ok v) h = h v
+settled place op (Err fs) h = refl
+
+-- the same where every value may stand behind the operator
+pub plain_more : {X : Type 0} (e : Extensions) (place : Option Loc) (g : X → Operator × Located) (xs : List X) (i : ℕ) (x : X) → i < length xs → x ≡ get_or xs i x
+    → ((v : Value) → factor place (g x).0 v ≡ Ok v)
+    → operands e place (parts_of (map g (take (i + 1) xs))) ≡ one_more (g x).0 (operands e place (parts_of (map g (take i xs)))) (value_outcome e (g x).1)
+plain_more e place g xs i x h k stands =
+    part_more e place g xs i x h k ∙ ap (λ v. one_more (g x).0 (operands e place (parts_of (map g (take i xs)))) v) (settled place (g x).0 (value_outcome e (g x).1) stands)

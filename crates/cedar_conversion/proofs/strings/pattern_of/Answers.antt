@@ -1,0 +1,10 @@
+use Rattle.std.proofs.Common.{sym, ap, ◌∙◌, Err}
+use Rattle.cedar_conversion.proofs.Quoted.{pattern_expected, pattern_faults_expected}
+use Rattle.cedar_conversion.proofs.strings.pattern_of.Goals as goal
+
+pub returns-in-Ok : goal.returns-in-Ok
+returns-in-Ok c = pattern_expected c.args.loc.now c.args.raw.now c.in-Ok.pattern.items (rw c.as_str.ensures at c.in-Ok.ensures.pattern)
+
+pub returns-in_ok-escape_faults-in-Err-Errors : goal.returns-in_ok-escape_faults-in-Err-Errors
+returns-in_ok-escape_faults-in-Err-Errors c =
+    pattern_faults_expected c.args.loc.now c.args.raw.now c.in-Err-Errors.faults (rw (c.in-Err-Errors.field-0-is, c.as_str.ensures) at c.in-Err-Errors.ensures.told) ∙ ap Err (sym c.in_ok-escape_faults-in-Err-Errors.ensures)

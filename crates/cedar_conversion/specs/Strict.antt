@@ -1,0 +1,248 @@
+-- The strict grammar: which tokens mean which expression. There is no tree and no fault in it. Its
+-- levels, from the loosest operator to the tightest, and what each form means are those of the
+-- grammar and of the operators' pages in Cedar's reference: a relation has one operator at most,
+-- `/` and `%` mean nothing, so many signs at most as `limit` says stand before an operand, a
+-- literal number fits 64 bits with its sign, the keys of a record are all different. What may be
+-- called beside the methods of every text is what `table` has.
+use Rattle.std.specs.Prelude.{◌≡◌, ◌≤◌, ◌<◌, ◌^◌, ◌+◌, ◌-◌, ℕ, zero, suc, true, false, List, [], ◌∷◌, ◌++◌, length, Some, pos, neg_ℤ}
+use Rattle.std.specs.Map.{keys_of}
+use Rattle.cedar_lexer.specs.Token.{Lexeme}
+use Rattle.cedar_lexer.specs.declared.token.TokenKind.{TokenKind}
+use Rattle.cedar_lexer.specs.declared.token.TokenKind.TheVariants as kind
+use Rattle.cedar_expressions.specs.declared.operators.AddOp.{AddOp}
+use Rattle.cedar_expressions.specs.declared.entity.EntityUID.{EntityUID}
+use Rattle.cedar_expressions.specs.declared.literal.Var.{Var}
+use Rattle.cedar_expressions.specs.declared.literal.SlotId.{SlotId}
+use Rattle.cedar_expressions.specs.declared.literal.SlotId.TheVariants as slots
+use Rattle.cedar_expressions.specs.declared.literal.PatternElem.{PatternElem}
+use Rattle.cedar_expressions.specs.declared.literal.Literal.TheVariants as literals
+use Rattle.cedar_expressions.specs.Keys.{repeats_key}
+use Rattle.cedar_expressions.specs.Value as v
+use Rattle.cedar_expressions.specs.Value.{Value, values, terms, fields}
+use Rattle.cedar_syntax.specs.Pattern.{IsPattern}
+use Rattle.cedar_syntax.specs.Signs.{ReadsSigns, ReadsAddOp}
+use Rattle.cedar_syntax.specs.Tokens.{Spot, one, number_of, between_quotes}
+use Rattle.cedar_conversion.specs.Extensions.{Extensions}
+use Rattle.cedar_conversion.specs.StrictCalls.{IsFunction, CallsMethod}
+use Rattle.cedar_conversion.specs.StrictWords.{IsVariable, IsVariableWord, IsIdentifier, IsName, IsText, IsSought, IsKey, IsEntity, path_value}
+
+-- a sign applied as often as it stands there
+abbrev pub iteration : ℕ → (Value → Value) → Value → Value
+iteration zero f x = x
+iteration (suc n) f x = f (iteration n f x)
+
+-- 9223372036854775808, the first number that is no literal but behind a `-`
+abbrev pub largest : ℕ
+largest = 2 ^ 63
+
+-- a slot where a token stands
+abbrev pub slot_there : SlotId → Spot → Value
+slot_there id p =
+    v.slot (record { id = id; place = Some record { offset = p.start; length = p.end - p.start } })
+
+-- What tokens are read as, from the loosest to the tightest. A sort's tokens are also those of the
+-- sort before it.
+pub data Sort : Type 0 where
+  expression : Sort
+  disjunction : Sort
+  conjunction : Sort
+  relation : Sort
+  sum : Sort
+  product : Sort
+  signed : Sort
+  member : Sort
+  primary : Sort
+
+-- a NUMBER and no more
+abbrev pub IsNumeral : List Lexeme → Type 0
+IsNumeral [] = ⊥
+IsNumeral (t ∷ []) = t.kind ≡ kind.Number
+IsNumeral (t ∷ u ∷ ts) = ⊥
+
+-- the relation that an operator makes of two values; `=` makes none
+pub data Relates : TokenKind → Value → Value → Value → Type 0 where
+  less : {a b : Value} → Relates kind.Less a b (v.less a b)
+  less_eq : {a b : Value} → Relates kind.LessEq a b (v.lesseq a b)
+  greater_eq : {a b : Value} → Relates kind.GreaterEq a b (v.greatereq a b)
+  greater : {a b : Value} → Relates kind.Greater a b (v.greater a b)
+  not_eq : {a b : Value} → Relates kind.NotEq a b (v.noteq a b)
+  equal : {a b : Value} → Relates kind.EqEq a b (v.is_eq a b)
+  within : {a b : Value} → Relates kind.In a b (v.is_in a b)
+
+mutual
+  pub data Means (table : Extensions) (limit : ℕ) : Sort → List Lexeme → Value → Type 0 where
+    conditional : {ts us vs : List Lexeme} {a b c : Value} (l m n : Spot)
+        → Means table limit expression ts a → Means table limit expression us b
+        → Means table limit expression vs c
+        → Means table limit expression
+        (one kind.If l ++ ts ++ one kind.Then m ++ us ++ one kind.Else n ++ vs) (v.ite a b c)
+    one_disjunction : {ts : List Lexeme} {a : Value} → Means table limit disjunction ts a
+        → Means table limit expression ts a
+    -- two or more parts joined by `||`
+    disjoined : {ts : List Lexeme} {a : Value} {bs : List Value}
+        → Joined table limit kind.OrOr conjunction ts a bs → 0 < length bs
+        → Means table limit disjunction ts (v.or_nary a (values bs))
+    one_conjunction : {ts : List Lexeme} {a : Value} → Means table limit conjunction ts a
+        → Means table limit disjunction ts a
+    -- two or more parts joined by `&&`
+    conjoined : {ts : List Lexeme} {a : Value} {bs : List Value}
+        → Joined table limit kind.AndAnd relation ts a bs → 0 < length bs
+        → Means table limit conjunction ts (v.and_naryl a (values bs))
+    one_relation : {ts : List Lexeme} {a : Value} → Means table limit relation ts a
+        → Means table limit conjunction ts a
+    -- two sums around one operator
+    related : {ts us : List Lexeme} {a b c : Value} {k : TokenKind} (p : Spot)
+        → Means table limit sum ts a → Relates k a b c → Means table limit sum us b
+        → Means table limit relation (ts ++ one k p ++ us) c
+    -- a sum, `has`, and what is sought
+    has : {ts us : List Lexeme} {a : Value} {id : List ℕ} {ids : List (List ℕ)} (p : Spot)
+        → Means table limit sum ts a → IsSought us id ids
+        → Means table limit relation (ts ++ one kind.Has p ++ us) (v.extended_has_attr a id ids)
+    -- a sum, `like`, and a string that is read as a pattern
+    like : {ts : List Lexeme} {a : Value} {pattern : List PatternElem} (p q : Spot)
+        → Means table limit sum ts a → IsPattern (between_quotes q.text) pattern
+        → Means table limit relation (ts ++ one kind.Like p ++ one kind.StringLit q)
+        (v.like a pattern)
+    -- a sum, `is`, and the name of a type
+    is : {ts us : List Lexeme} {a : Value} {ids : List (List ℕ)} {id : List ℕ} (p : Spot)
+        → Means table limit sum ts a → IsName us ids id
+        → Means table limit relation (ts ++ one kind.Is p ++ us)
+        (v.is_entity_type a (record { name = path_value ids id }))
+    -- the same, `in`, and another sum
+    is_in : {ts us vs : List Lexeme} {a b : Value} {ids : List (List ℕ)} {id : List ℕ} (p q : Spot)
+        → Means table limit sum ts a → IsName us ids id → Means table limit sum vs b
+        → Means table limit relation (ts ++ one kind.Is p ++ us ++ one kind.In q ++ vs)
+        (v.is_in_entity_type a (record { name = path_value ids id }) b)
+    one_sum : {ts : List Lexeme} {a : Value} → Means table limit sum ts a
+        → Means table limit relation ts a
+    -- two or more parts joined by `+` and `-`
+    added_up : {ts : List Lexeme} {a : Value} {bs : List (AddOp × Value)}
+        → Added table limit ts a bs → 0 < length bs
+        → Means table limit sum ts (v.add_nary a (terms bs))
+    one_product : {ts : List Lexeme} {a : Value} → Means table limit product ts a
+        → Means table limit sum ts a
+    -- two or more parts joined by `*`
+    multiplied : {ts : List Lexeme} {a : Value} {bs : List Value}
+        → Joined table limit kind.Star signed ts a bs → 0 < length bs
+        → Means table limit product ts (v.mul_nary a (values bs))
+    one_signed : {ts : List Lexeme} {a : Value} → Means table limit signed ts a
+        → Means table limit product ts a
+    -- signs `!` up to the limit apply `not` as often
+    negated : {ts us : List Lexeme} {a : Value} {n : ℕ} → ReadsSigns kind.Bang ts n → n ≤ limit
+        → Means table limit member us a → Means table limit signed (ts ++ us) (iteration n v.not a)
+    -- of the signs `-` up to the limit before a NUMBER that is the whole operand the last one and
+    -- the number are
+    -- one literal, each other applies `neg`
+    negative : {ts : List Lexeme} (n : ℕ) (p : Spot) → ReadsSigns kind.Minus ts (n + 1)
+        → n < limit → number_of p.text ≤ largest
+        → Means table limit signed (ts ++ one kind.Number p)
+        (iteration n v.neg (v.val (literals.Long (neg_ℤ (pos (number_of p.text))))))
+    -- before any other operand each `-` up to the limit applies `neg`
+    opposite : {ts us : List Lexeme} {a : Value} {n : ℕ} → ReadsSigns kind.Minus ts n → n ≤ limit
+        → (IsNumeral us → ⊥) → Means table limit member us a
+        → Means table limit signed (ts ++ us) (iteration n v.neg a)
+    unsigned : {ts : List Lexeme} {a : Value} → Means table limit member ts a
+        → Means table limit signed ts a
+    -- a member is a primary or a call of a function, and links behind it, from the left
+    bare : {ts : List Lexeme} {a : Value} → Means table limit primary ts a
+        → Means table limit member ts a
+    -- a function's name, which is no variable, and its arguments
+    called : {ts us : List Lexeme} {ids : List (List ℕ)} {id : List ℕ} {args : List Value}
+        (l m : Spot) → IsName ts ids id → (IsVariableWord ts → ⊥) → IsFunction table ids id
+        → Listed table limit us args
+        → Means table limit member (ts ++ one kind.OpenParen l ++ us ++ one kind.CloseParen m)
+        (v.call_extension_fn (path_value ids id) (values args))
+    -- `.` and an identifier: an attribute, since no call stands behind it
+    attribute : {ts us : List Lexeme} {a : Value} {id : List ℕ} (p : Spot)
+        → Means table limit member ts a → IsIdentifier us id
+        → Means table limit member (ts ++ one kind.Dot p ++ us) (v.get_attr a id)
+    -- a string in brackets is an attribute too
+    indexed : {ts us : List Lexeme} {a : Value} {id : List ℕ} (l m : Spot)
+        → Means table limit member ts a → IsText us id
+        → Means table limit member (ts ++ one kind.OpenBracket l ++ us ++ one kind.CloseBracket m)
+        (v.get_attr a id)
+    -- `.`, a method's name and its arguments
+    method : {ts us vs : List Lexeme} {a b : Value} {id : List ℕ} {args : List Value}
+        (p l m : Spot) → Means table limit member ts a → IsIdentifier us id
+        → Listed table limit vs args → CallsMethod table id a args b
+        → Means table limit member
+        (ts ++ one kind.Dot p ++ us ++ one kind.OpenParen l ++ vs ++ one kind.CloseParen m) b
+    truth : (p : Spot) → Means table limit primary (one kind.True p) (v.val (literals.Bool true))
+    falsity : (p : Spot)
+        → Means table limit primary (one kind.False p) (v.val (literals.Bool false))
+    numeral : (p : Spot) → number_of p.text < largest
+        → Means table limit primary (one kind.Number p)
+        (v.val (literals.Long (pos (number_of p.text))))
+    text : {ts : List Lexeme} {text : List ℕ} → IsText ts text
+        → Means table limit primary ts (v.val (literals.String text))
+    variable : {k : TokenKind} {x : Var} (p : Spot) → IsVariable k x
+        → Means table limit primary (one k p) (v.var x)
+    -- the two slots of a template, each where its token stands
+    principal_slot : (p : Spot)
+        → Means table limit primary (one kind.PrincipalSlot p) (slot_there slots.Principal p)
+    resource_slot : (p : Spot)
+        → Means table limit primary (one kind.ResourceSlot p) (slot_there slots.Resource p)
+    entity : {ts : List Lexeme} {uid : EntityUID} → IsEntity ts uid
+        → Means table limit primary ts (v.val (literals.EntityUID uid))
+    parenthesized : {ts : List Lexeme} {a : Value} (l m : Spot)
+        → Means table limit expression ts a
+        → Means table limit primary (one kind.OpenParen l ++ ts ++ one kind.CloseParen m) a
+    set : {ts : List Lexeme} {items : List Value} (l m : Spot) → Listed table limit ts items
+        → Means table limit primary (one kind.OpenBracket l ++ ts ++ one kind.CloseBracket m)
+        (v.set (values items))
+    -- a record's keys are all different
+    in_braces : {ts : List Lexeme} {entries : List (List ℕ × Value)} (l m : Spot)
+        → Entries table limit ts entries → repeats_key (keys_of entries) ≡ false
+        → Means table limit primary (one kind.OpenBrace l ++ ts ++ one kind.CloseBrace m)
+        (v.«record» (fields entries))
+
+  -- a first part, and those behind an operator of this kind
+  pub data Joined (table : Extensions) (limit : ℕ) : TokenKind → Sort → List Lexeme → Value
+      → List Value → Type 0 where
+    one_part : {k : TokenKind} {s : Sort} {ts : List Lexeme} {a : Value}
+        → Means table limit s ts a → Joined table limit k s ts a []
+    more_parts : {k : TokenKind} {s : Sort} {ts us : List Lexeme} {a b : Value} {bs : List Value}
+        (p : Spot) → Joined table limit k s ts a bs → Means table limit s us b
+        → Joined table limit k s (ts ++ one k p ++ us) a (bs ++ b ∷ [])
+
+  -- a first part, and those behind a `+` or a `-`, each with its operator
+  pub data Added (table : Extensions) (limit : ℕ) : List Lexeme → Value → List (AddOp × Value)
+      → Type 0 where
+    one_term : {ts : List Lexeme} {a : Value} → Means table limit product ts a
+        → Added table limit ts a []
+    more_terms : {ts us : List Lexeme} {a b : Value} {k : TokenKind} {op : AddOp}
+        {bs : List (AddOp × Value)} (p : Spot) → Added table limit ts a bs → ReadsAddOp k op
+        → Means table limit product us b
+        → Added table limit (ts ++ one k p ++ us) a (bs ++ (op, b) ∷ [])
+
+  -- what stands between brackets: nothing, or expressions joined by `,` and one more `,` or none
+  pub data Listed (table : Extensions) (limit : ℕ) : List Lexeme → List Value → Type 0 where
+    no_items : Listed table limit [] []
+    items : {ts : List Lexeme} {a : Value} {bs : List Value}
+        → Joined table limit kind.Comma expression ts a bs → Listed table limit ts (a ∷ bs)
+    items_comma : {ts : List Lexeme} {a : Value} {bs : List Value} (p : Spot)
+        → Joined table limit kind.Comma expression ts a bs
+        → Listed table limit (ts ++ one kind.Comma p) (a ∷ bs)
+
+  -- the same of a record's keys and values
+  pub data Entries (table : Extensions) (limit : ℕ) : List Lexeme → List (List ℕ × Value) → Type 0
+    where
+      no_entries : Entries table limit [] []
+      entries : {ts : List Lexeme} {fs : List (List ℕ × Value)} → JoinedEntries table limit ts fs
+          → Entries table limit ts fs
+      entries_comma : {ts : List Lexeme} {fs : List (List ℕ × Value)} (p : Spot)
+          → JoinedEntries table limit ts fs → Entries table limit (ts ++ one kind.Comma p) fs
+
+  pub data JoinedEntries (table : Extensions) (limit : ℕ) : List Lexeme
+      → List (List ℕ × Value) → Type 0 where
+    one_entry : {ts : List Lexeme} {key : List ℕ} {a : Value} → Entry table limit ts key a
+        → JoinedEntries table limit ts ((key, a) ∷ [])
+    more_entries : {ts us : List Lexeme} {fs : List (List ℕ × Value)} {key : List ℕ} {a : Value}
+        (p : Spot) → JoinedEntries table limit ts fs → Entry table limit us key a
+        → JoinedEntries table limit (ts ++ one kind.Comma p ++ us) (fs ++ (key, a) ∷ [])
+
+  -- a key, `:` and an expression
+  pub data Entry (table : Extensions) (limit : ℕ) : List Lexeme → List ℕ → Value → Type 0 where
+    entry : {ts us : List Lexeme} {key : List ℕ} {a : Value} (p : Spot) → IsKey ts key
+        → Means table limit expression us a
+        → Entry table limit (ts ++ one kind.Colon p ++ us) key a

@@ -1,0 +1,94 @@
+-- What private functions hold while parts are joined: accesses while they are applied, the sides
+-- of `has` and `is`. Contracts of private functions alone name these.
+use Rattle.std.specs.Prelude.{◌≡◌, ℕ, List, [], ◌∷◌, ◌++◌, map, Bool, true, false, Option, Some, None, Result, Ok, Err}
+use Rattle.std.specs.declared.vec.Vec.{Vec}
+use Rattle.std.specs.declared.alloc.Global.{Global}
+use Rattle.cedar_syntax.specs.declared.err.faults.Failure.{Failure}
+use Rattle.cedar_syntax.specs.declared.loc.Loc.{Loc}
+use Rattle.cedar_syntax.specs.declared.node.Node.{Node}
+use Rattle.cedar_syntax.specs.declared.cst.Add.{Add}
+use Rattle.cedar_syntax.specs.Forms.{located, add_form}
+use Rattle.cedar_expressions.specs.Value as v
+use Rattle.cedar_expressions.specs.Value.{Value}
+use Rattle.cedar_conversion.specs.declared.members.Access.{Access}
+use Rattle.cedar_conversion.specs.declared.members.Access.TheVariants as access
+use Rattle.cedar_conversion.specs.declared.members.Reading.{Reading}
+use Rattle.cedar_expressions.specs.declared.entity.EntityType.{EntityType}
+use Rattle.cedar_expressions.specs.declared.literal.PatternElem.{PatternElem}
+use Rattle.cedar_conversion.specs.Conversion.{ValueAndType, type_test_outcome, type_within_outcome, value_outcome}
+use Rattle.cedar_conversion.specs.Extensions.{Extensions}
+use Rattle.cedar_conversion.specs.HasSide.{Attributes}
+use Rattle.cedar_conversion.specs.Held.{Held}
+use Rattle.cedar_conversion.specs.Members as given
+use Rattle.cedar_conversion.specs.Members.{accesses_of}
+use Rattle.cedar_conversion.specs.Outcome.{Outcome, next}
+use Rattle.cedar_conversion.specs.Seen.{Refuses}
+
+abbrev pub seen_access : {E : Type 0} → (E → Value) → Access E → given.Access
+seen_access meaning (access.Field id) = given.field id
+seen_access meaning (access.Call args) = given.call (map meaning args.items)
+seen_access meaning (access.Index text) = given.index text
+
+abbrev pub seen_accesses : {E : Type 0} → (E → Value) → Vec (Access E) Global → List given.Access
+seen_accesses meaning v = map (seen_access meaning) v.items
+
+-- whether a call comes first
+abbrev pub begins_call : List given.Access → Bool
+begins_call (given.call args ∷ rest) = true
+begins_call _ = false
+
+-- a field that waits
+abbrev pub waiting : Option (List ℕ) → List given.Access
+waiting None = []
+waiting (Some id) = given.field id ∷ []
+
+abbrev pub after_field : Value → Option (List ℕ) → Value
+after_field x None = x
+after_field x (Some id) = v.get_attr x id
+
+abbrev pub settled_value : {E : Type 0} → (E → Value) → Reading E → Value
+settled_value meaning reading = after_field (meaning reading.value) reading.field
+
+-- what these accesses make of what was read
+abbrev pub reading_outcome : {E : Type 0} → Extensions → Option Loc → (E → Value)
+    → List given.Access → Reading E → Outcome Held
+reading_outcome e place meaning rest reading =
+    accesses_of e place (meaning reading.value) (waiting reading.field ++ rest)
+
+-- an answer that goes on to the outcome, or refuses it
+abbrev pub Leads : {X Y : Type 0} → (X → Outcome Y) → Result X Failure → Outcome Y → Type 0
+Leads goes (Ok x) outcome = outcome ≡ goes x
+Leads goes (Err failure) outcome = Refuses failure outcome
+
+-- ---- sides
+
+abbrev pub seen_attributes : List ℕ × Vec (List ℕ) Global → Attributes
+seen_attributes p = (p.0, p.1.items)
+
+abbrev pub seen_type : {E : Type 0} → (E → Value) → E × EntityType → ValueAndType
+seen_type meaning p = (meaning p.0, p.1)
+
+-- a value and the pattern right of its `like`
+abbrev pub Matched : Type 0
+Matched = Value × List PatternElem
+
+abbrev pub seen_pattern : {E : Type 0} → (E → Value) → E × Vec PatternElem Global → Matched
+seen_pattern meaning p = (meaning p.0, p.1.items)
+
+-- `is`, alone or with what stands behind `in`
+abbrev pub type_relation_outcome : Extensions → Option Loc → Outcome ValueAndType
+    → Option (Node (Option Add)) → Outcome Held
+type_relation_outcome e place p None = next p (type_test_outcome place)
+type_relation_outcome e place p (Some n) =
+    next p (λ q. next (value_outcome e (located add_form n)) (type_within_outcome place q))
+
+-- ---- records
+
+abbrev pub Pair : Type 0
+Pair = List ℕ × Value
+
+abbrev pub seen_pair : {E : Type 0} → (E → Value) → List ℕ × E → Pair
+seen_pair meaning p = (p.0, meaning p.1)
+
+abbrev pub seen_pairs : {E : Type 0} → (E → Value) → Vec (List ℕ × E) Global → List Pair
+seen_pairs meaning v = map (seen_pair meaning) v.items

@@ -1,0 +1,64 @@
+-- How private functions' contracts see what the program holds: as what the outcomes speak of.
+use Rattle.std.specs.Prelude.{◌≡◌, List, [], ◌∷◌, ◌++◌, map, Option, Some, None, Ok}
+use Rattle.std.specs.Option.{option_copied, option_map}
+use denote.Ref.{Bor}
+use Rattle.std.specs.declared.alloc.Global.{Global}
+use Rattle.std.specs.declared.vec.Vec.{Vec}
+use Rattle.cedar_expressions.specs.declared.place.Place.{Place}
+use Rattle.cedar_expressions.specs.Value.{Value}
+use Rattle.cedar_syntax.specs.declared.err.faults.Failure.{Failure}
+use Rattle.cedar_syntax.specs.declared.err.faults.Failure.TheVariants.{Memory, Errors}
+use Rattle.cedar_syntax.specs.declared.err.to_ast.ToASTError.{ToASTError}
+use Rattle.cedar_syntax.specs.declared.loc.Loc.{Loc}
+use Rattle.cedar_syntax.specs.ParseErrors.{faults_of}
+use Rattle.cedar_syntax.specs.Tree.{Operator}
+use Rattle.cedar_conversion.specs.declared.special.ExprOrSpecial.{ExprOrSpecial}
+use Rattle.cedar_conversion.specs.declared.special.ExprOrSpecial.TheVariants as special
+use Rattle.cedar_conversion.specs.Conversion.{Part}
+use Rattle.cedar_conversion.specs.Held.{Held, expression, variable, bare_name, bare_truth, bare_string}
+use Rattle.cedar_conversion.specs.Outcome.{Kind, NamedFault, Outcome, both, next}
+use Rattle.cedar_conversion.specs.Places.{bytes_of}
+use Rattle.cedar_conversion.specs.Seen.{kind_of, named_faults}
+
+-- ---- faults
+
+-- the failure is one fault alone, or want of memory
+abbrev pub TellsAlone : Failure → Kind → Option Loc → Type 0
+TellsAlone (Memory error) kind place = Unit {0}
+TellsAlone (Errors errors) kind place = named_faults (faults_of errors) ≡ (kind, place) ∷ []
+
+-- a fault that is told, if there is one
+abbrev pub optional_fault : Option ToASTError → List NamedFault
+optional_fault (Some fault) = (kind_of fault.kind, fault.loc) ∷ []
+optional_fault None = []
+
+-- ---- expressions
+
+abbrev pub empty_view : {T : Type 0} → T → Unit {0}
+empty_view x = tt
+
+-- an expression, or what is one but may be something else where it stands bare
+abbrev pub plain : {E : Type 0} → (E → Value) → ExprOrSpecial E → Held
+plain meaning (special.Expr e place) = expression place (meaning e)
+plain meaning (special.Var x place) = variable place x
+plain meaning (special.Name name place) = bare_name place name
+plain meaning (special.BoolLit b place) = bare_truth place b
+plain meaning (special.StrLit raw place) = bare_string place raw
+
+-- expressions behind operators
+abbrev pub rest_view : {O E : Type 0} → (O → Operator) → (E → Value) → Vec (O × E) Global
+    → List Part
+rest_view operator meaning v = map (λ p. (operator p.0, meaning p.1)) v.items
+
+-- one more part behind those so far
+abbrev pub with_last : Operator → List Part × Value → Outcome (List Part)
+with_last op p = Ok (p.0 ++ (op, p.1) ∷ [])
+
+abbrev pub one_more : Operator → Outcome (List Part) → Outcome Value → Outcome (List Part)
+one_more op ps x = next (both ps x) (with_last op)
+
+-- ---- places
+
+-- the bytes of a place that is lent
+abbrev pub lent_bytes : Option (Bor Loc) → Option Place
+lent_bytes loc = option_map bytes_of (option_copied loc)

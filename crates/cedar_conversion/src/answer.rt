@@ -1,0 +1,151 @@
+//! What a part of the conversion answers, left where its caller wants it.
+//!
+//! A large value that a call returns is copied into the frame of each caller that hands it on. With its place handed down instead, a level of nesting
+//! holds a copy only where it has several parts, and one part alone goes through its levels without a frame.
+ghost use Rattle.std.specs.Prelude.{◌≡◌, List};
+ghost use Rattle.cedar_expressions.specs.Value.{Value};
+ghost use Rattle.cedar_syntax.specs.Tree.{Operator};
+ghost use Rattle.cedar_conversion.specs.Conversion.{Part, conditional_outcome, expression_at as made_at};
+ghost use Rattle.cedar_conversion.specs.Held.{Held, as_expression};
+ghost use Rattle.cedar_conversion.specs.Members.{Access as Given, member_outcome};
+ghost use Rattle.cedar_conversion.specs.Outcome.{Outcome, both, empty_node, next, fault_outcome};
+ghost use Rattle.cedar_conversion.specs.Seen.{Gives};
+ghost use Rattle.cedar_conversion.specs.Table.{table_of};
+ghost use Rattle.cedar_conversion.specs.machines.Applied.{seen_accesses};
+ghost use Rattle.cedar_conversion.specs.machines.Views.{rest_view, one_more, plain};
+
+use crate::collections::Accesses;
+use crate::conditional::{if_from, parens_from};
+use crate::join::more;
+use crate::members::member_from;
+use crate::methods::Site;
+use crate::special::{ExprOrSpecial, expr_of, unreached};
+use cedar_expressions::ExprBuilderInfallibleBuild;
+use cedar_syntax::err::Failure;
+use cedar_syntax::loc::Loc;
+use std::alloc::{AllocError, Global};
+use std::mem;
+
+/// What a conversion answers.
+pub type Converted<E> = Result<ExprOrSpecial<E>, Failure>;
+
+/// Parts behind operators.
+pub(crate) type Parts<O, E> = Result<Vec<(O, E)>, Failure>;
+
+/// A place for an answer, before there is one.
+pub fn unanswered<T>() -> Result<T, Failure> {
+    Err(Failure::Memory(AllocError))
+}
+
+/// Leaves an answer.
+#[inline(always)]
+pub(crate) fn put<T: Drop>(place: &mut T, value: T)
+    ensures { place.new ≡ value }
+{
+    *place = value;
+}
+
+/// Takes the answer that was left.
+#[inline(always)]
+pub(crate) fn take<T: Drop>(place: &mut Result<T, Failure>) -> Result<T, Failure>
+    ensures { result ≡ place.old }
+{
+    mem::replace(place, unanswered::<T>())
+}
+
+/// The expression that the answer is, where an expression is wanted.
+#[inline(never)]
+pub(crate) fn value_in<B: ExprBuilderInfallibleBuild>(
+    alloc: Global,
+    answer: &mut Converted<B::Expr>,
+) -> Result<B::Expr, Failure>
+    ensures { (x : Outcome Held) → Gives (plain B.meaning) answer.old x
+        → Gives B.meaning result (next x as_expression) }
+{
+    expr_of::<B>(alloc, take(answer))
+}
+
+/// Adds the expression that the answer is behind the parts so far.
+#[inline(never)]
+pub(crate) fn gather<B: ExprBuilderInfallibleBuild, O: Copy + Drop>(
+    alloc: Global,
+    all: &mut Parts<O, B::Expr>,
+    op: O,
+    answer: &mut Converted<B::Expr>,
+)
+    ensures { (operator : O → Operator) (ps : Outcome (List Part)) (x : Outcome Held)
+        → Gives (rest_view operator B.meaning) all.old ps → Gives (plain B.meaning) answer.old x
+        → Gives (rest_view operator B.meaning) all.new
+        (one_more (operator op) ps (next x as_expression)) }
+{
+    let next = value_in::<B>(alloc, answer);
+    let held = take(all);
+    put(all, more::<B, O>(held, op, next));
+}
+
+/// What stands in parentheses, at its own place.
+#[inline(never)]
+pub(crate) fn parens_in<B: ExprBuilderInfallibleBuild>(
+    alloc: Global,
+    loc: &Option<Loc>,
+    answer: &mut Converted<B::Expr>,
+)
+    ensures { (x : Outcome Held) → Gives (plain B.meaning) answer.old x
+        → Gives (plain B.meaning) answer.new (next (next x as_expression) (made_at loc.now)) }
+{
+    let inner = take(answer);
+    put(answer, parens_from::<B>(alloc, loc, inner));
+}
+
+/// A conditional of its guard, its first part, and its last part, which the answer is.
+#[inline(never)]
+pub(crate) fn chosen_in<B: ExprBuilderInfallibleBuild>(
+    alloc: Global,
+    loc: &Option<Loc>,
+    guard: &mut Result<B::Expr, Failure>,
+    consequent: &mut Result<B::Expr, Failure>,
+    answer: &mut Converted<B::Expr>,
+)
+    ensures { (x y : Outcome Value) (h : Outcome Held) → Gives B.meaning guard.old x
+        → Gives B.meaning consequent.old y → Gives (plain B.meaning) answer.old h
+        → Gives (plain B.meaning) answer.new
+        (next (both (both x y) (next h as_expression)) (conditional_outcome loc.now)) }
+{
+    let alternative = value_in::<B>(alloc, answer);
+    let guard = take(guard);
+    let consequent = take(consequent);
+    put(
+        answer,
+        if_from::<B>(alloc, loc, guard, consequent, alternative),
+    );
+}
+
+/// A primary and its accesses.
+#[inline(never)]
+pub(crate) fn member_in<B: ExprBuilderInfallibleBuild>(
+    site: Site<'_>,
+    item: &mut Converted<B::Expr>,
+    accesses: &mut Accesses<B::Expr>,
+    answer: &mut Converted<B::Expr>,
+)
+    ensures { (x : Outcome Held) (all : Outcome (List Given)) → Gives (plain B.meaning) item.old x
+        → Gives (seen_accesses B.meaning) accesses.old all
+        → Gives (plain B.meaning) answer.new (next (both x all)
+        (λ p. member_outcome (table_of site.entry.styles.now) site.entry.loc.now p.0 p.1)) }
+{
+    let item = take(item);
+    let accesses = take(accesses);
+    put(answer, member_from::<B>(site, item, accesses));
+}
+
+/// A node with nothing in it.
+#[inline(never)]
+pub(crate) fn unreached_in<B: ExprBuilderInfallibleBuild>(
+    alloc: Global,
+    loc: &Option<Loc>,
+    answer: &mut Converted<B::Expr>,
+)
+    ensures { Gives (plain B.meaning) answer.new (fault_outcome empty_node loc.now) }
+{
+    put(answer, Err(unreached(alloc, loc)));
+}

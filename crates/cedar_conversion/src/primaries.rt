@@ -1,0 +1,260 @@
+//! The conversion of members and primaries: the part of the ring of calls below the operators (`convert`).
+ghost use Rattle.std.specs.Prelude.{◌≡◌, List, Option, Some};
+ghost use Rattle.cedar_syntax.specs.declared.cst.Expr.{Expr as Tree};
+ghost use Rattle.cedar_syntax.specs.declared.cst.MemAccess.TheVariants as accesses;
+ghost use Rattle.cedar_syntax.specs.declared.cst.Primary.TheVariants as primaries;
+ghost use Rattle.cedar_syntax.specs.declared.cst.RecInit.{RecInit as Init};
+ghost use Rattle.cedar_syntax.specs.declared.node.Node.{Node as Held};
+ghost use Rattle.cedar_syntax.specs.Forms.{located, member_form, primary_form, access_form, init_form};
+ghost use Rattle.cedar_conversion.specs.Conversion.{outcome, access_outcome, pair_outcome};
+ghost use Rattle.cedar_conversion.specs.Members.{Access as Given};
+ghost use Rattle.cedar_conversion.specs.Outcome.{Outcome, item_more};
+ghost use Rattle.cedar_conversion.specs.Seen.{Gives};
+ghost use Rattle.cedar_conversion.specs.Table.{table_of};
+ghost use Rattle.cedar_conversion.specs.machines.Applied.{Pair, seen_accesses, seen_pairs};
+ghost use Rattle.cedar_conversion.specs.machines.Views.{plain};
+
+use crate::answer::{
+    Converted, Parts, gather, member_in, parens_in, put, take, unreached_in, value_in,
+};
+use crate::collections::{
+    Accesses, Beside, Pairs, add_access, add_pair, call_from, field_from, index_from, pair_from,
+    record_from, set_from,
+};
+use crate::convert::expr;
+use crate::entities::entity;
+use crate::literals::literal;
+use crate::methods::Site;
+use crate::names::named;
+use crate::slots::slot;
+use crate::special::unreached;
+use crate::styles::ExtStyles;
+use cedar_expressions::ExprBuilderInfallibleBuild;
+use cedar_syntax::cst;
+use cedar_syntax::node::Node;
+use std::alloc::Global;
+
+/// A primary with its accesses, or without any.
+#[cycle(convert)]
+#[inline(never)]
+pub(crate) fn member<B: ExprBuilderInfallibleBuild>(
+    alloc: Global,
+    styles: &ExtStyles,
+    node: &Node<Option<cst::Member>>,
+    answer: &mut Converted<B::Expr>,
+)
+    ensures { Gives (plain B.meaning) answer.new (outcome (table_of styles.now)
+        (located member_form node.now)) }
+{
+    match &node.node {
+        Some(member) if member.access.is_empty() => {
+            primary::<B>(alloc, styles, &member.item, answer)
+        }
+        _ => accessed::<B>(alloc, styles, node, answer),
+    }
+}
+
+/// A primary and its accesses.
+#[cycle(convert)]
+#[inline(never)]
+fn accessed<B: ExprBuilderInfallibleBuild>(
+    alloc: Global,
+    styles: &ExtStyles,
+    node: &Node<Option<cst::Member>>,
+    answer: &mut Converted<B::Expr>,
+)
+    ensures { Gives (plain B.meaning) answer.new (outcome (table_of styles.now)
+        (located member_form node.now)) }
+{
+    match &node.node {
+        Some(member) => {
+            primary::<B>(alloc, styles, &member.item, answer);
+            let mut item = take(answer);
+            let mut all: Accesses<B::Expr> = Ok(Vec::new(alloc));
+            for part in member.access.as_slice() {
+                access::<B>(alloc, styles, part, answer, &mut all);
+            }
+            let site = Site {
+                alloc,
+                styles,
+                loc: &node.loc,
+            };
+            member_in::<B>(site, &mut item, &mut all, answer)
+        }
+        None => unreached_in::<B>(alloc, &node.loc, answer),
+    }
+}
+
+/// One access, added behind those so far. What is left in `answer` is of no use.
+#[cycle(convert)]
+#[inline(never)]
+fn access<B: ExprBuilderInfallibleBuild>(
+    alloc: Global,
+    styles: &ExtStyles,
+    node: &Node<Option<cst::MemAccess>>,
+    answer: &mut Converted<B::Expr>,
+    all: &mut Accesses<B::Expr>,
+)
+    ensures { (xs : Outcome (List Given)) → Gives (seen_accesses B.meaning) all.old xs
+        → Gives (seen_accesses B.meaning) all.new
+        (item_more xs (access_outcome (table_of styles.now) (located access_form node.now))) }
+{
+    match &node.node {
+        Some(cst::MemAccess::Field(ident)) => {
+            add_access::<B>(all, field_from::<B::Expr>(alloc, ident))
+        }
+        Some(cst::MemAccess::Call(_)) => arguments::<B>(alloc, styles, node, answer, all),
+        Some(cst::MemAccess::Index(inner)) => {
+            expr::<B>(alloc, styles, inner, answer);
+            let index = take(answer);
+            add_access::<B>(all, index_from::<B>(alloc, index))
+        }
+        None => add_access::<B>(all, Err(unreached(alloc, &node.loc))),
+    }
+}
+
+/// A call's arguments, as one access. Another access than a call is its caller's.
+#[cycle(convert)]
+#[inline(never)]
+fn arguments<B: ExprBuilderInfallibleBuild>(
+    alloc: Global,
+    styles: &ExtStyles,
+    node: &Node<Option<cst::MemAccess>>,
+    answer: &mut Converted<B::Expr>,
+    all: &mut Accesses<B::Expr>,
+)
+    ensures { (a : List (Held (Option Tree))) (xs : Outcome (List Given))
+        → node.now.node ≡ Some (accesses.Call a) → Gives (seen_accesses B.meaning) all.old xs
+        → Gives (seen_accesses B.meaning) all.new
+        (item_more xs (access_outcome (table_of styles.now) (located access_form node.now))) }
+{
+    let Some(cst::MemAccess::Call(items)) = &node.node else {
+        return add_access::<B>(all, Err(unreached(alloc, &node.loc)));
+    };
+    let mut given: Parts<Beside, B::Expr> = Ok(Vec::new(alloc));
+    for part in items.as_slice() {
+        expr::<B>(alloc, styles, part, answer);
+        gather::<B, Beside>(alloc, &mut given, Beside, answer);
+    }
+    add_access::<B>(all, call_from::<B>(alloc, given))
+}
+
+/// A primary: parentheses go through.
+#[cycle(convert)]
+#[inline(never)]
+fn primary<B: ExprBuilderInfallibleBuild>(
+    alloc: Global,
+    styles: &ExtStyles,
+    node: &Node<Option<cst::Primary>>,
+    answer: &mut Converted<B::Expr>,
+)
+    ensures { Gives (plain B.meaning) answer.new (outcome (table_of styles.now)
+        (located primary_form node.now)) }
+{
+    match &node.node {
+        Some(cst::Primary::Expr(inner)) => {
+            expr::<B>(alloc, styles, inner, answer);
+            parens_in::<B>(alloc, &inner.loc, answer)
+        }
+        _ => gathered::<B>(alloc, styles, node, answer),
+    }
+}
+
+#[cycle(convert)]
+#[inline(never)]
+fn gathered<B: ExprBuilderInfallibleBuild>(
+    alloc: Global,
+    styles: &ExtStyles,
+    node: &Node<Option<cst::Primary>>,
+    answer: &mut Converted<B::Expr>,
+)
+    ensures { Gives (plain B.meaning) answer.new (outcome (table_of styles.now)
+        (located primary_form node.now)) }
+{
+    match &node.node {
+        Some(cst::Primary::Literal(inner)) => put(answer, literal::<B>(alloc, inner)),
+        Some(cst::Primary::Ref(inner)) => put(answer, entity::<B>(alloc, inner.as_ref())),
+        Some(cst::Primary::Name(inner)) => put(answer, named::<B>(alloc, &node.loc, inner)),
+        Some(cst::Primary::Slot(inner)) => put(answer, slot::<B>(alloc, inner)),
+        Some(cst::Primary::Expr(nested)) => {
+            expr::<B>(alloc, styles, nested, answer);
+            parens_in::<B>(alloc, &nested.loc, answer)
+        }
+        Some(cst::Primary::EList(_)) => set::<B>(alloc, styles, node, answer),
+        Some(cst::Primary::RInits(_)) => record::<B>(alloc, styles, node, answer),
+        None => unreached_in::<B>(alloc, &node.loc, answer),
+    }
+}
+
+/// A set. Another primary is its caller's.
+#[cycle(convert)]
+#[inline(never)]
+fn set<B: ExprBuilderInfallibleBuild>(
+    alloc: Global,
+    styles: &ExtStyles,
+    node: &Node<Option<cst::Primary>>,
+    answer: &mut Converted<B::Expr>,
+)
+    ensures { (a : List (Held (Option Tree))) → node.now.node ≡ Some (primaries.EList a)
+        → Gives (plain B.meaning) answer.new (outcome (table_of styles.now)
+        (located primary_form node.now)) }
+{
+    let Some(cst::Primary::EList(items)) = &node.node else {
+        return unreached_in::<B>(alloc, &node.loc, answer);
+    };
+    let mut all: Parts<Beside, B::Expr> = Ok(Vec::new(alloc));
+    for part in items.as_slice() {
+        expr::<B>(alloc, styles, part, answer);
+        gather::<B, Beside>(alloc, &mut all, Beside, answer);
+    }
+    put(answer, set_from::<B>(alloc, &node.loc, all))
+}
+
+/// A record. Another primary is its caller's.
+#[cycle(convert)]
+#[inline(never)]
+fn record<B: ExprBuilderInfallibleBuild>(
+    alloc: Global,
+    styles: &ExtStyles,
+    node: &Node<Option<cst::Primary>>,
+    answer: &mut Converted<B::Expr>,
+)
+    ensures { (a : List (Held (Option Init))) → node.now.node ≡ Some (primaries.RInits a)
+        → Gives (plain B.meaning) answer.new (outcome (table_of styles.now)
+        (located primary_form node.now)) }
+{
+    let Some(cst::Primary::RInits(inits)) = &node.node else {
+        return unreached_in::<B>(alloc, &node.loc, answer);
+    };
+    let mut all: Pairs<B::Expr> = Ok(Vec::new(alloc));
+    for part in inits.as_slice() {
+        init::<B>(alloc, styles, part, answer, &mut all);
+    }
+    put(answer, record_from::<B>(alloc, &node.loc, all))
+}
+
+/// A pair of a record, added behind those so far. What is left in `answer` is of no use.
+#[cycle(convert)]
+#[inline(never)]
+fn init<B: ExprBuilderInfallibleBuild>(
+    alloc: Global,
+    styles: &ExtStyles,
+    node: &Node<Option<cst::RecInit>>,
+    answer: &mut Converted<B::Expr>,
+    all: &mut Pairs<B::Expr>,
+)
+    ensures { (xs : Outcome (List Pair)) → Gives (seen_pairs B.meaning) all.old xs
+        → Gives (seen_pairs B.meaning) all.new
+        (item_more xs (pair_outcome (table_of styles.now) (located init_form node.now))) }
+{
+    match &node.node {
+        Some(pair) => {
+            expr::<B>(alloc, styles, &pair.0, answer);
+            let key = take(answer);
+            expr::<B>(alloc, styles, &pair.1, answer);
+            let value = value_in::<B>(alloc, answer);
+            add_pair::<B>(all, pair_from::<B>(alloc, key, value))
+        }
+        None => add_pair::<B>(all, Err(unreached(alloc, &node.loc))),
+    }
+}

@@ -1,4 +1,0 @@
-//! Runs of the program.
-mod held;
-mod program;
-mod styles;

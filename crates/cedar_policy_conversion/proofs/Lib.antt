@@ -1,0 +1,13 @@
+pub mod ConditionFree
+pub mod ConditionValues
+pub mod FilledMaps
+pub mod FoldedConditions
+pub mod IsKinds
+pub mod LonePrimaries
+pub mod MappedValues
+pub mod PolicyLists
+pub mod PolicySides
+pub mod ReferredNodes
+pub mod ScopeParts
+pub mod SetSteps
+pub mod SlotFree

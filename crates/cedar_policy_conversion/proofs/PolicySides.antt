@@ -1,0 +1,97 @@
+-- The slots of a template, and on which side it stands: a static policy has none.
+use Rattle.std.proofs.Common.{◌≡◌, ◌||◌, Bool, true, false, cond, List, [], ◌∷◌, ◌++◌, append-nil, Option, Some, None, Ok, Err, is_some, slice_get, refl, sym, ap, ◌∙◌}
+use Rattle.either.specs.declared.Either.TheVariants.{Left, Right}
+use Rattle.cedar_expressions.specs.declared.literal.SlotId.{SlotId}
+use Rattle.cedar_expressions.specs.declared.literal.SlotId.TheVariants as ids
+use Rattle.cedar_expressions.specs.declared.place.Slot.{Slot}
+use Rattle.cedar_policy_store.specs.declared.constraints.EntityReference.TheVariants as reference
+use Rattle.cedar_policy_store.specs.declared.constraints.PrincipalOrResourceConstraint.{PrincipalOrResourceConstraint}
+use Rattle.cedar_policy_store.specs.declared.constraints.PrincipalOrResourceConstraint.TheVariants as constraint
+use Rattle.cedar_policy_store.specs.declared.static_policy.UnexpectedSlotError.{UnexpectedSlotError}
+use Rattle.cedar_policy_store.specs.declared.static_policy.UnexpectedSlotError.TheVariants.{FoundSlot}
+use Rattle.cedar_policy_store.specs.declared.template.Template.{Template}
+use Rattle.cedar_policy_store.specs.StaticPolicies.{IsFirstSlot}
+use Rattle.cedar_policy_store.specs.PlaceFree.{asks_for_slot, constraint_meaning, has_slot_in_scope}
+use Rattle.cedar_policy_store.specs.TemplateSlots.{at_most_one, constraint_slot, template_slots}
+use Rattle.cedar_syntax.specs.declared.loc.Loc.{Loc}
+use Rattle.cedar_conversion.specs.Places.{place_within}
+use Rattle.cedar_conversion.specs.Outcome.{Outcome, NamedFault, fault_outcome, expected_static_policy}
+use Rattle.cedar_policy_conversion.specs.Policies.{TemplateParts, meaning_of, only_static, scope_slots, side_outcome, policy_side, slot_faults, template_parts, unless_slots}
+use Rattle.cedar_policy_conversion.specs.machines.PolicyViews.{IsConditionFree, slot_of}
+
+-- ---- a template's slots
+
+-- where the condition has none, they are those of the scope
+pub scope_alone : (t : Template) → IsConditionFree t → template_slots t ≡ scope_slots (template_parts t)
+scope_alone t none =
+    let first = at_most_one (constraint_slot ids.Principal t.principal.constraint) in
+    let second = at_most_one (constraint_slot ids.Resource t.resource.constraint) in
+    ap (λ slots. first ++ (second ++ slots)) none ∙ ap (λ slots. first ++ slots) (append-nil second)
+
+-- ---- on which side a template stands
+
+left_at : (slots : List Slot) (t : TemplateParts) → slots ≡ [] → policy_side slots t ≡ Left t
+left_at slots t h = ap (λ ss. policy_side ss t) h
+
+right_some : (slots : List Slot) (t : TemplateParts) → is_some (slice_get slots 0) ≡ true → policy_side slots t ≡ Right t
+right_some [] t h = cc
+right_some (r ∷ slots) t h = refl
+
+side_by : (a b : Option Slot) (t : TemplateParts) → policy_side (at_most_one a ++ at_most_one b) t ≡ cond (is_some a || is_some b) (Right t) (Left t)
+side_by None None t = refl
+side_by None (Some s) t = refl
+side_by (Some r) b t = refl
+
+asks : (id : SlotId) (c : PrincipalOrResourceConstraint) → is_some (constraint_slot id c) ≡ asks_for_slot (constraint_meaning c)
+asks id constraint.Any = refl
+asks id (constraint.Eq (reference.EUID e)) = refl
+asks id (constraint.Eq (reference.Slot m)) = refl
+asks id (constraint.In (reference.EUID e)) = refl
+asks id (constraint.In (reference.Slot m)) = refl
+asks id (constraint.Is e) = refl
+asks id (constraint.IsIn e (reference.EUID u)) = refl
+asks id (constraint.IsIn e (reference.Slot m)) = refl
+
+-- by what it means
+pub side_of : (t : TemplateParts) → policy_side (scope_slots t) t ≡ cond (has_slot_in_scope (meaning_of t)) (Right t) (Left t)
+side_of t =
+    side_by (constraint_slot ids.Principal t.principal.constraint) (constraint_slot ids.Resource t.resource.constraint) t
+    ∙ ap (λ b. cond (b || is_some (constraint_slot ids.Resource t.resource.constraint)) (Right t) (Left t)) (asks ids.Principal t.principal.constraint)
+    ∙ ap (λ b. cond (asks_for_slot (constraint_meaning t.principal.constraint) || b) (Right t) (Left t)) (asks ids.Resource t.resource.constraint)
+
+pub is_left : (b : Bool) (t u : TemplateParts) → cond b (Right t) (Left t) ≡ Left u → (b ≡ false) × (t ≡ u)
+is_left true t u h = cc
+is_left false t u h = (refl, cc)
+
+pub is_right : (b : Bool) (t u : TemplateParts) → cond b (Right t) (Left t) ≡ Right u → (b ≡ true) × (t ≡ u)
+is_right true t u h = (refl, cc)
+is_right false t u h = cc
+
+-- a template whose outcome is given, on its side
+pub on_right : (o : Outcome TemplateParts) (t : Template) → o ≡ Ok (template_parts t) → IsConditionFree t → is_some (slice_get (template_slots t) 0) ≡ true → side_outcome o ≡ Ok (Right (template_parts t))
+on_right o t h none some =
+    ap side_outcome h
+    ∙ ap Ok (right_some (scope_slots (template_parts t)) (template_parts t) (ap (λ slots. is_some (slice_get slots 0)) (sym (scope_alone t none)) ∙ some))
+
+pub on_left : (o : Outcome TemplateParts) (t p : Template) → o ≡ Ok (template_parts t) → IsConditionFree t → p ≡ t → template_slots t ≡ [] → side_outcome o ≡ Ok (Left (template_parts p))
+on_left o t p h none same empty =
+    ap side_outcome h
+    ∙ ap Ok (left_at (scope_slots (template_parts t)) (template_parts t) (sym (scope_alone t none) ∙ empty) ∙ ap (λ u. Left (template_parts u)) (sym same))
+
+-- ---- a static policy is wanted
+
+unless_some : (place : Option Loc) (slots : List Slot) (t : TemplateParts) (s : Slot) → slice_get slots 0 ≡ Some s → unless_slots place slots t ≡ fault_outcome expected_static_policy (place_within place s.place)
+unless_some place [] t s h = cc
+unless_some place (r ∷ slots) t s h = let same : r ≡ s = cc in ap (λ u. unless_slots place (u ∷ slots) t) same
+
+pub static_refused : (place : Option Loc) (t : Template) (s : Slot) → IsConditionFree t → slice_get (template_slots t) 0 ≡ Some s
+    → unless_slots place (scope_slots (template_parts t)) (template_parts t) ≡ fault_outcome expected_static_policy (place_within place s.place)
+static_refused place t s none first = unless_some place (scope_slots (template_parts t)) (template_parts t) s (ap (λ slots. slice_get slots 0) (sym (scope_alone t none)) ∙ first)
+
+pub not_static_refused : (place : Option Loc) (t : Template) (error : UnexpectedSlotError) → IsConditionFree t → IsFirstSlot t error
+    → unless_slots place (scope_slots (template_parts t)) (template_parts t) ≡ fault_outcome expected_static_policy (place_within place (slot_of error).place)
+not_static_refused place t (FoundSlot s) none first = static_refused place t s none first
+
+-- faults of a template, and those behind them
+pub static_faulty : (place : Option Loc) (o : Outcome TemplateParts) (faults all : List NamedFault) → o ≡ Err faults → all ≡ faults ++ slot_faults faults → only_static place o ≡ Err all
+static_faulty place o faults all h more = ap (only_static place) h ∙ ap Err (sym more)

@@ -1,0 +1,61 @@
+-- The conditions of a policy: `when` and `unless` with an expression without slots, folded to the
+-- right. The rules are those of Cedar's `Cond::to_expr` and `construct_template_policy`.
+use Rattle.std.specs.Prelude.{List, map, Option, Some, None, Ok, Bool, true, false}
+use Rattle.cedar_expressions.specs.declared.place.Slot.{Slot}
+use Rattle.cedar_expressions.specs.Slots.{slots_of}
+use Rattle.cedar_expressions.specs.Value as v
+use Rattle.cedar_expressions.specs.Value.{Value}
+use Rattle.cedar_syntax.specs.declared.cst.Cond.{Cond}
+use Rattle.cedar_syntax.specs.declared.cst.Expr.{Expr}
+use Rattle.cedar_syntax.specs.declared.cst.Ident.{Ident}
+use Rattle.cedar_syntax.specs.declared.cst.Ident.TheVariants as words
+use Rattle.cedar_syntax.specs.declared.loc.Loc.{Loc}
+use Rattle.cedar_syntax.specs.declared.node.Node.{Node}
+use Rattle.cedar_syntax.specs.Forms.{located, expr_form}
+use Rattle.cedar_conversion.specs.Conversion.{value_outcome}
+use Rattle.cedar_conversion.specs.Extensions.{Extensions}
+use Rattle.cedar_conversion.specs.Names.{content_outcome, all_of}
+use Rattle.cedar_conversion.specs.Outcome.{NamedFault, Outcome, fault_outcome, next, invalid_condition, empty_clause, slots_in_condition_clause, faults_outcome}
+use Rattle.cedar_conversion.specs.Places.{place_within}
+
+-- ---- one condition
+
+-- whether a condition's word is `when`; else it is `unless`
+abbrev pub is_when_of : Option Loc → Ident → Outcome Bool
+is_when_of place words.When = Ok true
+is_when_of place words.Unless = Ok false
+is_when_of place _ = fault_outcome invalid_condition place
+
+abbrev pub is_when : Node (Option Ident) → Outcome Bool
+is_when n = next (content_outcome n.loc n.node) (is_when_of n.loc)
+
+abbrev pub clause : Extensions → Option Loc → Option (Node (Option Expr)) → Outcome Value
+clause e place (Some n) = value_outcome e (located expr_form n)
+clause e place None = fault_outcome empty_clause place
+
+-- `unless` is `not`
+abbrev pub condition_value : Bool → Value → Value
+condition_value true x = x
+condition_value false x = v.not x
+
+-- a slot where it stands within the condition, else at the condition
+abbrev pub condition_slot_fault : Option Loc → Slot → NamedFault
+condition_slot_fault place s = (slots_in_condition_clause, place_within place s.place)
+
+abbrev pub slots_outcome : Option Loc → Value → Outcome (Unit {0})
+slots_outcome place x = faults_outcome (map (condition_slot_fault place) (slots_of x))
+
+abbrev pub without_slots : Option Loc → Bool → Value → Outcome Value
+without_slots place when x = next (slots_outcome place x) (λ _. Ok (condition_value when x))
+
+abbrev pub condition_of : Extensions → Option Loc → Cond → Outcome Value
+condition_of e place c =
+    next (is_when c.cond) (λ when. next (clause e place c.expr) (without_slots place when))
+
+abbrev pub condition_outcome : Extensions → Node (Option Cond) → Outcome Value
+condition_outcome e n = next (content_outcome n.loc n.node) (condition_of e n.loc)
+
+-- ---- all of a policy
+
+abbrev pub conditions_outcome : Extensions → List (Node (Option Cond)) → Outcome (List Value)
+conditions_outcome e cs = all_of (condition_outcome e) cs

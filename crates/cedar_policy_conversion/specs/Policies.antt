@@ -1,0 +1,192 @@
+-- Policies and sets of them: what their trees give. The rules are those of Cedar's
+-- `to_policy_template`, `to_policy_or_template`, `to_policy` and `to_policyset`.
+use Rattle.std.specs.Prelude.{ℕ, suc, List, [], ◌∷◌, ◌++◌, map, filter, fold, Option, Ok, Err, Bool, true, false}
+use Rattle.std.specs.Option.{option_map}
+use Rattle.either.specs.declared.Either.{Either}
+use Rattle.either.specs.declared.Either.TheVariants.{Left, Right}
+use Rattle.std.specs.FinMap.{FinMap}
+use Rattle.cedar_expressions.specs.declared.place.Place.{Place}
+use Rattle.cedar_expressions.specs.declared.place.Slot.{Slot}
+use Rattle.cedar_expressions.specs.declared.literal.SlotId.TheVariants as ids
+use Rattle.cedar_expressions.specs.Meaning.{unplaced}
+use Rattle.cedar_expressions.specs.Placed.{marked_place}
+use Rattle.cedar_expressions.specs.Value.{Value}
+use Rattle.cedar_policy_store.specs.declared.annotation.Annotation.{Annotation}
+use Rattle.cedar_policy_store.specs.declared.constraints.ActionConstraint.{ActionConstraint}
+use Rattle.cedar_policy_store.specs.declared.constraints.PrincipalConstraint.{PrincipalConstraint}
+use Rattle.cedar_policy_store.specs.declared.constraints.ResourceConstraint.{ResourceConstraint}
+use Rattle.cedar_policy_store.specs.declared.effect.Effect.{Effect}
+use Rattle.cedar_policy_store.specs.declared.effect.Effect.TheVariants as effects
+use Rattle.cedar_policy_store.specs.declared.template.Template.{Template}
+use Rattle.cedar_policy_store.specs.PlaceFree as free
+use Rattle.cedar_policy_store.specs.PlaceFree.{annotation_value, constraint_meaning, set_meaning, with_values}
+use Rattle.cedar_policy_store.specs.TemplateSlots.{constraint_slot, at_most_one}
+use Rattle.cedar_policy_store.specs.TextMap.{text_order}
+use Rattle.cedar_syntax.specs.declared.cst.Annotation.{Annotation as AnnotationTree}
+use Rattle.cedar_syntax.specs.declared.cst.Ident.{Ident}
+use Rattle.cedar_syntax.specs.declared.cst.Ident.TheVariants as words
+use Rattle.cedar_syntax.specs.declared.cst.Policies.{Policies}
+use Rattle.cedar_syntax.specs.declared.cst.Policy.{Policy}
+use Rattle.cedar_syntax.specs.declared.cst.Policy.TheVariants as trees
+use Rattle.cedar_syntax.specs.declared.cst.PolicyImpl.{PolicyImpl}
+use Rattle.cedar_syntax.specs.declared.loc.Loc.{Loc}
+use Rattle.cedar_syntax.specs.declared.node.Node.{Node}
+use Rattle.cedar_policy_conversion.specs.AnnotationKeys.{annotations_outcome, annotation_map}
+use Rattle.cedar_policy_conversion.specs.Conditions.{conditions_outcome}
+use Rattle.cedar_conversion.specs.Places.{place_within, bytes_of}
+use Rattle.cedar_conversion.specs.Conversion.{with_first}
+use Rattle.cedar_conversion.specs.Extensions.{Extensions}
+use Rattle.cedar_conversion.specs.Names.{content_outcome}
+use Rattle.cedar_conversion.specs.Outcome.{Kind, NamedFault, Outcome, fault_outcome, both, next, invalid_effect, expected_static_policy, slots_in_condition_clause}
+use Rattle.cedar_policy_conversion.specs.PolicyMeaning.{no_policies, policy_id, with_policy, joint_condition}
+use Rattle.cedar_policy_conversion.specs.Scope.{Scope, scope_outcome}
+
+-- ---- a policy
+
+abbrev pub effect_of : Option Loc → Ident → Outcome Effect
+effect_of place words.Permit = Ok effects.Permit
+effect_of place words.Forbid = Ok effects.Forbid
+effect_of place _ = fault_outcome invalid_effect place
+
+abbrev pub effect_outcome : Node (Option Ident) → Outcome Effect
+effect_outcome n = next (content_outcome n.loc n.node) (effect_of n.loc)
+
+-- a template's parts with their places, but those inside its condition
+pub record TemplateParts : Type 0 where
+  pub id : List ℕ
+  pub place : Option Place
+  pub annotations : FinMap text_order Annotation
+  pub effect : Effect
+  pub principal : PrincipalConstraint
+  pub action : ActionConstraint
+  pub resource : ResourceConstraint
+  pub condition : Option Value
+
+abbrev pub template_parts : Template → TemplateParts
+template_parts t = record {
+  id = t.id;
+  place = marked_place t.place;
+  annotations = t.annotations;
+  effect = t.effect;
+  principal = t.principal;
+  action = t.action;
+  resource = t.resource;
+  condition = option_map unplaced t.condition;
+}
+
+-- effect and annotations, scope and conditions
+abbrev pub Given : Type 0
+Given = (Effect × FinMap text_order Annotation) × (Scope × List Value)
+
+abbrev pub given_parts : List ℕ → Option Loc → Given → TemplateParts
+given_parts id place ((effect, annotations), ((principal, action, resource), conditions)) =
+    record {
+      id = id;
+      place = option_map bytes_of place;
+      annotations = annotations;
+      effect = effect;
+      principal = principal;
+      action = action;
+      resource = resource;
+      condition = joint_condition conditions;
+    }
+
+-- the annotations as a policy keeps them
+abbrev pub kept_outcome : List (Node (Option AnnotationTree))
+    → Outcome (FinMap text_order Annotation)
+kept_outcome ns = next (annotations_outcome ns) (λ all. Ok (annotation_map all))
+
+-- effect, annotations, scope and conditions joined
+abbrev pub parts_outcome : Extensions → PolicyImpl → Outcome Given
+parts_outcome e p =
+    both (both (effect_outcome p.effect) (kept_outcome p.annotations))
+    (both (scope_outcome e p) (conditions_outcome e p.conds))
+
+abbrev pub template_of : Extensions → List ℕ → Option Loc → Policy → Outcome TemplateParts
+template_of e id place (trees.Policy p) =
+    next (parts_outcome e p) (λ given. Ok (given_parts id place given))
+
+abbrev pub template_outcome : Extensions → List ℕ → Node (Option Policy) → Outcome TemplateParts
+template_outcome e id n = next (content_outcome n.loc n.node) (template_of e id n.loc)
+
+-- ---- static policies
+
+-- the slots of a template's scope; its condition has none
+abbrev pub scope_slots : TemplateParts → List Slot
+scope_slots t =
+    at_most_one (constraint_slot ids.Principal t.principal.constraint)
+    ++ at_most_one (constraint_slot ids.Resource t.resource.constraint)
+
+-- a static policy where its scope has no slot, else a template
+abbrev pub policy_side : List Slot → TemplateParts → Either TemplateParts TemplateParts
+policy_side [] t = Left t
+policy_side (s ∷ ss) t = Right t
+
+abbrev pub side_outcome : Outcome TemplateParts → Outcome (Either TemplateParts TemplateParts)
+side_outcome t = next t (λ parts. Ok (policy_side (scope_slots parts) parts))
+
+abbrev pub either_outcome : Extensions → List ℕ → Node (Option Policy)
+    → Outcome (Either TemplateParts TemplateParts)
+either_outcome e id n = side_outcome (template_outcome e id n)
+
+-- the same of what the program holds
+abbrev pub either_parts : Either Template Template → Either TemplateParts TemplateParts
+either_parts (Left t) = Left (template_parts t)
+either_parts (Right t) = Right (template_parts t)
+
+-- a template is refused at its first slot where that stands within the policy, else at the policy
+abbrev pub unless_slots : Option Loc → List Slot → TemplateParts → Outcome TemplateParts
+unless_slots place [] t = Ok t
+unless_slots place (s ∷ ss) t = fault_outcome expected_static_policy (place_within place s.place)
+
+abbrev pub is_slot_fault : Kind → Bool
+is_slot_fault slots_in_condition_clause = true
+is_slot_fault _ = false
+
+-- one more fault for each slot in a condition, at its place
+abbrev pub slot_faults : List NamedFault → List NamedFault
+slot_faults faults =
+    map (λ f. (expected_static_policy, f.1)) (filter (λ f. is_slot_fault f.0) faults)
+
+abbrev pub only_static : Option Loc → Outcome TemplateParts → Outcome TemplateParts
+only_static place (Ok t) = unless_slots place (scope_slots t) t
+only_static place (Err faults) = Err (faults ++ slot_faults faults)
+
+abbrev pub static_outcome : Extensions → List ℕ → Node (Option Policy) → Outcome TemplateParts
+static_outcome e id n = only_static n.loc (template_outcome e id n)
+
+-- ---- sets
+
+-- what a template means: its parts without places
+abbrev pub meaning_of : TemplateParts → free.Policy
+meaning_of t = record {
+  id = t.id;
+  annotations = with_values annotation_value t.annotations;
+  effect = t.effect;
+  principal = constraint_meaning t.principal.constraint;
+  action = t.action;
+  resource = constraint_meaning t.resource.constraint;
+  condition = t.condition;
+}
+
+-- the policies from a number on, joined
+abbrev pub policies_from : Extensions → ℕ → List (Node (Option Policy))
+    → Outcome (List TemplateParts)
+policies_from e i [] = Ok []
+policies_from e i (n ∷ ns) =
+    next (both (template_outcome e (policy_id i) n) (policies_from e (suc i) ns)) with_first
+
+abbrev pub with_parts : free.Policies → TemplateParts → free.Policies
+with_parts set t = with_policy set (meaning_of t)
+
+abbrev pub set_of : List TemplateParts → free.Policies
+set_of ts = fold with_parts no_policies ts
+
+abbrev pub parts_set_outcome : Outcome (List TemplateParts) → Outcome free.Policies
+parts_set_outcome all = next all (λ ts. Ok (set_of ts))
+
+abbrev pub set_outcome : Extensions → List (Node (Option Policy)) → Outcome free.Policies
+set_outcome e ns = parts_set_outcome (policies_from e 0 ns)
+
+abbrev pub policies_outcome : Extensions → Node (Option Policies) → Outcome free.Policies
+policies_outcome e n = next (content_outcome n.loc n.node) (λ ps. set_outcome e ps.0)

@@ -1,0 +1,187 @@
+//! Conditions: `when` and `unless` with an expression without slots.
+ghost use Rattle.std.specs.Prelude.{◌≡◌, List, Option, IfOk, map};
+ghost use Rattle.std.specs.Option.{option_map};
+ghost use Rattle.cedar_expressions.specs.Meaning.{expr_meaning, unplaced};
+ghost use Rattle.cedar_expressions.specs.Value.{Value};
+ghost use Rattle.cedar_syntax.specs.declared.err.faults.ParseError.TheVariants.{ToAST};
+ghost use Rattle.cedar_policy_conversion.specs.Conditions as k;
+ghost use Rattle.cedar_conversion.specs.Outcome.{Outcome, empty_clause, invalid_condition, slots_in_condition_clause, item_more, faults_outcome};
+ghost use Rattle.cedar_conversion.specs.Places.{place_within};
+ghost use Rattle.cedar_policy_conversion.specs.PolicyMeaning.{joint_condition};
+ghost use Rattle.cedar_policy_conversion.specs.machines.PolicyViews.{meanings};
+ghost use Rattle.cedar_conversion.specs.Seen.{Gives, itself, named_fault};
+ghost use Rattle.cedar_conversion.specs.Table.{table_of};
+ghost use Rattle.cedar_conversion.specs.machines.Views.{TellsAlone, empty_view};
+
+use crate::cst_to_ast::{ExprAst, ExtStyles};
+use cedar_conversion::joins::{one_more_fault, place_within};
+use cedar_conversion::methods::Site;
+use cedar_conversion::special::{builder_at, refusal, unreached};
+use cedar_expressions::{Expr, ExprBuilder, ExprBuilderInfallibleBuild, Slot, TryClone};
+use cedar_syntax::cst::{Cond, Ident};
+use cedar_syntax::err::{Failure, ToASTError, ToASTErrorKind};
+use cedar_syntax::loc::Loc;
+use cedar_syntax::node::Node;
+use cedar_syntax::util::flatten_tuple_2;
+use std::alloc::{AllocError, Global};
+
+/// A condition's word that is neither `when` nor `unless`.
+fn other_word(alloc: Global, loc: &Option<Loc>, word: &Ident) -> Failure
+    ensures { TellsAlone result invalid_condition loc.now }
+{
+    match word.try_clone() {
+        Ok(word) => refusal(alloc, ToASTErrorKind::InvalidCondition(word), loc),
+        Err(error) => Failure::Memory(error),
+    }
+}
+
+/// Whether a condition's word is `when`; else it is `unless`.
+fn is_when(alloc: Global, node: &Node<Option<Ident>>) -> Result<bool, Failure>
+    ensures { Gives itself result (k.is_when node.now) }
+{
+    match &node.node {
+        Some(Ident::When) => Ok(true),
+        Some(Ident::Unless) => Ok(false),
+        Some(word) => Err(other_word(alloc, &node.loc, word)),
+        None => Err(unreached(alloc, &node.loc)),
+    }
+}
+
+/// A condition with nothing in it.
+fn nothing_in(site: Site<'_>, word: &Option<Ident>) -> Failure
+    ensures { TellsAlone result empty_clause site.entry.loc.now }
+{
+    match word.try_clone() {
+        Ok(word) => refusal(site.alloc, ToASTErrorKind::EmptyClause(word), site.loc),
+        Err(error) => Failure::Memory(error),
+    }
+}
+
+/// The expression of a condition.
+fn clause(site: Site<'_>, cond: &Cond) -> Result<Expr, Failure>
+    ensures { Gives expr_meaning result
+        (k.clause (table_of site.entry.styles.now) site.entry.loc.now cond.now.expr) }
+{
+    match &cond.expr {
+        Some(expr) => expr.to_expr::<ExprBuilder<()>>(site.alloc, site.styles),
+        None => Err(nothing_in(site, &cond.cond.node)),
+    }
+}
+
+/// A slot in a condition.
+fn slot_fault(slot: Slot, word: &'static str, loc: &Option<Loc>) -> Result<ToASTError, AllocError>
+    ensures { IfOk result (λ made. named_fault (ToAST made)
+        ≡ (slots_in_condition_clause, place_within loc.now slot.place)) }
+{
+    let loc = place_within(loc, slot.place)?;
+    Ok(ToASTError::new(ToASTErrorKind::slots_in_condition_clause(slot, word), loc))
+}
+
+/// Refuses each slot of a condition.
+fn no_slots(site: Site<'_>, word: &'static str, slots: &[Slot]) -> Result<(), Failure>
+    ensures { Gives empty_view result
+        (faults_outcome (map (k.condition_slot_fault site.entry.loc.now) slots.now)) }
+{
+    let mut all: Result<(), Failure> = Ok(());
+    for slot in slots {
+        all = one_more_fault(site.alloc, all, slot_fault(*slot, word, site.loc));
+    }
+    all
+}
+
+/// Refuses a condition in which slots stand.
+fn without_slots(site: Site<'_>, when: bool, expr: &Expr) -> Result<(), Failure>
+    ensures { Gives empty_view result
+        (k.slots_outcome site.entry.loc.now (expr_meaning expr.now)) }
+{
+    let word = if when { "when" } else { "unless" };
+    let slots = expr.slots(site.alloc)?;
+    no_slots(site, word, slots.as_slice())
+}
+
+/// `unless` is `not`.
+fn meant(site: Site<'_>, when: bool, expr: Expr) -> Result<Expr, AllocError>
+    ensures { IfOk result (λ e. expr_meaning e ≡ k.condition_value when (expr_meaning expr)) }
+{
+    if when {
+        Ok(expr)
+    } else {
+        builder_at::<ExprBuilder<()>>(site.alloc, site.loc).not(expr)
+    }
+}
+
+fn condition_of(site: Site<'_>, cond: &Cond) -> Result<Expr, Failure>
+    ensures { Gives unplaced result
+        (k.condition_of (table_of site.entry.styles.now) site.entry.loc.now cond.now) }
+{
+    let when = is_when(site.alloc, &cond.cond)?;
+    let expr = clause(site, cond)?;
+    without_slots(site, when, &expr)?;
+    Ok(meant(site, when, expr)?)
+}
+
+fn condition(alloc: Global, styles: &ExtStyles, node: &Node<Option<Cond>>) -> Result<Expr, Failure>
+    ensures { Gives unplaced result
+        (k.condition_outcome (table_of styles.now) node.now) }
+{
+    match &node.node {
+        Some(inner) => {
+            let site = Site {
+                alloc,
+                styles,
+                loc: &node.loc,
+            };
+            condition_of(site, inner)
+        }
+        None => Err(unreached(alloc, &node.loc)),
+    }
+}
+
+/// One more condition behind those so far.
+fn one_more(
+    all: Result<Vec<Expr>, Failure>,
+    next: Result<Expr, Failure>,
+) -> Result<Vec<Expr>, Failure>
+    ensures { (cs : Outcome (List Value)) (c : Outcome Value)
+        → Gives meanings all cs → Gives unplaced next c
+        → Gives meanings result (item_more cs c) }
+{
+    let (mut all, next) = flatten_tuple_2(all, next)?;
+    all.push(next)?;
+    Ok(all)
+}
+
+/// The conditions of a policy, joined.
+pub(crate) fn conditions(
+    alloc: Global,
+    styles: &ExtStyles,
+    nodes: &[Node<Option<Cond>>],
+) -> Result<Vec<Expr>, Failure>
+    ensures { Gives meanings result
+        (k.conditions_outcome (table_of styles.now) nodes.now) }
+{
+    let mut all: Result<Vec<Expr>, Failure> = Ok(Vec::new(alloc));
+    for node in nodes {
+        all = one_more(all, condition(alloc, styles, node));
+    }
+    all
+}
+
+/// Conditions folded to the right with `&&`: none asks for nothing.
+pub(crate) fn folded(
+    alloc: Global,
+    loc: &Option<Loc>,
+    conditions: Vec<Expr>,
+) -> Result<Option<Expr>, AllocError>
+    ensures { IfOk result (λ c. option_map unplaced c
+        ≡ joint_condition (map unplaced conditions.items)) }
+{
+    let mut earlier = conditions;
+    let Some(mut all) = earlier.pop() else {
+        return Ok(None);
+    };
+    while let Some(condition) = earlier.pop() {
+        all = builder_at::<ExprBuilder<()>>(alloc, loc).and(condition, all)?;
+    }
+    Ok(Some(all))
+}

@@ -1,0 +1,12 @@
+//! The conversion of policies and of sets of them, on that of expressions; the traits of trees.
+#![tactic(auto)]
+
+mod annotations;
+mod conditions;
+pub mod cst_to_ast;
+mod lone;
+mod policy_ids;
+mod scope;
+mod sets;
+mod templates;
+pub mod to_ref_or_refs;

@@ -1,0 +1,204 @@
+//! The scope of a policy: what is asked of the principal, the action and the resource.
+ghost use Rattle.std.specs.Prelude.{◌≡◌, IfOk, [], ◌∷◌, drop};
+ghost use Rattle.std.specs.Option.{option_copied};
+ghost use Rattle.cedar_policy_store.specs.declared.constraints.ActionConstraint.{ActionConstraint as Action};
+ghost use Rattle.cedar_policy_store.specs.declared.constraints.PrincipalConstraint.{PrincipalConstraint as Principal};
+ghost use Rattle.cedar_policy_store.specs.declared.constraints.ResourceConstraint.{ResourceConstraint as Resource};
+ghost use Rattle.cedar_syntax.specs.declared.err.faults.ParseError.TheVariants.{ToAST};
+ghost use Rattle.cedar_conversion.specs.Outcome.{Outcome, both, next, missing_scope_variable};
+ghost use Rattle.cedar_policy_conversion.specs.Scope as s;
+ghost use Rattle.cedar_conversion.specs.Seen.{Gives, itself, named_fault};
+ghost use Rattle.cedar_conversion.specs.Table.{table_of};
+ghost use Rattle.cedar_conversion.specs.machines.Views.{TellsAlone, empty_view};
+
+mod action;
+mod element;
+
+use crate::cst_to_ast::ExtStyles;
+use crate::scope::action::action;
+use crate::scope::element::{principal, resource};
+use cedar_conversion::joins::one_more_fault;
+use cedar_conversion::special::refusal;
+use cedar_expressions::{Boxed, TryClone, Var};
+use cedar_policy_store::{ActionConstraint, PrincipalConstraint, ResourceConstraint};
+use cedar_syntax::cst::VariableDef;
+use cedar_syntax::err::{Failure, ToASTError, ToASTErrorKind};
+use cedar_syntax::loc::{Loc, SourceSpan};
+use cedar_syntax::node::Node;
+use cedar_syntax::util::flatten_tuple_2;
+use std::alloc::{AllocError, Global};
+
+/// A place that is known, else the last one before it.
+fn or_before<'a>(before: &'a Option<Loc>, place: &'a Option<Loc>) -> &'a Option<Loc>
+    ensures { result.now ≡ s.or_before before.now place.now }
+{
+    match place {
+        Some(_) => place,
+        None => before,
+    }
+}
+
+/// The place of an element that is there, else the last one before it.
+fn place_behind<'a>(
+    before: &'a Option<Loc>,
+    element: Option<&'a Node<Option<VariableDef>>>,
+) -> &'a Option<Loc>
+    ensures { result.now ≡ s.place_behind before.now (option_copied element.entry) }
+{
+    match element {
+        Some(node) => or_before(before, &node.loc),
+        None => before,
+    }
+}
+
+/// No bytes, at the end of a place.
+fn end_place(place: &Option<Loc>) -> Result<Option<Loc>, AllocError>
+    ensures { IfOk result (λ end. end ≡ s.end_place place.now) }
+{
+    match place {
+        Some(loc) => {
+            let end = loc.span(SourceSpan::between(loc.end(), loc.end()))?;
+            Ok(Some(end))
+        }
+        None => Ok(None),
+    }
+}
+
+/// An element that isn't there.
+fn missing(alloc: Global, var: Var, before: &Option<Loc>) -> Failure
+    ensures { TellsAlone result missing_scope_variable (s.end_place before.now) }
+{
+    match end_place(before) {
+        Ok(place) => refusal(alloc, ToASTErrorKind::MissingScopeVariable(var), &place),
+        Err(error) => Failure::Memory(error),
+    }
+}
+
+/// A fault of an element beyond the third.
+fn extra_fault(alloc: Global, node: &Node<Option<VariableDef>>) -> Result<ToASTError, AllocError>
+    ensures { IfOk result (λ made. named_fault (ToAST made)
+        ≡ s.extra_element_fault node.now.loc node.now.node) }
+{
+    let loc = node.loc.try_clone()?;
+    match &node.node {
+        Some(element) => {
+            let element = Boxed::new(alloc, element.try_clone()?)?;
+            Ok(ToASTError::new(ToASTErrorKind::ExtraScopeElement(element), loc))
+        }
+        None => Ok(ToASTError::new(ToASTErrorKind::EmptyNodeInvariantViolation, loc)),
+    }
+}
+
+/// Refuses each element beyond the third.
+fn no_extra(alloc: Global, others: &[Node<Option<VariableDef>>]) -> Result<(), Failure>
+    ensures { Gives empty_view result (s.no_extra others.now) }
+{
+    let mut all: Result<(), Failure> = Ok(());
+    for node in others {
+        all = one_more_fault(alloc, all, extra_fault(alloc, node));
+    }
+    all
+}
+
+/// The elements beyond the third.
+fn others(elements: &[Node<Option<VariableDef>>]) -> &[Node<Option<VariableDef>>]
+    ensures { result.now ≡ drop 3 elements.now }
+{
+    if elements.len() < 3 {
+        &elements[elements.len()..]
+    } else {
+        &elements[3..]
+    }
+}
+
+/// What is asked of the principal, if its element is there; `before` is the last place before it.
+fn principal_there(
+    alloc: Global,
+    styles: &ExtStyles,
+    before: &Option<Loc>,
+    element: Option<&Node<Option<VariableDef>>>,
+) -> Result<PrincipalConstraint, Failure>
+    ensures { Gives itself result (s.if_there (s.principal_outcome (table_of styles.now))
+        before.now (option_copied element.entry)) }
+{
+    match element {
+        Some(node) => principal(alloc, styles, node),
+        None => Err(missing(alloc, Var::Principal, before)),
+    }
+}
+
+/// What is asked of the action, if its element is there; `before` is the last place before it.
+fn action_there(
+    alloc: Global,
+    styles: &ExtStyles,
+    before: &Option<Loc>,
+    element: Option<&Node<Option<VariableDef>>>,
+) -> Result<ActionConstraint, Failure>
+    ensures { Gives itself result (s.if_there (s.action_outcome (table_of styles.now))
+        before.now (option_copied element.entry)) }
+{
+    match element {
+        Some(node) => action(alloc, styles, node),
+        None => Err(missing(alloc, Var::Action, before)),
+    }
+}
+
+/// What is asked of the resource, if its element is there; `before` is the last place before it.
+fn resource_there(
+    alloc: Global,
+    styles: &ExtStyles,
+    before: &Option<Loc>,
+    element: Option<&Node<Option<VariableDef>>>,
+) -> Result<ResourceConstraint, Failure>
+    ensures { Gives itself result (s.if_there (s.resource_outcome (table_of styles.now))
+        before.now (option_copied element.entry)) }
+{
+    match element {
+        Some(node) => resource(alloc, styles, node),
+        None => Err(missing(alloc, Var::Resource, before)),
+    }
+}
+
+/// What is asked of the principal, the action and the resource.
+pub type Scope = (PrincipalConstraint, ActionConstraint, ResourceConstraint);
+
+/// The elements joined, `place` being where the effect stands.
+pub(crate) fn scope_of(
+    alloc: Global,
+    styles: &ExtStyles,
+    place: &Option<Loc>,
+    elements: &[Node<Option<VariableDef>>],
+) -> Result<Scope, Failure>
+    ensures { Gives itself result
+        (s.elements_outcome (table_of styles.now) place.now elements.now) }
+{
+    let first = elements.get(0);
+    let second = elements.get(1);
+    let third = elements.get(2);
+    let behind_first = place_behind(place, first);
+    let behind_second = place_behind(behind_first, second);
+    joined(
+        principal_there(alloc, styles, place, first),
+        action_there(alloc, styles, behind_first, second),
+        resource_there(alloc, styles, behind_second, third),
+        no_extra(alloc, others(elements)),
+    )
+}
+
+/// The elements of a scope joined, and what is refused beside them.
+fn joined(
+    principal: Result<PrincipalConstraint, Failure>,
+    action: Result<ActionConstraint, Failure>,
+    resource: Result<ResourceConstraint, Failure>,
+    extra: Result<(), Failure>,
+) -> Result<Scope, Failure>
+    ensures { (p : Outcome Principal) (a : Outcome Action) (r : Outcome Resource)
+        (x : Outcome (Unit {0})) → Gives itself principal p → Gives itself action a
+        → Gives itself resource r → Gives empty_view extra x
+        → Gives itself result (next (both (both p a) (both r x)) s.three) }
+{
+    let first = flatten_tuple_2(principal, action);
+    let second = flatten_tuple_2(resource, extra);
+    let ((principal, action), (resource, ())) = flatten_tuple_2(first, second)?;
+    Ok((principal, action, resource))
+}

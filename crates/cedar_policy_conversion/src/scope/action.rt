@@ -1,0 +1,195 @@
+//! The element of a scope that asks of the action.
+ghost use Rattle.std.specs.Prelude.{◌≡◌, Some, IfOk};
+ghost use Rattle.cedar_conversion.specs.Outcome.{invalid_action_type};
+ghost use Rattle.cedar_policy_conversion.specs.Scope as s;
+ghost use Rattle.cedar_conversion.specs.Seen.{Gives, itself};
+ghost use Rattle.cedar_conversion.specs.Table.{table_of};
+ghost use Rattle.cedar_conversion.specs.machines.Views.{TellsAlone, empty_view};
+
+use crate::cst_to_ast::ExtStyles;
+use crate::scope::element::{is_inverted, no_type_name, scope_variable};
+use crate::to_ref_or_refs::{OneOrMultipleRefs, SingleEntity, to_ref_or_refs};
+use cedar_conversion::methods::Site;
+use cedar_conversion::special::{refusal, unreached};
+use cedar_expressions::{EntityUID, Items, Var};
+use cedar_policy_store::ActionConstraint;
+use cedar_syntax::cst::{self, Add, RelOp, VariableDef};
+use cedar_syntax::err::parse_errors::InvalidActionType;
+use cedar_syntax::err::{Failure, NonEmpty, ToASTErrorKind};
+use cedar_syntax::loc::Loc;
+use cedar_syntax::node::Node;
+use std::alloc::{AllocError, Global};
+
+/// Refuses another variable than the action.
+fn action_alone(alloc: Global, loc: &Option<Loc>, got: Var) -> Result<(), Failure>
+    ensures { Gives empty_view result (s.action_alone loc.now got) }
+{
+    match got {
+        Var::Action => Ok(()),
+        Var::Principal | Var::Resource | Var::Context => {
+            let kind = ToASTErrorKind::IncorrectVariable {
+                expected: Var::Action,
+                got,
+            };
+            Err(refusal(alloc, kind, loc))
+        }
+    }
+}
+
+/// Refuses a type behind `is`.
+fn no_entity_type(
+    alloc: Global,
+    loc: &Option<Loc>,
+    node: &Option<Node<Option<Add>>>,
+) -> Result<(), Failure>
+    ensures { Gives empty_view result (s.no_entity_type loc.now node.now) }
+{
+    match node {
+        Some(_) => Err(refusal(alloc, ToASTErrorKind::IsInActionScope, loc)),
+        None => Ok(()),
+    }
+}
+
+fn action_begun(alloc: Global, loc: &Option<Loc>, element: &VariableDef) -> Result<(), Failure>
+    ensures { Gives empty_view result (s.action_variable loc.now element.now) }
+{
+    action_alone(alloc, loc, scope_variable(alloc, &element.variable)?)?;
+    no_type_name(alloc, &element.unused_type_name)?;
+    no_entity_type(alloc, loc, &element.entity_type)
+}
+
+/// `in` one entity is a list of one.
+fn within(alloc: Global, refs: OneOrMultipleRefs) -> Result<ActionConstraint, AllocError>
+    ensures { IfOk result (λ c. c ≡ s.within refs) }
+{
+    match refs {
+        OneOrMultipleRefs::Single(uid) => {
+            let mut uids = Items::new(alloc);
+            uids.push(uid)?;
+            Ok(ActionConstraint::In(uids))
+        }
+        OneOrMultipleRefs::Multiple(uids) => Ok(ActionConstraint::In(uids)),
+    }
+}
+
+fn action_in(site: Site<'_>, right: &Node<Option<cst::Expr>>) -> Result<ActionConstraint, Failure>
+    ensures { Gives itself result (s.action_in (table_of site.entry.styles.now) site.entry.loc.now
+        right.now) }
+{
+    if is_inverted(site, RelOp::In, right)? {
+        return Err(refusal(site.alloc, ToASTErrorKind::IsInActionScope, site.loc));
+    }
+    let refs = to_ref_or_refs::<OneOrMultipleRefs>(site.alloc, Var::Action, right)?;
+    Ok(within(site.alloc, refs)?)
+}
+
+fn action_eq(alloc: Global, right: &Node<Option<cst::Expr>>) -> Result<ActionConstraint, Failure>
+    ensures { Gives itself result (s.action_eq right.now) }
+{
+    let SingleEntity(uid) = to_ref_or_refs::<SingleEntity>(alloc, Var::Action, right)?;
+    Ok(ActionConstraint::Eq(uid))
+}
+
+fn action_by(
+    site: Site<'_>,
+    op: RelOp,
+    right: &Node<Option<cst::Expr>>,
+) -> Result<ActionConstraint, Failure>
+    ensures { Gives itself result (s.action_by (table_of site.entry.styles.now)
+        site.entry.loc.now op right.now) }
+{
+    match op {
+        RelOp::In => action_in(site, right),
+        RelOp::Eq => action_eq(site.alloc, right),
+        RelOp::InvalidSingleEq => {
+            Err(refusal(site.alloc, ToASTErrorKind::InvalidSingleEq, site.loc))
+        }
+        RelOp::Less | RelOp::LessEq | RelOp::GreaterEq | RelOp::Greater | RelOp::NotEq => {
+            let kind = ToASTErrorKind::InvalidActionScopeOperator(op);
+            Err(refusal(site.alloc, kind, site.loc))
+        }
+    }
+}
+
+/// Entities that have no action type.
+fn other_types(alloc: Global, loc: &Option<Loc>, first: EntityUID, rest: Vec<EntityUID>) -> Failure
+    ensures { TellsAlone result invalid_action_type loc.now }
+{
+    let euids = NonEmpty {
+        head: first,
+        tail: Items::from(rest),
+    };
+    refusal(
+        alloc,
+        ToASTErrorKind::InvalidActionType(InvalidActionType { euids }),
+        loc,
+    )
+}
+
+/// Refuses entities that have no action type.
+fn only_actions(
+    alloc: Global,
+    loc: &Option<Loc>,
+    constraint: ActionConstraint,
+) -> Result<ActionConstraint, Failure>
+    ensures { Gives itself result (s.only_actions loc.now constraint) }
+{
+    match constraint.contains_only_action_types(alloc)? {
+        Ok(constraint) => Ok(constraint),
+        Err((first, rest)) => Err(other_types(alloc, loc, first, rest)),
+    }
+}
+
+/// What an operator and its right side ask of the action.
+fn action_beside(
+    site: Site<'_>,
+    ineq: &(RelOp, Node<Option<cst::Expr>>),
+) -> Result<ActionConstraint, Failure>
+    ensures { Gives itself result (s.asked_action (table_of site.entry.styles.now)
+        site.entry.loc.now (Some ineq.now)) }
+{
+    let constraint = action_by(site, ineq.0, &ineq.1)?;
+    only_actions(site.alloc, &ineq.1.loc, constraint)
+}
+
+fn action_asked(
+    site: Site<'_>,
+    ineq: &Option<(RelOp, Node<Option<cst::Expr>>)>,
+) -> Result<ActionConstraint, Failure>
+    ensures { Gives itself result (s.asked_action (table_of site.entry.styles.now)
+        site.entry.loc.now ineq.now) }
+{
+    match ineq {
+        Some(ineq) => action_beside(site, ineq),
+        None => Ok(ActionConstraint::Any),
+    }
+}
+
+fn action_of(site: Site<'_>, element: &VariableDef) -> Result<ActionConstraint, Failure>
+    ensures { Gives itself result (s.action_of (table_of site.entry.styles.now) site.entry.loc.now
+        element.now) }
+{
+    action_begun(site.alloc, site.loc, element)?;
+    action_asked(site, &element.ineq)
+}
+
+/// The element of the action.
+pub(crate) fn action(
+    alloc: Global,
+    styles: &ExtStyles,
+    node: &Node<Option<VariableDef>>,
+) -> Result<ActionConstraint, Failure>
+    ensures { Gives itself result (s.action_outcome (table_of styles.now) node.now) }
+{
+    match &node.node {
+        Some(inner) => {
+            let site = Site {
+                alloc,
+                styles,
+                loc: &node.loc,
+            };
+            action_of(site, inner)
+        }
+        None => Err(unreached(alloc, &node.loc)),
+    }
+}

@@ -1,9 +1,0 @@
-use Rattle.std.proofs.Common.{take}
-use Rattle.cedar_policy_parser.specs.Conditions.{conditions_outcome}
-use Rattle.cedar_policy_parser.specs.Seen.{Gives}
-use Rattle.cedar_policy_parser.specs.Table.{table_of}
-use Rattle.cedar_policy_parser.proofs.conditions.conditions.Given as goal
-use Rattle.cedar_policy_parser.specs.machines.Views.{meanings}
-
-abbrev pub invariant-loop-node : goal.invariant-loop-node
-invariant-loop-node l = Gives meanings l.all (conditions_outcome (table_of l.styles) (take l.node-index l.nodes))

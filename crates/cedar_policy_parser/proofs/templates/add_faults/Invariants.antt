@@ -1,7 +1,0 @@
-use Rattle.std.proofs.Common.{◌≡◌, ◌++◌}
-use Rattle.cedar_syntax.specs.ParseErrors.{faults_of}
-use Rattle.cedar_policy_parser.specs.Seen.{named_faults}
-use Rattle.cedar_policy_parser.proofs.templates.add_faults.Given as goal
-
-abbrev pub invariant-loop-fault : goal.invariant-loop-fault
-invariant-loop-fault l = named_faults (faults_of l.faults) ≡ named_faults (faults_of l.fn.faults) ++ named_faults l.yielded

@@ -1,8 +1,0 @@
-use Rattle.std.proofs.Common.{◌≡◌, length, take}
-use Rattle.cedar_syntax.specs.ParseErrors.{faults_of}
-use Rattle.cedar_policy_parser.specs.Policies.{slot_faults}
-use Rattle.cedar_policy_parser.specs.Seen.{named_faults}
-use Rattle.cedar_policy_parser.proofs.templates.static_faults.Given as goal
-
-abbrev pub invariant-loop-fault : goal.invariant-loop-fault
-invariant-loop-fault l = named_faults l.more.items ≡ slot_faults (named_faults (take (length l.yielded) (faults_of l.faults)))

@@ -1,9 +1,0 @@
-use Rattle.std.proofs.Common.{map, take}
-use Rattle.cedar_syntax.specs.Forms.{listed_expr, parts_of}
-use Rattle.cedar_policy_parser.specs.References.{entities}
-use Rattle.cedar_policy_parser.specs.Seen.{Gives}
-use Rattle.cedar_policy_parser.proofs.Identifiers.{items_of}
-use Rattle.cedar_policy_parser.proofs.to_ref_or_refs.entities.Given as goal
-
-abbrev pub invariant-loop-item : goal.invariant-loop-item
-invariant-loop-item l = Gives items_of l.all (entities (parts_of (map listed_expr (take l.item-index l.items))))
