@@ -2,8 +2,10 @@
 
 use crate::conversions::{self, ConversionCall};
 use crate::parts::{self, PartCall};
+use crate::runs;
 use crate::texts::{self, TextCall};
 use crate::trees::{self, TreeCall};
+use cedar_syntax::err::Failure;
 use std::alloc::{AllocError, Global};
 
 /// The calls that there are.
@@ -13,10 +15,11 @@ enum Call {
     Conversion(ConversionCall),
     Part(PartCall),
     Text(TextCall),
+    Run,
 }
 
 /// Their names.
-const CALLS: [(&str, Call); 34] = [
+const CALLS: [(&str, Call); 40] = [
     ("parse_expr", Call::Tree(TreeCall::Expr)),
     ("parse_primary", Call::Tree(TreeCall::Primary)),
     ("parse_ref", Call::Tree(TreeCall::Ref)),
@@ -78,12 +81,21 @@ const CALLS: [(&str, Call); 34] = [
         Call::Part(PartCall::PolicyToPolicyOrTemplate),
     ),
     ("Policy::to_policy", Call::Part(PartCall::PolicyToPolicy)),
+    (
+        "Policies::with_generated_policyids",
+        Call::Part(PartCall::GeneratedPolicyIds),
+    ),
+    ("Policies::to_policyset", Call::Part(PartCall::SharedTree)),
+    ("PolicySet::add", Call::Part(PartCall::Added)),
+    ("ParseErrors::extend", Call::Text(TextCall::Extend)),
     ("Lexer::next", Call::Text(TextCall::Lexer)),
+    ("nesting", Call::Text(TextCall::Nesting)),
     ("to_unescaped_string", Call::Text(TextCall::UnescapedString)),
     ("to_pattern", Call::Text(TextCall::Pattern)),
     ("identifiers", Call::Text(TextCall::Identifiers)),
     ("expected_to_string", Call::Text(TextCall::Expected)),
     ("ToCSTError::help", Call::Text(TextCall::HelpOfInvalidToken)),
+    ("run", Call::Run),
 ];
 
 /// The call of a name. (A function over the list: over the list itself each goal would hold all of it.)
@@ -104,6 +116,31 @@ pub(crate) fn answer(alloc: Global, section: &str, text: &str) -> Result<String,
         Some(Call::Conversion(call)) => conversions::answer(alloc, call, words, text),
         Some(Call::Part(call)) => parts::answer(alloc, call, words, text),
         Some(Call::Text(call)) => texts::answer(alloc, call, text),
+        Some(Call::Run) => runs::answer(alloc, words, text),
         None => String::from_str(alloc, "no such call"),
+    }
+}
+
+/// Whether a section's call reads a text as a tree.
+pub(crate) fn reads_trees(section: &str) -> bool {
+    let (name, _) = section.split_once(' ').unwrap_or((section, ""));
+    match named(&CALLS, name) {
+        Some(Call::Text(_) | Call::Run) | None => false,
+        Some(_) => true,
+    }
+}
+
+/// Why a section's call, with the words behind its name, refuses a text, if it does. What it gives is let go.
+pub(crate) fn refusal(
+    alloc: Global,
+    section: &str,
+    text: &str,
+) -> Result<Option<Failure>, AllocError> {
+    let (name, words) = section.split_once(' ').unwrap_or((section, ""));
+    match named(&CALLS, name) {
+        Some(Call::Tree(call)) => Ok(trees::refusal(alloc, call, text)),
+        Some(Call::Conversion(call)) => conversions::refusal(alloc, call, words, text),
+        Some(Call::Part(call)) => Ok(parts::refusal(alloc, call, words, text)),
+        Some(Call::Text(_) | Call::Run) | None => Ok(None),
     }
 }

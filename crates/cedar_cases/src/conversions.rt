@@ -8,6 +8,7 @@ use crate::tables::{found, has_word, styles};
 use crate::trees::reads_again;
 use crate::values::value_text;
 use cedar_expressions::Expr;
+use cedar_policy_parser::formatter::format_policies;
 use cedar_policy_parser::{parse_expression, parse_policyset};
 use cedar_policy_store::PolicySet;
 use cedar_syntax::cst;
@@ -46,7 +47,7 @@ impl Meaning for PolicySet {
 }
 
 /// What a call gives for a text under the table that the words name: what the text means, or its faults. Behind the word `places` the
-/// bytes of each node stand in a value.
+/// bytes of each node stand in a value, behind the word `help` the hint of each fault below it.
 pub(crate) fn answer(
     alloc: Global,
     call: ConversionCall,
@@ -60,6 +61,26 @@ pub(crate) fn answer(
         ConversionCall::Lines => formatted::answer(alloc, words, text),
         ConversionCall::Table => found(alloc, words, text),
     }
+}
+
+/// Why a call refuses a text, if it does; of two texts, the one that is given.
+pub(crate) fn refusal(
+    alloc: Global,
+    call: ConversionCall,
+    words: &str,
+    text: &str,
+) -> Result<Option<Failure>, AllocError> {
+    let styles = styles(alloc, words)?;
+    let refusal = match call {
+        ConversionCall::Expression => parse_expression(alloc, text, &styles).err(),
+        ConversionCall::PolicySet | ConversionCall::SameSet => {
+            parse_policyset(alloc, text, &styles).err()
+        }
+        ConversionCall::Lines => format_policies(alloc, text, &styles).err(),
+        ConversionCall::Table => None,
+    };
+    drop(styles);
+    Ok(refusal)
 }
 
 fn expression(alloc: Global, words: &str, text: &str) -> Result<String, AllocError> {
@@ -88,7 +109,16 @@ fn what_is_meant<T: Meaning>(
 ) -> Result<String, AllocError> {
     match answer {
         Ok(value) => value.told(alloc, words),
-        Err(failure) => refused(alloc, Told::Message, failure),
+        Err(failure) => refused(alloc, told_under(words), failure),
+    }
+}
+
+/// How much is told of a fault under these words.
+fn told_under(words: &str) -> Told {
+    if has_word(words, "help") {
+        Told::All
+    } else {
+        Told::Message
     }
 }
 

@@ -13,7 +13,7 @@ pub(crate) enum Told {
     All,
 }
 
-/// The faults of a failure, in lines; each begins with one for its place and message.
+/// The faults of a failure, in lines; each begins with one for its place and message. Want of memory is answered as that.
 pub(crate) fn refused(alloc: Global, told: Told, failure: Failure) -> Result<String, AllocError> {
     let lines = faults_of(alloc, told, &failure);
     drop(failure);
@@ -23,7 +23,7 @@ pub(crate) fn refused(alloc: Global, told: Told, failure: Failure) -> Result<Str
 fn faults_of(alloc: Global, told: Told, failure: &Failure) -> Result<String, AllocError> {
     let mut lines = String::new(alloc);
     match failure {
-        Failure::Memory(_) => add(&mut lines, "want of memory")?,
+        Failure::Memory(error) => return Err(*error),
         Failure::Errors(faults) => {
             for fault in faults {
                 add_fault(alloc, told, &mut lines, fault)?;
@@ -49,8 +49,18 @@ fn add_fault(
     match (told, fault) {
         (Told::All, ParseError::ToCST(fault)) => add_expected(alloc, lines, fault),
         (Told::Message, ParseError::ToCST(_)) => Ok(()),
-        (_, ParseError::ToAST(fault)) => add_left_side(alloc, lines, fault.kind()),
+        (Told::Message, ParseError::ToAST(fault)) => add_left_side(alloc, lines, fault.kind()),
+        (Told::All, ParseError::ToAST(refused)) => {
+            add_left_side(alloc, lines, refused.kind())?;
+            add_hints(alloc, lines, fault)
+        }
     }
+}
+
+/// Puts the label and the hint of a fault, as far as there are any, behind the lines that are there.
+fn add_hints(alloc: Global, lines: &mut String, fault: &ParseError) -> Result<(), AllocError> {
+    add_indented(alloc, lines, fault.label(alloc)?)?;
+    add_indented(alloc, lines, fault.help(alloc)?)
 }
 
 /// Puts what is told of a text's fault beside its message behind the lines that are there.

@@ -2,8 +2,9 @@
 //!
 //! A line behind `>> ` names the call of the cases below it, with words of its own behind the name. A case is a text, in lines, and
 //! behind it, each behind `=> `, the lines that the call has to give; an empty line ends it. Lines that begin with `#` are for the
-//! reader.
+//! reader. The beginnings of the text are tried too, without a line that says so; behind `>> whole ` the text alone.
 
+use crate::beginnings::try_beginnings;
 use crate::calls::answer;
 use crate::escapes::written;
 use crate::reports::add_line;
@@ -13,24 +14,38 @@ use std::fmt;
 /// How a file's cases went, and what is read of the next one.
 #[derive(Drop)]
 pub(crate) struct Judge {
-    /// What stands behind the last `>> `.
+    /// What stands behind the last `>> `, or behind the last `>> whole `.
     call: String,
+    /// Whether it was that, so that no beginnings are tried.
+    is_whole: bool,
     text: Option<String>,
     wanted: Option<String>,
     agreeing: u64,
     differing: u64,
-    /// What is said of the cases that don't agree.
+    /// How many beginnings of texts went as they have to.
+    beginnings: u64,
+    /// How many didn't.
+    astray: u64,
+    /// What is said of the cases that don't agree, and of the beginnings that went astray.
     told: String,
 }
 
-/// How many cases agree; where some don't, how many those are, and each of them.
+/// How many cases agree, and how many beginnings of their texts do; where some don't, how many those are, and each of them.
 impl fmt::Display for Judge {
     fn fmt<W: fmt::Write>(&self, f: &mut fmt::Formatter<W>) -> fmt::Result {
-        write!(f, "{} agree", self.agreeing)?;
-        if self.differing == 0 {
+        write!(
+            f,
+            "{} agree, and {} beginnings",
+            self.agreeing, self.beginnings
+        )?;
+        if self.told.is_empty() {
             return Ok(());
         }
-        write!(f, ", {} differ{}", self.differing, self.told)
+        write!(
+            f,
+            "; {} differ, and {} beginnings{}",
+            self.differing, self.astray, self.told
+        )
     }
 }
 
@@ -38,10 +53,13 @@ impl fmt::Display for Judge {
 pub(crate) fn judged(alloc: Global, source: &str) -> Result<Judge, AllocError> {
     let mut judge = Judge {
         call: String::new(alloc),
+        is_whole: false,
         text: None,
         wanted: None,
         agreeing: 0,
         differing: 0,
+        beginnings: 0,
+        astray: 0,
         told: String::new(alloc),
     };
     for line in source.lines() {
@@ -58,7 +76,9 @@ impl Judge {
             return self.finish(alloc);
         }
         if let Some(call) = line.strip_prefix(">> ") {
-            self.call = String::from_str(alloc, call)?;
+            let named = call.strip_prefix("whole ");
+            self.is_whole = named.is_some();
+            self.call = String::from_str(alloc, named.unwrap_or(call))?;
             return Ok(());
         }
         if let Some(wanted) = line.strip_prefix("=>") {
@@ -83,8 +103,21 @@ impl Judge {
         }
     }
 
-    /// Makes the call, and compares.
+    /// Makes the call, and compares; then for all beginnings of the text.
     fn judge(&mut self, alloc: Global, text: &str, wanted: &str) -> Result<(), AllocError> {
+        self.compare(alloc, text, wanted)?;
+        if self.is_whole {
+            return Ok(());
+        }
+        let went = try_beginnings(alloc, self.call.as_str(), text, wanted)?;
+        self.beginnings = self
+            .beginnings
+            .saturating_add(went.tried.saturating_sub(went.astray));
+        self.astray = self.astray.saturating_add(went.astray);
+        self.told.push_str(went.told.as_str())
+    }
+
+    fn compare(&mut self, alloc: Global, text: &str, wanted: &str) -> Result<(), AllocError> {
         let given = answer(alloc, self.call.as_str(), text)?;
         if given.as_str() == wanted {
             self.agreeing = self.agreeing.saturating_add(1);

@@ -2,6 +2,7 @@
 //! what each other one wants and gets.
 #![tactic(auto)]
 
+mod beginnings;
 mod calls;
 mod conversions;
 mod counted;
@@ -9,10 +10,13 @@ mod escapes;
 mod faults;
 mod formatted;
 mod judge;
+mod kept;
+mod nested;
 mod parts;
 mod policies;
 mod policy_parts;
 mod reports;
+mod runs;
 mod tables;
 mod texts;
 mod trees;

@@ -2,6 +2,7 @@
 
 use crate::counted::{Counted, CountingBuilder};
 use crate::faults::{Told, refused};
+use crate::kept::{Added, PolicyIds, SharedTree};
 use crate::policy_parts::{
     ExtractScope, GetAstAnnotations, ToKvPair, ToPolicy, ToPolicyOrTemplate, ToPolicyTemplate,
     ToTemplate,
@@ -38,6 +39,9 @@ pub(crate) enum PartCall {
     PolicyToPolicyTemplate,
     PolicyToPolicyOrTemplate,
     PolicyToPolicy,
+    GeneratedPolicyIds,
+    SharedTree,
+    Added,
 }
 
 /// What a call gives for the tree of a text: a value, or faults. The words name the variable that is referred to, or what may be called.
@@ -64,6 +68,34 @@ pub(crate) fn answer(
         PartCall::PolicyToPolicyTemplate => converted::<ToPolicyTemplate>(alloc, words, text),
         PartCall::PolicyToPolicyOrTemplate => converted::<ToPolicyOrTemplate>(alloc, words, text),
         PartCall::PolicyToPolicy => converted::<ToPolicy>(alloc, words, text),
+        PartCall::GeneratedPolicyIds => converted::<PolicyIds>(alloc, words, text),
+        PartCall::SharedTree => converted::<SharedTree>(alloc, words, text),
+        PartCall::Added => converted::<Added>(alloc, words, text),
+    }
+}
+
+/// Why a text has no tree for a call, if it hasn't; the call is made where it has.
+pub(crate) fn refusal(alloc: Global, call: PartCall, words: &str, text: &str) -> Option<Failure> {
+    match call {
+        PartCall::ExprToRef => hindrance::<ToRef>(alloc, words, text),
+        PartCall::ExprToRefOrSlot => hindrance::<ToRefOrSlot>(alloc, words, text),
+        PartCall::ExprToRefs => hindrance::<ToRefs>(alloc, words, text),
+        PartCall::BuilderCalls => hindrance::<BuilderCalls>(alloc, words, text),
+        PartCall::MemberToLit => hindrance::<ToLit>(alloc, words, text),
+        PartCall::PrimaryToStringLiteral => hindrance::<ToStringLiteral>(alloc, words, text),
+        PartCall::RefToRef => hindrance::<RefToRef>(alloc, words, text),
+        PartCall::IdentToValidIdent => hindrance::<ToValidIdent>(alloc, words, text),
+        PartCall::IdentToAnyIdent => hindrance::<ToAnyIdent>(alloc, words, text),
+        PartCall::AnnotationToKvPair => hindrance::<ToKvPair>(alloc, words, text),
+        PartCall::GetAstAnnotations => hindrance::<GetAstAnnotations>(alloc, words, text),
+        PartCall::ExtractScope => hindrance::<ExtractScope>(alloc, words, text),
+        PartCall::PolicyToTemplate => hindrance::<ToTemplate>(alloc, words, text),
+        PartCall::PolicyToPolicyTemplate => hindrance::<ToPolicyTemplate>(alloc, words, text),
+        PartCall::PolicyToPolicyOrTemplate => hindrance::<ToPolicyOrTemplate>(alloc, words, text),
+        PartCall::PolicyToPolicy => hindrance::<ToPolicy>(alloc, words, text),
+        PartCall::GeneratedPolicyIds => hindrance::<PolicyIds>(alloc, words, text),
+        PartCall::SharedTree => hindrance::<SharedTree>(alloc, words, text),
+        PartCall::Added => hindrance::<Added>(alloc, words, text),
     }
 }
 
@@ -89,8 +121,21 @@ fn converted<C: Conversion>(alloc: Global, words: &str, text: &str) -> Result<St
     }
 }
 
+fn hindrance<C: Conversion>(alloc: Global, words: &str, text: &str) -> Option<Failure> {
+    tried::<C>(alloc, words, text).err()
+}
+
+/// Makes the call where the text has a tree, and lets go what is told of it.
+fn tried<C: Conversion>(alloc: Global, words: &str, text: &str) -> Result<(), Failure> {
+    let node = C::From::read(alloc, text)?;
+    let told = C::told(alloc, words, &node);
+    drop(node);
+    drop(told?);
+    Ok(())
+}
+
 /// The value's text, or the faults.
-fn value<T: Display + TryClone + Clone + PartialEq + Drop>(
+pub(crate) fn value<T: Display + TryClone + Clone + PartialEq + Drop>(
     alloc: Global,
     answer: Result<T, Failure>,
 ) -> Result<String, AllocError> {

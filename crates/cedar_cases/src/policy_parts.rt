@@ -4,7 +4,8 @@ use crate::faults::{Told, refused};
 use crate::parts::Conversion;
 use crate::policies::policy_text;
 use crate::reports::{add, copies};
-use crate::tables::styles;
+use crate::tables::{has_word, styles};
+use crate::values::value_text;
 use cedar_expressions::{AnyId, TryClone};
 use cedar_policy_parser::cst_to_ast::{AnnotationAst, PolicyAst, PolicyImplAst};
 use cedar_policy_store::{PolicyID, StaticPolicy, Template};
@@ -172,7 +173,18 @@ fn what_is_held<T: Held>(alloc: Global, answer: Result<T, Failure>) -> Result<St
     }
 }
 
-/// The call of this name.
+/// The value of a template's condition, with the bytes of each node.
+fn condition_text(alloc: Global, answer: Result<Template, Failure>) -> Result<String, AllocError> {
+    match answer {
+        Ok(template) => match template.non_scope_constraints() {
+            Some(condition) => value_text(alloc, condition, true),
+            None => String::from_str(alloc, "no condition"),
+        },
+        Err(failure) => refused(alloc, Told::Message, failure),
+    }
+}
+
+/// The call of this name. Behind the word `places` it tells the condition alone, with the bytes of each node.
 pub(crate) struct ToTemplate;
 
 impl Conversion for ToTemplate {
@@ -182,6 +194,9 @@ impl Conversion for ToTemplate {
         let (id, styles) = (id(alloc)?, styles(alloc, words)?);
         let answer = node.to_template(alloc, id, &styles);
         drop(styles);
+        if has_word(words, "places") {
+            return condition_text(alloc, answer);
+        }
         what_is_held::<Template>(alloc, answer)
     }
 }

@@ -5,8 +5,17 @@ use cedar_policy_parser::ExtStyles;
 use std::alloc::{AllocError, Global};
 use std::collections::BTreeSet;
 
-/// The table of the words behind a call's name: of each `fn:NAME` a function, of each `method:NAME` a method.
+/// The table of the words behind a call's name: Cedar's own where `cedar` is one of them; else of each `fn:NAME` a function, of each
+/// `method:NAME` a method.
 pub(crate) fn styles(alloc: Global, words: &str) -> Result<ExtStyles, AllocError> {
+    if has_word(words, "cedar") {
+        return ExtStyles::cedar(alloc);
+    }
+    named(alloc, words)
+}
+
+/// The table of the functions and methods that words name.
+fn named(alloc: Global, words: &str) -> Result<ExtStyles, AllocError> {
     let mut functions = BTreeSet::new(alloc);
     let mut methods = BTreeSet::new(alloc);
     for word in words.split_whitespace() {

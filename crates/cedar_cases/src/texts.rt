@@ -1,12 +1,15 @@
-//! The calls on texts without a tree: tokens, escapes, identifiers, and what is told of kinds that were expected.
+//! The calls on texts without a tree: tokens, how deep they nest, escapes, identifiers, and what is told of kinds that were expected.
 
+use crate::kept::extended;
 use crate::reports::{add, copies};
 use crate::values::write_pattern;
 use cedar_expressions::{AnyId, Id, Text, UnreservedId};
 use cedar_lexer::lexer::Lexer;
+use cedar_syntax::cst::Policies;
 use cedar_syntax::err::{
     RawFault, ToCSTError, UnescapeError, UnescapeFailure, expected_to_string, policy_token_config,
 };
+use cedar_text::nesting;
 use cedar_text::unescape::{to_pattern, to_unescaped_string};
 use std::alloc::{AllocError, Global};
 use std::rc::RcStr;
@@ -15,22 +18,26 @@ use std::rc::RcStr;
 #[derive(Clone, Copy)]
 pub(crate) enum TextCall {
     Lexer,
+    Nesting,
     UnescapedString,
     Pattern,
     Identifiers,
     Expected,
     HelpOfInvalidToken,
+    Extend,
 }
 
 /// What a call gives for a text.
 pub(crate) fn answer(alloc: Global, call: TextCall, text: &str) -> Result<String, AllocError> {
     match call {
         TextCall::Lexer => tokens(alloc, text),
+        TextCall::Nesting => format!(in alloc; "{}", nesting(text)),
         TextCall::UnescapedString => unescaped_string(alloc, text),
         TextCall::Pattern => pattern(alloc, text),
         TextCall::Identifiers => identifiers(alloc, text),
         TextCall::Expected => expected(alloc, text),
         TextCall::HelpOfInvalidToken => help_of_invalid_token(alloc, text),
+        TextCall::Extend => extended::<Policies>(alloc, text),
     }
 }
 
@@ -78,7 +85,7 @@ fn pattern(alloc: Global, raw: &str) -> Result<String, AllocError> {
 fn escape_faults(alloc: Global, raw: &str, failure: UnescapeFailure) -> Result<String, AllocError> {
     let mut lines = String::new(alloc);
     match &failure {
-        UnescapeFailure::Memory(_) => add(&mut lines, "want of memory")?,
+        UnescapeFailure::Memory(error) => return Err(*error),
         UnescapeFailure::Errors(faults) => {
             for fault in faults.iter() {
                 add_escape_fault(alloc, &mut lines, raw, fault)?;

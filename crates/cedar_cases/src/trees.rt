@@ -1,7 +1,8 @@
 //! The calls that read a text as a tree. What a tree is printed as is read again by the same call, and has to be the same tree, places
-//! aside.
+//! aside; and it nests no deeper than is told of the text.
 
 use crate::faults::{Told, refused};
+use crate::nested::add_nesting;
 use crate::reports::{add, report};
 use cedar_syntax::TryClone;
 use cedar_syntax::cst::{Expr, Ident, Name, Policies, Policy, Primary, Ref};
@@ -91,9 +92,26 @@ pub(crate) fn answer(
     }
 }
 
+/// Why a call refuses a text, if it does.
+pub(crate) fn refusal(alloc: Global, call: TreeCall, text: &str) -> Option<Failure> {
+    match call {
+        TreeCall::Expr => Expr::read(alloc, text).err(),
+        TreeCall::Primary => Primary::read(alloc, text).err(),
+        TreeCall::Ref => Ref::read(alloc, text).err(),
+        TreeCall::Name => Name::read(alloc, text).err(),
+        TreeCall::Ident => Ident::read(alloc, text).err(),
+        TreeCall::Policy => Policy::read(alloc, text).err(),
+        TreeCall::Policies => Policies::read(alloc, text).err(),
+    }
+}
+
 fn read_as<T: Tree>(alloc: Global, words: &str, text: &str) -> Result<String, AllocError> {
     match T::read(alloc, text) {
-        Ok(node) => shown::<T>(alloc, words, &node),
+        Ok(node) => {
+            let mut lines = shown::<T>(alloc, words, &node)?;
+            add_nesting(alloc, &mut lines, text, &node)?;
+            Ok(lines)
+        }
         Err(failure) => refused(alloc, Told::All, failure),
     }
 }
@@ -116,14 +134,17 @@ fn shown<T: Tree>(
     }
 }
 
-/// Puts a line behind those that are there where the text has a tree that isn't read again.
+/// Puts a line behind those that are there where the text has a tree that isn't read again, or that nests deeper than is told.
 pub(crate) fn reads_again<T: Tree>(
     alloc: Global,
     lines: &mut String,
     text: &str,
 ) -> Result<(), AllocError> {
     match T::read(alloc, text) {
-        Ok(node) => add_again(alloc, lines, &node),
+        Ok(node) => {
+            add_again(alloc, lines, &node)?;
+            add_nesting(alloc, lines, text, &node)
+        }
         Err(failure) => {
             drop(failure);
             Ok(())
@@ -152,8 +173,9 @@ fn is_read_again<T: Tree>(
     let printed = format!(in alloc; "{tree}")?;
     match T::read(alloc, printed.as_str()) {
         Ok(again) => Ok(again == *node),
-        Err(failure) => {
-            drop(failure);
+        Err(Failure::Memory(error)) => Err(error),
+        Err(Failure::Errors(faults)) => {
+            drop(faults);
             Ok(false)
         }
     }

@@ -1,50 +1,61 @@
 //! The README's example of library use.
 use super::held::{holds, holds_for};
-use cedar_expressions::Expr;
-use cedar_policy_parser::{ExtStyles, parse_expression};
-use cedar_syntax::err::{Failure, ParseErrors};
+use cedar_policy_parser::err::{Failure, ParseError};
+use cedar_policy_parser::position::Position;
+use cedar_policy_parser::{ExtStyles, parse_policyset};
 use std::alloc::Global;
-use std::collections::BTreeSet;
 use std::fmt;
 
-/// The value of a text, or its faults.
-fn read(alloc: Global, text: &str) -> Result<Expr, Failure> {
-    let styles = ExtStyles::new(BTreeSet::new(alloc), BTreeSet::new(alloc));
-    parse_expression(alloc, text, &styles)
-}
-
-/// Writes the value, or each fault behind its place.
-fn show<W: fmt::Write>(answer: &Result<Expr, Failure>, out: &mut W) -> fmt::Result {
-    match answer {
-        Ok(value) => write!(out, "{value}"),
-        Err(Failure::Memory(_)) => out.write_str("want of memory"),
-        Err(Failure::Errors(faults)) => show_faults(faults, out),
-    }
-}
-
-/// Writes each fault behind its place.
-fn show_faults<W: fmt::Write>(faults: &ParseErrors, out: &mut W) -> fmt::Result {
-    for fault in faults {
-        match fault.primary_source_span() {
-            Some(span) => write!(out, "{}..{}: {fault}", span.offset(), span.end())?,
-            None => write!(out, "-: {fault}")?,
+/// Writes how many policies a text means, or each fault on a line.
+fn report<W: fmt::Write>(alloc: Global, text: &str, out: &mut W) -> fmt::Result {
+    match parse_policyset(alloc, text, &ExtStyles::cedar(alloc)?) {
+        Ok(set) => writeln!(out, "{} policies", set.static_policies().count()),
+        Err(Failure::Memory(_)) => Err(fmt::Error),
+        Err(Failure::Errors(faults)) => {
+            for fault in &faults {
+                tell(alloc, text, fault, out)?;
+            }
+            Ok(())
         }
     }
-    Ok(())
+}
+
+/// Writes a fault: its line and column, what it is, what could have stood there, what may help.
+fn tell<W: fmt::Write>(alloc: Global, text: &str, fault: &ParseError, out: &mut W) -> fmt::Result {
+    if let Some(span) = fault.primary_source_span() {
+        let at = Position::of(text, span.offset());
+        write!(out, "{}:{}: ", at.line, at.column)?;
+    }
+    write!(out, "{fault}")?;
+    if let Some(label) = fault.label(alloc)? {
+        write!(out, ": {label}")?;
+    }
+    if let Some(help) = fault.help(alloc)? {
+        write!(out, " ({help})")?;
+    }
+    writeln!(out)
 }
 
 #[test]
-fn shows_a_value_or_faults(rt: HostRuntime) {
+fn reports_policies_or_faults(rt: HostRuntime) {
     let rows = [
-        ("principal", "principal"),
-        ("1 +", "3..3: unexpected end of input"),
-        ("1 = 2", "0..5: '=' is not a valid operator in Cedar"),
+        (
+            "permit(principal, action, resource) when { ip(\"::1\").isIpv6() };",
+            "1 policies\n",
+        ),
+        (
+            "permit(principal, action, resource) when { ip(\"::1\").isIpv7() };",
+            "1:44: `isIpv7` is not a valid method (the table of extensions has no method of this name)\n",
+        ),
+        (
+            "permit(principal,\n  action resource);",
+            "2:10: unexpected token `resource`: expected `!=`, `)`, `,`, `:`, `<`, `<=`, `==`, `>`, `>=`, `in`, or `is`\n",
+        ),
     ];
     for (text, want) in &rows {
-        let answer = read(rt.alloc(), text);
         let mut out = String::new(rt.alloc());
-        holds(&rt, show(&answer, &mut out).is_ok());
+        holds(&rt, report(rt.alloc(), text, &mut out).is_ok());
         holds_for(&rt, out.as_str() == *want, text);
-        drop((answer, out));
+        drop(out);
     }
 }

@@ -24,7 +24,7 @@ fn empty<T>(rt: &(impl Abort + AllocGlobal), start: usize, end: usize) -> Node<O
 }
 
 /// A word as no text spells it, at a place.
-fn word(
+pub(super) fn word(
     rt: &(impl Abort + AllocGlobal),
     spelling: &str,
     start: usize,
@@ -35,7 +35,7 @@ fn word(
 }
 
 /// What a policy's tree holds, to be changed.
-fn parts(rt: &(impl Abort + AllocGlobal), text: &str) -> PolicyImpl {
+pub(super) fn parts(rt: &(impl Abort + AllocGlobal), text: &str) -> PolicyImpl {
     let (policy, loc) = policy(rt, text).into_inner();
     drop(loc);
     let Policy::Policy(parts) = policy.expect(rt, "an empty node");
@@ -43,7 +43,7 @@ fn parts(rt: &(impl Abort + AllocGlobal), text: &str) -> PolicyImpl {
 }
 
 /// The tree that holds these parts.
-fn tree(parts: PolicyImpl) -> Node<Option<Policy>> {
+pub(super) fn tree(parts: PolicyImpl) -> Node<Option<Policy>> {
     Node::new(Some(Policy::Policy(parts)))
 }
 
@@ -59,6 +59,36 @@ fn is_empty_node(rt: &impl Abort, failure: &Failure, start: usize, end: usize) {
             matches!(fault.kind(), ToASTErrorKind::EmptyNodeInvariantViolation),
         );
     }
+}
+
+/// Each call that reads a policy is refused by the empty node at these bytes.
+fn each_call_finds_it_empty(
+    rt: &(impl Abort + AllocGlobal),
+    tree: Node<Option<Policy>>,
+    start: usize,
+    end: usize,
+) {
+    let styles = no_styles(rt);
+    let failure = refusal(rt, tree.to_template(rt.alloc(), id(rt), &styles));
+    is_empty_node(rt, &failure, start, end);
+    let alike = refusal(rt, tree.to_policy_template(rt.alloc(), id(rt), &styles));
+    is_empty_node(rt, &alike, start, end);
+    let either = refusal(rt, tree.to_policy_or_template(rt.alloc(), id(rt), &styles));
+    is_empty_node(rt, &either, start, end);
+    let alone = refusal(rt, tree.to_policy(rt.alloc(), id(rt), &styles));
+    is_empty_node(rt, &alone, start, end);
+    drop((failure, alike, either, alone));
+    let mut items = Items::new(rt.alloc());
+    made(rt, items.push(tree));
+    let set = Node::new(Some(Policies(items)));
+    let failure = refusal(rt, set.to_policyset(rt.alloc(), &styles));
+    is_empty_node(rt, &failure, start, end);
+    drop((styles, set, failure));
+}
+
+#[test]
+fn an_empty_policy_is_refused_by_each_call(rt: HostRuntime) {
+    each_call_finds_it_empty(&rt, empty(&rt, 3, 5), 3, 5);
 }
 
 #[test]
@@ -91,7 +121,8 @@ fn an_empty_element_is_no_extra_one(rt: HostRuntime) {
     made(&rt, parts.variables.push(empty(&rt, 7, 9)));
     let failure = refusal(&rt, parts.extract_scope(rt.alloc(), &styles));
     is_empty_node(&rt, &failure, 7, 9);
-    drop((styles, parts, failure));
+    drop((styles, failure));
+    each_call_finds_it_empty(&rt, tree(parts), 7, 9);
 }
 
 #[test]

@@ -5,15 +5,15 @@ use super::texts::built;
 use cedar_expressions::{ExprBuilder, Var};
 use cedar_policy_parser::cst_to_ast::ExprAst;
 use cedar_syntax::cst::{
-    Add, And, Expr, ExprData, ExprImpl, Literal, Member, Mult, Name, NegOp, Or, Primary, Relation,
-    Slot, Str, Unary,
+    Add, And, Expr, ExprData, ExprImpl, Ident, Literal, MemAccess, Member, Mult, Name, NegOp, Or,
+    Primary, Relation, Slot, Str, Unary,
 };
 use cedar_syntax::node::Node;
 use cedar_syntax::{Boxed, Items};
 use std::process::Abort;
 
 /// A node without a place.
-fn node<T>(value: T) -> Node<Option<T>> {
+pub(super) fn node<T>(value: T) -> Node<Option<T>> {
     Node::new(Some(value))
 }
 
@@ -23,16 +23,22 @@ pub(super) fn sum(
     op: Option<NegOp>,
     primary: Node<Option<Primary>>,
 ) -> Node<Option<Add>> {
-    let member = Member {
+    accessed(rt, op, primary, Items::new(rt.alloc()))
+}
+
+/// The same with accesses behind the primary.
+pub(super) fn accessed(
+    rt: &(impl Abort + AllocGlobal),
+    op: Option<NegOp>,
+    primary: Node<Option<Primary>>,
+    access: Items<Node<Option<MemAccess>>>,
+) -> Node<Option<Add>> {
+    let item = node(Member {
         item: primary,
-        access: Items::new(rt.alloc()),
-    };
-    let unary = Unary {
-        op,
-        item: node(member),
-    };
+        access,
+    });
     let mult = Mult {
-        initial: node(unary),
+        initial: node(Unary { op, item }),
         extended: Items::new(rt.alloc()),
     };
     node(Add {
@@ -47,6 +53,11 @@ pub(super) fn expr(rt: &(impl Abort + AllocGlobal), sum: Node<Option<Add>>) -> N
         initial: sum,
         extended: Items::new(rt.alloc()),
     };
+    related(rt, relation)
+}
+
+/// The expression that is this relation alone.
+pub(super) fn related(rt: &(impl Abort + AllocGlobal), relation: Relation) -> Node<Option<Expr>> {
     let and = And {
         initial: node(relation),
         extended: Items::new(rt.alloc()),
@@ -59,12 +70,39 @@ pub(super) fn expr(rt: &(impl Abort + AllocGlobal), sum: Node<Option<Add>>) -> N
     node(Expr::Expr(ExprImpl { expr }))
 }
 
-/// The conversion of the expression that is this primary alone is refused, and says this.
-fn hinders(rt: &(impl Abort + AllocGlobal), primary: Node<Option<Primary>>, message: &str) {
-    let expr = expr(rt, sum(rt, None, primary));
+/// The primary that is this word alone.
+pub(super) fn named(rt: &impl AllocGlobal, word: Ident) -> Node<Option<Primary>> {
+    let name = Name {
+        path: Items::new(rt.alloc()),
+        name: node(word),
+    };
+    node(Primary::Name(node(name)))
+}
+
+/// The primary that is this string.
+pub(super) fn string(string: Str) -> Node<Option<Primary>> {
+    node(Primary::Literal(node(Literal::Str(node(string)))))
+}
+
+/// The primary that is this number.
+pub(super) fn number(value: u64) -> Node<Option<Primary>> {
+    node(Primary::Literal(node(Literal::Num(value))))
+}
+
+/// The conversion of an expression is refused, and says this.
+pub(super) fn hinders_whole(
+    rt: &(impl Abort + AllocGlobal),
+    expr: Node<Option<Expr>>,
+    message: &str,
+) {
     let answer = built::<ExprBuilder<()>>(rt.alloc(), &expr);
     drop(expr);
     says(rt, refusal(rt, answer), message);
+}
+
+/// The conversion of the expression that is this primary alone is refused, and says this.
+fn hinders(rt: &(impl Abort + AllocGlobal), primary: Node<Option<Primary>>, message: &str) {
+    hinders_whole(rt, expr(rt, sum(rt, None, primary)), message);
 }
 
 #[test]
@@ -73,9 +111,10 @@ fn what_no_text_has_is_told(rt: HostRuntime) {
     hinders(&rt, Node::new(None), empty);
     hinders(&rt, node(Primary::Literal(Node::new(None))), empty);
     hinders(&rt, node(Primary::Slot(Node::new(None))), empty);
-    let string = Str::Invalid(text(&rt, "a\"b"));
-    let literal = Primary::Literal(node(Literal::Str(node(string))));
-    hinders(&rt, node(literal), "invalid string literal: a\"b");
+    let invalid = string(Str::Invalid(text(&rt, "a\"b")));
+    hinders(&rt, invalid, "invalid string literal: a\"b");
+    let slot = node(Primary::Slot(node(Slot::Other(text(&rt, "?x")))));
+    hinders(&rt, slot, "`?x` is not a valid template slot");
 }
 
 #[test]

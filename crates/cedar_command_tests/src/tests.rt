@@ -1,0 +1,5 @@
+//! Runs of the program.
+mod arguments;
+mod failing;
+mod held;
+mod streams;
