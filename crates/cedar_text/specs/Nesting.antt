@@ -1,8 +1,8 @@
 -- How deep the tree of a text nests at most. By the loose grammar (`LooseExpressions` and
 -- `LoosePolicies` of cedar_syntax) an expression is a part of another one in brackets or as a part
--- of an `if`, and of a policy in brackets alone; signs, accesses and operands are lists. So a tree's
--- expression lies within at most as many others as, before it, brackets are open and `if`s have
--- begun in its policy.
+-- of an `if`, and of a policy in brackets alone; signs, accesses and operands are lists. So an
+-- expression of a tree lies within at most as many others as, before it, brackets are open and
+-- `if`s have begun in its policy.
 use Rattle.std.specs.Prelude.{◌≡◌, ℕ, ◌+◌, ◌-◌, max, List, [], ◌∷◌, Option}
 use Rattle.cedar_lexer.specs.Token.{Lexeme}
 use Rattle.cedar_lexer.specs.declared.token.TokenKind.{TokenKind}
