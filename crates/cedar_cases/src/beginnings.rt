@@ -1,12 +1,13 @@
 //! The beginnings of a case's text, cut between characters: each is given to the case's call, which accepts it, or refuses it where it
 //! has to. So a new case tries its beginnings without another line.
 //!
-//! Where that is, the case's own lines say, and not the parser. The tokens of a beginning are the text's first ones, but for its last,
+//! Where that is, the case's own lines say, and not the parser (but where a text has a bad place or too large a number: there the
+//! shortest beginning that is refused at one of its tokens names the token). The tokens of a beginning are the text's first ones, but for its last,
 //! where the cut goes through a token. So a beginning that ends before the token at which the whole text is refused is accepted, or
 //! ends too early, behind its last token; one that ends behind that token is refused at it; and a token that was cut in two may be
 //! refused itself. These are the places that the parse calls promise where tokens and numbers are valid: one fault stands left of all
-//! others, at the first token that no sentence allows. Elsewhere a beginning has to be refused. (A call on a text without a tree says
-//! nothing of tokens: of its text only the tokens are compared.)
+//! others, at the first token that no sentence allows. Elsewhere a beginning has to be refused. (A call on a text without a tree, or a
+//! run, says nothing of tokens: of its text only the tokens are compared.)
 
 use crate::calls::{answer, reads_trees, refusal};
 use cedar_lexer::lexer::Lexer;

@@ -2,7 +2,8 @@
 //! that join text and meaning.
 //!
 //! It passes on what its calls take and give: the modules of the crates below under their names,
-//! the values, the policies, and the owners of text and lists. So a program names this crate alone.
+//! the values, the policies, and the owners of text and lists. So a program names this crate alone,
+//! and `either` where it calls `to_policy_or_template`.
 #![tactic(auto)]
 
 pub mod formatter;

@@ -1,4 +1,5 @@
-//! Streams that fail, under each command: the run ends with status 4.
+//! Streams that fail under `policies` and `format`, a stream of errors that fails, and memory that is
+//! refused before a run.
 use super::arguments::USAGE_LINE;
 use super::held::{holds, holds_for};
 use super::streams::{FailingReader, FailingWriter, fails_at_each_write, run_on};

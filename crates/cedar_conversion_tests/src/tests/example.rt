@@ -6,7 +6,7 @@ use cedar_policy_parser::{ExtStyles, parse_policyset};
 use std::alloc::Global;
 use std::fmt;
 
-/// Writes how many policies a text means, or each fault on a line.
+/// Writes how many static policies a text means, or each fault on a line.
 fn report<W: fmt::Write>(alloc: Global, text: &str, out: &mut W) -> fmt::Result {
     match parse_policyset(alloc, text, &ExtStyles::cedar(alloc)?) {
         Ok(set) => writeln!(out, "{} policies", set.static_policies().count()),
