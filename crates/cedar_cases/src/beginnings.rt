@@ -1,13 +1,17 @@
-//! The beginnings of a case's text, cut between characters: each is given to the case's call, which accepts it, or refuses it where it
-//! has to. So a new case tries its beginnings without another line.
+//! The beginnings of a case's text, cut between characters: each is given to the case's call,
+//! which accepts it, or refuses it where it has to. So a new case tries its beginnings without
+//! another line.
 //!
-//! Where that is, the case's own lines say, and not the parser (but where a text has a bad place or too large a number: there the
-//! shortest beginning that is refused at one of its tokens names the token). The tokens of a beginning are the text's first ones, but for its last,
-//! where the cut goes through a token. So a beginning that ends before the token at which the whole text is refused is accepted, or
-//! ends too early, behind its last token; one that ends behind that token is refused at it; and a token that was cut in two may be
-//! refused itself. These are the places that the parse calls promise where tokens and numbers are valid: one fault stands left of all
-//! others, at the first token that no sentence allows. Elsewhere a beginning has to be refused. (A call on a text without a tree, or a
-//! run, says nothing of tokens: of its text only the tokens are compared.)
+//! Where that is, the case's own lines say, and not the parser (but where a text has a bad place
+//! or too large a number: there the shortest beginning that is refused at one of its tokens names
+//! the token). The tokens of a beginning are the text's first ones, but for its last, where the
+//! cut goes through a token. So a beginning that ends before the token at which the whole text is
+//! refused is accepted, or ends too early, behind its last token; one that ends behind that token
+//! is refused at it; and a token that was cut in two may be refused itself. These are the places
+//! that the parse calls promise where tokens and numbers are valid: one fault stands left of all
+//! others, at the first token that no sentence allows. Elsewhere a beginning has to be refused. (A
+//! call on a text without a tree, or a run, says nothing of tokens: of its text only the tokens
+//! are compared.)
 
 use crate::calls::{answer, reads_trees, refusal};
 use cedar_lexer::lexer::Lexer;
@@ -39,14 +43,14 @@ struct Row {
     whole: Cut,
     /// The bytes of the token at which the text is refused.
     refused: Option<(usize, usize)>,
-    /// Whether the case says which token that is, or that there is none; else the shortest beginning does that is refused at a token
-    /// of the text.
+    /// Whether the case says which token that is, or that there is none; else the shortest
+    /// beginning does that is refused at a token of the text.
     is_pinned: bool,
 }
 
 /// How a call answers a text.
 #[derive(Clone, Copy, PartialEq)]
-enum Verdict {
+enum Reply {
     /// The text has a tree.
     Accepted,
     /// The leftmost fault is the token that begins at this byte.
@@ -57,7 +61,8 @@ enum Verdict {
     Unclear,
 }
 
-/// Tries all beginnings of a case's text that are shorter than it. (Of two texts, between which a line `==` stands, the first.)
+/// Tries all beginnings of a case's text that are shorter than it. (Of two texts, between which a
+/// line `==` stands, the first.)
 pub(crate) fn try_beginnings(
     alloc: Global,
     section: &str,
@@ -180,32 +185,34 @@ impl Row {
     /// Whether a beginning that is cut so may be refused so.
     fn allows(&mut self, cut: &Cut, length: usize, refusal: &Option<Failure>) -> bool {
         let answer = match refusal {
-            None => Verdict::Accepted,
+            None => Reply::Accepted,
             Some(Failure::Memory(_)) => return false,
             Some(Failure::Errors(faults)) => answer_of(faults, length),
         };
         if !cut.is_valid {
-            return answer != Verdict::Accepted;
+            return answer != Reply::Accepted;
         }
         match self.refused {
-            Some((start, end)) if end <= length => answer == Verdict::RefusedAt(start),
+            Some((start, end)) if end <= length => answer == Reply::RefusedAt(start),
             _ => self.may_end(cut.tokens.as_slice(), answer),
         }
     }
 
-    /// Whether a beginning with these tokens, of which the text has each but for the last, may be answered so.
-    fn may_end(&mut self, tokens: &[(usize, usize)], answer: Verdict) -> bool {
+    /// Whether a beginning with these tokens, of which the text has each but for the last, may be
+    /// answered so.
+    fn may_end(&mut self, tokens: &[(usize, usize)], answer: Reply) -> bool {
         let (last, end) = tokens.last().map_or((0, 0), |token| *token);
         match answer {
-            Verdict::Accepted => true,
-            Verdict::EndsAt(place) => place == end,
-            Verdict::RefusedAt(start) => start == last && self.may_refuse(last, end),
-            Verdict::Unclear => false,
+            Reply::Accepted => true,
+            Reply::EndsAt(place) => place == end,
+            Reply::RefusedAt(start) => start == last && self.may_refuse(last, end),
+            Reply::Unclear => false,
         }
     }
 
-    /// Whether the last token of a beginning may be refused: where it is no token of the text, or where the case doesn't say at which
-    /// token the text is refused. From then on it is at this one, so that a wrong place is told once.
+    /// Whether the last token of a beginning may be refused: where it is no token of the text, or
+    /// where the case doesn't say at which token the text is refused. From then on it is at this
+    /// one, so that a wrong place is told once.
     fn may_refuse(&mut self, start: usize, end: usize) -> bool {
         if !self.whole.tokens.as_slice().contains(&(start, end)) {
             return true;
@@ -216,18 +223,18 @@ impl Row {
 }
 
 /// How a text of this length is answered that has these faults.
-fn answer_of(faults: &ParseErrors, length: usize) -> Verdict {
+fn answer_of(faults: &ParseErrors, length: usize) -> Reply {
     let ParseError::ToCST(_) = faults.first() else {
         return of_its_tree(faults, length);
     };
     let mut least = usize::MAX;
-    let mut answer = Verdict::Unclear;
+    let mut answer = Reply::Unclear;
     for fault in faults.iter() {
-        let (start, told) = told_of(fault);
+        let (start, told) = reply_to(fault);
         if start < least {
             answer = told;
         } else if start == least {
-            answer = Verdict::Unclear;
+            answer = Reply::Unclear;
         }
         least = least.min(start);
     }
@@ -235,29 +242,29 @@ fn answer_of(faults: &ParseErrors, length: usize) -> Verdict {
 }
 
 /// A text has a tree where all its faults are the tree's, and lie within the text.
-fn of_its_tree(faults: &ParseErrors, length: usize) -> Verdict {
+fn of_its_tree(faults: &ParseErrors, length: usize) -> Reply {
     for fault in faults.iter() {
         let is_within = match (fault, fault.primary_source_span()) {
             (ParseError::ToAST(_), Some(span)) => span.end() <= length,
             _ => false,
         };
         if !is_within {
-            return Verdict::Unclear;
+            return Reply::Unclear;
         }
     }
-    Verdict::Accepted
+    Reply::Accepted
 }
 
 /// Where a fault of a text begins, and what it is.
-fn told_of(fault: &ParseError) -> (usize, Verdict) {
+fn reply_to(fault: &ParseError) -> (usize, Reply) {
     let ParseError::ToCST(fault) = fault else {
-        return (0, Verdict::Unclear);
+        return (0, Reply::Unclear);
     };
     match fault.raw() {
-        RawFault::UnrecognizedToken { start, .. } => (*start, Verdict::RefusedAt(*start)),
-        RawFault::UnrecognizedEof { location, .. } => (*location, Verdict::EndsAt(*location)),
-        RawFault::InvalidToken { location } => (*location, Verdict::Unclear),
-        RawFault::ExtraToken { start, .. } => (*start, Verdict::Unclear),
-        RawFault::User { .. } => (0, Verdict::Unclear),
+        RawFault::UnrecognizedToken { start, .. } => (*start, Reply::RefusedAt(*start)),
+        RawFault::UnrecognizedEof { location, .. } => (*location, Reply::EndsAt(*location)),
+        RawFault::InvalidToken { location } => (*location, Reply::Unclear),
+        RawFault::ExtraToken { start, .. } => (*start, Reply::Unclear),
+        RawFault::User { .. } => (0, Reply::Unclear),
     }
 }

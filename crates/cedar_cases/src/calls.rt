@@ -98,8 +98,9 @@ const CALLS: [(&str, Call); 40] = [
     ("run", Call::Run),
 ];
 
-/// The call of a name. (A function over the list: over the list itself each goal would hold all of it.)
-fn named(calls: &[(&str, Call)], name: &str) -> Option<Call> {
+/// The call of a name. (A function over the list: over the list itself each goal would hold all of
+/// it.)
+fn call_named(calls: &[(&str, Call)], name: &str) -> Option<Call> {
     for (known, call) in calls {
         if *known == name {
             return Some(*call);
@@ -111,7 +112,7 @@ fn named(calls: &[(&str, Call)], name: &str) -> Option<Call> {
 /// What a section's call, with the words behind its name, gives for a text.
 pub(crate) fn answer(alloc: Global, section: &str, text: &str) -> Result<String, AllocError> {
     let (name, words) = section.split_once(' ').unwrap_or((section, ""));
-    match named(&CALLS, name) {
+    match call_named(&CALLS, name) {
         Some(Call::Tree(call)) => trees::answer(alloc, call, words, text),
         Some(Call::Conversion(call)) => conversions::answer(alloc, call, words, text),
         Some(Call::Part(call)) => parts::answer(alloc, call, words, text),
@@ -124,20 +125,21 @@ pub(crate) fn answer(alloc: Global, section: &str, text: &str) -> Result<String,
 /// Whether a section's call reads a text as a tree.
 pub(crate) fn reads_trees(section: &str) -> bool {
     let (name, _) = section.split_once(' ').unwrap_or((section, ""));
-    match named(&CALLS, name) {
+    match call_named(&CALLS, name) {
         Some(Call::Text(_) | Call::Run) | None => false,
         Some(_) => true,
     }
 }
 
-/// Why a section's call, with the words behind its name, refuses a text, if it does. What it gives is let go.
+/// Why a section's call, with the words behind its name, refuses a text, if it does. What it gives
+/// is let go.
 pub(crate) fn refusal(
     alloc: Global,
     section: &str,
     text: &str,
 ) -> Result<Option<Failure>, AllocError> {
     let (name, words) = section.split_once(' ').unwrap_or((section, ""));
-    match named(&CALLS, name) {
+    match call_named(&CALLS, name) {
         Some(Call::Tree(call)) => Ok(trees::refusal(alloc, call, text)),
         Some(Call::Conversion(call)) => conversions::refusal(alloc, call, words, text),
         Some(Call::Part(call)) => Ok(parts::refusal(alloc, call, words, text)),

@@ -1,10 +1,10 @@
 //! The calls from a text to what it means.
 
-use crate::faults::{Told, refused};
+use crate::faults::{Told, tell_failure};
 use crate::formatted::{self, formats};
 use crate::policies::set_text;
 use crate::reports::copies;
-use crate::tables::{found, has_word, styles};
+use crate::tables::{find, has_word, styles};
 use crate::trees::reads_again;
 use crate::values::value_text;
 use cedar_expressions::Expr;
@@ -27,11 +27,11 @@ pub(crate) enum ConversionCall {
 
 /// What a text can mean.
 trait Meaning: Drop {
-    fn told(&self, alloc: Global, words: &str) -> Result<String, AllocError>;
+    fn tell(&self, alloc: Global, words: &str) -> Result<String, AllocError>;
 }
 
 impl Meaning for Expr {
-    fn told(&self, alloc: Global, words: &str) -> Result<String, AllocError> {
+    fn tell(&self, alloc: Global, words: &str) -> Result<String, AllocError> {
         let mut lines = value_text(alloc, self, has_word(words, "places"))?;
         copies(&mut lines, self)?;
         Ok(lines)
@@ -39,15 +39,16 @@ impl Meaning for Expr {
 }
 
 impl Meaning for PolicySet {
-    fn told(&self, alloc: Global, _words: &str) -> Result<String, AllocError> {
+    fn tell(&self, alloc: Global, _words: &str) -> Result<String, AllocError> {
         let mut lines = set_text(alloc, self)?;
         copies(&mut lines, self)?;
         Ok(lines)
     }
 }
 
-/// What a call gives for a text under the table that the words name: what the text means, or its faults. Behind the word `places` the
-/// bytes of each node stand in a value, behind the word `help` the hint of each fault below it.
+/// What a call gives for a text under the table that the words name: what the text means, or its
+/// faults. Behind the word `places` the bytes of each node stand in a value, behind the word
+/// `help` the hint of each fault below it.
 pub(crate) fn answer(
     alloc: Global,
     call: ConversionCall,
@@ -59,7 +60,7 @@ pub(crate) fn answer(
         ConversionCall::PolicySet => policyset(alloc, words, text),
         ConversionCall::SameSet => same_set(alloc, words, text),
         ConversionCall::Lines => formatted::answer(alloc, words, text),
-        ConversionCall::Table => found(alloc, words, text),
+        ConversionCall::Table => find(alloc, words, text),
     }
 }
 
@@ -108,13 +109,13 @@ fn what_is_meant<T: Meaning>(
     answer: Result<T, Failure>,
 ) -> Result<String, AllocError> {
     match answer {
-        Ok(value) => value.told(alloc, words),
-        Err(failure) => refused(alloc, told_under(words), failure),
+        Ok(value) => value.tell(alloc, words),
+        Err(failure) => tell_failure(alloc, detail_under(words), failure),
     }
 }
 
 /// How much is told of a fault under these words.
-fn told_under(words: &str) -> Told {
+fn detail_under(words: &str) -> Told {
     if has_word(words, "help") {
         Told::All
     } else {
@@ -144,7 +145,7 @@ pub(crate) fn same<T: PartialEq + Drop>(
         Ok(left) => same_as::<T>(alloc, &left, right),
         Err(failure) => {
             drop(right);
-            refused(alloc, Told::Message, failure)
+            tell_failure(alloc, Told::Message, failure)
         }
     }
 }
@@ -156,7 +157,7 @@ fn same_as<T: PartialEq + Drop>(
 ) -> Result<String, AllocError> {
     match right {
         Ok(right) => sameness(alloc, *left == right),
-        Err(failure) => refused(alloc, Told::Message, failure),
+        Err(failure) => tell_failure(alloc, Told::Message, failure),
     }
 }
 

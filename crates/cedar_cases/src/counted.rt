@@ -1,7 +1,7 @@
 //! A second builder, which counts the calls of another that make an expression.
 ghost use Rattle.std.specs.Prelude.{◌≡◌, IfOk, IfErr, IsOkAnd, IsErrAnd, map, false};
 ghost use Rattle.cedar_expressions.specs.Value as v;
-ghost use Rattle.cedar_expressions.specs.Keys.{repeats_key, IsDue};
+ghost use Rattle.cedar_expressions.specs.Keys.{repeats_key, RefusesKeys};
 
 use cedar_expressions::{
     AddOp, EntityType, ExprBuilderInfallibleBuild, Literal, Name, PatternElem, Place, RecordError,
@@ -409,7 +409,7 @@ impl<B: ExprBuilderInfallibleBuild> ExprBuilderInfallibleBuild for CountingBuild
             (B.meaning e.expr
             ≡ v.«record» (v.fields (map (λ p. (p.0, B.meaning p.1.expr)) pairs.items)))
             × (repeats_key (map (λ p. p.0) pairs.items) ≡ false)) }
-        ensures err { IfErr result (λ error. IsDue error (map (λ p. p.0) pairs.items)) }
+        ensures err { IfErr result (λ error. RefusesKeys error (map (λ p. p.0) pairs.items)) }
     {
         let (pairs, nodes) = split_pairs::<B>(self.alloc, pairs)?;
         Counted::over(nodes, self.inner.record(pairs))

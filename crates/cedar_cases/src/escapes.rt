@@ -10,10 +10,11 @@ enum Piece<'a> {
     Repeated(usize, &'a str),
 }
 
-/// The text that a line of a case stands for: `$n` a line's end, `$r` a carriage return, `$t` a tab, `$u{e9}` a character, `$$` a
-/// dollar, `$500{[ }` five hundred times `[ `; a `$` at the line's end stands for nothing, so that spaces before it, or an empty
-/// line, can be seen. `None` where a `$` stands before anything else.
-pub(crate) fn written(alloc: Global, line: &str) -> Result<Option<String>, AllocError> {
+/// The text that a line of a case stands for: `$n` a line's end, `$r` a carriage return, `$t` a
+/// tab, `$u{e9}` a character, `$$` a dollar, `$500{[ }` five hundred times `[ `; a `$` at the
+/// line's end stands for nothing, so that spaces before it, or an empty line, can be seen. `None`
+/// where a `$` stands before anything else.
+pub(crate) fn unescape(alloc: Global, line: &str) -> Result<Option<String>, AllocError> {
     let mut text = String::new(alloc);
     let mut rest = line;
     // Each turn passes a `$`, so there are not more of them than bytes.

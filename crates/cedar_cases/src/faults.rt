@@ -13,8 +13,13 @@ pub(crate) enum Told {
     All,
 }
 
-/// The faults of a failure, in lines; each begins with one for its place and message. Want of memory is answered as that.
-pub(crate) fn refused(alloc: Global, told: Told, failure: Failure) -> Result<String, AllocError> {
+/// The faults of a failure, in lines; each begins with one for its place and message. Want of
+/// memory is answered as that.
+pub(crate) fn tell_failure(
+    alloc: Global,
+    told: Told,
+    failure: Failure,
+) -> Result<String, AllocError> {
     let lines = faults_of(alloc, told, &failure);
     drop(failure);
     lines
@@ -57,7 +62,8 @@ fn add_fault(
     }
 }
 
-/// Puts the label and the hint of a fault, as far as there are any, behind the lines that are there.
+/// Puts the label and the hint of a fault, as far as there are any, behind the lines that are
+/// there.
 fn add_hints(alloc: Global, lines: &mut String, fault: &ParseError) -> Result<(), AllocError> {
     add_indented(alloc, lines, fault.label(alloc)?)?;
     add_indented(alloc, lines, fault.help(alloc)?)

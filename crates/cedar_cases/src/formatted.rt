@@ -1,7 +1,7 @@
 //! The formatter: what it gives for a text, and what has to hold of it for each text of a set.
 
 use crate::conversions::same;
-use crate::faults::{Told, refused};
+use crate::faults::{Told, tell_failure};
 use crate::reports::add;
 use crate::tables::styles;
 use cedar_policy_parser::formatter::format_policies;
@@ -20,12 +20,13 @@ pub(crate) fn answer(alloc: Global, words: &str, text: &str) -> Result<String, A
 fn in_lines(alloc: Global, text: &str, styles: &ExtStyles) -> Result<String, AllocError> {
     match format_policies(alloc, text, styles) {
         Ok(lines) => Ok(lines),
-        Err(failure) => refused(alloc, Told::Message, failure),
+        Err(failure) => tell_failure(alloc, Told::Message, failure),
     }
 }
 
-/// Puts a line behind those that are there where a text that means a set isn't formatted to lines that mean the same set and that are
-/// formatted to themselves, or where one that means none has other faults for the formatter.
+/// Puts a line behind those that are there where a text that means a set isn't formatted to lines
+/// that mean the same set and that are formatted to themselves, or where one that means none has
+/// other faults for the formatter.
 pub(crate) fn formats(
     alloc: Global,
     lines: &mut String,

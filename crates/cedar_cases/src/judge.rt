@@ -1,12 +1,13 @@
 //! Judges the cases of a file: what each call gives is compared with what its case wants.
 //!
-//! A line behind `>> ` names the call of the cases below it, with words of its own behind the name. A case is a text, in lines, and
-//! behind it, each behind `=> `, the lines that the call has to give; an empty line ends it. Lines that begin with `#` are for the
-//! reader. The beginnings of the text are tried too, without a line that says so; behind `>> whole ` the text alone.
+//! A line behind `>> ` names the call of the cases below it, with words of its own behind the
+//! name. A case is a text, in lines, and behind it, each behind `=> `, the lines that the call has
+//! to give; an empty line ends it. Lines that begin with `#` are for the reader. The beginnings of
+//! the text are tried too, without a line that says so; behind `>> whole ` the text alone.
 
 use crate::beginnings::try_beginnings;
 use crate::calls::answer;
-use crate::escapes::written;
+use crate::escapes::unescape;
 use crate::reports::add_line;
 use std::alloc::{AllocError, Global};
 use std::fmt;
@@ -30,7 +31,8 @@ pub(crate) struct Judge {
     told: String,
 }
 
-/// How many cases agree, and how many beginnings of their texts do; where some don't, how many those are, and each of them.
+/// How many cases agree, and how many beginnings of their texts do; where some don't, how many
+/// those are, and each of them.
 impl fmt::Display for Judge {
     fn fmt<W: fmt::Write>(&self, f: &mut fmt::Formatter<W>) -> fmt::Result {
         write!(
@@ -50,7 +52,7 @@ impl fmt::Display for Judge {
 }
 
 /// Judges all cases of a file.
-pub(crate) fn judged(alloc: Global, source: &str) -> Result<Judge, AllocError> {
+pub(crate) fn judge_file(alloc: Global, source: &str) -> Result<Judge, AllocError> {
     let mut judge = Judge {
         call: String::new(alloc),
         is_whole: false,
@@ -132,7 +134,7 @@ impl Judge {
 
 /// Puts what a line stands for behind the lines that are there.
 fn add(alloc: Global, lines: &mut Option<String>, line: &str) -> Result<(), AllocError> {
-    let line = match written(alloc, line)? {
+    let line = match unescape(alloc, line)? {
         Some(text) => text,
         None => format!(in alloc; "no such escape: {line}")?,
     };

@@ -1,9 +1,11 @@
-//! Calls that change what they have, or lend it, with what has to hold where memory is refused: that it is as it was before.
+//! Calls that change what they have, or lend it, with what has to hold where memory is refused:
+//! that it is as it was before.
 //!
-//! Memory is refused from outside, request by request (`.ci/refused_memory`). A call that was refused is answered as want of memory
-//! where what it had is as before, and else by a line that no case wants.
+//! Memory is refused from outside, request by request (`.ci/refused_memory`). A call that was
+//! refused is answered as want of memory where what it had is as before, and else by a line that
+//! no case wants.
 
-use crate::faults::{Told, refused};
+use crate::faults::{Told, tell_failure};
 use crate::parts::{Conversion, value};
 use crate::reports::add;
 use crate::tables::styles;
@@ -18,8 +20,9 @@ use cedar_syntax::node::Node;
 use either::Either;
 use std::alloc::{AllocError, Global};
 
-/// What a call is told to have done that was refused memory: no more than that, where what it had was kept.
-fn kept(alloc: Global, is_kept: bool, error: AllocError) -> Result<String, AllocError> {
+/// What a call is told to have done that was refused memory: no more than that, where what it had
+/// was kept.
+fn tell_kept(alloc: Global, is_kept: bool, error: AllocError) -> Result<String, AllocError> {
     if is_kept {
         return Err(error);
     }
@@ -27,7 +30,7 @@ fn kept(alloc: Global, is_kept: bool, error: AllocError) -> Result<String, Alloc
 }
 
 /// How many faults a text has together with the same ones once more.
-pub(crate) fn extended<T: Tree>(alloc: Global, text: &str) -> Result<String, AllocError> {
+pub(crate) fn tell_extended<T: Tree>(alloc: Global, text: &str) -> Result<String, AllocError> {
     match T::read(alloc, text) {
         Err(Failure::Errors(faults)) => twice(alloc, &faults),
         Err(Failure::Memory(error)) => Err(error),
@@ -43,7 +46,7 @@ fn twice(alloc: Global, faults: &ParseErrors) -> Result<String, AllocError> {
     let told = match faults.try_clone() {
         Ok(more) => match list.extend(more) {
             Ok(()) => format!(in alloc; "{}", list.len()),
-            Err(error) => kept(alloc, list == *faults, error),
+            Err(error) => tell_kept(alloc, list == *faults, error),
         },
         Err(error) => Err(error),
     };
@@ -57,14 +60,14 @@ pub(crate) struct PolicyIds;
 impl Conversion for PolicyIds {
     type From = Policies;
 
-    fn told(
+    fn tell(
         alloc: Global,
         _words: &str,
         node: &Node<Option<Policies>>,
     ) -> Result<String, AllocError> {
         match node.with_generated_policyids(alloc) {
             Ok(ids) => names_of(alloc, ids),
-            Err(failure) => refused(alloc, Told::Message, failure),
+            Err(failure) => tell_failure(alloc, Told::Message, failure),
         }
     }
 }
@@ -77,7 +80,7 @@ fn names_of(alloc: Global, mut ids: GeneratedPolicyIds<'_>) -> Result<String, Al
             Ok((id, _)) => add(&mut lines, id.as_str())?,
             Err(error) => {
                 let is_ended = ids.next().is_none() && ids.next().is_none();
-                return kept(alloc, is_ended, error);
+                return tell_kept(alloc, is_ended, error);
             }
         }
     }
@@ -90,7 +93,7 @@ pub(crate) struct SharedTree;
 impl Conversion for SharedTree {
     type From = Policies;
 
-    fn told(
+    fn tell(
         alloc: Global,
         words: &str,
         node: &Node<Option<Policies>>,
@@ -101,7 +104,7 @@ impl Conversion for SharedTree {
         drop(styles);
         match is_same::<Node<Option<Policies>>>(before, node) {
             Ok(true) => value::<PolicySet>(alloc, set),
-            Ok(false) => changed::<Result<PolicySet, Failure>>(alloc, set),
+            Ok(false) => tell_changed::<Result<PolicySet, Failure>>(alloc, set),
             Err(error) => Err(error),
         }
     }
@@ -117,7 +120,7 @@ fn is_same<T: PartialEq + Drop>(
 }
 
 /// What is told of what was made of a tree that changed.
-fn changed<T: Drop>(alloc: Global, made: T) -> Result<String, AllocError> {
+fn tell_changed<T: Drop>(alloc: Global, made: T) -> Result<String, AllocError> {
     drop(made);
     String::from_str(alloc, "the tree changed")
 }
@@ -129,7 +132,7 @@ impl Conversion for Added {
     type From = Policies;
 
     /// The set that the tree is, with its first policy once more under another name.
-    fn told(
+    fn tell(
         alloc: Global,
         words: &str,
         node: &Node<Option<Policies>>,
@@ -143,7 +146,7 @@ impl Conversion for Added {
         let styles = styles(alloc, words)?;
         let told = match node.to_policyset(alloc, &styles) {
             Ok(set) => with_first(alloc, &styles, set, first),
-            Err(failure) => refused(alloc, Told::Message, failure),
+            Err(failure) => tell_failure(alloc, Told::Message, failure),
         };
         drop(styles);
         told
@@ -162,8 +165,8 @@ fn with_first(
     let was_same = is_same::<PolicySet>(before, &set);
     match added {
         Ok(()) => value::<PolicySet>(alloc, Ok(set)),
-        Err(Failure::Memory(error)) => kept(alloc, was_same?, error),
-        Err(failure) => refused(alloc, Told::Message, failure),
+        Err(Failure::Memory(error)) => tell_kept(alloc, was_same?, error),
+        Err(failure) => tell_failure(alloc, Told::Message, failure),
     }
 }
 

@@ -50,7 +50,8 @@ fn printed_depth(alloc: Global, printed: &str) -> Result<usize, AllocError> {
     Ok(deepest)
 }
 
-/// Puts a line behind those that are there where a text's tree nests deeper than was told of the text.
+/// Puts a line behind those that are there where a text's tree nests deeper than was told of the
+/// text.
 pub(crate) fn add_nesting<T: Display>(
     alloc: Global,
     lines: &mut String,

@@ -1,7 +1,7 @@
 //! The conversions of trees and of their parts.
 
 use crate::counted::{Counted, CountingBuilder};
-use crate::faults::{Told, refused};
+use crate::faults::{Told, tell_failure};
 use crate::kept::{Added, PolicyIds, SharedTree};
 use crate::policy_parts::{
     ExtractScope, GetAstAnnotations, ToKvPair, ToPolicy, ToPolicyOrTemplate, ToPolicyTemplate,
@@ -44,7 +44,8 @@ pub(crate) enum PartCall {
     Added,
 }
 
-/// What a call gives for the tree of a text: a value, or faults. The words name the variable that is referred to, or what may be called.
+/// What a call gives for the tree of a text: a value, or faults. The words name the variable that
+/// is referred to, or what may be called.
 pub(crate) fn answer(
     alloc: Global,
     call: PartCall,
@@ -52,25 +53,25 @@ pub(crate) fn answer(
     text: &str,
 ) -> Result<String, AllocError> {
     match call {
-        PartCall::ExprToRef => converted::<ToRef>(alloc, words, text),
-        PartCall::ExprToRefOrSlot => converted::<ToRefOrSlot>(alloc, words, text),
-        PartCall::ExprToRefs => converted::<ToRefs>(alloc, words, text),
-        PartCall::BuilderCalls => converted::<BuilderCalls>(alloc, words, text),
-        PartCall::MemberToLit => converted::<ToLit>(alloc, words, text),
-        PartCall::PrimaryToStringLiteral => converted::<ToStringLiteral>(alloc, words, text),
-        PartCall::RefToRef => converted::<RefToRef>(alloc, words, text),
-        PartCall::IdentToValidIdent => converted::<ToValidIdent>(alloc, words, text),
-        PartCall::IdentToAnyIdent => converted::<ToAnyIdent>(alloc, words, text),
-        PartCall::AnnotationToKvPair => converted::<ToKvPair>(alloc, words, text),
-        PartCall::GetAstAnnotations => converted::<GetAstAnnotations>(alloc, words, text),
-        PartCall::ExtractScope => converted::<ExtractScope>(alloc, words, text),
-        PartCall::PolicyToTemplate => converted::<ToTemplate>(alloc, words, text),
-        PartCall::PolicyToPolicyTemplate => converted::<ToPolicyTemplate>(alloc, words, text),
-        PartCall::PolicyToPolicyOrTemplate => converted::<ToPolicyOrTemplate>(alloc, words, text),
-        PartCall::PolicyToPolicy => converted::<ToPolicy>(alloc, words, text),
-        PartCall::GeneratedPolicyIds => converted::<PolicyIds>(alloc, words, text),
-        PartCall::SharedTree => converted::<SharedTree>(alloc, words, text),
-        PartCall::Added => converted::<Added>(alloc, words, text),
+        PartCall::ExprToRef => convert::<ToRef>(alloc, words, text),
+        PartCall::ExprToRefOrSlot => convert::<ToRefOrSlot>(alloc, words, text),
+        PartCall::ExprToRefs => convert::<ToRefs>(alloc, words, text),
+        PartCall::BuilderCalls => convert::<BuilderCalls>(alloc, words, text),
+        PartCall::MemberToLit => convert::<ToLit>(alloc, words, text),
+        PartCall::PrimaryToStringLiteral => convert::<ToStringLiteral>(alloc, words, text),
+        PartCall::RefToRef => convert::<RefToRef>(alloc, words, text),
+        PartCall::IdentToValidIdent => convert::<ToValidIdent>(alloc, words, text),
+        PartCall::IdentToAnyIdent => convert::<ToAnyIdent>(alloc, words, text),
+        PartCall::AnnotationToKvPair => convert::<ToKvPair>(alloc, words, text),
+        PartCall::GetAstAnnotations => convert::<GetAstAnnotations>(alloc, words, text),
+        PartCall::ExtractScope => convert::<ExtractScope>(alloc, words, text),
+        PartCall::PolicyToTemplate => convert::<ToTemplate>(alloc, words, text),
+        PartCall::PolicyToPolicyTemplate => convert::<ToPolicyTemplate>(alloc, words, text),
+        PartCall::PolicyToPolicyOrTemplate => convert::<ToPolicyOrTemplate>(alloc, words, text),
+        PartCall::PolicyToPolicy => convert::<ToPolicy>(alloc, words, text),
+        PartCall::GeneratedPolicyIds => convert::<PolicyIds>(alloc, words, text),
+        PartCall::SharedTree => convert::<SharedTree>(alloc, words, text),
+        PartCall::Added => convert::<Added>(alloc, words, text),
     }
 }
 
@@ -103,32 +104,32 @@ pub(crate) fn refusal(alloc: Global, call: PartCall, words: &str, text: &str) ->
 pub(crate) trait Conversion {
     type From: Tree;
 
-    fn told(
+    fn tell(
         alloc: Global,
         words: &str,
         node: &Node<Option<Self::From>>,
     ) -> Result<String, AllocError>;
 }
 
-fn converted<C: Conversion>(alloc: Global, words: &str, text: &str) -> Result<String, AllocError> {
+fn convert<C: Conversion>(alloc: Global, words: &str, text: &str) -> Result<String, AllocError> {
     match C::From::read(alloc, text) {
         Ok(node) => {
-            let mut lines = C::told(alloc, words, &node)?;
+            let mut lines = C::tell(alloc, words, &node)?;
             add_again(alloc, &mut lines, &node)?;
             Ok(lines)
         }
-        Err(failure) => refused(alloc, Told::Message, failure),
+        Err(failure) => tell_failure(alloc, Told::Message, failure),
     }
 }
 
 fn hindrance<C: Conversion>(alloc: Global, words: &str, text: &str) -> Option<Failure> {
-    tried::<C>(alloc, words, text).err()
+    attempt::<C>(alloc, words, text).err()
 }
 
 /// Makes the call where the text has a tree, and lets go what is told of it.
-fn tried<C: Conversion>(alloc: Global, words: &str, text: &str) -> Result<(), Failure> {
+fn attempt<C: Conversion>(alloc: Global, words: &str, text: &str) -> Result<(), Failure> {
     let node = C::From::read(alloc, text)?;
-    let told = C::told(alloc, words, &node);
+    let told = C::tell(alloc, words, &node);
     drop(node);
     drop(told?);
     Ok(())
@@ -141,7 +142,7 @@ pub(crate) fn value<T: Display + TryClone + Clone + PartialEq + Drop>(
 ) -> Result<String, AllocError> {
     match answer {
         Ok(value) => report(alloc, &value),
-        Err(failure) => refused(alloc, Told::Message, failure),
+        Err(failure) => tell_failure(alloc, Told::Message, failure),
     }
 }
 
@@ -160,7 +161,7 @@ struct ToRef;
 impl Conversion for ToRef {
     type From = Expr;
 
-    fn told(alloc: Global, words: &str, node: &Node<Option<Expr>>) -> Result<String, AllocError> {
+    fn tell(alloc: Global, words: &str, node: &Node<Option<Expr>>) -> Result<String, AllocError> {
         value(alloc, node.to_ref(alloc, var_of(words)))
     }
 }
@@ -170,7 +171,7 @@ struct ToRefOrSlot;
 impl Conversion for ToRefOrSlot {
     type From = Expr;
 
-    fn told(alloc: Global, words: &str, node: &Node<Option<Expr>>) -> Result<String, AllocError> {
+    fn tell(alloc: Global, words: &str, node: &Node<Option<Expr>>) -> Result<String, AllocError> {
         value(alloc, node.to_ref_or_slot(alloc, var_of(words)))
     }
 }
@@ -180,11 +181,11 @@ struct ToRefs;
 impl Conversion for ToRefs {
     type From = Expr;
 
-    fn told(alloc: Global, words: &str, node: &Node<Option<Expr>>) -> Result<String, AllocError> {
+    fn tell(alloc: Global, words: &str, node: &Node<Option<Expr>>) -> Result<String, AllocError> {
         match node.to_refs(alloc, var_of(words)) {
             Ok(OneOrMultipleRefs::Single(entity)) => report(alloc, &entity),
             Ok(OneOrMultipleRefs::Multiple(entities)) => list_text(alloc, entities.as_slice()),
-            Err(failure) => refused(alloc, Told::Message, failure),
+            Err(failure) => tell_failure(alloc, Told::Message, failure),
         }
     }
 }
@@ -207,22 +208,22 @@ struct BuilderCalls;
 impl Conversion for BuilderCalls {
     type From = Expr;
 
-    fn told(alloc: Global, words: &str, node: &Node<Option<Expr>>) -> Result<String, AllocError> {
+    fn tell(alloc: Global, words: &str, node: &Node<Option<Expr>>) -> Result<String, AllocError> {
         let styles = styles(alloc, words)?;
         let answer = node.to_expr::<CountingBuilder<ExprBuilder<()>>>(alloc, &styles);
         drop(styles);
-        counted(alloc, answer)
+        count_calls(alloc, answer)
     }
 }
 
 /// How many calls of the builder made an expression.
-fn counted<E: Drop>(
+fn count_calls<E: Drop>(
     alloc: Global,
     answer: Result<Counted<E>, Failure>,
 ) -> Result<String, AllocError> {
     match answer {
         Ok(counted) => format!(in alloc; "{}", counted.nodes()),
-        Err(failure) => refused(alloc, Told::Message, failure),
+        Err(failure) => tell_failure(alloc, Told::Message, failure),
     }
 }
 
@@ -231,7 +232,7 @@ struct ToLit;
 impl Conversion for ToLit {
     type From = Expr;
 
-    fn told(alloc: Global, _words: &str, node: &Node<Option<Expr>>) -> Result<String, AllocError> {
+    fn tell(alloc: Global, _words: &str, node: &Node<Option<Expr>>) -> Result<String, AllocError> {
         let Some(member) = member_of(node) else {
             return String::from_str(alloc, "no member");
         };
@@ -261,14 +262,14 @@ struct ToStringLiteral;
 impl Conversion for ToStringLiteral {
     type From = Primary;
 
-    fn told(
+    fn tell(
         alloc: Global,
         _words: &str,
         node: &Node<Option<Primary>>,
     ) -> Result<String, AllocError> {
         match node.to_string_literal::<ExprBuilder<()>>(alloc) {
             Ok(text) => Ok(text),
-            Err(failure) => refused(alloc, Told::Message, failure),
+            Err(failure) => tell_failure(alloc, Told::Message, failure),
         }
     }
 }
@@ -278,7 +279,7 @@ struct RefToRef;
 impl Conversion for RefToRef {
     type From = Ref;
 
-    fn told(alloc: Global, _words: &str, node: &Node<Option<Ref>>) -> Result<String, AllocError> {
+    fn tell(alloc: Global, _words: &str, node: &Node<Option<Ref>>) -> Result<String, AllocError> {
         value(alloc, node.to_ref(alloc))
     }
 }
@@ -288,7 +289,7 @@ struct ToValidIdent;
 impl Conversion for ToValidIdent {
     type From = Ident;
 
-    fn told(alloc: Global, _words: &str, node: &Node<Option<Ident>>) -> Result<String, AllocError> {
+    fn tell(alloc: Global, _words: &str, node: &Node<Option<Ident>>) -> Result<String, AllocError> {
         value(alloc, node.to_valid_ident(alloc))
     }
 }
@@ -298,7 +299,7 @@ struct ToAnyIdent;
 impl Conversion for ToAnyIdent {
     type From = Ident;
 
-    fn told(alloc: Global, _words: &str, node: &Node<Option<Ident>>) -> Result<String, AllocError> {
+    fn tell(alloc: Global, _words: &str, node: &Node<Option<Ident>>) -> Result<String, AllocError> {
         value(alloc, node.to_any_ident(alloc))
     }
 }

@@ -36,7 +36,8 @@ fn add_policy(
     Ok(())
 }
 
-/// A policy's name, what it is, its annotations in the order of their keys, its effect, and what it asks.
+/// A policy's name, what it is, its annotations in the order of their keys, its effect, and what
+/// it asks.
 pub(crate) fn policy_text(
     alloc: Global,
     what: &str,

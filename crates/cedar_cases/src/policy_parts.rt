@@ -1,6 +1,6 @@
 //! The conversions of policies and of their parts.
 
-use crate::faults::{Told, refused};
+use crate::faults::{Told, tell_failure};
 use crate::parts::Conversion;
 use crate::policies::policy_text;
 use crate::reports::{add, copies};
@@ -30,7 +30,7 @@ pub(crate) struct ToKvPair;
 impl Conversion for ToKvPair {
     type From = Policy;
 
-    fn told(
+    fn tell(
         alloc: Global,
         _words: &str,
         node: &Node<Option<Policy>>,
@@ -53,13 +53,13 @@ fn annotation_text(
 ) -> Result<String, AllocError> {
     let itself = |text: Option<String>, _loc: Option<&Loc>| text;
     match annotation.to_kv_pair(alloc, itself) {
-        Ok((key, text)) => said(alloc, &key, &text),
-        Err(failure) => refused(alloc, Told::Message, failure),
+        Ok((key, text)) => key_line(alloc, &key, &text),
+        Err(failure) => tell_failure(alloc, Told::Message, failure),
     }
 }
 
 /// A key and what is said of it, as far as anything is.
-fn said(alloc: Global, key: &AnyId, text: &Option<String>) -> Result<String, AllocError> {
+fn key_line(alloc: Global, key: &AnyId, text: &Option<String>) -> Result<String, AllocError> {
     match text {
         Some(text) => format!(in alloc; "{key} \"{text}\""),
         None => format!(in alloc; "{key}"),
@@ -72,7 +72,7 @@ pub(crate) struct GetAstAnnotations;
 impl Conversion for GetAstAnnotations {
     type From = Policy;
 
-    fn told(
+    fn tell(
         alloc: Global,
         _words: &str,
         node: &Node<Option<Policy>>,
@@ -83,7 +83,7 @@ impl Conversion for GetAstAnnotations {
         let itself = |text: Option<String>, _loc: Option<&Loc>| text;
         match parts.get_ast_annotations(alloc, itself) {
             Ok(by_key) => annotations_text(alloc, &by_key),
-            Err(failure) => refused(alloc, Told::Message, failure),
+            Err(failure) => tell_failure(alloc, Told::Message, failure),
         }
     }
 }
@@ -95,7 +95,7 @@ fn annotations_text(
 ) -> Result<String, AllocError> {
     let mut lines = String::new(alloc);
     for (key, text) in by_key.iter() {
-        let line = said(alloc, key, text)?;
+        let line = key_line(alloc, key, text)?;
         add(&mut lines, line.as_str())?;
     }
     Ok(lines)
@@ -107,7 +107,7 @@ pub(crate) struct ExtractScope;
 impl Conversion for ExtractScope {
     type From = Policy;
 
-    fn told(alloc: Global, words: &str, node: &Node<Option<Policy>>) -> Result<String, AllocError> {
+    fn tell(alloc: Global, words: &str, node: &Node<Option<Policy>>) -> Result<String, AllocError> {
         let Some(parts) = parts_of(node) else {
             return String::from_str(alloc, "an empty node");
         };
@@ -136,7 +136,7 @@ where
             copies(&mut lines, &resource)?;
             Ok(lines)
         }
-        Err(failure) => refused(alloc, Told::Message, failure),
+        Err(failure) => tell_failure(alloc, Told::Message, failure),
     }
 }
 
@@ -169,7 +169,7 @@ fn what_is_held<T: Held>(alloc: Global, answer: Result<T, Failure>) -> Result<St
             copies(&mut lines, &policy)?;
             Ok(lines)
         }
-        Err(failure) => refused(alloc, Told::Message, failure),
+        Err(failure) => tell_failure(alloc, Told::Message, failure),
     }
 }
 
@@ -180,17 +180,18 @@ fn condition_text(alloc: Global, answer: Result<Template, Failure>) -> Result<St
             Some(condition) => value_text(alloc, condition, true),
             None => String::from_str(alloc, "no condition"),
         },
-        Err(failure) => refused(alloc, Told::Message, failure),
+        Err(failure) => tell_failure(alloc, Told::Message, failure),
     }
 }
 
-/// The call of this name. Behind the word `places` it tells the condition alone, with the bytes of each node.
+/// The call of this name. Behind the word `places` it tells the condition alone, with the bytes of
+/// each node.
 pub(crate) struct ToTemplate;
 
 impl Conversion for ToTemplate {
     type From = Policy;
 
-    fn told(alloc: Global, words: &str, node: &Node<Option<Policy>>) -> Result<String, AllocError> {
+    fn tell(alloc: Global, words: &str, node: &Node<Option<Policy>>) -> Result<String, AllocError> {
         let (id, styles) = (id(alloc)?, styles(alloc, words)?);
         let answer = node.to_template(alloc, id, &styles);
         drop(styles);
@@ -207,7 +208,7 @@ pub(crate) struct ToPolicyTemplate;
 impl Conversion for ToPolicyTemplate {
     type From = Policy;
 
-    fn told(alloc: Global, words: &str, node: &Node<Option<Policy>>) -> Result<String, AllocError> {
+    fn tell(alloc: Global, words: &str, node: &Node<Option<Policy>>) -> Result<String, AllocError> {
         let (id, styles) = (id(alloc)?, styles(alloc, words)?);
         let answer = node.to_policy_template(alloc, id, &styles);
         drop(styles);
@@ -221,14 +222,14 @@ pub(crate) struct ToPolicyOrTemplate;
 impl Conversion for ToPolicyOrTemplate {
     type From = Policy;
 
-    fn told(alloc: Global, words: &str, node: &Node<Option<Policy>>) -> Result<String, AllocError> {
+    fn tell(alloc: Global, words: &str, node: &Node<Option<Policy>>) -> Result<String, AllocError> {
         let (id, styles) = (id(alloc)?, styles(alloc, words)?);
         let answer = node.to_policy_or_template(alloc, id, &styles);
         drop(styles);
         match answer {
             Ok(Either::Left(policy)) => what_is_held::<StaticPolicy>(alloc, Ok(policy)),
             Ok(Either::Right(template)) => what_is_held::<Template>(alloc, Ok(template)),
-            Err(failure) => refused(alloc, Told::Message, failure),
+            Err(failure) => tell_failure(alloc, Told::Message, failure),
         }
     }
 }
@@ -239,7 +240,7 @@ pub(crate) struct ToPolicy;
 impl Conversion for ToPolicy {
     type From = Policy;
 
-    fn told(alloc: Global, words: &str, node: &Node<Option<Policy>>) -> Result<String, AllocError> {
+    fn tell(alloc: Global, words: &str, node: &Node<Option<Policy>>) -> Result<String, AllocError> {
         let (id, styles) = (id(alloc)?, styles(alloc, words)?);
         let answer = node.to_policy(alloc, id, &styles);
         drop(styles);

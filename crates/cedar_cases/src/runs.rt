@@ -1,14 +1,15 @@
 //! Runs of the program: what a run with some words writes, and its status.
 
-use crate::escapes::written;
+use crate::escapes::unescape;
 use crate::reports::add;
 use cedar_command::run::run;
 use cedar_command::streams::{Input, Output};
 use std::alloc::{AllocError, Global};
 
-/// What a run with the words behind the call's name writes of a text; then a line with its status, and what it says on the stream of
-/// errors. Between two words stands one space; in a word and in the text escapes stand for what they do in a case, and in the text the
-/// character U+FFFD for the byte 0xff, which is in no text.
+/// What a run with the words behind the call's name writes of a text; then a line with its status,
+/// and what it says on the stream of errors. Between two words stands one space; in a word and in
+/// the text escapes stand for what they do in a case, and in the text the character U+FFFD for the
+/// byte 0xff, which is in no text.
 pub(crate) fn answer(alloc: Global, words: &str, text: &str) -> Result<String, AllocError> {
     let words = split(alloc, words)?;
     let bytes = bytes_of(alloc, text)?;
@@ -33,7 +34,7 @@ fn split(alloc: Global, words: &str) -> Result<Vec<String>, AllocError> {
         return Ok(split);
     }
     for word in words.split(' ') {
-        match written(alloc, word)? {
+        match unescape(alloc, word)? {
             Some(word) => split.push(word)?,
             None => split.push(String::from_str(alloc, "no such escape")?)?,
         }

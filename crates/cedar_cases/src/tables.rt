@@ -5,17 +5,17 @@ use cedar_policy_parser::ExtStyles;
 use std::alloc::{AllocError, Global};
 use std::collections::BTreeSet;
 
-/// The table of the words behind a call's name: Cedar's own where `cedar` is one of them; else of each `fn:NAME` a function, of each
-/// `method:NAME` a method.
+/// The table of the words behind a call's name: Cedar's own where `cedar` is one of them; else of
+/// each `fn:NAME` a function, of each `method:NAME` a method.
 pub(crate) fn styles(alloc: Global, words: &str) -> Result<ExtStyles, AllocError> {
     if has_word(words, "cedar") {
         return ExtStyles::cedar(alloc);
     }
-    named(alloc, words)
+    table_named(alloc, words)
 }
 
 /// The table of the functions and methods that words name.
-fn named(alloc: Global, words: &str) -> Result<ExtStyles, AllocError> {
+fn table_named(alloc: Global, words: &str) -> Result<ExtStyles, AllocError> {
     let mut functions = BTreeSet::new(alloc);
     let mut methods = BTreeSet::new(alloc);
     for word in words.split_whitespace() {
@@ -30,7 +30,7 @@ fn named(alloc: Global, words: &str) -> Result<ExtStyles, AllocError> {
 }
 
 /// What a table has under a name, which may be of several parts.
-pub(crate) fn found(alloc: Global, words: &str, text: &str) -> Result<String, AllocError> {
+pub(crate) fn find(alloc: Global, words: &str, text: &str) -> Result<String, AllocError> {
     let styles = styles(alloc, words)?;
     let mut lines = String::new(alloc);
     if let Some(name) = name(alloc, text)? {
@@ -38,7 +38,7 @@ pub(crate) fn found(alloc: Global, words: &str, text: &str) -> Result<String, Al
             lines.push_str("a function")?;
         }
     }
-    if let Some(id) = unreserved(alloc, text)? {
+    if let Some(id) = unreserved_id(alloc, text)? {
         if styles.is_method(&id) {
             lines.push_str("a method")?;
         }
@@ -68,7 +68,7 @@ fn function(alloc: Global, word: &str) -> Result<Option<Name>, AllocError> {
 /// The method that a word names.
 fn method(alloc: Global, word: &str) -> Result<Option<UnreservedId>, AllocError> {
     match word.strip_prefix("method:") {
-        Some(text) => unreserved(alloc, text),
+        Some(text) => unreserved_id(alloc, text),
         None => Ok(None),
     }
 }
@@ -89,7 +89,7 @@ fn name(alloc: Global, text: &str) -> Result<Option<Name>, AllocError> {
 }
 
 /// The identifier that a text is, if it isn't reserved.
-fn unreserved(alloc: Global, text: &str) -> Result<Option<UnreservedId>, AllocError> {
+fn unreserved_id(alloc: Global, text: &str) -> Result<Option<UnreservedId>, AllocError> {
     match identifier(alloc, text)? {
         Some(id) => Ok(UnreservedId::try_from(id).ok()),
         None => Ok(None),

@@ -1,6 +1,7 @@
-//! The calls on texts without a tree: tokens, how deep they nest, escapes, identifiers, and what is told of kinds that were expected.
+//! The calls on texts without a tree: tokens, how deep they nest, escapes, identifiers, and what
+//! is told of kinds that were expected.
 
-use crate::kept::extended;
+use crate::kept::tell_extended;
 use crate::reports::{add, copies};
 use crate::values::write_pattern;
 use cedar_expressions::{AnyId, Id, Text, UnreservedId};
@@ -35,14 +36,14 @@ pub(crate) fn answer(alloc: Global, call: TextCall, text: &str) -> Result<String
         TextCall::UnescapedString => unescaped_string(alloc, text),
         TextCall::Pattern => pattern(alloc, text),
         TextCall::Identifiers => identifiers(alloc, text),
-        TextCall::Expected => expected(alloc, text),
+        TextCall::Expected => tell_expected(alloc, text),
         TextCall::HelpOfInvalidToken => help_of_invalid_token(alloc, text),
-        TextCall::Extend => extended::<Policies>(alloc, text),
+        TextCall::Extend => tell_extended::<Policies>(alloc, text),
     }
 }
 
-/// A line for each token: its bytes, its kind's name and its text; and one for the bad place, if there is one. Behind them nothing
-/// comes, however often it is asked.
+/// A line for each token: its bytes, its kind's name and its text; and one for the bad place, if
+/// there is one. Behind them nothing comes, however often it is asked.
 fn tokens(alloc: Global, text: &str) -> Result<String, AllocError> {
     let mut lines = String::new(alloc);
     let mut lexer = Lexer::new(text);
@@ -132,7 +133,7 @@ fn identifiers(alloc: Global, text: &str) -> Result<String, AllocError> {
 }
 
 /// What is said of expected kinds, of which the text has the names with a space between two.
-fn expected(alloc: Global, text: &str) -> Result<String, AllocError> {
+fn tell_expected(alloc: Global, text: &str) -> Result<String, AllocError> {
     let mut names = Vec::new(alloc);
     for name in text.split(' ') {
         if !name.is_empty() {
@@ -145,7 +146,8 @@ fn expected(alloc: Global, text: &str) -> Result<String, AllocError> {
     or_none(alloc, said)
 }
 
-/// The hint of the fault that no token begins in a text at a place, whose number stands before the text.
+/// The hint of the fault that no token begins in a text at a place, whose number stands before the
+/// text.
 fn help_of_invalid_token(alloc: Global, text: &str) -> Result<String, AllocError> {
     let Some((location, text)) = text.split_once(' ') else {
         return String::from_str(alloc, "one word");

@@ -1,7 +1,7 @@
-//! The calls that read a text as a tree. What a tree is printed as is read again by the same call, and has to be the same tree, places
-//! aside; and it nests no deeper than is told of the text.
+//! The calls that read a text as a tree. What a tree is printed as is read again by the same call,
+//! and has to be the same tree, places aside; and it nests no deeper than is told of the text.
 
-use crate::faults::{Told, refused};
+use crate::faults::{Told, tell_failure};
 use crate::nested::add_nesting;
 use crate::reports::{add, report};
 use cedar_syntax::TryClone;
@@ -73,8 +73,8 @@ pub(crate) enum TreeCall {
     Policies,
 }
 
-/// What a call gives for a text: the tree's text, or all that is told of the faults. Behind the word `place` the tree's bytes stand
-/// before its text.
+/// What a call gives for a text: the tree's text, or all that is told of the faults. Behind the
+/// word `place` the tree's bytes stand before its text.
 pub(crate) fn answer(
     alloc: Global,
     call: TreeCall,
@@ -108,19 +108,15 @@ pub(crate) fn refusal(alloc: Global, call: TreeCall, text: &str) -> Option<Failu
 fn read_as<T: Tree>(alloc: Global, words: &str, text: &str) -> Result<String, AllocError> {
     match T::read(alloc, text) {
         Ok(node) => {
-            let mut lines = shown::<T>(alloc, words, &node)?;
+            let mut lines = show::<T>(alloc, words, &node)?;
             add_nesting(alloc, &mut lines, text, &node)?;
             Ok(lines)
         }
-        Err(failure) => refused(alloc, Told::All, failure),
+        Err(failure) => tell_failure(alloc, Told::All, failure),
     }
 }
 
-fn shown<T: Tree>(
-    alloc: Global,
-    words: &str,
-    node: &Node<Option<T>>,
-) -> Result<String, AllocError> {
+fn show<T: Tree>(alloc: Global, words: &str, node: &Node<Option<T>>) -> Result<String, AllocError> {
     let Some(tree) = node.as_inner() else {
         return String::from_str(alloc, "an empty node");
     };
@@ -134,7 +130,8 @@ fn shown<T: Tree>(
     }
 }
 
-/// Puts a line behind those that are there where the text has a tree that isn't read again, or that nests deeper than is told.
+/// Puts a line behind those that are there where the text has a tree that isn't read again, or
+/// that nests deeper than is told.
 pub(crate) fn reads_again<T: Tree>(
     alloc: Global,
     lines: &mut String,
@@ -152,7 +149,8 @@ pub(crate) fn reads_again<T: Tree>(
     }
 }
 
-/// Puts a line behind those that are there where what the tree is printed as isn't read as the same tree.
+/// Puts a line behind those that are there where what the tree is printed as isn't read as the
+/// same tree.
 pub(crate) fn add_again<T: Tree>(
     alloc: Global,
     lines: &mut String,

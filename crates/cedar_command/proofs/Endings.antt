@@ -10,8 +10,8 @@ use Rattle.cedar_command.specs.declared.streams.WriterState.{WriterState}
 use Rattle.cedar_command.specs.declared.streams.WriterState.TheVariants.{Written}
 use Rattle.cedar_command.specs.Ends.{Streams, Stops, StopsWriting, Ends, TellsEnd, status_of}
 use Rattle.cedar_command.specs.Streams.{IsNoText}
-use Rattle.cedar_command.specs.declared.words.Command.{Command}
-use Rattle.cedar_command.specs.Words.{AsksFor, AsksForNothing}
+use Rattle.cedar_command.specs.declared.request.Command.{Command}
+use Rattle.cedar_command.specs.Request.{AsksFor, AsksForNothing}
 
 -- the text wasn't had
 pub unread : (known : Option (List ℕ)) (read : Option Stop) (out : WriterState) (stop : Stop) →

@@ -4,7 +4,7 @@ use Rattle.std.specs.List.{list_all, list_any}
 use Rattle.std.proofs.lemmas.List.Concat.{flat_map-append}
 use Rattle.std.proofs.lemmas.List.Folds.{list_all-append}
 use Rattle.cedar_expressions.specs.Path.{Path, name_text, namespace_text, begins_identifier, continues_identifier, is_identifier, is_reserved_word, is_valid_identifier, is_reserved_namespace, has_reserved_namespace, is_unreserved_identifier}
-use Rattle.cedar_command.specs.Words.{HasNoColon, IsCut, IsUncut, SpellsName, is_unreserved_name}
+use Rattle.cedar_command.specs.Request.{HasNoColon, IsCut, IsUncut, SpellsName, is_unreserved_name}
 
 -- ---- both of two tests
 

@@ -1,6 +1,6 @@
 -- A text, its tree, and what both say of its meaning.
 use Rattle.std.specs.Result.{result_and}
-use Rattle.std.proofs.Common.{◌≡◌, ℕ, List, String, Result, Ok, Err, IfOk, IfErr, IsErrAnd, sym, ap, subst, ◌∙◌}
+use Rattle.std.proofs.Common.{◌≡◌, ℕ, List, Result, Ok, Err, IfOk, IfErr, IsErrAnd, sym, ap, ◌∙◌}
 use Rattle.cedar_lexer.specs.Token.{Lexeme}
 use Rattle.cedar_expressions.specs.Value.{Value}
 use Rattle.cedar_syntax.specs.declared.cst.Expr.{Expr}
@@ -21,9 +21,8 @@ use Rattle.cedar_conversion.specs.Extensions.{Extensions}
 use Rattle.cedar_policy_parser.specs.Refused.{TellsTree}
 use Rattle.cedar_conversion.specs.Seen.{Gives}
 use Rattle.cedar_conversion.specs.Strict.{Means, expression}
-use Rattle.cedar_command.specs.declared.words.Command.TheVariants as command
+use Rattle.cedar_command.specs.declared.request.Command.TheVariants as command
 use Rattle.cedar_command.specs.Ends.{IsMeant}
-use Rattle.cedar_command.specs.Words.{styles_of}
 
 -- the law of the conversion that tokens which mean something have a tree that is converted to it
 abbrev pub Complete : Type 0
@@ -36,23 +35,23 @@ Sound = (table : Extensions) (src : List ℕ) (ts : List Lexeme) (x : Expr) (w :
     → Converts table (located expr_form (placed src ts x)) w → Means table sign_limit expression ts w
 
 -- a text is meant whose tree is converted
-pub meant_by : {A : Type 0} (words : List (String A)) → Sound → (src : List ℕ) (y : Cell Expr) (w : Value) → IsTreeOf ReadsExpr src y → Converts (styles_of words) (located expr_form y) w
-    → IsMeant command.Expression words src
-meant_by words sound src y w g converted =
+pub meant_by : (table : Extensions) → Sound → (src : List ℕ) (y : Cell Expr) (w : Value) → IsTreeOf ReadsExpr src y → Converts table (located expr_form y) w
+    → IsMeant command.Expression table src
+meant_by table sound src y w g converted =
     let x = g.stands.tree in
     let r = g.stands.reads in
     let same : y ≡ placed src g.tokens x = g.stands.is ∙ start_is src g.tokens x (expr_some r) in (
       g.tokens,
       w,
       g.cut,
-      sound (styles_of words) src g.tokens x w r (sym (ap (λ n. value_outcome (styles_of words) (located expr_form n)) same) ∙ converted),
+      sound table src g.tokens x w r (sym (ap (λ n. value_outcome table (located expr_form n)) same) ∙ converted),
     )
 
 -- where a text is meant, what reads only its tree reads it
-pub read_only : {A : Type 0} {R : Cell Expr → Type 0} (words : List (String A)) → Complete → (src : List ℕ) (only : (y : Cell Expr) → IsTreeOf ReadsExpr src y → R y) → IsMeant command.Expression words src
-    → (y : Cell Expr) × (w : Value) × Converts (styles_of words) (located expr_form y) w × R y
-read_only words complete src only (ts, w, cut, means) =
-    let d = complete (styles_of words) src ts w means in
+pub read_only : {R : Cell Expr → Type 0} (table : Extensions) → Complete → (src : List ℕ) (only : (y : Cell Expr) → IsTreeOf ReadsExpr src y → R y) → IsMeant command.Expression table src
+    → (y : Cell Expr) × (w : Value) × Converts table (located expr_form y) w × R y
+read_only table complete src only (ts, w, cut, means) =
+    let d = complete table src ts w means in
     let x = d.0 in (
       placed src ts x,
       w,
@@ -73,13 +72,13 @@ err_on (Ok e) f Q is q = tt
 err_on (Err e) f Q is q = rw is q
 
 -- what a conversion's answer says once its value is let go
-pub converted : {X U : Type 0} (meaning : X → Value) (answer : Result X Failure) (done : Result U Failure) (nothing : U) (table named : Extensions) (tree : Located)
-    → table ≡ named → Gives meaning answer (value_outcome table tree) → done ≡ result_and answer (Ok nothing) → IfOk done (λ none. (w : Value) × Converts named tree w)
-converted meaning (Ok x) done nothing table named tree same gives is = rw is (meaning x, sym (ap (λ t. value_outcome t tree) same) ∙ gives)
-converted meaning (Err f) done nothing table named tree same gives is = rw is tt
+pub converted : {X U : Type 0} (meaning : X → Value) (answer : Result X Failure) (done : Result U Failure) (nothing : U) (table : Extensions) (tree : Located)
+    → Gives meaning answer (value_outcome table tree) → done ≡ result_and answer (Ok nothing) → IfOk done (λ none. (w : Value) × Converts table tree w)
+converted meaning (Ok x) done nothing table tree gives is = rw is (meaning x, gives)
+converted meaning (Err f) done nothing table tree gives is = rw is tt
 
 -- and what its refusal says
-pub told : {X U : Type 0} (meaning : X → Value) (answer : Result X Failure) (done : Result U Failure) (nothing : U) (table named : Extensions) (tree : Cell Expr)
-    → table ≡ named → Gives meaning answer (value_outcome table (located expr_form tree)) → done ≡ result_and answer (Ok nothing) → IfErr done (λ f. TellsTree named f tree)
-told meaning (Ok x) done nothing table named tree same gives is = rw is tt
-told meaning (Err f) done nothing table named tree same gives is = rw is (subst (λ t. TellsTree t f tree) same gives)
+pub told : {X U : Type 0} (meaning : X → Value) (answer : Result X Failure) (done : Result U Failure) (nothing : U) (table : Extensions) (tree : Cell Expr)
+    → Gives meaning answer (value_outcome table (located expr_form tree)) → done ≡ result_and answer (Ok nothing) → IfErr done (λ f. TellsTree table f tree)
+told meaning (Ok x) done nothing table tree gives is = rw is tt
+told meaning (Err f) done nothing table tree gives is = rw is gives

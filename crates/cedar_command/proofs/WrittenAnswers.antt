@@ -22,9 +22,10 @@ use Rattle.cedar_command.specs.PolicyLines.{set_lines}
 use Rattle.cedar_command.specs.declared.run.Verdict.{Verdict}
 use Rattle.cedar_command.specs.declared.run.Verdict.TheVariants.{Accepted, Refused}
 use Rattle.cedar_command.specs.declared.streams.Stop.{Stop}
-use Rattle.cedar_command.specs.declared.words.Command.{Command}
-use Rattle.cedar_command.specs.declared.words.Command.TheVariants.{Expression, Policies, Format}
-use Rattle.cedar_command.specs.Ends.{IsAnswerWritten, RefusesFor, tree_lines}
+use Rattle.cedar_command.specs.declared.request.Command.{Command}
+use Rattle.cedar_command.specs.declared.request.Command.TheVariants.{Expression, Policies, Format}
+use Rattle.cedar_command.specs.Streams.{Writing}
+use Rattle.cedar_command.specs.Ends.{IsAnswerWritten, IsVerdict, RefusesFor, tree_lines}
 
 appended : (a b c : Option (List ℕ)) (bytes : List ℕ) → Appends a b bytes → Keeps b c → Appends a c bytes
 appended None b c bytes h k = tt
@@ -82,3 +83,14 @@ pub tree_written : (table : Extensions) (r : Result Verdict Stop) (text : List �
     → IfOk r (λ v. IsAnswerWritten Expression table text v (record { before = a; after = b }))
 tree_written table (Ok v) text tree a b has is wrote = rw is (tree, has, wrote)
 tree_written table (Err stop) text tree a b has is wrote = tt
+
+-- what is said of an answer to a request is said of the words that it was made of
+pub verdict_asked : (r : Result Verdict Stop) (asked command : Command) (made named : Extensions) (text : List ℕ) → (asked ≡ command) × (made ≡ named)
+    → IfOk r (λ v. IsVerdict asked made text v) → IfOk r (λ v. IsVerdict command named text v)
+verdict_asked r asked command made named text (same, table) h =
+    subst (λ t. IfOk r (λ v. IsVerdict command t text v)) table (subst (λ k. IfOk r (λ v. IsVerdict k made text v)) same h)
+
+pub written_asked : (r : Result Verdict Stop) (asked command : Command) (made named : Extensions) (text : List ℕ) (w : Writing) → (asked ≡ command) × (made ≡ named)
+    → IfOk r (λ v. IsAnswerWritten asked made text v w) → IfOk r (λ v. IsAnswerWritten command named text v w)
+written_asked r asked command made named text w (same, table) h =
+    subst (λ t. IfOk r (λ v. IsAnswerWritten command t text v w)) table (subst (λ k. IfOk r (λ v. IsAnswerWritten k made text v w)) same h)

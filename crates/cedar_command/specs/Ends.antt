@@ -29,22 +29,23 @@ use Rattle.cedar_command.specs.declared.streams.WriterState.{WriterState}
 use Rattle.cedar_command.specs.declared.streams.WriterState.TheVariants.{Flushed, Written, Failed}
 use Rattle.cedar_command.specs.FaultLines.{AreFaultsWritten}
 use Rattle.cedar_command.specs.PolicyLines.{IsSetWritten}
-use Rattle.cedar_command.specs.Streams.{Writing, IsWritten, read_failure, writer_state, IsNoText}
-use Rattle.cedar_command.specs.declared.words.Command.{Command}
-use Rattle.cedar_command.specs.declared.words.Command.TheVariants.{Expression, Policies, Format}
-use Rattle.cedar_command.specs.Words.{AsksFor, AsksForNothing, styles_of}
+use Rattle.cedar_command.specs.Streams.{Writing, AreBytesWritten, read_failure, writer_state, IsNoText}
+use Rattle.cedar_command.specs.declared.request.Command.{Command}
+use Rattle.cedar_command.specs.declared.request.Command.TheVariants.{Expression, Policies, Format}
+use Rattle.cedar_command.specs.Request.{AsksFor, AsksForNothing, styles_of}
 
 -- the text's tokens mean what the command asks for: an expression, or a set of policies, that
--- calls no extension but those that the words name
-abbrev pub IsMeant : {A : Type 0} → Command → List (String A) → List ℕ → Type 0
-IsMeant Expression words text = (ts : List Lexeme) × (value : Value) × Cuts text ts
-    × Means (styles_of words) sign_limit expression ts value
-IsMeant Policies words text = (set : PolicySet) × MeansSet (styles_of words) text set
-IsMeant Format words text = (set : PolicySet) × MeansSet (styles_of words) text set
+-- calls no extension but those of the table
+abbrev pub IsMeant : Command → Extensions → List ℕ → Type 0
+IsMeant Expression table text = (ts : List Lexeme) × (value : Value) × Cuts text ts
+    × Means table sign_limit expression ts value
+IsMeant Policies table text = (set : PolicySet) × MeansSet table text set
+IsMeant Format table text = (set : PolicySet) × MeansSet table text set
 
-abbrev pub IsVerdict : {A : Type 0} → Command → List (String A) → List ℕ → Verdict → Type 0
-IsVerdict command words text Accepted = IsMeant command words text
-IsVerdict command words text Refused = ¬ IsMeant command words text
+-- a text is accepted where it means that, and refused where not
+abbrev pub IsVerdict : Command → Extensions → List ℕ → Verdict → Type 0
+IsVerdict command table text Accepted = IsMeant command table text
+IsVerdict command table text Refused = ¬ IsMeant command table text
 
 -- a line with what `Display` writes of an expression's tree, and one with `ok`
 abbrev pub tree_lines : Option Expr → List ℕ
@@ -54,11 +55,11 @@ tree_lines None = codes "ok\n"
 -- the lines of the tree that a text has are written
 abbrev pub IsTreeWritten : List ℕ → Writing → Type 0
 IsTreeWritten text w =
-    (tree : Cell Expr) × IsTreeOf ReadsExpr text tree × IsWritten (tree_lines tree.node) w
+    (tree : Cell Expr) × IsTreeOf ReadsExpr text tree × AreBytesWritten (tree_lines tree.node) w
 
 -- a text's policies are written, each on a line of its own
 abbrev pub IsTextWritten : List ℕ → Writing → Type 0
-IsTextWritten text w = (lines : List ℕ) × AreLinesOf lines text × IsWritten lines w
+IsTextWritten text w = (lines : List ℕ) × AreLinesOf lines text × AreBytesWritten lines w
 
 -- for which failures a command refuses a text
 abbrev pub RefusesFor : Command → Extensions → List ℕ → Failure → Type 0
@@ -66,8 +67,8 @@ RefusesFor Expression table text failure = RefusesText table failure text
 RefusesFor Policies table text failure = RefusesSet table failure text
 RefusesFor Format table text failure = RefusesSet table failure text
 
--- What is written of a text, by the command, under the table that the words name: of a refused
--- one the faults for which it is refused.
+-- What is written of a text, by the command, under a table: of a refused one the faults for which
+-- it is refused.
 abbrev pub IsAnswerWritten : Command → Extensions → List ℕ → Verdict → Writing → Type 0
 IsAnswerWritten Expression table text Accepted w = IsTreeWritten text w
 IsAnswerWritten Policies table text Accepted w = IsSetWritten table text w
@@ -116,7 +117,7 @@ StopsWriting out stop = (stop ≡ Memory) ⊎ (out ≡ Failed stop)
 pub data Ends {A : Type 0} (words : List (String A)) (s : Streams) : Ending → Type 0 where
   -- the text was read, and all that was written was passed on
   answered : (command : Command) (verdict : Verdict) → AsksFor command words →
-      IfSome s.known (λ text. IsVerdict command words text verdict) →
+      IfSome s.known (λ text. IsVerdict command (styles_of words) text verdict) →
       IfSome s.known (λ text. IsAnswerWritten command (styles_of words) text verdict s.writing) →
       s.read ≡ None → s.out ≡ Flushed → Ends words s (Answered verdict)
   usage : AsksForNothing words → s.err ≡ Written → Ends words s Usage

@@ -7,7 +7,7 @@ use Rattle.cedar_syntax.specs.Span.{Span, end_of}
 use Rattle.cedar_syntax.specs.declared.err.faults.Failure.{Failure}
 use Rattle.cedar_syntax.specs.declared.err.faults.Failure.TheVariants.{Memory, Errors}
 use Rattle.cedar_syntax.specs.declared.err.faults.ParseError.{ParseError}
-use Rattle.cedar_command.specs.Streams.{Writing, IsWritten}
+use Rattle.cedar_command.specs.Streams.{Writing, AreBytesWritten}
 
 -- the line of a place, its first byte and the one behind its last, and of what is said of it: a
 -- dash stands for no place
@@ -24,4 +24,4 @@ fault_line fault = placed_line (span_of fault) (fault_message fault)
 -- the lines of a failure's faults are written, and it isn't want of memory
 abbrev pub AreFaultsWritten : Failure → Writing → Type 0
 AreFaultsWritten (Memory error) w = ⊥
-AreFaultsWritten (Errors faults) w = IsWritten (flat_map fault_line (faults_of faults)) w
+AreFaultsWritten (Errors faults) w = AreBytesWritten (flat_map fault_line (faults_of faults)) w

@@ -1,5 +1,5 @@
 pub mod Ends
 pub mod FaultLines
 pub mod PolicyLines
+pub mod Request
 pub mod Streams
-pub mod Words

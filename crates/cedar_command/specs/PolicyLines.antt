@@ -9,7 +9,7 @@ use Rattle.cedar_policy_conversion.specs.PolicyMeaning.{policy_id}
 use Rattle.cedar_policy_parser.specs.Formatted.{MeansSet}
 use Rattle.cedar_policy_store.specs.PlaceFree.{set_meaning}
 use Rattle.cedar_conversion.specs.Extensions.{Extensions}
-use Rattle.cedar_command.specs.Streams.{Writing, IsWritten}
+use Rattle.cedar_command.specs.Streams.{Writing, AreBytesWritten}
 
 -- the line of a policy of this kind, where there is one
 abbrev pub kind_line : Bool → List ℕ → List ℕ → List ℕ
@@ -38,4 +38,4 @@ set_lines set =
 -- the lines of a set that a text means under a table are written
 abbrev pub IsSetWritten : Extensions → List ℕ → Writing → Type 0
 IsSetWritten table text w =
-    (set : PolicyMaps) × MeansSet table text (set_meaning set) × IsWritten (set_lines set) w
+    (set : PolicyMaps) × MeansSet table text (set_meaning set) × AreBytesWritten (set_lines set) w

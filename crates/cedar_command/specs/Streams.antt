@@ -44,8 +44,8 @@ writing contents old new =
     record { before = contents (writer_of old); after = contents (writer_of new) }
 
 -- just these bytes were written, where what the writer holds is known
-abbrev pub IsWritten : List ℕ → Writing → Type 0
-IsWritten bytes w = Appends w.before w.after bytes
+abbrev pub AreBytesWritten : List ℕ → Writing → Type 0
+AreBytesWritten bytes w = Appends w.before w.after bytes
 
 -- What the writer itself answers to a call is answered, but where a call failed before, that
 -- failure.

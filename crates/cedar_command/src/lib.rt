@@ -3,6 +3,6 @@
 
 mod format;
 mod policies;
+pub mod request;
 pub mod run;
 pub mod streams;
-pub mod words;

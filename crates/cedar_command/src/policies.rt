@@ -1,20 +1,19 @@
 //! The command `policies`: a text's policies, each by its name, and how many they are.
 ghost use Rattle.std.specs.Prelude.{◌≡◌, IfOk, IfErr, OnOk};
+ghost use Rattle.cedar_conversion.specs.Table.{table_of};
 ghost use Rattle.cedar_policy_conversion.specs.PolicyMeaning.{policy_id};
 ghost use Rattle.cedar_policy_parser.specs.Formatted.{MeansSet};
 ghost use Rattle.cedar_policy_store.specs.PlaceFree.{set_meaning};
 ghost use Rattle.cedar_command.specs.Ends.{IsMeant, IsVerdict, IsAnswerWritten, RefusesFor, StopsWriting};
 ghost use Rattle.cedar_command.specs.PolicyLines.{kind_line, policy_line, policy_lines, set_lines, set_size};
-ghost use Rattle.cedar_command.specs.Streams.{writer_state, writing, IsWritten};
-ghost use Rattle.cedar_command.specs.Words.{styles_of};
+ghost use Rattle.cedar_command.specs.Streams.{writer_state, writing, AreBytesWritten};
 ghost use Rattle.cedar_command.specs.declared.run.Verdict.TheVariants as verdict;
-ghost use Rattle.cedar_command.specs.declared.words.Command.TheVariants as command;
+ghost use Rattle.cedar_command.specs.declared.request.Command.TheVariants as command;
 ghost use Rattle.cedar_syntax.specs.FirstFault.{IsMemory};
 
-use crate::run::{Verdict, refused};
+use crate::run::{Verdict, print_failure};
 use crate::streams::{Output, Stop, WriterState};
-use crate::words::table_named;
-use cedar_policy_parser::parse_policyset;
+use cedar_policy_parser::{ExtStyles, parse_policyset};
 use cedar_policy_store::{PolicyID, PolicySet};
 use cedar_syntax::err::Failure;
 use std::alloc::{AllocError, Global};
@@ -23,32 +22,33 @@ use std::io::Write;
 /// Prints the text's policies and how many they are, or its faults.
 pub(crate) fn policies<O: Write>(
     alloc: Global,
-    words: &[String],
+    styles: &ExtStyles,
     text: &str,
     out: &mut Output<O>,
 ) -> Result<Verdict, Stop>
-    ensures verdict { IfOk result (λ v. IsVerdict command.Policies words.now text.now v) }
+    ensures verdict { IfOk result (λ v.
+        IsVerdict command.Policies (table_of styles.now) text.now v) }
     ensures written { IfOk result (λ v. IsAnswerWritten command.Policies
-        (styles_of words.now) text.now v (writing O.contents out.old out.new)) }
+        (table_of styles.now) text.now v (writing O.contents out.old out.new)) }
     ensures stops { IfErr result (λ stop. StopsWriting (writer_state out.new) stop) }
 {
-    match meant(alloc, words, text) {
+    match set_of(alloc, styles, text) {
         Ok(set) => print_policies(alloc, &set, out),
-        Err(failure) => refused(&failure, out),
+        Err(failure) => print_failure(&failure, out),
     }
 }
 
-/// The set that a text means under the table that the words name.
-fn meant(alloc: Global, words: &[String], text: &str) -> Result<PolicySet, Failure>
-    ensures meant { IfOk result (λ set. IsMeant command.Policies words.now text.now) }
+/// The set that a text means under a table.
+fn set_of(alloc: Global, styles: &ExtStyles, text: &str) -> Result<PolicySet, Failure>
+    ensures meant { IfOk result (λ set. IsMeant command.Policies (table_of styles.now) text.now) }
     ensures set { IfOk result (λ set. MeansSet
-        (styles_of words.now) text.now (set_meaning set)) }
-    ensures only { IsMeant command.Policies words.now text.now → IfErr result IsMemory }
+        (table_of styles.now) text.now (set_meaning set)) }
+    ensures only { IsMeant command.Policies (table_of styles.now) text.now
+        → IfErr result IsMemory }
     ensures refused { IfErr result (λ failure.
-        RefusesFor command.Policies (styles_of words.now) text.now failure) }
+        RefusesFor command.Policies (table_of styles.now) text.now failure) }
 {
-    let styles = table_named(alloc, words)?;
-    parse_policyset(alloc, text, &styles)
+    parse_policyset(alloc, text, styles)
 }
 
 /// One line a policy, in the order of the text, and one with their number.
@@ -58,7 +58,7 @@ fn print_policies<O: Write>(
     out: &mut Output<O>,
 ) -> Result<Verdict, Stop>
     ensures verdict { IfOk result (λ v. v ≡ verdict.Accepted) }
-    ensures written { OnOk result (IsWritten (set_lines set.now)
+    ensures written { OnOk result (AreBytesWritten (set_lines set.now)
         (writing O.contents out.old out.new)) }
     ensures stops { IfErr result (λ stop. StopsWriting (writer_state out.new) stop) }
 {
@@ -83,7 +83,7 @@ fn print_numbered<O: Write>(
     count: usize,
     out: &mut Output<O>,
 ) -> Result<(), Stop>
-    ensures written { OnOk result (IsWritten (policy_lines set.now count)
+    ensures written { OnOk result (AreBytesWritten (policy_lines set.now count)
         (writing O.contents out.old out.new)) }
     ensures stops { IfErr result (λ stop. StopsWriting (writer_state out.new) stop) }
 {
@@ -100,11 +100,11 @@ fn print_policy<O: Write>(
     number: usize,
     out: &mut Output<O>,
 ) -> Result<(), Stop>
-    ensures written { OnOk result (IsWritten (policy_line set.now (policy_id number))
+    ensures written { OnOk result (AreBytesWritten (policy_line set.now (policy_id number))
         (writing O.contents out.old out.new)) }
     ensures stops { IfErr result (λ stop. StopsWriting (writer_state out.new) stop) }
 {
-    let Ok(id) = named(alloc, number) else {
+    let Ok(id) = id_of(alloc, number) else {
         return Err(Stop::Memory);
     };
     print_kind(set.static_policy(&id).is_some(), &id, "static", out)?;
@@ -118,7 +118,7 @@ fn print_kind<O: Write>(
     kind: &str,
     out: &mut Output<O>,
 ) -> Result<(), Stop>
-    ensures written { OnOk result (IsWritten (kind_line is_kind id.now kind.now)
+    ensures written { OnOk result (AreBytesWritten (kind_line is_kind id.now kind.now)
         (writing O.contents out.old out.new)) }
     ensures stops { IfErr result (λ stop. StopsWriting (writer_state out.new) stop) }
 {
@@ -129,7 +129,7 @@ fn print_kind<O: Write>(
 }
 
 /// The name that a set gives the policy of a number.
-fn named(alloc: Global, number: usize) -> Result<PolicyID, AllocError>
+fn id_of(alloc: Global, number: usize) -> Result<PolicyID, AllocError>
     ensures { IfOk result (λ id. id ≡ policy_id number) }
 {
     match format!(in alloc; "policy{number}") {

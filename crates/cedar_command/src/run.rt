@@ -7,22 +7,24 @@ ghost use Rattle.cedar_syntax.specs.Grammar.{IsTreeOf};
 ghost use Rattle.cedar_syntax.specs.LooseExpressions.{ReadsExpr};
 ghost use Rattle.cedar_syntax.specs.ParseErrors.{faults_of};
 ghost use Rattle.cedar_conversion.specs.Conversion.{Converts};
+ghost use Rattle.cedar_conversion.specs.Table.{table_of};
 ghost use Rattle.cedar_policy_parser.specs.Refused.{TellsTree};
 ghost use Rattle.cedar_command.specs.Ends.{IsMeant, IsVerdict, IsAnswerWritten, RefusesFor, tree_lines, streams_at, Ends, Stops, StopsWriting, TellsEnd, status_of};
 ghost use Rattle.cedar_command.specs.FaultLines.{AreFaultsWritten, fault_line};
-ghost use Rattle.cedar_command.specs.Streams.{IsWritten, writing, reader_of, read_failure, writer_state};
-ghost use Rattle.cedar_command.specs.Words.{AsksForNothing, styles_of};
+ghost use Rattle.cedar_command.specs.Streams.{AreBytesWritten, writing, reader_of, read_failure, writer_state};
+ghost use Rattle.cedar_command.specs.Request.{AsksForNothing, styles_of};
 ghost use Rattle.cedar_command.specs.declared.run.Ending.{Ending as How};
 ghost use Rattle.cedar_command.specs.declared.run.Ending.TheVariants.{Stopped, Usage};
 ghost use Rattle.cedar_command.specs.declared.run.Verdict.TheVariants as verdict;
-ghost use Rattle.cedar_command.specs.declared.words.Command.TheVariants as command;
+ghost use Rattle.cedar_command.specs.declared.request.Command.TheVariants as command;
 ghost use Rattle.cedar_syntax.specs.FirstFault.{IsMemory};
 
 use crate::format::format;
 use crate::policies::policies;
+use crate::request::{Command, Request, command_of, request_of};
 use crate::streams::{Input, Output, Stop, WriterState};
-use crate::words::{Command, command_of, table_named};
 use cedar_expressions::ExprBuilder;
+use cedar_policy_parser::ExtStyles;
 use cedar_policy_parser::cst_to_ast::ExprAst;
 use cedar_policy_parser::laws::{converted_is_meant, meant_is_converted};
 use cedar_syntax::cst::Expr;
@@ -74,10 +76,11 @@ pub fn arguments<R: Env + AllocGlobal>(rt: &R) -> io::Result<Vec<String>> {
     Ok(words)
 }
 
-/// Does what `words` (the arguments without the program's name) ask of the text that `input` gives, and answers the
-/// status: 0 where the text is accepted, 1 where it has faults, 2 for a usage fault, 3 for want of memory, 4 where
-/// reading or writing failed, also for input that isn't UTF-8. The answer, or the faults, go to `out`; what ended a run
-/// goes to `err`. A text may call the extension functions and methods that the words name, and no others.
+/// Does what `words` (the arguments without the program's name) ask of the text that `input`
+/// gives, and answers the status: 0 where the text is accepted, 1 where it has faults, 2 for a
+/// usage fault, 3 for want of memory, 4 where reading or writing failed, also for input that isn't
+/// UTF-8. The answer, or the faults, go to `out`; what ended a run goes to `err`. A text may call
+/// the extension functions and methods that the words name, and no others.
 pub fn run<R: Read + Drop, O: Write, E: Write>(
     alloc: Global,
     words: &[String],
@@ -138,8 +141,8 @@ fn answer<R: Read + Drop, O: Write>(
     input: &mut Input<R>,
     out: &mut Output<O>,
 ) -> Result<Verdict, Stop>
-    ensures verdict { IfOk result (λ v.
-        IfSome (R.remaining (reader_of input.old)) (λ text. IsVerdict command words.now text v)) }
+    ensures verdict { IfOk result (λ v. IfSome (R.remaining (reader_of input.old))
+        (λ text. IsVerdict command (styles_of words.now) text v)) }
     ensures written { IfOk result (λ v. IfSome (R.remaining (reader_of input.old))
         (λ text. IsAnswerWritten command (styles_of words.now) text v
         (writing O.contents out.old out.new))) }
@@ -150,96 +153,118 @@ fn answer<R: Read + Drop, O: Write>(
         (writer_state out.new) stop) }
 {
     let text = input.text(alloc)?;
-    passed_on(alloc, command, words, text.as_str(), out)
+    answer_text(alloc, command, words, text.as_str(), out)
 }
 
-/// Prints the answer and passes on what the writer holds back.
-fn passed_on<O: Write>(
+/// Makes the request and answers the text.
+fn answer_text<O: Write>(
     alloc: Global,
     command: Command,
     words: &[String],
     text: &str,
     out: &mut Output<O>,
 ) -> Result<Verdict, Stop>
-    ensures verdict { IfOk result (λ v. IsVerdict command words.now text.now v) }
+    ensures verdict { IfOk result (λ v. IsVerdict command (styles_of words.now) text.now v) }
     ensures written { IfOk result (λ v. IsAnswerWritten command
         (styles_of words.now) text.now v (writing O.contents out.old out.new)) }
     ensures flushed { OnOk result (writer_state out.new ≡ WriterState.Flushed) }
     ensures stops { IfErr result (λ stop. StopsWriting (writer_state out.new) stop) }
 {
-    let verdict = answered(alloc, command, words, text, out)?;
+    match request_of(alloc, command, words) {
+        Ok(request) => write_answer(alloc, &request, text, out),
+        Err(_) => Err(Stop::Memory),
+    }
+}
+
+/// Prints the answer and passes on what the writer holds back.
+fn write_answer<O: Write>(
+    alloc: Global,
+    request: &Request,
+    text: &str,
+    out: &mut Output<O>,
+) -> Result<Verdict, Stop>
+    ensures verdict { IfOk result (λ v.
+        IsVerdict request.now.command (table_of request.now.styles) text.now v) }
+    ensures written { IfOk result (λ v. IsAnswerWritten request.now.command
+        (table_of request.now.styles) text.now v (writing O.contents out.old out.new)) }
+    ensures flushed { OnOk result (writer_state out.new ≡ WriterState.Flushed) }
+    ensures stops { IfErr result (λ stop. StopsWriting (writer_state out.new) stop) }
+{
+    let verdict = dispatch(alloc, request.command, &request.styles, text, out)?;
     out.flush()?;
     Ok(verdict)
 }
 
 /// Prints what the command asks for, or the text's faults.
-fn answered<O: Write>(
+fn dispatch<O: Write>(
     alloc: Global,
     command: Command,
-    words: &[String],
+    styles: &ExtStyles,
     text: &str,
     out: &mut Output<O>,
 ) -> Result<Verdict, Stop>
-    ensures verdict { IfOk result (λ v. IsVerdict command words.now text.now v) }
+    ensures verdict { IfOk result (λ v. IsVerdict command (table_of styles.now) text.now v) }
     ensures written { IfOk result (λ v. IsAnswerWritten command
-        (styles_of words.now) text.now v (writing O.contents out.old out.new)) }
+        (table_of styles.now) text.now v (writing O.contents out.old out.new)) }
     ensures stops { IfErr result (λ stop. StopsWriting (writer_state out.new) stop) }
 {
     match command {
-        Command::Expression => expression(alloc, words, text, out),
-        Command::Policies => policies(alloc, words, text, out),
-        Command::Format => format(alloc, words, text, out),
+        Command::Expression => expression(alloc, styles, text, out),
+        Command::Policies => policies(alloc, styles, text, out),
+        Command::Format => format(alloc, styles, text, out),
     }
 }
 
 /// Prints the text's tree and `ok`, or its faults.
 fn expression<O: Write>(
     alloc: Global,
-    words: &[String],
+    styles: &ExtStyles,
     text: &str,
     out: &mut Output<O>,
 ) -> Result<Verdict, Stop>
-    ensures verdict { IfOk result (λ v. IsVerdict command.Expression words.now text.now v) }
+    ensures verdict { IfOk result (λ v.
+        IsVerdict command.Expression (table_of styles.now) text.now v) }
     ensures written { IfOk result (λ v. IsAnswerWritten command.Expression
-        (styles_of words.now) text.now v (writing O.contents out.old out.new)) }
+        (table_of styles.now) text.now v (writing O.contents out.old out.new)) }
     ensures stops { IfErr result (λ stop. StopsWriting (writer_state out.new) stop) }
 {
-    match meant(alloc, words, text) {
+    match tree_of(alloc, styles, text) {
         Ok(tree) => print_tree(&tree, out),
-        Err(failure) => refused(&failure, out),
+        Err(failure) => print_failure(&failure, out),
     }
 }
 
-/// The tree of a text that means an expression under the table that the words name.
-fn meant(alloc: Global, words: &[String], text: &str) -> Result<Node<Option<Expr>>, Failure>
-    ensures meant { IfOk result (λ tree. IsMeant command.Expression words.now text.now) }
+/// The tree of a text that means an expression under a table.
+fn tree_of(alloc: Global, styles: &ExtStyles, text: &str) -> Result<Node<Option<Expr>>, Failure>
+    ensures meant { IfOk result (λ tree.
+        IsMeant command.Expression (table_of styles.now) text.now) }
     ensures tree { IfOk result (λ tree. IsTreeOf ReadsExpr text.now tree) }
-    ensures only { IsMeant command.Expression words.now text.now → IfErr result IsMemory }
+    ensures only { IsMeant command.Expression (table_of styles.now) text.now
+        → IfErr result IsMemory }
     ensures refused { IfErr result (λ failure.
-        RefusesFor command.Expression (styles_of words.now) text.now failure) }
+        RefusesFor command.Expression (table_of styles.now) text.now failure) }
 {
     meant_is_converted();
     converted_is_meant();
     let tree = parse_expr(alloc, text)?;
-    convert(alloc, words, &tree)?;
+    convert(alloc, styles, &tree)?;
     Ok(tree)
 }
 
 /// Refuses a tree that stands for no expression.
-fn convert(alloc: Global, words: &[String], tree: &Node<Option<Expr>>) -> Result<(), Failure>
+fn convert(alloc: Global, styles: &ExtStyles, tree: &Node<Option<Expr>>) -> Result<(), Failure>
     ensures value { IfOk result (λ done.
-        (w : Value) × Converts (styles_of words.now) (located expr_form tree.now) w) }
+        (w : Value) × Converts (table_of styles.now) (located expr_form tree.now) w) }
     ensures refused { IfErr result (λ failure.
-        TellsTree (styles_of words.now) failure tree.now) }
+        TellsTree (table_of styles.now) failure tree.now) }
 {
-    let styles = table_named(alloc, words)?;
-    tree.to_expr::<ExprBuilder<()>>(alloc, &styles).and(Ok(()))
+    tree.to_expr::<ExprBuilder<()>>(alloc, styles).and(Ok(()))
 }
 
 /// A tree on a line of its own, and `ok` on the next one.
 fn print_tree<O: Write>(tree: &Node<Option<Expr>>, out: &mut Output<O>) -> Result<Verdict, Stop>
     ensures verdict { IfOk result (λ v. v ≡ verdict.Accepted) }
-    ensures written { OnOk result (IsWritten (tree_lines tree.now.node)
+    ensures written { OnOk result (AreBytesWritten (tree_lines tree.now.node)
         (writing O.contents out.old out.new)) }
     ensures failed { IfErr result (λ stop. writer_state out.new ≡ WriterState.Failed stop) }
 {
@@ -251,7 +276,10 @@ fn print_tree<O: Write>(tree: &Node<Option<Expr>>, out: &mut Output<O>) -> Resul
 }
 
 /// Prints the faults of a text; want of memory is none of them.
-pub(crate) fn refused<O: Write>(failure: &Failure, out: &mut Output<O>) -> Result<Verdict, Stop>
+pub(crate) fn print_failure<O: Write>(
+    failure: &Failure,
+    out: &mut Output<O>,
+) -> Result<Verdict, Stop>
     ensures verdict { IfOk result (λ v. (v ≡ verdict.Refused) × ¬ (IsMemory failure.now)) }
     ensures written { OnOk result (AreFaultsWritten failure.now
         (writing O.contents out.old out.new)) }
@@ -268,7 +296,7 @@ pub(crate) fn refused<O: Write>(failure: &Failure, out: &mut Output<O>) -> Resul
 
 /// One line a fault.
 fn print_faults<O: Write>(faults: &ParseErrors, out: &mut Output<O>) -> Result<(), Stop>
-    ensures written { OnOk result (IsWritten (flat_map fault_line (faults_of faults.now))
+    ensures written { OnOk result (AreBytesWritten (flat_map fault_line (faults_of faults.now))
         (writing O.contents out.old out.new)) }
     ensures failed { IfErr result (λ stop. writer_state out.new ≡ WriterState.Failed stop) }
 {
@@ -280,7 +308,7 @@ fn print_faults<O: Write>(faults: &ParseErrors, out: &mut Output<O>) -> Result<(
 
 /// A fault's place and what is said of it; a dash where it has no place.
 pub fn print_fault<O: Write>(fault: &ParseError, out: &mut Output<O>) -> Result<(), Stop>
-    ensures written { OnOk result (IsWritten (fault_line fault.now)
+    ensures written { OnOk result (AreBytesWritten (fault_line fault.now)
         (writing O.contents out.old out.new)) }
     ensures failed { IfErr result (λ stop. writer_state out.new ≡ WriterState.Failed stop) }
 {

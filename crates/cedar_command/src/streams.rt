@@ -58,8 +58,8 @@ impl<R: Read + Drop> Input<R> {
         }
     }
 
-    /// The text up to the reader's end. Refused where reading failed, now or before, and where what
-    /// was read isn't UTF-8.
+    /// The text up to the reader's end. Refused where reading failed, now or before, and where
+    /// what was read isn't UTF-8.
     pub fn text(&mut self, alloc: Global) -> Result<String, Stop>
         ensures text { IfOk result (λ text.
             IfSome (R.remaining (reader_of self.old)) (λ known. string_bytes text ≡ known)) }
@@ -102,7 +102,7 @@ pub struct Output<W> {
 }
 
 impl<W: Write> Output<W> {
-    ghost use Rattle.cedar_command.specs.Streams.{writer_state, writer_of, writing, IsWritten, Repeats, Leaves};
+    ghost use Rattle.cedar_command.specs.Streams.{writer_state, writer_of, writing, AreBytesWritten, Repeats, Leaves};
 
     /// A writer that nothing was written to yet.
     pub fn new(writer: W) -> Output<W>
@@ -128,10 +128,10 @@ impl<W: Write> Output<W> {
         ensures left { Leaves WriterState.Written (writer_state self.old) result
             (writer_state self.new) }
         ensures written { OnOk result (IfSome (D.output text)
-            (λ bytes. IsWritten bytes (writing W.contents self.old self.new))) }
+            (λ bytes. AreBytesWritten bytes (writing W.contents self.old self.new))) }
     {
         let answer = self.writer.write_fmt(text);
-        self.heard(answer, WriterState::Written)
+        self.record_answer(answer, WriterState::Written)
     }
 
     /// Passes on what the writer holds back.
@@ -142,11 +142,11 @@ impl<W: Write> Output<W> {
             (W.contents (writer_of self.old)) (W.contents (writer_of self.new)) }
     {
         let answer = self.writer.flush();
-        self.heard(answer, WriterState::Flushed)
+        self.record_answer(answer, WriterState::Flushed)
     }
 
     /// Keeps what a call answered: that it failed, or that it comes to this state.
-    fn heard(&mut self, answer: io::Result<()>, state: WriterState) -> Result<(), Stop>
+    fn record_answer(&mut self, answer: io::Result<()>, state: WriterState) -> Result<(), Stop>
         ensures repeated { Repeats (writer_state self.old) answer result }
         ensures left { Leaves state (writer_state self.old) result (writer_state self.new) }
         ensures kept { writer_of self.new ≡ writer_of self.old }

@@ -1,6 +1,8 @@
 -- Answers held against outcomes that are joined.
 use Rattle.std.proofs.Common.{append-nil, ◌≡◌, ◌<◌, ◌+◌, ℕ, List, [], ◌∷◌, ◌++◌, append_assoc, map, take, length, get_or, Option, Result, Ok, Err, IfOk, IfErr, IsErrAnd, alloc_error, refl, sym, ap, ◌∙◌}
 use Rattle.cedar_expressions.specs.Value.{Value}
+use Rattle.std.specs.declared.alloc.Global.{Global}
+use Rattle.std.specs.declared.vec.Vec.{Vec}
 use Rattle.cedar_syntax.specs.ParseErrors.{faults_of}
 use Rattle.cedar_syntax.specs.declared.loc.Loc.{Loc}
 use Rattle.cedar_syntax.specs.declared.err.faults.Failure.{Failure}
@@ -12,9 +14,9 @@ use Rattle.cedar_syntax.specs.Tree.{Operator}
 use Rattle.cedar_syntax.specs.Joined.{TellsBoth, WantsMemory}
 use Rattle.cedar_conversion.specs.Conversion.{Part, operands, with_part, factor, value_outcome}
 use Rattle.cedar_conversion.specs.Extensions.{Extensions}
-use Rattle.cedar_conversion.specs.Outcome.{Kind, Outcome, both, next, fault_outcome}
+use Rattle.cedar_conversion.specs.Outcome.{Kind, Outcome, both, next, fault_outcome, item_more}
 use Rattle.cedar_conversion.specs.Seen.{Refuses, Gives, named_faults, named_fault}
-use Rattle.cedar_conversion.specs.machines.Views.{TellsAlone, one_more}
+use Rattle.cedar_conversion.specs.machines.Views.{TellsAlone, Grows, one_more, rest_view}
 use Rattle.cedar_conversion.proofs.Loops.{take_next, map_snoc}
 
 -- ---- faults
@@ -106,6 +108,45 @@ gives_left u place r o p i e h = rw (i, e) h
 -- the same of an answer that was taken from its place
 pub given_in : {X Y : Type 0} (u : X → Y) (r place : Result X Failure) (o : Outcome Y) → r ≡ place → Gives u place o → Gives u r o
 given_in u r place o i h = rw i h
+
+-- ---- lists that grow
+
+-- a list that has grown is the outcome with one item more
+pub grown_gives : {T X : Type 0} (u : T → X) (all : Result (Vec T Global) Failure) (item : Result T Failure) (grown : Result (Vec T Global) Failure) (xs : Outcome (List X)) (x : Outcome X)
+    → Gives (λ v. map u v.items) all xs → Gives u item x → Grows all item grown → Gives (λ v. map u v.items) grown (item_more xs x)
+grown_gives u (Ok a) (Ok t) (Ok g) xs x h k l = rw (h, k) (ap Ok (sym (ap (λ ts. map u ts) l ∙ map_snoc u a.items t)))
+grown_gives u (Ok a) (Err f) (Ok g) xs x h k l = absurd l
+grown_gives u (Err f) item (Ok g) xs x h k l = absurd l
+grown_gives u all item (Err f) xs x h k l = refused_next f (both xs x) (λ p. Ok (p.0 ++ p.1 ∷ [])) (both_refused (λ v. map u v.items) u all item xs x f h k l)
+
+item_behind : (op : Operator) (ps : Outcome (List Part)) (x : Outcome Value) → item_more ps (next x (λ v. Ok (op, v))) ≡ one_more op ps x
+item_behind op (Ok ps) (Ok v) = refl
+item_behind op (Ok ps) (Err gs) = refl
+item_behind op (Err fs) (Ok v) = refl
+item_behind op (Err fs) (Err gs) = refl
+
+-- the same of a value behind an operator
+pub value_grown : {O E : Type 0} (operator : O → Operator) (m : E → Value) (all : Result (Vec (O × E) Global) Failure) (op : O) (e : E) (grown : Result (Vec (O × E) Global) Failure) (ps : Outcome (List Part)) (x : Outcome Value)
+    → Gives (rest_view operator m) all ps → x ≡ Ok (m e) → Grows all (Ok (op, e)) grown → Gives (rest_view operator m) grown (one_more (operator op) ps x)
+value_grown {O} {E} operator m all op e grown ps x h k l =
+    let u : O × E → Part = λ p. (operator p.0, m p.1) in
+    gives_at (rest_view operator m) grown (one_more (operator op) ps x) (item_more ps (Ok (operator op, m e)))
+    (ap (λ y. one_more (operator op) ps y) k ∙ sym (item_behind (operator op) ps (Ok (m e))))
+    (grown_gives u all (Ok (op, e)) grown ps (Ok (operator op, m e)) h refl l)
+
+-- and of what refuses the value
+pub refusal_grown : {O E : Type 0} (operator : O → Operator) (m : E → Value) (all : Result (Vec (O × E) Global) Failure) (op : O) (f : Failure) (grown : Result (Vec (O × E) Global) Failure) (ps : Outcome (List Part)) (x : Outcome Value)
+    → Gives (rest_view operator m) all ps → Refuses f x → Grows all (Err f) grown → Gives (rest_view operator m) grown (one_more (operator op) ps x)
+refusal_grown {O} {E} operator m all op f grown ps x h k l =
+    let u : O × E → Part = λ p. (operator p.0, m p.1) in
+    let part : Value → Outcome Part = λ v. Ok (operator op, v) in
+    gives_at (rest_view operator m) grown (one_more (operator op) ps x) (item_more ps (next x part)) (sym (item_behind (operator op) ps x))
+    (grown_gives u all (Err f) grown ps (next x part) h (refused_next f x part k) l)
+
+-- what `?` passes on is the failure of both
+pub grown_refused : {T : Type 0} (all : Result (Vec T Global) Failure) (item : Result T Failure) (grown : Result (Vec T Global) Failure) (f : Failure) → IsErrAnd grown (λ e. e ≡ f) → TellsBoth f all item → Grows all item grown
+grown_refused all item (Ok g) f is h = absurd is
+grown_refused all item (Err e) f is h = rw is h
 
 -- ---- operands, from the last
 

@@ -1,6 +1,6 @@
 -- Signs and numbers: what they had where they gave a value, and what they give.
 use Rattle.std.proofs.Common.{◌≡◌, ◌≤◌, ◌<◌, ℕ, zero, suc, Bool, true, false, cond, Option, Some, None, Ok, nat_le, refl, ap, ◌∙◌, ◌⊎◌, inl, inr, arith, pos, neg_ℤ}
-use Rattle.cedar_expressions.specs.declared.literal.Literal.TheVariants as literals
+use Rattle.cedar_expressions.specs.declared.atoms.Literal.TheVariants as literals
 use Rattle.cedar_expressions.specs.Value as v
 use Rattle.cedar_expressions.specs.Value.{Value}
 use Rattle.cedar_syntax.specs.declared.loc.Loc.{Loc}

@@ -12,8 +12,8 @@ use Rattle.cedar_syntax.specs.declared.cst.MultOp.TheVariants as mul
 use Rattle.cedar_expressions.specs.declared.operators.AddOp.{AddOp}
 use Rattle.cedar_expressions.specs.declared.operators.AddOp.TheVariants as adding
 use Rattle.cedar_expressions.specs.declared.entity.EntityType.{EntityType}
-use Rattle.cedar_expressions.specs.declared.literal.Literal.TheVariants as literals
-use Rattle.cedar_expressions.specs.declared.literal.PatternElem.{PatternElem}
+use Rattle.cedar_expressions.specs.declared.atoms.Literal.TheVariants as literals
+use Rattle.cedar_expressions.specs.declared.atoms.PatternElem.{PatternElem}
 use Rattle.cedar_expressions.specs.Keys.{repeats_key}
 use Rattle.cedar_expressions.specs.Value as v
 use Rattle.cedar_expressions.specs.Value.{Value, values, terms, fields}

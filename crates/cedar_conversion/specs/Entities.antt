@@ -9,8 +9,8 @@ use Rattle.cedar_syntax.specs.declared.cst.Slot.TheVariants as slots
 use Rattle.cedar_syntax.specs.declared.cst.Str.{Str}
 use Rattle.cedar_syntax.specs.declared.cst.Str.TheVariants as str
 use Rattle.cedar_expressions.specs.declared.entity.EntityUID.{EntityUID}
-use Rattle.cedar_expressions.specs.declared.literal.SlotId.{SlotId}
-use Rattle.cedar_expressions.specs.declared.literal.SlotId.TheVariants as ids
+use Rattle.cedar_expressions.specs.declared.atoms.SlotId.{SlotId}
+use Rattle.cedar_expressions.specs.declared.atoms.SlotId.TheVariants as ids
 use Rattle.cedar_expressions.specs.Path.{Path}
 use Rattle.cedar_conversion.specs.Names.{content_outcome, name_outcome}
 use Rattle.cedar_conversion.specs.Outcome.{Outcome, fault_outcome, both, next, invalid_string, invalid_entity_literal, invalid_slot}

@@ -7,7 +7,7 @@ use Rattle.cedar_syntax.specs.declared.cst.Str.{Str}
 use Rattle.cedar_syntax.specs.declared.cst.Str.TheVariants as str
 use Rattle.cedar_syntax.specs.Located as f
 use Rattle.cedar_syntax.specs.Located.{Located}
-use Rattle.cedar_expressions.specs.declared.literal.Literal.TheVariants as literals
+use Rattle.cedar_expressions.specs.declared.atoms.Literal.TheVariants as literals
 use Rattle.cedar_expressions.specs.Value as v
 use Rattle.cedar_conversion.specs.Held.{Held, expression, bare_truth, bare_string, as_string}
 use Rattle.cedar_conversion.specs.Outcome.{Outcome, fault_outcome, next, empty_node, integer_literal_too_large, invalid_string}

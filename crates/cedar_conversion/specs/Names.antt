@@ -7,8 +7,8 @@ use Rattle.cedar_syntax.specs.declared.node.Node.{Node}
 use Rattle.cedar_syntax.specs.declared.cst.Ident.{Ident}
 use Rattle.cedar_syntax.specs.declared.cst.Ident.TheVariants as words
 use Rattle.cedar_syntax.specs.declared.cst.Name.{Name}
-use Rattle.cedar_expressions.specs.declared.literal.Var.{Var}
-use Rattle.cedar_expressions.specs.declared.literal.Var.TheVariants as vars
+use Rattle.cedar_expressions.specs.declared.atoms.Var.{Var}
+use Rattle.cedar_expressions.specs.declared.atoms.Var.TheVariants as vars
 use Rattle.cedar_expressions.specs.Path.{Path, is_identifier, is_valid_identifier, is_reserved_namespace, has_reserved_namespace}
 use Rattle.cedar_conversion.specs.Outcome.{Outcome, fault_outcome, both, next, empty_node, reserved_identifier, invalid_identifier, reserved_namespace}
 

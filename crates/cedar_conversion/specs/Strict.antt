@@ -11,11 +11,11 @@ use Rattle.cedar_lexer.specs.declared.token.TokenKind.{TokenKind}
 use Rattle.cedar_lexer.specs.declared.token.TokenKind.TheVariants as kind
 use Rattle.cedar_expressions.specs.declared.operators.AddOp.{AddOp}
 use Rattle.cedar_expressions.specs.declared.entity.EntityUID.{EntityUID}
-use Rattle.cedar_expressions.specs.declared.literal.Var.{Var}
-use Rattle.cedar_expressions.specs.declared.literal.SlotId.{SlotId}
-use Rattle.cedar_expressions.specs.declared.literal.SlotId.TheVariants as slots
-use Rattle.cedar_expressions.specs.declared.literal.PatternElem.{PatternElem}
-use Rattle.cedar_expressions.specs.declared.literal.Literal.TheVariants as literals
+use Rattle.cedar_expressions.specs.declared.atoms.Var.{Var}
+use Rattle.cedar_expressions.specs.declared.atoms.SlotId.{SlotId}
+use Rattle.cedar_expressions.specs.declared.atoms.SlotId.TheVariants as slots
+use Rattle.cedar_expressions.specs.declared.atoms.PatternElem.{PatternElem}
+use Rattle.cedar_expressions.specs.declared.atoms.Literal.TheVariants as literals
 use Rattle.cedar_expressions.specs.Keys.{repeats_key}
 use Rattle.cedar_expressions.specs.Value as v
 use Rattle.cedar_expressions.specs.Value.{Value, values, terms, fields}

@@ -3,7 +3,7 @@ use Rattle.std.specs.Prelude.{ℕ, zero, suc, ◌+◌, ◌-◌, List, [], ◌∷
 use Rattle.std.specs.Str.{chars}
 use Rattle.cedar_syntax.specs.declared.err.escape.UnescapeError.{UnescapeError}
 use Rattle.cedar_syntax.specs.declared.loc.Loc.{Loc}
-use Rattle.cedar_expressions.specs.declared.literal.PatternElem.{PatternElem}
+use Rattle.cedar_expressions.specs.declared.atoms.PatternElem.{PatternElem}
 use Rattle.cedar_syntax.specs.Pattern.{pattern_faults, pattern_pieces}
 use Rattle.cedar_syntax.specs.Piece.{Placed, bytes_len, piece_at, piece_faults, unescaped_pieces}
 use Rattle.cedar_syntax.specs.PieceAhead.{PieceAhead, first_piece}

@@ -62,7 +62,22 @@ pub(crate) fn value_in<B: ExprBuilderInfallibleBuild>(
     ensures { (x : Outcome Held) → Gives (plain B.meaning) answer.old x
         → Gives B.meaning result (next x as_expression) }
 {
-    expr_of::<B>(alloc, take(answer))
+    match take(answer) {
+        Ok(ExprOrSpecial::Expr(expr, _)) => Ok(expr),
+        other => special_value::<B>(alloc, other),
+    }
+}
+
+/// The expression that another form is, or the answer's failure.
+#[inline(never)]
+fn special_value<B: ExprBuilderInfallibleBuild>(
+    alloc: Global,
+    answer: Converted<B::Expr>,
+) -> Result<B::Expr, Failure>
+    ensures { (x : Outcome Held) → Gives (plain B.meaning) answer x
+        → Gives B.meaning result (next x as_expression) }
+{
+    expr_of::<B>(alloc, answer)
 }
 
 /// Adds the expression that the answer is behind the parts so far.
@@ -79,8 +94,7 @@ pub(crate) fn gather<B: ExprBuilderInfallibleBuild, O: Copy + Drop>(
         (one_more (operator op) ps (next x as_expression)) }
 {
     let next = value_in::<B>(alloc, answer);
-    let held = take(all);
-    put(all, more::<B, O>(held, op, next));
+    more::<B, O>(all, op, next);
 }
 
 /// What stands in parentheses, at its own place.

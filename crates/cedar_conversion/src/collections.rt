@@ -11,8 +11,7 @@ ghost use Rattle.cedar_expressions.specs.Value.{Value};
 ghost use Rattle.cedar_conversion.specs.machines.Applied.{Pair, seen_access, seen_accesses, seen_pair, seen_pairs};
 ghost use Rattle.cedar_conversion.specs.machines.Views.{rest_view, plain};
 
-use crate::answer::{put, take};
-use crate::join::bodies_of;
+use crate::join::{add, bodies_of};
 use crate::members::Access;
 use crate::names::unreserved_ident;
 use crate::special::{ExprOrSpecial, builder_at, made, refusal};
@@ -86,20 +85,6 @@ pub(crate) fn index_from<B: ExprBuilderInfallibleBuild>(
     Ok(Access::Index(string_from::<B>(alloc, inner)?))
 }
 
-/// One more access behind those so far.
-fn access_more<B: ExprBuilderInfallibleBuild>(
-    all: Accesses<B::Expr>,
-    next: Result<Access<B::Expr>, Failure>,
-) -> Accesses<B::Expr>
-    ensures { (xs : Outcome (List Given)) (x : Outcome Given)
-        → Gives (seen_accesses B.meaning) all xs → Gives (seen_access B.meaning) next x
-        → Gives (seen_accesses B.meaning) result (item_more xs x) }
-{
-    let (mut all, next) = flatten_tuple_2(all, next)?;
-    all.push(next)?;
-    Ok(all)
-}
-
 /// Adds an access behind those so far.
 #[inline(never)]
 pub(crate) fn add_access<B: ExprBuilderInfallibleBuild>(
@@ -110,8 +95,7 @@ pub(crate) fn add_access<B: ExprBuilderInfallibleBuild>(
         → Gives (seen_accesses B.meaning) all.old xs → Gives (seen_access B.meaning) next x
         → Gives (seen_accesses B.meaning) all.new (item_more xs x) }
 {
-    let held = take(all);
-    put(all, access_more::<B>(held, next));
+    add(all, next);
 }
 
 /// A pair of a record: the key's conversion, and then key and value joined.
@@ -131,20 +115,6 @@ pub(crate) fn pair_from<B: ExprBuilderInfallibleBuild>(
     flatten_tuple_2(attribute, value)
 }
 
-/// One more pair behind those so far.
-fn pair_more<B: ExprBuilderInfallibleBuild>(
-    all: Pairs<B::Expr>,
-    next: Result<Keyed<B::Expr>, Failure>,
-) -> Pairs<B::Expr>
-    ensures { (xs : Outcome (List Pair)) (x : Outcome Pair)
-        → Gives (seen_pairs B.meaning) all xs → Gives (seen_pair B.meaning) next x
-        → Gives (seen_pairs B.meaning) result (item_more xs x) }
-{
-    let (mut all, next) = flatten_tuple_2(all, next)?;
-    all.push(next)?;
-    Ok(all)
-}
-
 /// Adds a pair behind those so far.
 #[inline(never)]
 pub(crate) fn add_pair<B: ExprBuilderInfallibleBuild>(
@@ -155,8 +125,7 @@ pub(crate) fn add_pair<B: ExprBuilderInfallibleBuild>(
         → Gives (seen_pairs B.meaning) all.old xs → Gives (seen_pair B.meaning) next x
         → Gives (seen_pairs B.meaning) all.new (item_more xs x) }
 {
-    let held = take(all);
-    put(all, pair_more::<B>(held, next));
+    add(all, next);
 }
 
 /// A record of its pairs: a repeated key is refused.

@@ -399,7 +399,7 @@ fn mult_chain<B: ExprBuilderInfallibleBuild>(
             for (op, part) in mult.extended.as_slice() {
                 unary::<B>(alloc, styles, part, answer);
                 let part = value_in::<B>(alloc, answer);
-                rest = more::<B, MultOp>(rest, *op, factor_of::<B>(alloc, &node.loc, *op, part));
+                more::<B, MultOp>(&mut rest, *op, factor_of::<B>(alloc, &node.loc, *op, part));
             }
             put(
                 answer,

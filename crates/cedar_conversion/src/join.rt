@@ -1,14 +1,16 @@
 //! Parts that are given, one after another.
-ghost use Rattle.std.specs.Prelude.{◌≡◌, ◌<◌, ◌^◌, List, length, map, IfOk};
+ghost use Rattle.std.specs.Prelude.{◌≡◌, ◌<◌, ◌^◌, List, Ok, Err, length, map, IfOk};
 ghost use Rattle.cedar_expressions.specs.Value.{Value};
 ghost use Rattle.cedar_syntax.specs.Forms.{parts_of};
 ghost use Rattle.cedar_syntax.specs.Located.{Located};
 ghost use Rattle.cedar_syntax.specs.Tree.{Operator, relation};
+ghost use Rattle.cedar_syntax.specs.declared.err.faults.Failure.TheVariants.{Memory};
 ghost use Rattle.cedar_conversion.specs.Conversion.{Part, operator_limit};
 ghost use Rattle.cedar_conversion.specs.Outcome.{Outcome};
 ghost use Rattle.cedar_conversion.specs.Seen.{Gives};
-ghost use Rattle.cedar_conversion.specs.machines.Views.{rest_view, empty_view, one_more};
+ghost use Rattle.cedar_conversion.specs.machines.Views.{Grows, empty_view, one_more, rest_view};
 
+use crate::answer::{put, take};
 use crate::special::refusal;
 use cedar_expressions::ExprBuilderInfallibleBuild;
 use cedar_syntax::err::{Failure, ToASTErrorKind};
@@ -16,19 +18,73 @@ use cedar_syntax::loc::Loc;
 use cedar_syntax::util::flatten_tuple_2;
 use std::alloc::{AllocError, Global};
 
-/// One more value behind an operator.
-pub(crate) fn more<B: ExprBuilderInfallibleBuild, O: Copy>(
-    all: Result<Vec<(O, B::Expr)>, Failure>,
-    op: O,
-    next: Result<B::Expr, Failure>,
-) -> Result<Vec<(O, B::Expr)>, Failure>
-    ensures { (operator : O → Operator) (ps : Outcome (List Part)) (x : Outcome Value)
-        → Gives (rest_view operator B.meaning) all ps → Gives B.meaning next x
-        → Gives (rest_view operator B.meaning) result (one_more (operator op) ps x) }
+/// One more item behind those so far, or the faults of both.
+fn grown<T: Drop>(all: Result<Vec<T>, Failure>, next: Result<T, Failure>) -> Result<Vec<T>, Failure>
+    ensures { Grows all next result }
 {
     let (mut all, next) = flatten_tuple_2(all, next)?;
-    all.push((op, next))?;
+    all.push(next)?;
     Ok(all)
+}
+
+/// A failure behind the items so far: their own is joined to it.
+#[cold]
+#[inline(never)]
+fn add_failure<T: Drop>(all: &mut Result<Vec<T>, Failure>, failure: Failure)
+    ensures { Grows all.old (Err failure) all.new }
+{
+    let held = take(all);
+    put(all, grown(held, Err(failure)));
+}
+
+/// Memory for one item more is wanting.
+#[cold]
+#[inline(never)]
+fn lack<T: Drop>(all: &mut Result<Vec<T>, Failure>, error: AllocError)
+    ensures { all.new ≡ Err (Memory error) }
+{
+    put(all, Err(Failure::Memory(error)));
+}
+
+/// One more item behind those so far, where they stand.
+#[inline(always)]
+fn add_item<T: Drop>(all: &mut Result<Vec<T>, Failure>, item: T)
+    ensures { Grows all.old (Ok item) all.new }
+{
+    match all {
+        Ok(items) => match items.reserve(1) {
+            Ok(()) => items.push_reserved(item),
+            Err(error) => lack(all, error),
+        },
+        Err(_) => drop(item),
+    }
+}
+
+/// One more item behind those so far, where they stand, or the faults of both.
+pub(crate) fn add<T: Drop>(all: &mut Result<Vec<T>, Failure>, next: Result<T, Failure>)
+    ensures { Grows all.old next all.new }
+{
+    match next {
+        Ok(item) => add_item(all, item),
+        Err(failure) => add_failure(all, failure),
+    }
+}
+
+/// One more value behind an operator, where those so far stand.
+#[inline(always)]
+pub(crate) fn more<B: ExprBuilderInfallibleBuild, O: Copy + Drop>(
+    all: &mut Result<Vec<(O, B::Expr)>, Failure>,
+    op: O,
+    next: Result<B::Expr, Failure>,
+)
+    ensures { (operator : O → Operator) (ps : Outcome (List Part)) (x : Outcome Value)
+        → Gives (rest_view operator B.meaning) all.old ps → Gives B.meaning next x
+        → Gives (rest_view operator B.meaning) all.new (one_more (operator op) ps x) }
+{
+    match next {
+        Ok(value) => add_item(all, (op, value)),
+        Err(failure) => add_failure(all, failure),
+    }
 }
 
 /// The values without their operators.

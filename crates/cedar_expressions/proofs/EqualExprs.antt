@@ -9,9 +9,9 @@ use Rattle.cedar_expressions.proofs.Deciding.{both, through, bare, place, Agains
 use Rattle.cedar_expressions.proofs.EqualParts.{text_eq, text, literals, unary_calls, binary_calls, list_calls}
 use Rattle.cedar_expressions.proofs.Opened.{free_call, free_expr, same_layer}
 use Rattle.cedar_expressions.specs.declared.operators.AddOp.{AddOp}
-use Rattle.cedar_expressions.specs.declared.literal.Literal.{Literal}
-use Rattle.cedar_expressions.specs.declared.literal.Var.{Var}
-use Rattle.cedar_expressions.specs.declared.literal.SlotId.{SlotId}
+use Rattle.cedar_expressions.specs.declared.atoms.Literal.{Literal}
+use Rattle.cedar_expressions.specs.declared.atoms.Var.{Var}
+use Rattle.cedar_expressions.specs.declared.atoms.SlotId.{SlotId}
 use Rattle.cedar_expressions.specs.declared.expr.UnaryCall.{UnaryCall}
 use Rattle.cedar_expressions.specs.declared.expr.BinaryCall.{BinaryCall}
 use Rattle.cedar_expressions.specs.declared.expr.NaryOp.{NaryOp}
@@ -30,9 +30,9 @@ use Rattle.cedar_expressions.specs.contracts.expr.ExprKindPartialEq.TheImpl.Laws
 use Rattle.cedar_expressions.specs.contracts.expr.UnaryCallPartialEq.TheImpl as unary_eq
 use Rattle.cedar_expressions.specs.contracts.expr.BinaryCallPartialEq.TheImpl as binary_eq
 use Rattle.cedar_expressions.specs.contracts.expr.ListCallPartialEq.TheImpl as list_eq
-use Rattle.cedar_expressions.specs.contracts.literal.LiteralPartialEq.TheImpl as literal_eq
-use Rattle.cedar_expressions.specs.contracts.literal.Var as var
-use Rattle.cedar_expressions.specs.contracts.literal.SlotId as slot
+use Rattle.cedar_expressions.specs.contracts.atoms.LiteralPartialEq.TheImpl as literal_eq
+use Rattle.cedar_expressions.specs.contracts.atoms.Var as var
+use Rattle.cedar_expressions.specs.contracts.atoms.SlotId as slot
 use Rattle.cedar_expressions.specs.contracts.expr.NaryOp as nary
 use Rattle.cedar_expressions.specs.contracts.operators.AddOp as add
 use Rattle.cedar_expressions.specs.Meaning.{unplaced}

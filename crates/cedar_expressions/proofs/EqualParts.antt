@@ -8,8 +8,8 @@ use Rattle.cedar_expressions.specs.Path.{Path}
 use Rattle.cedar_expressions.specs.declared.entity.Eid.{Eid}
 use Rattle.cedar_expressions.specs.declared.entity.EntityType.{EntityType}
 use Rattle.cedar_expressions.specs.declared.entity.EntityUID.{EntityUID}
-use Rattle.cedar_expressions.specs.declared.literal.Literal.{Literal}
-use Rattle.cedar_expressions.specs.declared.literal.PatternElem.{PatternElem}
+use Rattle.cedar_expressions.specs.declared.atoms.Literal.{Literal}
+use Rattle.cedar_expressions.specs.declared.atoms.PatternElem.{PatternElem}
 use Rattle.cedar_expressions.specs.declared.expr.UnaryCall.{UnaryCall}
 use Rattle.cedar_expressions.specs.declared.expr.BinaryCall.{BinaryCall}
 use Rattle.cedar_expressions.specs.declared.expr.ListCall.{ListCall}
@@ -17,15 +17,15 @@ use Rattle.cedar_expressions.specs.contracts.names.NamePartialEq.TheImpl as name
 use Rattle.cedar_expressions.specs.contracts.entity.EidPartialEq.TheImpl as eid_eq
 use Rattle.cedar_expressions.specs.contracts.entity.EntityTypePartialEq.TheImpl as type_eq
 use Rattle.cedar_expressions.specs.contracts.entity.EntityUIDPartialEq.TheImpl as entity_eq
-use Rattle.cedar_expressions.specs.contracts.literal.LiteralPartialEq.TheImpl as literal_eq
-use Rattle.cedar_expressions.specs.contracts.literal.PatternElemPartialEq.TheImpl as pattern_eq
+use Rattle.cedar_expressions.specs.contracts.atoms.LiteralPartialEq.TheImpl as literal_eq
+use Rattle.cedar_expressions.specs.contracts.atoms.PatternElemPartialEq.TheImpl as pattern_eq
 use Rattle.cedar_expressions.specs.contracts.operators.UnaryOpPartialEq.TheImpl as operator_eq
 use Rattle.cedar_expressions.specs.contracts.expr.UnaryCallPartialEq.TheImpl as unary_eq
 use Rattle.cedar_expressions.specs.contracts.expr.BinaryCallPartialEq.TheImpl as binary_eq
 use Rattle.cedar_expressions.specs.contracts.expr.BinaryOpPartialEq.TheImpl as between_eq
 use Rattle.cedar_expressions.specs.contracts.expr.ListCallPartialEq.TheImpl as list_eq
-use Rattle.cedar_expressions.specs.contracts.literal.Literal as literal
-use Rattle.cedar_expressions.specs.contracts.literal.PatternElem as pattern
+use Rattle.cedar_expressions.specs.contracts.atoms.Literal as literal
+use Rattle.cedar_expressions.specs.contracts.atoms.PatternElem as pattern
 use Rattle.cedar_expressions.specs.contracts.operators.UnaryOp as operator
 use Rattle.cedar_expressions.specs.contracts.expr.UnaryCall as unary
 use Rattle.cedar_expressions.specs.contracts.expr.BinaryOp as between

@@ -5,9 +5,9 @@ use Rattle.std.proofs.lemmas.Grind.{flat_map-append}
 use Rattle.cedar_expressions.specs.declared.operators.AddOp.{AddOp}
 use Rattle.cedar_expressions.specs.declared.place.Place.{Place}
 use Rattle.cedar_expressions.specs.declared.text.Text.{Text}
-use Rattle.cedar_expressions.specs.declared.literal.Literal.{Literal}
-use Rattle.cedar_expressions.specs.declared.literal.Var.{Var}
-use Rattle.cedar_expressions.specs.declared.literal.SlotId.{SlotId}
+use Rattle.cedar_expressions.specs.declared.atoms.Literal.{Literal}
+use Rattle.cedar_expressions.specs.declared.atoms.Var.{Var}
+use Rattle.cedar_expressions.specs.declared.atoms.SlotId.{SlotId}
 use Rattle.cedar_expressions.specs.declared.expr.Expr.{Expr}
 use Rattle.cedar_expressions.specs.declared.operators.UnaryOp.TheVariants as operator
 use Rattle.cedar_expressions.specs.declared.expr.UnaryCall.{UnaryCall}

@@ -1,4 +1,4 @@
--- When a record is refused.
+-- When a record is refused, and which of its keys the refusal names: the first that stands again.
 use Rattle.std.specs.Prelude.{ℕ, List, [], ◌∷◌, ◌++◌, Bool, true, false, ◌||◌, ◌≡◌, Option, Some, None}
 use Rattle.std.specs.List.{list_any}
 use Rattle.std.specs.Str.{bytes_eq}
@@ -17,9 +17,9 @@ StandsAgain key keys = (before : List (List ℕ)) × (after : List (List ℕ))
     × (repeats_key before ≡ false)
 
 -- what a refusal says of the keys: some key stands twice, and it names the first that stands again
-abbrev pub IsDue : RecordError → List (List ℕ) → Type 0
-IsDue (Memory _) keys = Unit {0}
-IsDue (Construction error) keys = (repeats_key keys ≡ true) × StandsAgain error.key keys
+abbrev pub RefusesKeys : RecordError → List (List ℕ) → Type 0
+RefusesKeys (Memory _) keys = Unit {0}
+RefusesKeys (Construction error) keys = (repeats_key keys ≡ true) × StandsAgain error.key keys
 
 -- what a search for a key that stands twice has found
 abbrev pub IsRepeatedKey : Option (List ℕ) → List (List ℕ) → Type 0

@@ -1,4 +1,4 @@
--- What an owner ends as, where what it holds was lent to be changed.
+-- What a `Boxed` ends as, where the value that it holds was lent to be changed.
 use Rattle.std.specs.Borrow.{Lends, Fml, RattleType, MutBor}
 use Rattle.cedar_expressions.specs.contracts.boxed.Boxed as boxed
 

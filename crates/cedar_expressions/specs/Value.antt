@@ -2,10 +2,10 @@
 -- slot alone has its place, since it is refused there where none may stand.
 use Rattle.std.specs.Prelude.{ℕ, List, [], ◌∷◌}
 use Rattle.cedar_expressions.specs.declared.operators.AddOp.{AddOp}
-use Rattle.cedar_expressions.specs.declared.literal.Literal.{Literal}
-use Rattle.cedar_expressions.specs.declared.literal.Var.{Var}
+use Rattle.cedar_expressions.specs.declared.atoms.Literal.{Literal}
+use Rattle.cedar_expressions.specs.declared.atoms.Var.{Var}
 use Rattle.cedar_expressions.specs.declared.place.Slot.{Slot}
-use Rattle.cedar_expressions.specs.declared.literal.PatternElem.{PatternElem}
+use Rattle.cedar_expressions.specs.declared.atoms.PatternElem.{PatternElem}
 use Rattle.cedar_expressions.specs.declared.entity.EntityType.{EntityType}
 use Rattle.cedar_expressions.specs.Path.{Path}
 

@@ -7,15 +7,15 @@ use Rattle.cedar_expressions.specs.declared.operators.AddOp.{AddOp}
 use Rattle.cedar_expressions.specs.declared.operators.AddOp.TheVariants.{Plus, Minus}
 use Rattle.cedar_expressions.specs.declared.operators.UnaryOp.{UnaryOp}
 use Rattle.cedar_expressions.specs.declared.operators.UnaryOp.TheVariants.{Not, Neg}
-use Rattle.cedar_expressions.specs.declared.literal.Literal.{Literal}
-use Rattle.cedar_expressions.specs.declared.literal.Literal.TheVariants as literal
-use Rattle.cedar_expressions.specs.declared.literal.Var.{Var}
-use Rattle.cedar_expressions.specs.declared.literal.Var.TheVariants as var
-use Rattle.cedar_expressions.specs.declared.literal.SlotId.{SlotId}
-use Rattle.cedar_expressions.specs.declared.literal.SlotId.TheVariants as slot
+use Rattle.cedar_expressions.specs.declared.atoms.Literal.{Literal}
+use Rattle.cedar_expressions.specs.declared.atoms.Literal.TheVariants as literal
+use Rattle.cedar_expressions.specs.declared.atoms.Var.{Var}
+use Rattle.cedar_expressions.specs.declared.atoms.Var.TheVariants as var
+use Rattle.cedar_expressions.specs.declared.atoms.SlotId.{SlotId}
+use Rattle.cedar_expressions.specs.declared.atoms.SlotId.TheVariants as slot
 use Rattle.cedar_expressions.specs.declared.entity.EntityUID.{EntityUID}
-use Rattle.cedar_expressions.specs.declared.literal.PatternElem.{PatternElem}
-use Rattle.cedar_expressions.specs.declared.literal.PatternElem.TheVariants as element
+use Rattle.cedar_expressions.specs.declared.atoms.PatternElem.{PatternElem}
+use Rattle.cedar_expressions.specs.declared.atoms.PatternElem.TheVariants as element
 use Rattle.cedar_expressions.specs.declared.errors.ExpressionConstructionError.{ExpressionConstructionError}
 use Rattle.cedar_expressions.specs.declared.errors.RecordError.{RecordError}
 use Rattle.cedar_expressions.specs.declared.errors.RecordError.TheVariants.{Memory, Construction}

@@ -62,16 +62,22 @@ impl<T> Boxed<T> {
 
 impl<T: Drop> Boxed<T> {
     /// Puts a value into memory of its own.
+    #[inline(always)]
     pub fn new(alloc: Global, value: T) -> Result<Boxed<T>, AllocError>
         ensures { IfOk result (λ boxed. boxed ≡ value) }
     {
-        Ok(Boxed {
-            inner: Box::new(alloc, value)?,
-        })
+        match Box::new(alloc, value) {
+            Ok(inner) => Ok(Boxed { inner }),
+            Err(refused) => {
+                drop(refused);
+                Err(AllocError)
+            }
+        }
     }
 }
 
-/// The value is dropped in a frame of its own, so that what holds a box takes no room for what is in it.
+/// The value is dropped in a frame of its own, so that what holds a box takes no room for what is
+/// in it.
 impl<T: Drop> Drop for Boxed<T> {
     #[inline(never)]
     fn drop(self) {

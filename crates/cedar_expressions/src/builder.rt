@@ -1,7 +1,7 @@
 //! The calls by which an expression is made, and what each means.
 ghost use Rattle.std.specs.Prelude.{◌≡◌, None, Option, IfOk, IfErr, map, false};
 ghost use Rattle.cedar_expressions.specs.Value as v;
-ghost use Rattle.cedar_expressions.specs.Keys.{repeats_key, IsDue};
+ghost use Rattle.cedar_expressions.specs.Keys.{repeats_key, RefusesKeys};
 
 use crate::{AddOp, EntityType, Literal, Name, PatternElem, Place, RecordError, SlotId, Text, Var};
 use std::alloc::{AllocError, Global};
@@ -188,10 +188,11 @@ pub trait ExprBuilderInfallibleBuild: Drop {
     fn set(self, elements: Vec<Self::Expr>) -> Result<Self::Expr, AllocError>
         ensures { IfOk result (λ e. meaning e ≡ v.set (v.values (map meaning elements.items))) };
 
-    /// A record of its pairs, in the order in which they stand. It is refused, want of memory aside, exactly where a key is there twice.
+    /// A record of its pairs, in the order in which they stand. It is refused, want of memory
+    /// aside, exactly where a key is there twice.
     fn record(self, pairs: Vec<(Text, Self::Expr)>) -> Result<Self::Expr, RecordError>
         ensures ok { IfOk result
             (λ e. (meaning e ≡ v.«record» (v.fields (map (λ p. (p.0, meaning p.1)) pairs.items)))
             × (repeats_key (map (λ p. p.0) pairs.items) ≡ false)) }
-        ensures err { IfErr result (λ error. IsDue error (map (λ p. p.0) pairs.items)) };
+        ensures err { IfErr result (λ error. RefusesKeys error (map (λ p. p.0) pairs.items)) };
 }

@@ -103,7 +103,8 @@ fn copy_pairs(pairs: &Items<(Text, Expr)>) -> Result<Items<(Text, Expr)>, AllocE
     Ok(copies)
 }
 
-/// What is held, beside what was copied. (A call that doesn't see what it drops is cheaper to prove.)
+/// What is held, beside what was copied. (A call that doesn't see what it drops is cheaper to
+/// prove.)
 fn beside<A: Drop, B>(held: A, copied: Result<B, AllocError>) -> Result<(A, B), AllocError>
     ensures { IfOk result (λ both. IsOkAnd copied (λ copy. both ≡ (held, copy))) }
 {

@@ -1,7 +1,7 @@
 //! The builder that makes an `Expr`, each node at the builder's place.
 ghost use Rattle.std.specs.Prelude.{◌≡◌, None, IfOk, IfErr, map, false};
 ghost use Rattle.cedar_expressions.specs.Value as v;
-ghost use Rattle.cedar_expressions.specs.Keys.{repeats_key, IsDue};
+ghost use Rattle.cedar_expressions.specs.Keys.{repeats_key, RefusesKeys};
 ghost use Rattle.cedar_expressions.specs.Placed.{place_of, builders_place};
 ghost use Rattle.cedar_expressions.specs.Meaning.{expr_meaning, unary_call, binary_call, nary_call, list_call};
 
@@ -30,7 +30,7 @@ impl ExprBuilder<()> {
         Expr::at(kind, self.place)
     }
 
-    fn boxed(&self, part: Expr) -> Result<Boxed<Expr>, AllocError>
+    fn to_box(&self, part: Expr) -> Result<Boxed<Expr>, AllocError>
         ensures { IfOk result (λ boxed. boxed ≡ part) }
     {
         Boxed::new(self.alloc, part)
@@ -52,7 +52,7 @@ impl ExprBuilder<()> {
             (expr_meaning operand)) }
         ensures place { IfOk result (λ e. place_of e ≡ builders_place self) }
     {
-        let operand = self.boxed(operand)?;
+        let operand = self.to_box(operand)?;
         Ok(self.node(ExprKind::Unary(call, operand)))
     }
 
@@ -62,7 +62,7 @@ impl ExprBuilder<()> {
             (v.values (map expr_meaning rest.items))) }
         ensures place { IfOk result (λ e. place_of e ≡ builders_place self) }
     {
-        let first = self.boxed(first)?;
+        let first = self.to_box(first)?;
         Ok(self.node(ExprKind::Nary(op, first, Items::from(rest))))
     }
 
@@ -187,7 +187,7 @@ impl ExprBuilderInfallibleBuild for ExprBuilder<()> {
             (v.terms (map (λ t. (t.0, expr_meaning t.1)) rest.items))) }
         ensures place { IfOk result (λ e. place_of e ≡ builders_place self) }
     {
-        let first = self.boxed(first)?;
+        let first = self.to_box(first)?;
         Ok(self.node(ExprKind::Sum(first, Items::from(rest))))
     }
 
@@ -367,7 +367,7 @@ impl ExprBuilderInfallibleBuild for ExprBuilder<()> {
             (λ e. (expr_meaning e ≡ v.«record»
             (v.fields (map (λ p. (p.0, expr_meaning p.1)) pairs.items)))
             × (repeats_key (map (λ p. p.0) pairs.items) ≡ false)) }
-        ensures err { IfErr result (λ error. IsDue error (map (λ p. p.0) pairs.items)) }
+        ensures err { IfErr result (λ error. RefusesKeys error (map (λ p. p.0) pairs.items)) }
         ensures place { IfOk result (λ e. place_of e ≡ builders_place self) }
     {
         refuse_repeated_key(self.alloc, pairs.as_slice())?;

@@ -8,7 +8,8 @@ use std::alloc::{AllocError, Global};
 use std::fmt;
 use std::marker::Model;
 
-/// A text of an identifier's spelling: a letter or `_`, and then letters, digits and `_`. The words of the language are such texts too.
+/// A text of an identifier's spelling: a letter or `_`, and then letters, digits and `_`. The
+/// words of the language are such texts too.
 #[derive(Debug, Drop, PartialEq, Eq, PartialOrd, Ord, Hash)]
 pub struct AnyId {
     text: Text,
@@ -60,7 +61,8 @@ impl AnyId {
     }
 }
 
-/// An identifier that a name may hold: none of `if`, `true`, `false`, `then`, `else`, `in`, `is`, `has`, `like`.
+/// An identifier that a name may hold: none of `if`, `true`, `false`, `then`, `else`, `in`, `is`,
+/// `has`, `like`.
 #[derive(Debug, Drop, PartialEq, Eq, PartialOrd, Ord, Hash)]
 pub struct Id {
     text: Text,
@@ -112,7 +114,7 @@ impl Id {
     pub fn is_reserved(&self) -> bool
         ensures { result ≡ is_reserved_namespace self.now }
     {
-        self.text.as_str() == "__cedar"
+        is_reserved_namespace(self.text.as_str())
     }
 
     /// The text, moved out.
@@ -156,6 +158,13 @@ impl From<UnreservedId> for Id {
 }
 
 impl UnreservedId {
+    /// Whether a text is spelled as one; it takes no memory.
+    pub fn is_spelled(text: &str) -> bool
+        ensures { result ≡ is_unreserved_identifier text.now }
+    {
+        is_spelled_as_identifier(text) && !is_word(text) && !is_reserved_namespace(text)
+    }
+
     /// The identifier, or the same one back where it is `__cedar`.
     pub fn unless_reserved(id: Id) -> Result<UnreservedId, Id>
         ensures { MatchResult result (λ unreserved. (unreserved ≡ id)
@@ -227,10 +236,20 @@ fn continues(byte: u8) -> bool
 fn is_word(text: &str) -> bool
     ensures { result ≡ is_reserved_word text.now }
 {
-    match text {
-        "if" | "true" | "false" | "then" | "else" | "in" | "is" | "has" | "like" => true,
+    match text.len() {
+        2 => matches!(text, "if" | "in" | "is"),
+        3 => text == "has",
+        4 => matches!(text, "true" | "then" | "else" | "like"),
+        5 => text == "false",
         _ => false,
     }
+}
+
+/// Whether a text is the identifier that is kept for the language's own names.
+fn is_reserved_namespace(text: &str) -> bool
+    ensures { result ≡ is_reserved_namespace text.now }
+{
+    text == "__cedar"
 }
 
 impl fmt::Display for AnyId {

@@ -12,7 +12,8 @@ use std::hash::{Hash, Hasher};
 use std::marker::Model;
 use std::slice::Iter;
 
-/// A `Vec` that contracts see as the list of its elements, so that two trees are equal exactly if they look equal.
+/// A `Vec` that contracts see as the list of its elements, so that two trees are equal exactly if
+/// they look equal.
 #[derive(Debug, Drop)]
 pub struct Items<T> {
     items: Vec<T>,
@@ -95,7 +96,8 @@ impl<T: Drop> Items<T> {
         ensures ok { OnOk result (self.new ≡ self.old ++ item ∷ []) }
         ensures err { OnErr result (self.new ≡ self.old) }
     {
-        self.items.push(item)?;
+        self.items.reserve(1)?;
+        self.items.push_reserved(item);
         Ok(())
     }
 }

@@ -1,6 +1,8 @@
-//! The values of Cedar's expressions, and the small owners of text and lists that every tree of this repository is made of.
+//! The values of Cedar's expressions, and the small owners of text and lists that every tree of
+//! this repository is made of.
 #![tactic(auto)]
 
+mod atoms;
 mod boxed;
 mod builder;
 mod copy;
@@ -11,7 +13,6 @@ mod expr_builder;
 mod ids;
 mod items;
 pub mod laws;
-mod literal;
 mod names;
 mod operators;
 mod place;
@@ -21,6 +22,7 @@ mod source;
 mod text;
 mod try_clone;
 
+pub use atoms::{Literal, PatternElem, SlotId, Var};
 pub use boxed::Boxed;
 pub use builder::ExprBuilderInfallibleBuild;
 pub use entity::{Eid, EntityType, EntityUID};
@@ -29,7 +31,6 @@ pub use expr::{BinaryCall, BinaryOp, Expr, ExprKind, ListCall, NaryOp, UnaryCall
 pub use expr_builder::ExprBuilder;
 pub use ids::{AnyId, Id, UnreservedId};
 pub use items::Items;
-pub use literal::{Literal, PatternElem, SlotId, Var};
 pub use names::{InternalName, Name, ReservedNameError};
 pub use operators::{AddOp, UnaryOp};
 pub use place::{NodePlace, Place, Slot};

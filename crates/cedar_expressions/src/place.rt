@@ -8,7 +8,8 @@ use crate::{SlotId, TryClone};
 use std::alloc::AllocError;
 use std::fmt;
 
-/// Where something stands in a text: `length` bytes from `offset` on. Nothing is claimed of either number.
+/// Where something stands in a text: `length` bytes from `offset` on. Nothing is claimed of either
+/// number.
 #[derive(Debug, Clone, Copy, PartialEq, Eq)]
 pub struct Place {
     pub offset: usize,
@@ -22,7 +23,8 @@ pub struct Slot {
     pub place: Option<Place>,
 }
 
-/// The place of a node, if it is known. All of them are equal, so that equality of trees looks at no place.
+/// The place of a node, if it is known. All of them are equal, so that equality of trees looks at
+/// no place.
 #[derive(Debug, Clone, Copy)]
 pub struct NodePlace {
     place: Option<Place>,

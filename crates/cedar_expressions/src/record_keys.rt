@@ -1,6 +1,6 @@
 //! The first key of a record that stands twice.
 ghost use Rattle.std.specs.Prelude.{◌≡◌, IfOk, IfErr, OnOk, map, false};
-ghost use Rattle.cedar_expressions.specs.Keys.{IsRepeatedKey, IsDue, repeats_key};
+ghost use Rattle.cedar_expressions.specs.Keys.{IsRepeatedKey, RefusesKeys, repeats_key};
 
 use crate::{ExpressionConstructionError, RecordError, Text, TryClone};
 use std::alloc::{AllocError, Global};
@@ -22,7 +22,7 @@ fn repeated_key<T>(alloc: Global, pairs: &[(Text, T)]) -> Result<Option<Text>, A
 /// Refuses pairs among whose keys one stands twice.
 pub(crate) fn refuse_repeated_key<T>(alloc: Global, pairs: &[(Text, T)]) -> Result<(), RecordError>
     ensures ok { OnOk result (repeats_key (map (λ p. p.0) pairs.now) ≡ false) }
-    ensures err { IfErr result (λ error. IsDue error (map (λ p. p.0) pairs.now)) }
+    ensures err { IfErr result (λ error. RefusesKeys error (map (λ p. p.0) pairs.now)) }
 {
     match repeated_key(alloc, pairs)? {
         None => Ok(()),

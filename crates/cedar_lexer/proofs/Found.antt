@@ -13,7 +13,7 @@ use Rattle.std.proofs.lemmas.Str.{IsUtf8-from_ascii, char_from_byte, IsUtf8-appe
 use Rattle.std.proofs.lemmas.Str.Ascii.{IsAscii-from_all}
 use Rattle.cedar_lexer.specs.declared.token.TokenKind.{TokenKind}
 use Rattle.cedar_lexer.specs.declared.token.TokenKind.TheVariants.{OtherSlot, Identifier, Number, StringLit}
-use Rattle.cedar_lexer.specs.Spelling.{is_identifier_start, is_identifier_part, one_text, IsIdentifierText, IsNumber, IsSlot, IsString, Spells}
+use Rattle.cedar_lexer.specs.Spelling.{is_identifier_start, is_identifier_part, one_text, IsIdentifierText, IsNumber, IsSlot, IsStringText, Spells}
 use Rattle.cedar_lexer.specs.Cut.{IsSpelled}
 use Rattle.cedar_lexer.specs.Scan.{spelling, KindAndLength, word, number, slot, kind_with_text, words, slots, string_len, string_of, mark}
 use Rattle.cedar_lexer.proofs.Bytes.{take_while-passes, begins_continues, begins_visible, digit_visible, continues_ascii}
@@ -261,7 +261,7 @@ slot_utf8 : (text : List ℕ) → IsSlot text → IsUtf8 text
 slot_utf8 [] i = absurd i
 slot_utf8 (b ∷ bs) (question, i) = IsUtf8-append (b ∷ []) bs (one_byte b (omega arith)) (identifier_utf8 bs i)
 
-string_utf8 : (text : List ℕ) → IsString text → IsUtf8 text
+string_utf8 : (text : List ℕ) → IsStringText text → IsUtf8 text
 string_utf8 [] i = absurd i
 string_utf8 (b ∷ bs) (quote, laid) = IsUtf8-append (b ∷ []) bs (one_byte b (omega arith)) (tail_utf8 laid)
 

@@ -9,7 +9,7 @@ use Rattle.std.proofs.lemmas.List.Elements.{All-cons}
 use Rattle.std.proofs.lemmas.Slice.Eq.{bytes_eq-Decides}
 use Rattle.cedar_lexer.specs.declared.token.TokenKind.{TokenKind}
 use Rattle.cedar_lexer.specs.declared.token.TokenKind.TheVariants.{OtherSlot, Identifier, Number, StringLit}
-use Rattle.cedar_lexer.specs.Spelling.{is_identifier_start, is_identifier_part, one_text, IsIdentifierText, IsNumber, IsSlot, IsString, IsStringTail, Spells}
+use Rattle.cedar_lexer.specs.Spelling.{is_identifier_start, is_identifier_part, one_text, IsIdentifierText, IsNumber, IsSlot, IsStringText, IsStringTail, Spells}
 use Rattle.cedar_lexer.specs.Cut.{IsSpelled}
 use Rattle.cedar_lexer.specs.Scan.{spelling, KindAndLength, is_given_text, word, number, kind_with_text, words, slots, string_of, mark}
 use Rattle.cedar_lexer.proofs.Bytes.{prefix_len-passed, prefix_len-all, begins_continues, digit_begins_none}
@@ -81,7 +81,7 @@ number_scan (b ∷ bs) (digit, rest) =
 string_front : (bs after : List ℕ) → IsStringTail bs → spelling (34 ∷ bs ++ after) ≡ Some (StringLit, length (34 ∷ bs))
 string_front bs after laid = ap string_of (closes after 1 laid ∙ ap Some (omega arith))
 
-string_scan : (text : List ℕ) → IsString text → spelling text ≡ Some (StringLit, length text)
+string_scan : (text : List ℕ) → IsStringText text → spelling text ≡ Some (StringLit, length text)
 string_scan [] i = absurd i
 string_scan (b ∷ bs) (quote, laid) =
     subst (λ x. spelling (x ∷ bs) ≡ Some (StringLit, length (x ∷ bs))) (sym quote)

@@ -23,7 +23,7 @@ use Rattle.cedar_lexer.proofs.Bytes.{encode_high, same_front}
 use Rattle.cedar_lexer.proofs.Found.{visible}
 use Rattle.cedar_lexer.proofs.Skips.{spelling_some}
 use Rattle.cedar_lexer.specs.Varied as varied
-use Rattle.cedar_lexer.specs.Varied.{IsPadding, BeginsAt, NoSlashBefore, FitsBefore, end_of}
+use Rattle.cedar_lexer.specs.Varied.{IsPadding, BeginsAt, NoSlashBefore, FitsBefore, last_end}
 use Rattle.cedar_lexer.proofs.Joints.{same, scan_alike, scan_here, laid_bytes, laid_end, laid_stands, behind}
 
 -- ---- tokens further on
@@ -151,7 +151,7 @@ up_to {source = source} {k = k} (token {i = i} {t = u} {ts = us} s more) (b ∷ 
 
 pub record UpToEnd (source : List ℕ) (i k : ℕ) (front after : List Lexeme) : Type 0 where
   pub place : ℕ
-  pub ends : place ≡ end_of front
+  pub ends : place ≡ last_end front
   pub laid : Layout source i front place
   pub some : 0 < length (laid_bytes laid)
   pub stay : (old new : List ℕ) → ((j : TokenKind) → EndsToken j new) → EndsBefore laid old new
@@ -300,7 +300,7 @@ close_at target i rest e = scanned target i (lone_token kind.CloseParen 41 i) re
 
 -- parentheses put around the bytes of some tokens: the cut has two tokens more
 pub enclosed_cut : (front middle rest : List ℕ) (before : List Lexeme) (t : Lexeme) (ts after : List Lexeme) → IsUtf8 (front ++ (middle ++ rest)) → Cuts (front ++ (middle ++ rest)) (before ++ t ∷ (ts ++ after))
-    → t.start ≡ length front → end_of (t ∷ ts) ≡ length front + length middle
+    → t.start ≡ length front → last_end (t ∷ ts) ≡ length front + length middle
     → (us : List Lexeme) × Cuts (front ++ (40 ∷ (middle ++ (41 ∷ rest)))) us × (words_of us ≡ words_of before ++ (open_word ∷ (words_of (t ∷ ts) ++ (close_word ∷ words_of after))))
 enclosed_cut front middle rest before t ts after u c starts ends =
     let source = front ++ (middle ++ rest) in

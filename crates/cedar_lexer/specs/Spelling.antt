@@ -34,9 +34,9 @@ pub data IsStringTail : List ℕ → Type 0 where
       → IsStringTail (codes "\\" ++ encode_utf8 c ++ bs)
 
 -- a string begins with a quote
-abbrev pub IsString : List ℕ → Type 0
-IsString [] = ⊥
-IsString (b ∷ bs) = (b ≡ byte "\"") × IsStringTail bs
+abbrev pub IsStringText : List ℕ → Type 0
+IsStringText [] = ⊥
+IsStringText (b ∷ bs) = (b ≡ byte "\"") × IsStringTail bs
 
 -- a slot is `?` and an identifier
 abbrev pub IsSlot : List ℕ → Type 0
@@ -106,5 +106,5 @@ abbrev pub Spells : TokenKind → List ℕ → Type 0
 Spells Identifier text = IsIdentifierText text × ¬ (HasOwnKind text)
 Spells OtherSlot text = IsSlot text × ¬ (HasOwnKind text)
 Spells Number text = IsNumber text
-Spells StringLit text = IsString text
+Spells StringLit text = IsStringText text
 Spells kind text = one_text kind ≡ Some text

@@ -29,7 +29,7 @@ FitsBefore (space c white) place ts = Unit {0}
 FitsBefore (comment line end inside ends) place ts = NoSlashBefore place ts
 
 -- where the last of these tokens ends
-abbrev pub end_of : List Lexeme → ℕ
-end_of [] = 0
-end_of (t ∷ []) = t.end
-end_of (t ∷ u ∷ us) = end_of (u ∷ us)
+abbrev pub last_end : List Lexeme → ℕ
+last_end [] = 0
+last_end (t ∷ []) = t.end
+last_end (t ∷ u ∷ us) = last_end (u ∷ us)

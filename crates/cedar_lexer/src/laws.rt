@@ -7,7 +7,7 @@ ghost use Rattle.cedar_lexer.specs.declared.token.InvalidToken.{InvalidToken};
 ghost use Rattle.cedar_lexer.specs.Token.{Lexeme};
 ghost use Rattle.cedar_lexer.specs.Cut.{Layout, Cuts, CutsFrom, StopsAt, StopsFrom, IsTokenRange, StandInOrder};
 ghost use Rattle.cedar_lexer.specs.LexerState.{IsNextToken, LexerAnswers, fresh_lexer, IsCutOrStop, AnswersAre};
-ghost use Rattle.cedar_lexer.specs.Varied.{IsPadding, BeginsAt, FitsBefore, end_of};
+ghost use Rattle.cedar_lexer.specs.Varied.{IsPadding, BeginsAt, FitsBefore, last_end};
 ghost use Rattle.cedar_lexer.specs.Words.{TokenText, AreSpelled, words_of, texts_of, tokens_text, open_word, close_word};
 
 /// A text has at most one cut.
@@ -26,7 +26,8 @@ pub fn a_cut_or_one_bad_place()
         → StopsAt source us q → (ts ≡ us) × (p ≡ q) }
 {}
 
-/// The next token from a place begins each cut from there, and what is left of that is a cut from its end.
+/// The next token from a place begins each cut from there, and what is left of that is a cut from
+/// its end.
 pub fn next_token_of_each_cut()
     ensures cuts { (source : List ℕ) (i : ℕ) (t : Lexeme) (us : List Lexeme)
         → IsNextToken source i t → (CutsFrom source i us
@@ -36,13 +37,15 @@ pub fn next_token_of_each_cut()
         ↔ ((ts : List Lexeme) × (us ≡ t ∷ ts) × StopsFrom source t.end ts place)) }
 {}
 
-/// What is laid out from one place to the next, and from there on, is laid out one after the other.
+/// What is laid out from one place to the next, and from there on, is laid out one after the
+/// other.
 pub fn beginnings_join()
     ensures { (source : List ℕ) (ts us : List Lexeme) (i j k : ℕ) → Layout source i ts j
         → Layout source j us k → Layout source i (ts ++ us) k }
 {}
 
-/// The tokens of a text are nonempty ranges of it between characters, one behind the other, and their texts are these ranges.
+/// The tokens of a text are nonempty ranges of it between characters, one behind the other, and
+/// their texts are these ranges.
 pub fn tokens_stand_in_order()
     ensures whole { (source : List ℕ) (ts : List Lexeme) (place : ℕ) → IsUtf8 source
         → Layout source 0 ts place → StandInOrder source 0 ts × IsCharBoundary source place }
@@ -51,8 +54,8 @@ pub fn tokens_stand_in_order()
         × IsTokenRange source t }
 {}
 
-/// All answers of a new lexer, one after the other until it answers nothing: the tokens of the text's cut, or those
-/// before its bad place and then the invalid token there.
+/// All answers of a new lexer, one after the other until it answers nothing: the tokens of the
+/// text's cut, or those before its bad place and then the invalid token there.
 pub fn whole_run()
     ensures { (source : List ℕ) (answers : List (Result Token InvalidToken))
         → Drains LexerAnswers (fresh_lexer source) answers → (ts : List Lexeme) × (bad : Option ℕ)
@@ -65,8 +68,8 @@ pub fn spaced_words_are_cut()
         × Cuts (tokens_text (texts_of words)) ts × (words_of ts ≡ words) }
 {}
 
-/// White space, or a comment with its line end, straight before a token leaves the words of a text as they are; so do
-/// parentheses put around the bytes of some tokens, but for themselves.
+/// White space, or a comment with its line end, straight before a token leaves the words of a text
+/// as they are; so do parentheses put around the bytes of some tokens, but for themselves.
 pub fn varied_texts_are_cut()
     ensures padding { (front padding rest : List ℕ) (ts : List Lexeme)
         → IsUtf8 (front ++ rest) → Cuts (front ++ rest) ts → BeginsAt (length front) ts
@@ -76,7 +79,7 @@ pub fn varied_texts_are_cut()
         (ts after : List Lexeme)
         → IsUtf8 (front ++ (middle ++ rest))
         → Cuts (front ++ (middle ++ rest)) (before ++ t ∷ (ts ++ after))
-        → t.start ≡ length front → end_of (t ∷ ts) ≡ length front + length middle
+        → t.start ≡ length front → last_end (t ∷ ts) ≡ length front + length middle
         → (us : List Lexeme)
         × Cuts (front ++ (codes "(" ++ (middle ++ (codes ")" ++ rest)))) us
         × (words_of us ≡ words_of before ++ (open_word ∷ (words_of (t ∷ ts)

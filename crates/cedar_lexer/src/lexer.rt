@@ -30,7 +30,8 @@ fn wide_space_len(text: &str) -> usize
     if c.is_whitespace() { c.len_utf8() } else { 0 }
 }
 
-/// How many bytes the skip has that starts the text: one character of white space or one comment. 0 where none does.
+/// How many bytes the skip has that starts the text: one character of white space or one comment.
+/// 0 where none does.
 fn skip_len(text: &str) -> usize
     ensures { IsSkipLen text.now result }
 {
@@ -86,8 +87,8 @@ fn token_at(text: &str, start: usize) -> Option<Token<'_>>
 
 /// Cuts a text into its tokens, one at each call of `next`. It takes no memory.
 ///
-/// White space and comments between the tokens are passed over. Where neither a token nor white space nor a
-/// comment starts, it answers `InvalidToken` with that place, and has ended.
+/// White space and comments between the tokens are passed over. Where neither a token nor white
+/// space nor a comment starts, it answers `InvalidToken` with that place, and has ended.
 #[derive(Debug, Drop)]
 pub struct Lexer<'a> {
     text: &'a str,
@@ -130,7 +131,8 @@ impl<'a> Iterator for Lexer<'a> {
 
     ghost remaining = { answer_limit };
 
-    /// The next token. Nothing where only white space and comments are left, or after that or an `InvalidToken`.
+    /// The next token. Nothing where only white space and comments are left, or after that or an
+    /// `InvalidToken`.
     fn next(&mut self) -> Option<Result<Token<'a>, InvalidToken>> {
         if self.ended {
             return None;

@@ -1,4 +1,5 @@
-//! `cedar-parse`: reads a Cedar text from standard input and prints what the parser makes of it, or its faults.
+//! `cedar-parse`: reads a Cedar text from standard input and prints what the parser makes of it,
+//! or its faults.
 #![tactic(auto)]
 
 use cedar_command::run;

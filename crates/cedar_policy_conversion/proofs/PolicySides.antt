@@ -1,8 +1,8 @@
 -- The slots of a template, and on which side it stands: a static policy has none.
 use Rattle.std.proofs.Common.{◌≡◌, ◌||◌, Bool, true, false, cond, List, [], ◌∷◌, ◌++◌, append-nil, Option, Some, None, Ok, Err, is_some, slice_get, refl, sym, ap, ◌∙◌}
 use Rattle.either.specs.declared.Either.TheVariants.{Left, Right}
-use Rattle.cedar_expressions.specs.declared.literal.SlotId.{SlotId}
-use Rattle.cedar_expressions.specs.declared.literal.SlotId.TheVariants as ids
+use Rattle.cedar_expressions.specs.declared.atoms.SlotId.{SlotId}
+use Rattle.cedar_expressions.specs.declared.atoms.SlotId.TheVariants as ids
 use Rattle.cedar_expressions.specs.declared.place.Slot.{Slot}
 use Rattle.cedar_policy_store.specs.declared.constraints.EntityReference.TheVariants as reference
 use Rattle.cedar_policy_store.specs.declared.constraints.PrincipalOrResourceConstraint.{PrincipalOrResourceConstraint}
@@ -72,6 +72,17 @@ pub on_right : (o : Outcome TemplateParts) (t : Template) → o ≡ Ok (template
 on_right o t h none some =
     ap side_outcome h
     ∙ ap Ok (right_some (scope_slots (template_parts t)) (template_parts t) (ap (λ slots. is_some (slice_get slots 0)) (sym (scope_alone t none)) ∙ some))
+
+-- the scope has a slot exactly where the template has
+pub slots_there : (t : Template) (b : Bool) → IsConditionFree t → is_some (slice_get (scope_slots (template_parts t)) 0) ≡ b → is_some (slice_get (template_slots t) 0) ≡ b
+slots_there t b none h = ap (λ slots. is_some (slice_get slots 0)) (scope_alone t none) ∙ h
+
+none_there : {X : Type 0} (xs : List X) → is_some (slice_get xs 0) ≡ false → xs ≡ []
+none_there [] h = refl
+none_there (x ∷ xs) h = cc
+
+pub no_slots : (t : Template) → IsConditionFree t → is_some (slice_get (scope_slots (template_parts t)) 0) ≡ false → template_slots t ≡ []
+no_slots t none h = none_there (template_slots t) (slots_there t false none h)
 
 pub on_left : (o : Outcome TemplateParts) (t p : Template) → o ≡ Ok (template_parts t) → IsConditionFree t → p ≡ t → template_slots t ≡ [] → side_outcome o ≡ Ok (Left (template_parts p))
 on_left o t p h none same empty =

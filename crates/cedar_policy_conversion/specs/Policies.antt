@@ -7,7 +7,7 @@ use Rattle.either.specs.declared.Either.TheVariants.{Left, Right}
 use Rattle.std.specs.FinMap.{FinMap}
 use Rattle.cedar_expressions.specs.declared.place.Place.{Place}
 use Rattle.cedar_expressions.specs.declared.place.Slot.{Slot}
-use Rattle.cedar_expressions.specs.declared.literal.SlotId.TheVariants as ids
+use Rattle.cedar_expressions.specs.declared.atoms.SlotId.TheVariants as ids
 use Rattle.cedar_expressions.specs.Meaning.{unplaced}
 use Rattle.cedar_expressions.specs.Placed.{marked_place}
 use Rattle.cedar_expressions.specs.Value.{Value}

@@ -4,7 +4,7 @@
 -- match or its items; any other form is refused where it stands.
 use Rattle.std.specs.Prelude.{List, [], ◌∷◌, Option, Some, None, Ok, Err, if◌then◌else◌}
 use Rattle.cedar_expressions.specs.declared.entity.EntityUID.{EntityUID}
-use Rattle.cedar_expressions.specs.declared.literal.Var.{Var}
+use Rattle.cedar_expressions.specs.declared.atoms.Var.{Var}
 use Rattle.cedar_policy_store.specs.declared.constraints.EntityReference.{EntityReference}
 use Rattle.cedar_policy_store.specs.declared.constraints.EntityReference.TheVariants as reference
 use Rattle.cedar_syntax.specs.declared.cst.Expr.{Expr}

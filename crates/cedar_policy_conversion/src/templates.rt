@@ -1,7 +1,8 @@
 //! Policies: templates and static policies.
-ghost use Rattle.std.specs.Prelude.{◌≡◌, ◌∷◌, ◌++◌, [], Option, IfOk, OnOk, string_bytes, unwrap_or};
+ghost use Rattle.std.specs.Prelude.{◌≡◌, ◌∷◌, ◌++◌, [], Option, IfOk, OnOk, is_some, slice_get, string_bytes, unwrap_or};
 ghost use Rattle.std.specs.Option.{option_map};
 ghost use Rattle.cedar_expressions.specs.Placed.{marked_place};
+ghost use Rattle.cedar_policy_store.specs.TemplateSlots.{at_most_one};
 ghost use Rattle.cedar_syntax.specs.declared.cst.Policy.TheVariants as variants;
 ghost use Rattle.cedar_syntax.specs.declared.err.faults.ParseError.TheVariants.{ToAST};
 ghost use Rattle.cedar_syntax.specs.ParseErrors.{faults_of};
@@ -143,7 +144,25 @@ pub(crate) fn template(
 
 // ---- static policies
 
-/// A static policy, or a template with a slot.
+/// Whether there is one of two slots.
+fn is_there(first: Option<Slot>, second: Option<Slot>) -> bool
+    ensures { result ≡ is_some (slice_get (at_most_one first ++ at_most_one second) 0) }
+{
+    match first {
+        Some(_) => true,
+        None => matches!(second, Some(_)),
+    }
+}
+
+/// Whether a slot stands in a template's scope.
+fn has_slot_in_scope(template: &Template) -> bool
+    ensures { result ≡ is_some (slice_get (k.scope_slots (k.template_parts template.now)) 0) }
+{
+    let principal = template.principal_constraint().slot();
+    is_there(principal, template.resource_constraint().slot())
+}
+
+/// A static policy, or a template with a slot, which only its scope may have.
 pub(crate) fn static_or_template(
     alloc: Global,
     styles: &ExtStyles,
@@ -154,13 +173,10 @@ pub(crate) fn static_or_template(
         (k.either_outcome (table_of styles.now) id node.now) }
 {
     let template = template(alloc, styles, id, node)?;
-    if template.first_slot().is_some() {
+    if has_slot_in_scope(&template) {
         return Ok(Either::Right(template));
     }
-    match StaticPolicy::try_from(template) {
-        Ok(policy) => Ok(Either::Left(policy)),
-        Err(_) => unreachable!(),
-    }
+    Ok(Either::Left(StaticPolicy::of_static(template)))
 }
 
 /// A template where a static policy is wanted.

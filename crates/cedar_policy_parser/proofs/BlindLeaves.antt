@@ -1,6 +1,6 @@
 -- What doesn't look at places below the levels of operators: the joins, and the leaves.
 use Rattle.std.proofs.Common.{◌≡◌, ℕ, nat_le, Bool, true, false, cond, List, [], ◌∷◌, map, Option, Some, None, option_map, Ok, Err, refl, ap}
-use Rattle.cedar_expressions.specs.declared.literal.Var.{Var}
+use Rattle.cedar_expressions.specs.declared.atoms.Var.{Var}
 use Rattle.cedar_expressions.specs.Path.{Path, is_valid_identifier, is_reserved_namespace, has_reserved_namespace}
 use Rattle.cedar_expressions.specs.Value as v
 use Rattle.cedar_expressions.specs.Value.{Value, values}

@@ -1,7 +1,7 @@
 -- What stands right of a scope's operator doesn't look at places.
 use Rattle.std.proofs.Common.{◌≡◌, List, ◌∷◌, Option, Some, None, Ok, refl, ap₂, subst}
 use Rattle.cedar_expressions.specs.declared.entity.EntityUID.{EntityUID}
-use Rattle.cedar_expressions.specs.declared.literal.Var.{Var}
+use Rattle.cedar_expressions.specs.declared.atoms.Var.{Var}
 use Rattle.cedar_policy_store.specs.declared.constraints.EntityReference.{EntityReference}
 use Rattle.cedar_policy_store.specs.PlaceFree.{reference_meaning}
 use Rattle.cedar_syntax.specs.declared.cst.Expr.{Expr}

@@ -2,8 +2,8 @@
 use Rattle.std.proofs.Common.{◌≡◌, ℕ, zero, suc, List, [], ◌∷◌, drop, Option, Some, None, option_map, Ok, Err, Bool, cond, refl, sym, ap, ◌∙◌, subst}
 use Rattle.std.specs.Prelude.{slice_get}
 use Rattle.cedar_expressions.specs.declared.entity.EntityUID.{EntityUID}
-use Rattle.cedar_expressions.specs.declared.literal.Var.{Var}
-use Rattle.cedar_expressions.specs.declared.literal.Var.TheVariants as vars
+use Rattle.cedar_expressions.specs.declared.atoms.Var.{Var}
+use Rattle.cedar_expressions.specs.declared.atoms.Var.TheVariants as vars
 use Rattle.cedar_expressions.specs.Value as v
 use Rattle.cedar_expressions.specs.Value.{Value}
 use Rattle.cedar_expressions.specs.WithoutPlaces.{without_places}

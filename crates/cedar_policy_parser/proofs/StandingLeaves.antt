@@ -1,7 +1,7 @@
 -- Where the faults of leaves stand: strings, identifiers, names, literals, entities and slots.
 use Rattle.std.proofs.Common.{◌≡◌, ℕ, nat_le, Bool, true, false, ◌&&◌, not, cond, List, [], ◌∷◌, Option, Some, None, Ok, refl, sym, subst}
 use Rattle.std.specs.List.{All}
-use Rattle.cedar_expressions.specs.declared.literal.Var.{Var}
+use Rattle.cedar_expressions.specs.declared.atoms.Var.{Var}
 use Rattle.cedar_expressions.specs.Path.{is_identifier, is_valid_identifier, is_reserved_word, is_reserved_namespace, has_reserved_namespace}
 use Rattle.cedar_syntax.specs.declared.loc.Loc.{Loc}
 use Rattle.cedar_syntax.specs.declared.node.Node.{Node}

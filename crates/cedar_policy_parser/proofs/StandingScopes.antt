@@ -2,8 +2,8 @@
 use Rattle.std.proofs.Common.{ℕ, zero, suc, List, [], ◌∷◌, map, drop, slice_get, Option, Some, None, option_map, arith}
 use Rattle.std.specs.List.{All}
 use Rattle.cedar_expressions.specs.declared.entity.EntityUID.{EntityUID}
-use Rattle.cedar_expressions.specs.declared.literal.Var.{Var}
-use Rattle.cedar_expressions.specs.declared.literal.Var.TheVariants as vars
+use Rattle.cedar_expressions.specs.declared.atoms.Var.{Var}
+use Rattle.cedar_expressions.specs.declared.atoms.Var.TheVariants as vars
 use Rattle.cedar_policy_store.specs.Actions.{but_actions, named_entities}
 use Rattle.cedar_policy_store.specs.declared.constraints.ActionConstraint.{ActionConstraint}
 use Rattle.cedar_policy_store.specs.declared.constraints.EntityReference.{EntityReference}

@@ -13,7 +13,7 @@ use Rattle.cedar_syntax.specs.Tokens.{Spot, one}
 use Rattle.cedar_syntax.specs.Trees.{Cell}
 use Rattle.cedar_syntax.specs.UnlocatedTrees.{BarePolicy}
 use Rattle.cedar_lexer.specs.Varied as varied
-use Rattle.cedar_lexer.specs.Varied.{IsPadding, BeginsAt, NoSlashBefore, FitsBefore, end_of}
+use Rattle.cedar_lexer.specs.Varied.{IsPadding, BeginsAt, NoSlashBefore, FitsBefore, last_end}
 use Rattle.cedar_lexer.specs.Words.{words_of}
 use Rattle.cedar_lexer.proofs.Padded.{padded_cut, enclosed_cut, words_join}
 use Rattle.cedar_syntax.proofs.again.SamePolicies.{policies_same}
@@ -59,7 +59,7 @@ spaces_keep one_cut table text all set u whole h front padding rest ts e cut beg
 abbrev extent_at : ℕ → ℕ → Extent
 extent_at a b = record { start = a; end = b }
 
-extent_is : (t : Lexeme) (ts : List Lexeme) → extent (t ∷ ts) ≡ Some (extent_at t.start (end_of (t ∷ ts)))
+extent_is : (t : Lexeme) (ts : List Lexeme) → extent (t ∷ ts) ≡ Some (extent_at t.start (last_end (t ∷ ts)))
 extent_is t [] = refl
 extent_is t (u ∷ us) = ap (joint_extent (Some (extent_of t))) (extent_is u us)
 

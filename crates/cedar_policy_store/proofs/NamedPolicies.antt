@@ -7,20 +7,20 @@ use Rattle.std.specs.Option.{option_copied}
 use Rattle.std.specs.Map.{lookup}
 use Rattle.std.specs.BTreeMap.{is_at, insert_entry}
 use Rattle.cedar_policy_store.specs.declared.template.Template.{Template}
-use Rattle.cedar_policy_store.specs.PolicyMaps.{IsNamed}
+use Rattle.cedar_policy_store.specs.PolicyMaps.{StandByName}
 use Rattle.cedar_policy_store.specs.TextMap.{text_order}
 use Rattle.cedar_policy_store.proofs.MapsByText.{tied_texts}
 
 abbrev Entries : Type 0
 Entries = List (List ℕ × Template)
 
-put_named : (r : Ordering) (k : List ℕ) (v : Template) (e : List ℕ × Template) (es rest : Entries) → text_order k e.0 ≡ r → v.id ≡ k → IsNamed (e ∷ es) → IsNamed rest → IsNamed (match_ordering r ((k, v) ∷ e ∷ es) ((e.0, v) ∷ es) (e ∷ rest))
+put_named : (r : Ordering) (k : List ℕ) (v : Template) (e : List ℕ × Template) (es rest : Entries) → text_order k e.0 ≡ r → v.id ≡ k → StandByName (e ∷ es) → StandByName rest → StandByName (match_ordering r ((k, v) ∷ e ∷ es) ((e.0, v) ∷ es) (e ∷ rest))
 put_named Less k v e es rest tie own named next = (own, named)
 put_named Equal k v e es rest tie own named next = (own ∙ tied_texts k e.0 tie, named.1)
 put_named Greater k v e es rest tie own named next = (named.0, next)
 
 -- one more, under its own name
-pub named-insert : (es : Entries) (k : List ℕ) (v : Template) → v.id ≡ k → IsNamed es → IsNamed (insert_entry text_order es k v)
+pub named-insert : (es : Entries) (k : List ℕ) (v : Template) → v.id ≡ k → StandByName es → StandByName (insert_entry text_order es k v)
 named-insert [] k v own named = (own, tt)
 named-insert (e ∷ es) k v own named = put_named (text_order k e.0) k v e es (insert_entry text_order es k v) refl own named (named-insert es k v own named.1)
 
@@ -30,7 +30,7 @@ own_name Equal q e rest tie own next = own ∙ sym (tied_texts q e.0 tie)
 own_name Greater q e rest tie own next = next
 
 -- what is found under a name has that name
-pub named-lookup : (es : Entries) (q : List ℕ) → IsNamed es → IfSome (lookup (is_at (text_order q)) es) (λ v. v.id ≡ q)
+pub named-lookup : (es : Entries) (q : List ℕ) → StandByName es → IfSome (lookup (is_at (text_order q)) es) (λ v. v.id ≡ q)
 named-lookup [] q named = tt
 named-lookup (e ∷ es) q named = own_name (text_order q e.0) q e (lookup (is_at (text_order q)) es) refl named.0 (named-lookup es q named.1)
 

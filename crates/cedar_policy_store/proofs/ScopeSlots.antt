@@ -1,7 +1,7 @@
 -- A template whose condition has no slot is static exactly if its scope has none.
 use Rattle.std.proofs.Common.{◌≡◌, Bool, true, false, ◌||◌, List, [], ◌∷◌, ◌++◌, refl, true≢false}
-use Rattle.cedar_expressions.specs.declared.literal.SlotId.{SlotId}
-use Rattle.cedar_expressions.specs.declared.literal.SlotId.TheVariants.{Principal, Resource}
+use Rattle.cedar_expressions.specs.declared.atoms.SlotId.{SlotId}
+use Rattle.cedar_expressions.specs.declared.atoms.SlotId.TheVariants.{Principal, Resource}
 use Rattle.cedar_expressions.specs.declared.place.Slot.{Slot}
 use Rattle.cedar_policy_store.specs.declared.constraints.EntityReference.{EntityReference}
 use Rattle.cedar_policy_store.specs.declared.constraints.EntityReference.TheVariants as reference

@@ -38,9 +38,9 @@ IsRefusalOf id (Memory _) = Unit {0}
 IsRefusalOf id (Occupied other) = other ≡ id
 
 -- each stands under its own name
-abbrev pub IsNamed : List (List ℕ × Template) → Type 0
-IsNamed [] = Unit {0}
-IsNamed (e ∷ es) = (e.1.id ≡ e.0) × IsNamed es
+abbrev pub StandByName : List (List ℕ × Template) → Type 0
+StandByName [] = Unit {0}
+StandByName (e ∷ es) = (e.1.id ≡ e.0) × StandByName es
 
 -- both maps are the same by a comparison of templates
 abbrev pub same_maps_by : (Template → Template → Bool) → PolicyMaps → PolicyMaps → Bool

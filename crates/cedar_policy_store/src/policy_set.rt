@@ -38,7 +38,7 @@ impl Model for PolicySet {
     ghost use Rattle.std.specs.BTreeMap.{IsOrdered};
     ghost use Rattle.cedar_policy_store.specs.TextMap.{text_order, map_in};
     ghost use Rattle.cedar_policy_store.specs.contracts.template.Template as whole;
-    ghost use Rattle.cedar_policy_store.specs.PolicyMaps.{PolicyMaps, IsNamed, maps_code};
+    ghost use Rattle.cedar_policy_store.specs.PolicyMaps.{PolicyMaps, StandByName, maps_code};
 
     ghost Value = { PolicyMaps };
 
@@ -51,7 +51,7 @@ impl Model for PolicySet {
 
     ghost invariant = { λ set.
         IsOrdered text_order set.policies × IsOrdered text_order set.templates
-        × IsNamed set.policies.entries × IsNamed set.templates.entries };
+        × StandByName set.policies.entries × StandByName set.templates.entries };
 }
 
 impl PolicySet {

@@ -33,6 +33,14 @@ impl Model for StaticPolicy {
 }
 
 impl StaticPolicy {
+    /// The policy that a template without slots is.
+    pub fn of_static(template: Template) -> StaticPolicy
+        requires { template_slots template ≡ [] }
+        ensures { result ≡ template }
+    {
+        StaticPolicy { template }
+    }
+
     /// The template that the policy is.
     pub fn as_template(&self) -> &Template
         ensures same { result.now ≡ self.now }

@@ -10,7 +10,7 @@ use Rattle.std.proofs.lemmas.Str.{digit_value_digit}
 use Rattle.cedar_lexer.specs.Token.{Lexeme}
 use Rattle.cedar_lexer.specs.declared.token.TokenKind.{TokenKind}
 use Rattle.cedar_lexer.specs.declared.token.TokenKind.TheVariants as kind
-use Rattle.cedar_lexer.specs.Spelling.{Spells, IsNumber, IsString, IsStringTail, closing, plain, escaped}
+use Rattle.cedar_lexer.specs.Spelling.{Spells, IsNumber, IsStringText, IsStringTail, closing, plain, escaped}
 use Rattle.cedar_lexer.specs.Cut.{Layout, nothing, skip, token}
 use Rattle.cedar_lexer.proofs.Cuts.{behind_skip, behind_token}
 use Rattle.cedar_syntax.specs.WrittenTokens.{Written, IsWritten}
@@ -38,7 +38,7 @@ tail_raw (escaped c bs s t) =
     let r = tail_raw t in
     (codes "\\" ++ encode_utf8 c ++ r.0, ap (λ w. codes "\\" ++ encode_utf8 c ++ w) r.1 ∙ sym (append_assoc (codes "\\" ++ encode_utf8 c) r.0 (codes "\"")))
 
-string_written : (text : List ℕ) → IsString text → (raw : List ℕ) × (text ≡ codes "\"" ++ raw ++ codes "\"")
+string_written : (text : List ℕ) → IsStringText text → (raw : List ℕ) × (text ≡ codes "\"" ++ raw ++ codes "\"")
 string_written [] h = absurd h
 string_written (b ∷ bs) h = let r = tail_raw h.1 in (r.0, ap (λ w. w ∷ bs) h.0 ∙ ap (λ w. codes "\"" ++ w) r.1)
 

@@ -1,3 +1,4 @@
+pub mod ByActs
 pub mod Driving
 pub mod Expected
 pub mod Extents
@@ -5,5 +6,6 @@ pub mod Holding
 pub mod Laws
 pub mod Marked
 pub mod Mending
+pub mod Readers
 pub mod Skipping
 pub mod Told

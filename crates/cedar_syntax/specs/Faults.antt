@@ -1,4 +1,5 @@
--- What the faults of trees say that are types of their own.
+-- The messages of those faults of trees that are types of their own, as `WrongEntityArgument`; the
+-- messages of the other kinds stand in `Messages`.
 use Rattle.std.specs.Prelude.{ℕ, List, [], ◌∷◌, ◌++◌, map, codes}
 use Rattle.either.specs.declared.Either.{Either}
 use Rattle.either.specs.declared.Either.TheVariants.{Left, Right}

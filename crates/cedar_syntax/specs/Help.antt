@@ -1,5 +1,5 @@
--- Hints at what to change where a tree has no value. The one on signs is the original's but for a
--- slip; the others are this repository's own.
+-- Hints at what to change where a tree has no value; the label and the help of a `ParseError`.
+-- The hint on signs is the original's but for a slip; the others are this repository's own.
 use Rattle.std.specs.Prelude.{ℕ, List, ◌++◌, ◌≡◌, map, codes, unwrap_or, Option, Some, None}
 use Rattle.std.specs.Fmt.{decimal}
 use Rattle.cedar_lexer.specs.Names.{kind_name}

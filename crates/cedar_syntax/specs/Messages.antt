@@ -1,4 +1,5 @@
--- What the faults say of themselves.
+-- The message of each fault, and the hint on quotes, the one hint that a fault of a text without a
+-- tree has.
 use Rattle.std.specs.Prelude.{ℕ, List, [], ◌++◌, ◌==◌, codes, unwrap_or, slice_get, Option, Some, None, if◌then◌else◌}
 use Rattle.std.specs.Fmt.{decimal}
 use Rattle.cedar_expressions.specs.Path.{name_text}
@@ -17,8 +18,8 @@ use Rattle.cedar_syntax.specs.declared.err.to_ast.ToASTErrorKind.{ToASTErrorKind
 use Rattle.cedar_syntax.specs.declared.err.to_ast.ToASTErrorKind.TheVariants as kind
 use Rattle.cedar_syntax.specs.declared.err.faults.ParseError.{ParseError}
 use Rattle.cedar_syntax.specs.declared.err.faults.ParseError.TheVariants.{ToCST, ToAST}
-use Rattle.cedar_syntax.specs.declared.err.literal.LiteralParseError.{LiteralParseError}
-use Rattle.cedar_syntax.specs.declared.err.literal.LiteralParseError.TheVariants as literal
+use Rattle.cedar_syntax.specs.declared.err.literal_parse.LiteralParseError.{LiteralParseError}
+use Rattle.cedar_syntax.specs.declared.err.literal_parse.LiteralParseError.TheVariants as literal
 use Rattle.cedar_syntax.specs.declared.err.faults.Failure.{Failure}
 use Rattle.cedar_syntax.specs.declared.err.faults.Failure.TheVariants as failure
 

@@ -1,4 +1,5 @@
--- The parts of a fault that stopped a parse.
+-- The parts of a fault of a text, as it is recorded: its variant, its bytes, its token, the kinds
+-- that were expected there.
 use Rattle.std.specs.Prelude.{ℕ, List, [], Option, Some, None, ◌-◌}
 use Rattle.std.specs.Option.{option_map}
 use Rattle.cedar_lexer.specs.declared.token.TokenKind.{TokenKind}
@@ -47,7 +48,7 @@ own_words_place (UnrecognizedEof location expected) = None
 own_words_place (User error) = error.loc
 own_words_place (ExtraToken start end token) = None
 
--- where the parse stopped: an invalid token and the end take no bytes
+-- the bytes at which it stands: an invalid token and the end take no bytes
 abbrev pub span_of_raw : RawFault → Option Span
 span_of_raw (InvalidToken location) = Some (record { offset = location; len = 0 })
 span_of_raw (UnrecognizedToken start end token expected) =

@@ -1,4 +1,3 @@
-pub mod Begins
 pub mod Classes
 pub mod Door
 pub mod Following

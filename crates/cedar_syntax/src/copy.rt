@@ -87,7 +87,8 @@ fn copy_boxed(part: &Boxed<Node<Option<Add>>>) -> Result<Boxed<Node<Option<Add>>
     Boxed::new(part.alloc(), copy)
 }
 
-/// What is held beside what was made. Where making can be refused, a caller then drops nothing on its way out.
+/// What is held beside what was made. Where making can be refused, a caller then drops nothing on
+/// its way out.
 pub(crate) fn beside<A: Drop, B>(held: A, made: Result<B, AllocError>) -> Result<(A, B), AllocError>
     ensures { IfOk result (λ both. IsOkAnd made (λ one. both ≡ (held, one))) }
 {

@@ -21,7 +21,8 @@ pub enum Str {
     Invalid(Text),
 }
 
-/// A policy: its annotations, `permit` or `forbid` as it is written, the elements of its scope and its conditions.
+/// A policy: its annotations, `permit` or `forbid` as it is written, the elements of its scope and
+/// its conditions.
 #[derive(Debug, Drop, PartialEq, Eq)]
 pub struct PolicyImpl {
     pub annotations: Items<Node<Option<Annotation>>>,
@@ -36,7 +37,8 @@ pub enum Policy {
     Policy(PolicyImpl),
 }
 
-/// An element of a scope: a variable; a name behind `:`, which has no meaning; a type behind `is`; an operator and what stands right of it.
+/// An element of a scope: a variable; a name behind `:`, which has no meaning; a type behind `is`;
+/// an operator and what stands right of it.
 #[derive(Debug, Drop, PartialEq, Eq)]
 pub struct VariableDef {
     pub variable: Node<Option<Ident>>,
@@ -211,7 +213,8 @@ pub enum MemAccess {
     Index(Node<Option<Expr>>),
 }
 
-/// What an operand begins with: a literal, an entity, a name, a slot, an expression in parentheses, a set or a record.
+/// What an operand begins with: a literal, an entity, a name, a slot, an expression in
+/// parentheses, a set or a record.
 #[cycle(cst)]
 #[derive(Debug, Drop, PartialEq, Eq)]
 pub enum Primary {

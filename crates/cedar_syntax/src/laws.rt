@@ -1,5 +1,6 @@
-//! Laws of the definitions: the printed text of a tree, policies in lines, tokens with the same words, the limit of signs, the
-//! order of places. Each is a function that does nothing: its contract is the law.
+//! Laws of the definitions: the printed text of a tree, policies in lines, tokens with the same
+//! words, the limit of signs, the order of places. Each is a function that does nothing: its
+//! contract is the law.
 ghost use Rattle.std.specs.Prelude.{◌≡◌, ℕ, List};
 ghost use Rattle.std.specs.Cmp.Lexicographic.{slice_cmp};
 ghost use Rattle.std.specs.Ordering.{nat_cmp, ordering_then};
@@ -28,8 +29,8 @@ pub fn one_sign_limit()
     ensures { SIGN_LIMIT ≡ sign_limit }
 {}
 
-/// Where tokens have at most one tree, the printed text of a tree that a text has cuts into tokens that have a tree which is the
-/// same up to places, and no other.
+/// Where tokens have at most one tree, the printed text of a tree that a text has cuts into tokens
+/// that have a tree which is the same up to places, and no other.
 pub fn print_law()
     ensures expressions { HasOneTree ReadsExpr → PrintLaw ReadsExpr unlocated_expr expr_tree }
     ensures primaries { HasOneTree ReadsPrimary
@@ -43,7 +44,8 @@ pub fn print_law()
         → PrintLaw ReadsPolicies unlocated_policies policies_tree }
 {}
 
-/// The same of policies in lines, a line feed behind each; trees that are the same up to places are the same in lines.
+/// The same of policies in lines, a line feed behind each; trees that are the same up to places
+/// are the same in lines.
 pub fn formatted_policies()
     ensures again { HasOneTree ReadsPolicies → (text : List ℕ) (node : Cell Policies)
         → IsTreeOf ReadsPolicies text node
@@ -52,7 +54,8 @@ pub fn formatted_policies()
         → formatted x ≡ formatted y }
 {}
 
-/// What tokens are read as, other tokens with the same words, so the same kinds and texts, are read as too, up to places.
+/// What tokens are read as, other tokens with the same words, so the same kinds and texts, are
+/// read as too, up to places.
 pub fn same_words()
     ensures expressions { SameWordsLaw ReadsExpr unlocated_expr }
     ensures primaries { SameWordsLaw ReadsPrimary unlocated_primary }
@@ -63,8 +66,8 @@ pub fn same_words()
     ensures policies { SameWordsLaw ReadsPolicies unlocated_policies }
 {}
 
-/// Ranges are ordered by where they begin, then by their length; places by their range, then by the
-/// bytes of their text; lines and columns by the line first.
+/// Ranges are ordered by where they begin, then by their length; places by their range, then by
+/// the bytes of their text; lines and columns by the line first.
 pub fn places_in_order()
     ensures ranges { (a b : Span) → ⟦<SourceSpan as Ord>⟧.cmp a b
         ≡ ordering_then (nat_cmp a.offset b.offset) (nat_cmp a.len b.len) }

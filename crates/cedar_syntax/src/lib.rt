@@ -1,4 +1,5 @@
-//! The syntax trees of a text, with the place of each node, and the faults that a text or a tree can have.
+//! The syntax trees of a text, with the place of each node, and the faults that a text or a tree
+//! can have.
 #![tactic(auto)]
 
 mod clones;

@@ -41,7 +41,8 @@ impl SourceSpan {
         Some(SourceSpan { offset, len })
     }
 
-    /// The range from one place up to another, or no bytes where the second stands before the first.
+    /// The range from one place up to another, or no bytes where the second stands before the
+    /// first.
     pub fn between(start: usize, end: usize) -> SourceSpan
         ensures { (result.offset ≡ start) × (result.len ≡ end - start) }
     {
@@ -80,7 +81,8 @@ impl SourceSpan {
     }
 }
 
-/// A place: a range of bytes, and the text that it speaks of. The range may lie outside of the text.
+/// A place: a range of bytes, and the text that it speaks of. The range may lie outside of the
+/// text.
 #[derive(Drop, PartialEq, Eq, PartialOrd, Ord, Hash)]
 pub struct Loc {
     pub span: SourceSpan,
@@ -122,7 +124,8 @@ impl Loc {
         self.span.end()
     }
 
-    /// The text at this place, or `None` where the place is no range of its text on character boundaries.
+    /// The text at this place, or `None` where the place is no range of its text on character
+    /// boundaries.
     pub fn snippet(&self) -> Option<&str>
         ensures found { IsSome result ↔
             IsRangeOf self.now.src self.now.span.offset (end_of self.now.span) }
@@ -140,7 +143,8 @@ impl Loc {
     }
 }
 
-/// The text at the bytes `start..end`, or `None` where these are no range of the text on character boundaries.
+/// The text at the bytes `start..end`, or `None` where these are no range of the text on character
+/// boundaries.
 pub(crate) fn snippet_of(text: &str, start: usize, end: usize) -> Option<&str>
     ensures found { IsSome result ↔ IsRangeOf text.now start end }
     ensures value { option_copied result ≡ part_of text.now start end }

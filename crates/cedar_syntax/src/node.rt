@@ -71,7 +71,8 @@ impl<T> Node<T> {
         Ok(Node::with_maybe_source_loc(&self.node, place))
     }
 
-    /// The value, lent to be written, at the same place. What the node holds once it was written isn't stated.
+    /// The value, lent to be written, at the same place. What the node holds once it was written
+    /// isn't stated.
     pub fn as_mut(&mut self) -> Result<Node<&mut T>, AllocError>
         ensures value { IfOk result (λ lent. lent.node.now ≡ self.old.node) }
         ensures place { IfOk result (λ lent. lent.loc ≡ self.old.loc) }
@@ -159,7 +160,8 @@ impl<T> Node<Option<T>> {
         }
     }
 
-    /// What `f` makes of the value and its place, or `None` where the node is empty or `f` answers that.
+    /// What `f` makes of the value and its place, or `None` where the node is empty or `f` answers
+    /// that.
     pub fn apply<R, F: FnOnce(&T, Option<&Loc>) -> Option<R>>(&self, f: F) -> Option<R>
         requires { F.IsAlwaysCallable f }
         ensures { MatchOption self.now.node (result ≡ None) (λ value. (node : _) × (loc : _)
@@ -171,7 +173,8 @@ impl<T> Node<Option<T>> {
         }
     }
 
-    /// What `f` makes of the value and its place, or `None` where the node is empty or `f` answers that.
+    /// What `f` makes of the value and its place, or `None` where the node is empty or `f` answers
+    /// that.
     pub fn into_apply<R, F: FnOnce(T, Option<Loc>) -> Option<R>>(self, f: F) -> Option<R>
         requires { F.IsAlwaysCallable f }
         ensures { MatchOption self.node (result ≡ None) (λ value. F.post f value self.loc result) }
@@ -183,7 +186,8 @@ impl<T> Node<Option<T>> {
         }
     }
 
-    /// The value; it takes no memory. An empty node is refused with `EmptyNodeInvariantViolation` at its place, or for want of memory.
+    /// The value; it takes no memory. An empty node is refused with `EmptyNodeInvariantViolation`
+    /// at its place, or for want of memory.
     pub fn try_as_inner(&self, alloc: Global) -> Result<&T, Failure>
         ensures outcome { MatchOption self.now.node
             (IfErr result (IsRefusedWith (empty_fault self.now.loc)))
@@ -199,7 +203,8 @@ impl<T> Node<Option<T>> {
         }
     }
 
-    /// The value; it takes no memory. An empty node is refused with `EmptyNodeInvariantViolation` at its place.
+    /// The value; it takes no memory. An empty node is refused with `EmptyNodeInvariantViolation`
+    /// at its place.
     pub fn try_into_inner(self) -> Result<T, ToASTError>
         ensures { MatchOption self.node (result ≡ Err (empty_fault self.loc))
             (λ value. result ≡ Ok value) }

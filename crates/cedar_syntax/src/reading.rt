@@ -1,4 +1,5 @@
-//! Reads a whole text by one rule of the grammar, token after token: the driver, and what it shares with the machines of the rules.
+//! Reads a whole text by one rule of the grammar, token after token: the driver, and what it shares
+//! with the machines of the rules.
 
 pub mod class;
 pub mod driver;
@@ -10,5 +11,4 @@ pub mod mending;
 pub mod place;
 pub mod recovery;
 pub mod stack;
-pub mod taken;
 pub mod words;

@@ -8,7 +8,8 @@ use cedar_expressions::{SlotId, TryClone, Var};
 use std::alloc::Global;
 
 impl Slot {
-    /// Whether this is the slot of a variable of the scope: `?principal` of `principal`, `?resource` of `resource`.
+    /// Whether this is the slot of a variable of the scope: `?principal` of `principal`,
+    /// `?resource` of `resource`.
     pub fn matches(&self, var: Var) -> bool
         ensures { result ≡ matches_var self.now var }
     {
@@ -19,7 +20,8 @@ impl Slot {
         }
     }
 
-    /// The slot of a template that this is, or `InvalidSlot` without a place. For `?principal` and `?resource` it takes no memory.
+    /// The slot of a template that this is, or `InvalidSlot` without a place. For `?principal` and
+    /// `?resource` it takes no memory.
     pub fn to_slot_id(&self, alloc: Global) -> Result<SlotId, Failure>
         ensures { GivesSlot self.now result }
     {

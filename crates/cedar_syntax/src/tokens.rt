@@ -7,7 +7,8 @@ use crate::node::Node;
 use cedar_expressions::{Boxed, Items};
 use std::fmt;
 
-/// A tree that prints as tokens. `fresh` says whether nothing was printed yet, and so does the answer.
+/// A tree that prints as tokens. `fresh` says whether nothing was printed yet, and so does the
+/// answer.
 pub trait Tokens {
     ghost tokens: { Self → Texts };
 

@@ -1,6 +1,6 @@
 //! The raw text between a string's quotes, unescaped.
 ghost use Rattle.std.specs.Prelude.{◌≡◌, ◌≢◌, [], ℕ, List, MatchResult, IfOk, IfErr, string_bytes};
-ghost use Rattle.cedar_expressions.specs.declared.literal.PatternElem.{PatternElem};
+ghost use Rattle.cedar_expressions.specs.declared.atoms.PatternElem.{PatternElem};
 ghost use Rattle.cedar_syntax.specs.declared.err.escape.UnescapeError.{UnescapeError};
 ghost use Rattle.cedar_syntax.specs.UnescapeFailure.{Tells, LacksMemory};
 ghost use Rattle.cedar_syntax.specs.Pattern.{IsPattern, HasPatternFaults, character_elem};
@@ -19,13 +19,15 @@ use std::alloc::Global;
 
 /// The text that the raw text between a string's quotes stands for.
 ///
-/// Refused where a piece of it is no escape, with each such piece in order: what is wrong, the bytes of the piece, and the
-/// whole raw text, of which all faults share one copy; or for want of memory.
+/// Refused where a piece of it is no escape, with each such piece in order: what is wrong, the
+/// bytes of the piece, and the whole raw text, of which all faults share one copy; or for want of
+/// memory.
 pub fn to_unescaped_string(alloc: Global, raw: &str) -> Result<String, UnescapeFailure>
     ensures unescaped { IfOk result (λ text. IsUnescaped raw.now (string_bytes text)) }
     ensures told { IfErr result (λ failure. Tells failure (HasEscapeFaults raw.now)) }
 
-    // Where there is an unescaped text, it is the answer, and where there are faults, they are, want of memory aside.
+    // Where there is an unescaped text, it is the answer, and where there are faults, they are,
+    // want of memory aside.
     ensures succeeds { (text : List ℕ) → IsUnescaped raw.now text
         → MatchResult result (λ given. string_bytes given ≡ text) LacksMemory }
     ensures fails { (faults : List UnescapeError) → HasEscapeFaults raw.now faults → faults ≢ []
@@ -58,15 +60,17 @@ fn character_elem(c: char) -> PatternElem
     }
 }
 
-/// The pattern that the raw text between a string's quotes stands for: a star, in whatever spelling, is `Wildcard`, any other
-/// character `Char`, and a star behind a backslash `Char` of the star.
+/// The pattern that the raw text between a string's quotes stands for: a star, in whatever
+/// spelling, is `Wildcard`, any other character `Char`, and a star behind a backslash `Char` of
+/// the star.
 ///
 /// Refused as `to_unescaped_string` is; a star behind a backslash is no fault here.
 pub fn to_pattern(alloc: Global, raw: &str) -> Result<Vec<PatternElem>, UnescapeFailure>
     ensures pattern { IfOk result (λ pattern. IsPattern raw.now pattern.items) }
     ensures told { IfErr result (λ failure. Tells failure (HasPatternFaults raw.now)) }
 
-    // Where there is a pattern, it is the answer, and where there are faults, they are, want of memory aside.
+    // Where there is a pattern, it is the answer, and where there are faults, they are, want of
+    // memory aside.
     ensures succeeds { (elems : List PatternElem) → IsPattern raw.now elems
         → MatchResult result (λ given. given.items ≡ elems) LacksMemory }
     ensures fails { (faults : List UnescapeError) → HasPatternFaults raw.now faults → faults ≢ []

@@ -5,7 +5,7 @@ ghost use Rattle.cedar_syntax.specs.Joined.{WantsMemory, TellsBoth, TellsAll, fa
 use crate::err::{Failure, ParseErrors};
 
 /// The faults, then the others.
-fn followed(faults: ParseErrors, more: ParseErrors) -> Failure
+fn append(faults: ParseErrors, more: ParseErrors) -> Failure
     ensures { TellsAll result (Failure.Errors faults) (Failure.Errors more) }
 {
     let mut all = faults;
@@ -16,22 +16,22 @@ fn followed(faults: ParseErrors, more: ParseErrors) -> Failure
 }
 
 /// The faults, then those of the second.
-fn behind(faults: ParseErrors, second: Failure) -> Failure
+fn join_behind(faults: ParseErrors, second: Failure) -> Failure
     ensures { TellsAll result (Failure.Errors faults) second }
 {
     match second {
         Failure::Memory(error) => Failure::Memory(error),
-        Failure::Errors(more) => followed(faults, more),
+        Failure::Errors(more) => append(faults, more),
     }
 }
 
 /// The faults of the first, then those of the second. Want of memory in either is the answer.
-fn joined(first: Failure, second: Failure) -> Failure
+fn join(first: Failure, second: Failure) -> Failure
     ensures { TellsAll result first second }
 {
     match first {
         Failure::Memory(error) => Failure::Memory(error),
-        Failure::Errors(faults) => behind(faults, second),
+        Failure::Errors(faults) => join_behind(faults, second),
     }
 }
 
@@ -55,7 +55,7 @@ pub fn flatten_tuple_2<T1: Drop, T2: Drop>(
         },
         Err(failure) => match second {
             Ok(_) => Err(failure),
-            Err(more) => Err(joined(failure, more)),
+            Err(more) => Err(join(failure, more)),
         },
     }
 }

@@ -1,6 +1,12 @@
-pub mod Answering
+pub mod Acted
 pub mod Basics
 pub mod Doors
+pub mod Followed
+pub mod Held
+pub mod Last
+pub mod Planned
+pub mod PlannedActs
+pub mod Stepping
 pub mod complete
 pub mod shapes
 pub mod sound

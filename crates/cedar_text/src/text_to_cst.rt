@@ -32,15 +32,11 @@ mod ground;
 mod ident;
 pub mod laws;
 pub(crate) mod literal;
-mod outlook;
-mod outlooks;
-mod parts;
 mod path;
 mod policies;
 mod policy;
 mod policy_entries;
-mod policy_outlook;
-mod reader;
+mod put;
 mod scope;
 mod sequence;
 mod state;
@@ -80,7 +76,7 @@ pub fn parse_policies(alloc: Global, text: &str) -> Result<Node<Option<Policies>
     ensures leftmost { (ts : List Lexeme) → Cuts text.now ts → NumbersFit ts
         → IfErr result (λ f. HasLeftmost ReadsPolicies text.now ts f) }
 {
-    mending::parse_on::<AllState>(alloc, text)
+    mending::parse_on::<Node<Option<Policies>>, AllState>(alloc, text)
 }
 
 /// The tree of one policy.
@@ -100,7 +96,7 @@ pub fn parse_policy(alloc: Global, text: &str) -> Result<Node<Option<Policy>>, F
     ensures leftmost { (ts : List Lexeme) → Cuts text.now ts → NumbersFit ts
         → IfErr result (λ f. HasLeftmost ReadsPolicy text.now ts f) }
 {
-    mending::parse_on::<OneState>(alloc, text)
+    mending::parse_on::<Node<Option<Policy>>, OneState>(alloc, text)
 }
 
 /// The tree of an expression.
@@ -124,7 +120,7 @@ pub fn parse_expr(alloc: Global, text: &str) -> Result<Node<Option<Expr>>, Failu
     ensures refused { IfErr result
         (λ f. IsRefusal ReadsExpr Narrowing.TokensAndEnd text.now f) }
 {
-    driver::parse::<ExprState>(alloc, text, Narrowing::TokensAndEnd)
+    driver::parse::<Node<Option<Expr>>, ExprState>(alloc, text, Narrowing::TokensAndEnd)
 }
 
 /// The tree of an entity literal.
@@ -146,7 +142,7 @@ pub fn parse_ref(alloc: Global, text: &str) -> Result<Node<Option<Ref>>, Failure
         → MatchResult result (λ x. x ≡ y) IsMemory }
     ensures refused { IfErr result (λ f. IsRefusal ReadsRef Narrowing.Never text.now f) }
 {
-    driver::parse::<WordsState>(alloc, text, Narrowing::Never)
+    driver::parse::<Node<Option<Ref>>, WordsState>(alloc, text, Narrowing::Never)
 }
 
 /// The tree of a name: an identifier other than `true`, `false` and `if`, or several joined by `::`.
@@ -161,7 +157,7 @@ pub fn parse_name(alloc: Global, text: &str) -> Result<Node<Option<Name>>, Failu
         → MatchResult result (λ x. x ≡ y) IsMemory }
     ensures refused { IfErr result (λ f. IsRefusal ReadsName Narrowing.Never text.now f) }
 {
-    driver::parse::<PathState>(alloc, text, Narrowing::Never)
+    driver::parse::<Node<Option<Name>>, PathState>(alloc, text, Narrowing::Never)
 }
 
 /// The tree of one identifier, which may be any word.
@@ -176,7 +172,7 @@ pub fn parse_ident(alloc: Global, text: &str) -> Result<Node<Option<Ident>>, Fai
         → MatchResult result (λ x. x ≡ y) IsMemory }
     ensures refused { IfErr result (λ f. IsRefusal ReadsIdent Narrowing.Never text.now f) }
 {
-    driver::parse::<IdentState>(alloc, text, Narrowing::Never)
+    driver::parse::<Node<Option<Ident>>, IdentState>(alloc, text, Narrowing::Never)
 }
 
 /// The tree of a primary: a literal, a name, an entity literal, a slot, or what stands in brackets.
@@ -194,5 +190,5 @@ pub fn parse_primary(alloc: Global, text: &str) -> Result<Node<Option<Primary>>,
     ensures refused { IfErr result
         (λ f. IsRefusal ReadsPrimary Narrowing.TokensAndEnd text.now f) }
 {
-    driver::parse::<PrimaryState>(alloc, text, Narrowing::TokensAndEnd)
+    driver::parse::<Node<Option<Primary>>, PrimaryState>(alloc, text, Narrowing::TokensAndEnd)
 }

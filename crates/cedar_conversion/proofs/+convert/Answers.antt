@@ -109,7 +109,7 @@ convert::mult_chain-loop-op-init g t c = rw c.new.ensures.items (none_yet (table
 pub convert::mult_chain-loop-op-preserved : goal.convert::mult_chain-loop-op-preserved
 convert::mult_chain-loop-op-preserved g t c =
     let whole = part_more (table_of c.args.styles.now) c.args.node.now.loc mult_operand c.as_slice-op-items.result.now c.loop-op.op-index c.loop-op-item.result c.loop-op-test.true c.loop-op-item.is in
-    rw whole (c.more-rest.ensures multiply _ _ c.loop-op.invariant (c.factor_of.ensures _ (c.value_in-part.ensures _ c.unary-in-loop-op.ensures)))
+    rw whole (c.more.ensures multiply _ _ c.loop-op.invariant (c.factor_of.ensures _ (c.value_in-part.ensures _ c.unary-in-loop-op.ensures)))
 
 pub convert::mult_chain-returns-after-loop-op : goal.convert::mult_chain-returns-after-loop-op
 convert::mult_chain-returns-after-loop-op g t c =

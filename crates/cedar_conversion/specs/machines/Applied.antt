@@ -14,7 +14,7 @@ use Rattle.cedar_conversion.specs.declared.members.Access.{Access}
 use Rattle.cedar_conversion.specs.declared.members.Access.TheVariants as access
 use Rattle.cedar_conversion.specs.declared.members.Reading.{Reading}
 use Rattle.cedar_expressions.specs.declared.entity.EntityType.{EntityType}
-use Rattle.cedar_expressions.specs.declared.literal.PatternElem.{PatternElem}
+use Rattle.cedar_expressions.specs.declared.atoms.PatternElem.{PatternElem}
 use Rattle.cedar_conversion.specs.Conversion.{ValueAndType, type_test_outcome, type_within_outcome, value_outcome}
 use Rattle.cedar_conversion.specs.Extensions.{Extensions}
 use Rattle.cedar_conversion.specs.HasSide.{Attributes}

@@ -1,5 +1,5 @@
 -- How private functions' contracts see what the program holds: as what the outcomes speak of.
-use Rattle.std.specs.Prelude.{◌≡◌, List, [], ◌∷◌, ◌++◌, map, Option, Some, None, Ok}
+use Rattle.std.specs.Prelude.{◌≡◌, List, [], ◌∷◌, ◌++◌, map, Option, Some, None, Result, Ok, Err}
 use Rattle.std.specs.Option.{option_copied, option_map}
 use denote.Ref.{Bor}
 use Rattle.std.specs.declared.alloc.Global.{Global}
@@ -10,6 +10,7 @@ use Rattle.cedar_syntax.specs.declared.err.faults.Failure.{Failure}
 use Rattle.cedar_syntax.specs.declared.err.faults.Failure.TheVariants.{Memory, Errors}
 use Rattle.cedar_syntax.specs.declared.err.to_ast.ToASTError.{ToASTError}
 use Rattle.cedar_syntax.specs.declared.loc.Loc.{Loc}
+use Rattle.cedar_syntax.specs.Joined.{TellsBoth}
 use Rattle.cedar_syntax.specs.ParseErrors.{faults_of}
 use Rattle.cedar_syntax.specs.Tree.{Operator}
 use Rattle.cedar_conversion.specs.declared.special.ExprOrSpecial.{ExprOrSpecial}
@@ -56,6 +57,19 @@ with_last op p = Ok (p.0 ++ (op, p.1) ∷ [])
 
 abbrev pub one_more : Operator → Outcome (List Part) → Outcome Value → Outcome (List Part)
 one_more op ps x = next (both ps x) (with_last op)
+
+-- a list that is one item longer than what was there
+abbrev pub Longer : {T : Type 0} → Result (Vec T Global) Failure → Result T Failure → Vec T Global
+    → Type 0
+Longer (Ok all) (Ok item) more = more.items ≡ all.items ++ item ∷ []
+Longer (Ok all) (Err failure) more = ⊥
+Longer (Err failure) next more = ⊥
+
+-- one more item behind those so far; or want of memory; or the failure of what fails of both
+abbrev pub Grows : {T : Type 0} → Result (Vec T Global) Failure → Result T Failure
+    → Result (Vec T Global) Failure → Type 0
+Grows all next (Ok more) = Longer all next more
+Grows all next (Err failure) = TellsBoth failure all next
 
 -- ---- places
 

@@ -2,7 +2,7 @@
 ghost use Rattle.std.specs.Prelude.{◌≡◌, Some, IfOk};
 ghost use Rattle.cedar_expressions.specs.Meaning.{expr_meaning};
 ghost use Rattle.cedar_expressions.specs.Value.{Value};
-ghost use Rattle.cedar_expressions.specs.declared.literal.Var.TheVariants as vars;
+ghost use Rattle.cedar_expressions.specs.declared.atoms.Var.TheVariants as vars;
 ghost use Rattle.cedar_syntax.specs.declared.cst.RelOp.TheVariants as rel;
 ghost use Rattle.cedar_syntax.specs.Forms.{located, expr_form};
 ghost use Rattle.cedar_conversion.specs.Conversion.{value_outcome};

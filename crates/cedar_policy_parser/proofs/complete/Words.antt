@@ -4,8 +4,8 @@ use Rattle.std.specs.List.{list_any}
 use Rattle.cedar_lexer.specs.Token.{Lexeme}
 use Rattle.cedar_lexer.specs.declared.token.TokenKind.TheVariants as kind
 use Rattle.cedar_expressions.specs.declared.entity.EntityUID.{EntityUID}
-use Rattle.cedar_expressions.specs.declared.literal.Var.{Var}
-use Rattle.cedar_expressions.specs.declared.literal.Var.TheVariants as vars
+use Rattle.cedar_expressions.specs.declared.atoms.Var.{Var}
+use Rattle.cedar_expressions.specs.declared.atoms.Var.TheVariants as vars
 use Rattle.cedar_expressions.specs.Path.{is_valid_identifier, is_reserved_namespace}
 use Rattle.cedar_expressions.specs.Written.{var_text}
 use Rattle.cedar_syntax.specs.declared.loc.Loc.{Loc}

@@ -3,8 +3,8 @@ use Rattle.std.proofs.Common.{◌≡◌, ℕ, nat_le, List, [], ◌∷◌, ◌++
 use Rattle.cedar_lexer.specs.Token.{Lexeme}
 use Rattle.cedar_lexer.specs.declared.token.TokenKind.{TokenKind}
 use Rattle.cedar_lexer.specs.declared.token.TokenKind.TheVariants as kind
-use Rattle.cedar_expressions.specs.declared.literal.Var.{Var}
-use Rattle.cedar_expressions.specs.declared.literal.Literal.TheVariants as literals
+use Rattle.cedar_expressions.specs.declared.atoms.Var.{Var}
+use Rattle.cedar_expressions.specs.declared.atoms.Literal.TheVariants as literals
 use Rattle.cedar_expressions.specs.Value as v
 use Rattle.cedar_expressions.specs.Value.{Value}
 use Rattle.cedar_syntax.specs.declared.loc.Loc.{Loc}

@@ -4,8 +4,8 @@ use Rattle.cedar_lexer.specs.Token.{Lexeme}
 use Rattle.cedar_lexer.specs.declared.token.TokenKind.{TokenKind}
 use Rattle.cedar_lexer.specs.declared.token.TokenKind.TheVariants as kind
 use Rattle.cedar_expressions.specs.declared.entity.EntityUID.{EntityUID}
-use Rattle.cedar_expressions.specs.declared.literal.Var.{Var}
-use Rattle.cedar_expressions.specs.declared.literal.Var.TheVariants as vars
+use Rattle.cedar_expressions.specs.declared.atoms.Var.{Var}
+use Rattle.cedar_expressions.specs.declared.atoms.Var.TheVariants as vars
 use Rattle.cedar_policy_store.specs.declared.constraints.EntityReference.{EntityReference}
 use Rattle.cedar_policy_store.specs.declared.constraints.EntityReference.TheVariants as reference
 use Rattle.cedar_policy_store.specs.PlaceFree as free

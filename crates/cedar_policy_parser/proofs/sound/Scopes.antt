@@ -3,7 +3,7 @@ use Rattle.std.proofs.Common.{◌≡◌, ℕ, List, [], ◌∷◌, ◌++◌, app
 use Rattle.cedar_lexer.specs.Token.{Lexeme}
 use Rattle.cedar_lexer.specs.declared.token.TokenKind.{TokenKind}
 use Rattle.cedar_lexer.specs.declared.token.TokenKind.TheVariants as kind
-use Rattle.cedar_expressions.specs.declared.literal.Var.TheVariants as vars
+use Rattle.cedar_expressions.specs.declared.atoms.Var.TheVariants as vars
 use Rattle.cedar_policy_store.specs.declared.constraints.ActionConstraint.{ActionConstraint}
 use Rattle.cedar_policy_store.specs.declared.constraints.PrincipalConstraint.{PrincipalConstraint}
 use Rattle.cedar_policy_store.specs.declared.constraints.PrincipalOrResourceConstraint.{PrincipalOrResourceConstraint}

@@ -31,7 +31,7 @@ use Rattle.std.proofs.lemmas.Str.Parse.{digit_from_value}
 use Rattle.std.proofs.lemmas.List.{map-append, length-append}
 use Rattle.std.proofs.Math.Seq.{take-append_seam}
 use Rattle.std.specs.Prelude.{take, drop, length, ◌-◌}
-use Rattle.cedar_lexer.specs.Spelling.{IsNumber, IsString, IsStringTail, closing, plain, escaped}
+use Rattle.cedar_lexer.specs.Spelling.{IsNumber, IsStringText, IsStringTail, closing, plain, escaped}
 use Rattle.cedar_syntax.specs.declared.cst.Literal.TheVariants as lit
 use Rattle.cedar_syntax.specs.declared.cst.Str.TheVariants as str
 use Rattle.cedar_syntax.specs.Printed.{path_texts, option_texts, quoted_text}
@@ -127,7 +127,7 @@ inside_is text rest inside e f =
     ∙ ap (λ x. drop 1 x) (take-append_seam (34 ∷ inside) (34 ∷ [])))
 
 -- a string stands between its quotes
-pub quoted : (text : List ℕ) → IsString text → text ≡ quoted_text (between_quotes text)
+pub quoted : (text : List ℕ) → IsStringText text → text ≡ quoted_text (between_quotes text)
 quoted [] h = absurd h
 quoted (b ∷ bs) h =
     let r = tail_raw h.1 in

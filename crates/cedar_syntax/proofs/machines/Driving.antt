@@ -1,5 +1,5 @@
 -- The driver's progress, and where it stops, for any machine.
-use Rattle.std.proofs.Common.{◌≡◌, ℕ, ◌+◌, ◌-◌, ◌<◌, ◌≤◌, Bool, true, false, cond, List, [], ◌∷◌, ◌++◌, Option, Some, None, Result, Ok, Err, length, drop, refl, sym, ◌∙◌, ap, subst, append_assoc, inl, inr, arith}
+use Rattle.std.proofs.Common.{◌≡◌, ℕ, ◌-◌, ◌<◌, ◌≤◌, Bool, true, false, cond, List, [], ◌∷◌, ◌++◌, Option, Some, None, Result, Ok, Err, length, refl, sym, ◌∙◌, ap, subst, append_assoc, inl, inr, arith}
 use Rattle.std.specs.Prelude.{◌⊎◌, MatchResult, IsErrAnd}
 use Rattle.std.proofs.lemmas.List.{append-nil}
 use Rattle.std.specs.Str.{IsUtf8}
@@ -18,7 +18,7 @@ use Rattle.cedar_syntax.specs.FirstFault.{end_at, tokens_end, early_at}
 use Rattle.cedar_syntax.specs.Place.{joint_extent, extent_of, extent}
 use Rattle.cedar_syntax.specs.WrittenTokens.{IsWritten}
 use Rattle.cedar_syntax.specs.machines.Door.{next, Machine, answer_state, Comes}
-use Rattle.cedar_syntax.specs.machines.Judged.{wanted_kinds, Ahead, Progress, remaining_length, IsRead, IsFault, GivesToken, StopsBadly, stop_fault, IsStop, StopsAtToken, StopsAtEnd}
+use Rattle.cedar_syntax.specs.machines.Judged.{wanted_kinds, IsRead, IsFault, GivesToken, StopsBadly, stop_fault, IsStop, StopsAtToken, StopsAtEnd}
 use Rattle.cedar_syntax.proofs.machines.Laws.{then_steps}
 use Rattle.cedar_syntax.proofs.machines.Extents.{extent-append}
 use Rattle.cedar_syntax.proofs.Written.{AllWritten, all_written, one_bounds}
@@ -32,38 +32,58 @@ end_snoc ts t = ap (λ o. end_at o) (extent-append ts (t ∷ [])) ∙ end_joined
 
 -- ---- the lexer's next answer, behind tokens that are laid out
 
+-- the text's tokens begin with these, and the lexer stands behind them
 abbrev pub Behind : List ℕ → List Lexeme → LexerState → Type 0
 Behind text before l = Layout text 0 before l.offset × (l.source ≡ text) × (l.ended ≡ false)
 
-pub token_ahead : (text : List ℕ) (before : List Lexeme) (l u : LexerState) (t : Token) → Behind text before l → LexerAnswers l (Some (Ok t)) u → Ahead text before (Some t) u
-token_ahead text before l u t b a =
+pub token_behind : (text : List ℕ) (before : List Lexeme) (l u : LexerState) (t : Token) → Behind text before l → LexerAnswers l (Some (Ok t)) u → Behind text (before ++ lexeme_of t ∷ []) u
+token_behind text before l u t b a =
     let next : Layout text l.offset (lexeme_of t ∷ []) t.end = subst (λ w. Layout w l.offset (lexeme_of t ∷ []) t.end) b.1 a.1 in
-    (laid_on b.0 next, ap (λ r. r.source) a.2 ∙ b.1, ap (λ r. r.offset) a.2, ap (λ r. r.ended) a.2)
+    (subst (λ n. Layout text 0 (before ++ lexeme_of t ∷ []) n) (sym (ap (λ r. r.offset) a.2)) (laid_on b.0 next), ap (λ r. r.source) a.2 ∙ b.1, ap (λ r. r.ended) a.2)
 
 not_ended : {b : Bool} → b ≡ false → b ≡ true → ⊥
 not_ended e f = cc
 
-pub end_ahead : (text : List ℕ) (before : List Lexeme) (l u : LexerState) → Behind text before l → LexerAnswers l None u → Cuts text before
-end_ahead text before l u b a = go a.0
+pub end_behind : (text : List ℕ) (before : List Lexeme) (l u : LexerState) → Behind text before l → LexerAnswers l None u → Cuts text before
+end_behind text before l u b a = go a.0
   where
     go : ((l.ended ≡ true) ⊎ CutsFrom l.source l.offset []) → Cuts text before
     go (inl e) = absurd (not_ended b.2 e)
     go (inr c) = subst (λ w. Layout text 0 w (length text)) (append-nil before) (laid_on b.0 (subst (λ w. Layout w l.offset [] (length w)) b.1 c))
-
-ahead_of : (text : List ℕ) (before : List Lexeme) (l u : LexerState) (o : Option Token) → Behind text before l → GivesToken l o u → Ahead text before o u
-ahead_of text before l u (Some t) b a = token_ahead text before l u t b a
-ahead_of text before l u None b a = end_ahead text before l u b a
 
 pub stops_behind : (text : List ℕ) (before : List Lexeme) (l : LexerState) (place : ℕ) → Behind text before l → StopsFrom l.source l.offset [] place → StopsAt text before place
 stops_behind text before l place b s =
     let r : StopsFrom text l.offset [] place = subst (λ w. StopsFrom w l.offset [] place) b.1 s in
     (subst (λ w. Layout text 0 w place) (append-nil before) (laid_on b.0 r.0), r.1, r.2)
 
-pub behind_of : (text : List ℕ) (before : List Lexeme) (t : Token) (l : LexerState) → Ahead text before (Some t) l → Behind text (before ++ lexeme_of t ∷ []) l
-behind_of text before t l a = (subst (λ n. Layout text 0 (before ++ lexeme_of t ∷ []) n) (sym a.2) a.0, a.1, a.3)
+pub begun : (text : List ℕ) (l : LexerState) → l ≡ fresh_lexer text → Behind text [] l
+begun text l e = subst (λ l. Behind text [] l) (sym e) (nothing, refl, refl)
 
-pub begun : (text : List ℕ) → Behind text [] (fresh_lexer text)
-begun text = (nothing, refl, refl)
+last_written : (ts : List Lexeme) (t : Lexeme) → AllWritten (ts ++ t ∷ []) → IsWritten t
+last_written [] t h = h.0
+last_written (u ∷ ts) t h = last_written ts t h.1
+
+-- what the next token is written as
+pub next_written : (text : List ℕ) (before : List Lexeme) (l u : LexerState) (t : Token) → Behind text before l → LexerAnswers l (Some (Ok t)) u → IsWritten (lexeme_of t)
+next_written text before l u t b a = last_written before (lexeme_of t) (all_written (token_behind text before l u t b a).0)
+
+-- how much of the text is left
+
+abbrev pub bytes_left : LexerState → ℕ
+bytes_left l = length l.source - l.offset
+
+less_left : (n a b : ℕ) → a < b → b ≤ n → n - b < n - a
+less_left n a b h g = omega arith
+
+pub fewer_left : (text : List ℕ) (before : List Lexeme) (l u : LexerState) (t : Token) → IsUtf8 text → Behind text before l → LexerAnswers l (Some (Ok t)) u → bytes_left u < bytes_left l
+fewer_left text before l u t w b a =
+    let c = laid_utf8 b.0 (omega arith) w in
+    let next : Layout text l.offset (lexeme_of t ∷ []) t.end = subst (λ w. Layout w l.offset (lexeme_of t ∷ []) t.end) b.1 a.1 in
+    let d = one_bounds next c.2 c.0 in
+    let f : length u.source ≡ length text = ap (λ r. length r.source) a.2 ∙ ap (λ x. length x) b.1 in
+    let g : u.offset ≡ t.end = ap (λ r. r.offset) a.2 in
+    let h : length l.source ≡ length text = ap (λ x. length x) b.1 in
+    rw (f, g, h) (less_left (length text) l.offset t.end d.0 d.1)
 
 -- ---- the tokens behind some of them
 
@@ -82,63 +102,54 @@ rest_of text ts k u l = go (cuts_or_stops text u)
 pub snoc_on : (ts : List Lexeme) (t : Lexeme) (us : List Lexeme) → (ts ++ t ∷ []) ++ us ≡ ts ++ t ∷ us
 snoc_on ts t us = simp append_assoc
 
--- ---- the beginning
+-- ---- progress
 
-pub at_start : {S T : Type 0} (m : Machine Lexeme S T) (text : List ℕ) (s : S) (l u : LexerState) (o : Option Token) → IsUtf8 text → m.start ≡ s → l ≡ fresh_lexer text → GivesToken l o u → Progress m text s 0 o u
-at_start m text s l u o w f g a = record {
-  utf8 = w;
-  before = [];
-  comes = ap (λ w. Some w) f;
-  ends = refl;
-  goes = ahead_of text [] (fresh_lexer text) u o (begun text) (subst (λ w. GivesToken w o u) g a);
-}
+-- some tokens of the text are read, and the lexer stands behind them
+pub record Progress {S T : Type 0} (m : Machine Lexeme S T) (text : List ℕ) (s : S) (end : ℕ) (l : LexerState) : Type 0 where
+  pub utf8 : IsUtf8 text
+  pub before : List Lexeme
+  pub comes : Comes m before s
+  pub ends : end ≡ tokens_end before
+  pub stands : Behind text before l
 
-bad_beginning : {S T : Type 0} (m : Machine Lexeme S T) (p : S → Option TokenKind → Bool) (n : Narrowing) (text : List ℕ) (l : LexerState) (f : Failure) → l ≡ fresh_lexer text → StopsBadly text l f → IsStop m p n text f
-bad_beginning m p n text l (Memory e) g s = tt
-bad_beginning m p n text l (Errors errors) g s = (
-  _,
-  record {
-    before = [];
-    rest = [];
-    bad = Some s.0;
-    state = m.start;
-    cut = stops_behind text [] (fresh_lexer text) s.0 (begun text) (subst (λ w. StopsFrom w.source w.offset [] s.0) g s.1);
-    comes = refl;
-    is = refl;
-  },
-  s.2,
-)
-
-pub bad_start : {S T : Type 0} (m : Machine Lexeme S T) (p : S → Option TokenKind → Bool) (n : Narrowing) (text src : List ℕ) (l : LexerState) (f : Failure) → src ≡ text → l ≡ fresh_lexer text → StopsBadly src l f → IsStop m p n text f
-bad_start m p n text src l f h g s = bad_beginning m p n text l f g (subst (λ w. StopsBadly w l f) h s)
+pub at_start : {S T : Type 0} (m : Machine Lexeme S T) (text : List ℕ) (s : S) (l : LexerState) → IsUtf8 text → m.start ≡ s → l ≡ fresh_lexer text → Progress m text s 0 l
+at_start m text s l w f g = record { utf8 = w; before = []; comes = ap (λ w. Some w) f; ends = refl; stands = begun text l g }
 
 -- an error that `?` passes on
 pub passed_on : {T : Type 0} (r : Result T Failure) (f : Failure) (P : T → Type 0) (Q : Failure → Type 0) → IsErrAnd r (λ y. y ≡ f) → Q f → MatchResult r P Q
 passed_on (Ok x) f P Q is q = absurd is
 passed_on (Err y) f P Q is q = subst Q (sym is) q
 
--- ---- one token more
+-- the next token, at what the lexer gave
+pub is_given : (l u : LexerState) (o : Option Token) (t : Token) → GivesToken l o u → o ≡ Some t → LexerAnswers l (Some (Ok t)) u
+is_given l u o t g e = subst (λ o. GivesToken l o u) e g
+
+pub token_written : {S T : Type 0} {m : Machine Lexeme S T} {text : List ℕ} {s : S} {end : ℕ} {l u : LexerState} (t : Token) → Progress m text s end l → LexerAnswers l (Some (Ok t)) u → IsWritten (lexeme_of t)
+token_written {text = text} {l = l} {u = u} t p a = next_written text p.before l u t p.stands a
+
+pub fewer : {S T : Type 0} {m : Machine Lexeme S T} {text : List ℕ} {s : S} {end : ℕ} {l u : LexerState} (t : Token) → Progress m text s end l → LexerAnswers l (Some (Ok t)) u → bytes_left u < bytes_left l
+fewer {text = text} {l = l} {u = u} t p a = fewer_left text p.before l u t p.utf8 p.stands a
 
 comes_on : {S T : Type 0} (m : Machine Lexeme S T) (before : List Lexeme) (s r : S) (t : Lexeme) → Comes m before s → m.step s t ≡ next r → Comes m (before ++ t ∷ []) r
 comes_on m before s r t c h = then_steps m (Some m.start) (Some s) (Some r) before (t ∷ []) c (ap (λ a. answer_state a) h)
 
-pub one_more : {S T : Type 0} (m : Machine Lexeme S T) (text : List ℕ) (s r : S) (end : ℕ) (t : Token) (l u : LexerState) (o : Option Token) → Progress m text s end (Some t) l → m.step s (lexeme_of t) ≡ next r → GivesToken l o u →
-    Progress m text r t.end o u
-one_more m text s r end t l u o p h a = record {
+pub one_more : {S T : Type 0} {m : Machine Lexeme S T} {text : List ℕ} {s r : S} {end : ℕ} {l u : LexerState} (t : Token) → Progress m text s end l → LexerAnswers l (Some (Ok t)) u → m.step s (lexeme_of t) ≡ next r → Progress m text r t.end u
+one_more {m = m} {text = text} {s = s} {r = r} {l = l} {u = u} t p a h = record {
   utf8 = p.utf8;
   before = p.before ++ lexeme_of t ∷ [];
   comes = comes_on m p.before s r (lexeme_of t) p.comes h;
   ends = sym (end_snoc p.before (lexeme_of t));
-  goes = ahead_of text (p.before ++ lexeme_of t ∷ []) l u o (behind_of text p.before t l p.goes) a;
+  stands = token_behind text p.before l u t p.stands a;
 }
 
 -- ---- where it stops
 
-pub stops_at_token : {S T : Type 0} (m : Machine Lexeme S T) (p : S → Option TokenKind → Bool) (n : Narrowing) (text : List ℕ) (s : S) (end : ℕ) (t : Token) (l : LexerState) (f : Failure) → Progress m text s end (Some t) l →
+pub stops_at_token : {S T : Type 0} {m : Machine Lexeme S T} (p : S → Option TokenKind → Bool) (n : Narrowing) {text : List ℕ} {s : S} {end : ℕ} {l u : LexerState} (t : Token) (f : Failure) → Progress m text s end l → LexerAnswers l (Some (Ok t)) u →
     StopsAtToken m p n text s (lexeme_of t) f → IsStop m p n text f
-stops_at_token m p n text s end t l (Memory e) q h = tt
-stops_at_token m p n text s end t l (Errors errors) q h =
-    let r = rest_of text (q.before ++ lexeme_of t ∷ []) t.end q.utf8 q.goes.0 in (
+stops_at_token p n t (Memory e) q a h = tt
+stops_at_token p n {text = text} {s = s} {l = l} {u = u} t (Errors errors) q a h =
+    let b = token_behind text q.before l u t q.stands a in
+    let r = rest_of text (q.before ++ lexeme_of t ∷ []) u.offset q.utf8 b.0 in (
       h.0,
       record {
         before = q.before;
@@ -152,88 +163,45 @@ stops_at_token m p n text s end t l (Errors errors) q h =
       h.2,
     )
 
-pub stops_badly : {S T : Type 0} (m : Machine Lexeme S T) (p : S → Option TokenKind → Bool) (n : Narrowing) (text : List ℕ) (s r : S) (end : ℕ) (t : Token) (l : LexerState) (f : Failure) → Progress m text s end (Some t) l →
-    m.step s (lexeme_of t) ≡ next r → StopsBadly text l f → IsStop m p n text f
-stops_badly m p n text s r end t l (Memory e) q h b = tt
-stops_badly m p n text s r end t l (Errors errors) q h b =
-    let ts : List Lexeme = q.before ++ lexeme_of t ∷ [] in (
-      _,
-      record {
-        before = ts;
-        rest = [];
-        bad = Some b.0;
-        state = r;
-        cut = subst (λ w. StopsAt text w b.0) (sym (append-nil ts)) (stops_behind text ts l b.0 (behind_of text q.before t l q.goes) b.1);
-        comes = comes_on m q.before s r (lexeme_of t) q.comes h;
-        is = refl;
-      },
-      b.2,
-    )
+pub stops_badly : {S T : Type 0} {m : Machine Lexeme S T} (p : S → Option TokenKind → Bool) (n : Narrowing) {text : List ℕ} {s : S} {end : ℕ} {l : LexerState} (f : Failure) → Progress m text s end l → StopsBadly text l f → IsStop m p n text f
+stops_badly p n (Memory e) q b = tt
+stops_badly p n {text = text} {s = s} {l = l} (Errors errors) q b = (
+  _,
+  record {
+    before = q.before;
+    rest = [];
+    bad = Some b.0;
+    state = s;
+    cut = subst (λ w. StopsAt text w b.0) (sym (append-nil q.before)) (stops_behind text q.before l b.0 q.stands b.1);
+    comes = q.comes;
+    is = refl;
+  },
+  b.2,
+)
 
 early_told : {S T : Type 0} (m : Machine Lexeme S T) (p : S → Option TokenKind → Bool) (n : Narrowing) (text : List ℕ) (s : S) (ts : List Lexeme) → p s None ≡ false → stop_fault m p n text s ts [] None ≡ Some (early_at (tokens_end ts) (wanted_kinds (p s) n None))
 early_told m p n text s ts h = ap (λ b. cond b None (Some (early_at (tokens_end ts) (wanted_kinds (p s) n None)))) h
 
-stops_at_end : {S T : Type 0} (m : Machine Lexeme S T) (p : S → Option TokenKind → Bool) (n : Narrowing) (text : List ℕ) (s : S) (end : ℕ) (l : LexerState) (f : Failure) → Progress m text s end None l → StopsAtEnd m p n text s end f → IsStop m p n text f
-stops_at_end m p n text s end l (Memory e) q h = tt
-stops_at_end m p n text s end l (Errors errors) q h = (
+stops_at_end : {S T : Type 0} {m : Machine Lexeme S T} (p : S → Option TokenKind → Bool) (n : Narrowing) {text : List ℕ} {s : S} {end : ℕ} {l u : LexerState} (f : Failure) → Progress m text s end l → LexerAnswers l None u → StopsAtEnd m p n text s end f → IsStop m p n text f
+stops_at_end p n (Memory e) q a h = tt
+stops_at_end {m = m} p n {text = text} {s = s} {l = l} {u = u} (Errors errors) q a h = (
   _,
   record {
     before = q.before;
     rest = [];
     bad = None;
     state = s;
-    cut = subst (λ w. Cuts text w) (sym (append-nil q.before)) q.goes;
+    cut = subst (λ w. Cuts text w) (sym (append-nil q.before)) (end_behind text q.before l u q.stands a);
     comes = q.comes;
     is = early_told m p n text s q.before h.0;
   },
   subst (λ e. IsFault text errors (early_at e (wanted_kinds (p s) n None))) q.ends h.1,
 )
 
-reads_whole : {S T : Type 0} (m : Machine Lexeme S T) (text : List ℕ) (s : S) (end : ℕ) (l : LexerState) (x : T) → Progress m text s end None l → m.finish s ≡ Some x → IsRead m text x
-reads_whole m text s end l x q h = record { tokens = q.before; cut = q.goes; runs = record { last = s; goes = q.comes; ends = h } }
+reads_whole : {S T : Type 0} {m : Machine Lexeme S T} {text : List ℕ} {s : S} {end : ℕ} {l u : LexerState} (x : T) → Progress m text s end l → LexerAnswers l None u → m.finish s ≡ Some x → IsRead m text x
+reads_whole {text = text} {s = s} {l = l} {u = u} x q a h = record { tokens = q.before; cut = end_behind text q.before l u q.stands a; runs = record { last = s; goes = q.comes; ends = h } }
 
--- ---- the text, and how much of it is left
-
--- what the token ahead is written as
-pub ahead_written : {S T : Type 0} {m : Machine Lexeme S T} {text : List ℕ} {s : S} {end : ℕ} {t : Token} {l : LexerState} → Progress m text s end (Some t) l → IsWritten (lexeme_of t)
-ahead_written {t = t} q = last_written q.before (lexeme_of t) (all_written q.goes.0)
-  where
-    last_written : (ts : List Lexeme) (t : Lexeme) → AllWritten (ts ++ t ∷ []) → IsWritten t
-    last_written [] t h = h.0
-    last_written (u ∷ ts) t h = last_written ts t h.1
-
-pub next_bounds : (text : List ℕ) (i : ℕ) (t : Lexeme) → Layout text i (t ∷ []) t.end → i ≤ length text → IsUtf8 (drop i text) → (i < t.end) × (t.end ≤ length text)
-next_bounds text i t h b u = one_bounds h b u
-
-pub less_left : (n a b : ℕ) → a < b → b ≤ n → 1 + (n - b) < 1 + (n - a)
-less_left n a b h g = omega arith
-
-pub fewer : (text : List ℕ) (l u : LexerState) (t : Token) → (l.source ≡ text) → l.offset ≤ length text → IsUtf8 (drop l.offset text) → LexerAnswers l (Some (Ok t)) u → 1 + (length u.source - u.offset) < 1 + (length l.source - l.offset)
-fewer text l u t e b w a =
-    let next : Layout text l.offset (lexeme_of t ∷ []) t.end = subst (λ w. Layout w l.offset (lexeme_of t ∷ []) t.end) e a.1 in
-    let c = next_bounds text l.offset (lexeme_of t) next b w in
-    let f : length u.source ≡ length text = ap (λ r. length r.source) a.2 ∙ ap (λ x. length x) e in
-    let g : u.offset ≡ t.end = ap (λ r. r.offset) a.2 in
-    let h : length l.source ≡ length text = ap (λ x. length x) e in
-    rw (f, g, h) (less_left (length text) l.offset t.end c.0 c.1)
-
-fewer_left : {S T : Type 0} (m : Machine Lexeme S T) (text : List ℕ) (s : S) (end : ℕ) (t : Token) (l u : LexerState) (o : Option Token) → Progress m text s end (Some t) l → GivesToken l o u → remaining_length o u < remaining_length (Some t) l
-fewer_left m text s end t l u None p a = omega arith
-fewer_left m text s end t l u (Some w) p a =
-    let b = behind_of text p.before t l p.goes in
-    let c = laid_utf8 b.0 (omega arith) p.utf8 in
-    fewer text l u w b.1 c.2 c.0 a
-
--- ---- the loop's steps, at what the option ahead is
-
-pub ahead_is : {S T : Type 0} {m : Machine Lexeme S T} {text : List ℕ} {s : S} {end : ℕ} {a : Option Token} {l : LexerState} {b : Option Token} → Progress m text s end a l → a ≡ b → Progress m text s end b l
-ahead_is {m = m} {text = text} {s = s} {end = end} {l = l} p h = subst (λ w. Progress m text s end w l) h p
-
-pub fewer_at : {S T : Type 0} (m : Machine Lexeme S T) (text : List ℕ) (s : S) (end : ℕ) (a : Option Token) (t : Token) (l u : LexerState) (o : Option Token) → Progress m text s end a l → a ≡ Some t → GivesToken l o u →
-    remaining_length o u < remaining_length a l
-fewer_at m text s end a t l u o p h g = subst (λ w. remaining_length o u < remaining_length w l) (sym h) (fewer_left m text s end t l u o (ahead_is p h) g)
-
-pub concluded : {S T : Type 0} (m : Machine Lexeme S T) (p : S → Option TokenKind → Bool) (n : Narrowing) (text : List ℕ) (s : S) (end : ℕ) (a : Option Token) (l : LexerState) (r : Result T Failure) → Progress m text s end a l → a ≡ None →
+pub concluded : {S T : Type 0} {m : Machine Lexeme S T} (p : S → Option TokenKind → Bool) (n : Narrowing) {text : List ℕ} {s : S} {end : ℕ} {l : LexerState} (u : LexerState) (o : Option Token) (r : Result T Failure) → Progress m text s end l → GivesToken l o u → o ≡ None →
     MatchResult r (λ x. m.finish s ≡ Some x) (λ f. StopsAtEnd m p n text s end f) → MatchResult r (λ x. IsRead m text x) (λ f. IsStop m p n text f)
-concluded m p n text s end a l (Ok x) q h g = reads_whole m text s end l x (ahead_is q h) g
-concluded m p n text s end a l (Err f) q h g = stops_at_end m p n text s end l f (ahead_is q h) g
+concluded p n {l = l} u o (Ok x) q a e g = reads_whole x q (subst (λ o. GivesToken l o u) e a) g
+concluded p n {l = l} u o (Err f) q a e g = stops_at_end p n f q (subst (λ o. GivesToken l o u) e a) g

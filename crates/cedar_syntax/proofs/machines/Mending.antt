@@ -1,12 +1,11 @@
 -- The progress of a run that recovers, and what it tells at last, for any machine.
-use Rattle.std.proofs.Common.{◌≡◌, ℕ, ◌<◌, Bool, true, false, List, [], ◌∷◌, ◌++◌, Option, Some, None, Result, Ok, Err, refl, sym, ◌∙◌, ap, subst, arith}
+use Rattle.std.proofs.Common.{◌≡◌, ℕ, ◌<◌, Bool, true, false, List, [], ◌∷◌, ◌++◌, Option, Some, None, Result, Ok, Err, refl, sym, ◌∙◌, ap, subst}
 use Rattle.std.specs.Prelude.{MatchResult, IfOk}
 use Rattle.std.specs.Str.{IsUtf8}
 use Rattle.cedar_lexer.specs.Token.{Lexeme, lexeme_of}
 use Rattle.cedar_lexer.specs.LexerState.{LexerState, LexerAnswers, fresh_lexer, IsCutOrStop}
 use Rattle.cedar_lexer.specs.declared.token.Token.{Token}
 use Rattle.cedar_lexer.specs.declared.token.TokenKind.{TokenKind}
-use Rattle.cedar_lexer.proofs.Cuts.{laid_utf8}
 use Rattle.cedar_syntax.specs.declared.reading.mending.Doing.{Doing}
 use Rattle.cedar_syntax.specs.declared.reading.mending.Doing.TheVariants as doing
 use Rattle.cedar_syntax.specs.declared.reading.mending.Refusal.{Refusal}
@@ -16,20 +15,21 @@ use Rattle.cedar_syntax.specs.declared.reading.recovery.Way.{Way}
 use Rattle.cedar_syntax.specs.MendedFaults.{faults_with_last}
 use Rattle.cedar_syntax.specs.WrittenTokens.{IsWritten}
 use Rattle.cedar_syntax.specs.machines.Door.{Machine, Answer, next, ended, refused, too_large, answer_state, steps}
-use Rattle.cedar_syntax.specs.machines.Judged.{remaining_length, IsRead}
+use Rattle.cedar_syntax.specs.machines.Judged.{IsRead}
 use Rattle.cedar_syntax.specs.machines.Recovery.{Recovers, Recovery, reading, skipping, stopped}
 use Rattle.cedar_syntax.specs.machines.Marks.{mark_of}
 use Rattle.cedar_syntax.specs.machines.Skipping.{Skipped, on, over, stop, skip, behind_skip}
-use Rattle.cedar_syntax.specs.machines.Mending.{stage, stage_of, taken_stage, judgment_by, recovery_step_by, recovery_of_all_by, last_of, met_faults, answer_as, AheadOrStop, Met, IsToldBy, RefusesWith}
-use Rattle.cedar_syntax.proofs.Written.{AllWritten, all_written}
-use Rattle.cedar_syntax.proofs.machines.Driving.{Behind, begun, behind_of, token_ahead, end_ahead, stops_behind, fewer}
+use Rattle.cedar_syntax.specs.machines.Mending.{stage, stage_of, taken_stage, judgment_by, recovery_step_by, recovery_of_all_by, last_of, met_faults, answer_as, IsToldBy, RefusesWith}
+use Rattle.cedar_syntax.proofs.machines.Driving.{Behind, begun, token_behind, end_behind, stops_behind, next_written, bytes_left, fewer_left}
 
--- ---- the lexer's next answer
+-- ---- progress
 
-ahead_of : (text : List ℕ) (before : List Lexeme) (l u : LexerState) (o : Option Token) (bad : Option ℕ) → Behind text before l → LexerAnswers l (answer_as o bad) u → AheadOrStop text before o bad u
-ahead_of text before l u (Some t) bad b a = token_ahead text before l u t b a
-ahead_of text before l u None None b a = end_ahead text before l u b a
-ahead_of text before l u None (Some place) b a = stops_behind text before l place b a.1
+-- some tokens of the text have been met, and the lexer stands behind them
+pub record Met {S T F : Type 0} (m : Machine Lexeme S T) (p : S → Option TokenKind → Bool) (r : Recovers S F) (text : List ℕ) (q : Recovery S F) (l : LexerState) : Type 0 where
+  pub utf8 : IsUtf8 text
+  pub before : List Lexeme
+  pub is : q ≡ recovery_of_all_by m p r (reading [] 0 m.start) before
+  pub stands : Behind text before l
 
 -- ---- the beginning
 
@@ -37,14 +37,8 @@ pub begun_stage : {S F : Type 0} (run : Run S F) (s : S) → run.doing ≡ doing
 begun_stage run s h i j k =
     ap (λ d. stage d run.mended run.end run.state) h ∙ (ap (λ xs. stage doing.Reading xs run.end run.state) i ∙ (ap (λ n. stage doing.Reading [] n run.state) j ∙ ap (λ s. stage doing.Reading [] 0 s) (sym k)))
 
-pub at_start : {S T F : Type 0} (m : Machine Lexeme S T) (p : S → Option TokenKind → Bool) (r : Recovers S F) (text : List ℕ) (q : Recovery S F) (l u : LexerState) (o : Option Token) (bad : Option ℕ) → IsUtf8 text → q ≡ reading [] 0 m.start →
-    l ≡ fresh_lexer text → LexerAnswers l (answer_as o bad) u → Met m p r text q o bad u
-at_start m p r text q l u o bad w e g a = record {
-  utf8 = w;
-  before = [];
-  is = e;
-  goes = ahead_of text [] (fresh_lexer text) u o bad (begun text) (subst (λ w. LexerAnswers w (answer_as o bad) u) g a);
-}
+pub at_start : {S T F : Type 0} (m : Machine Lexeme S T) (p : S → Option TokenKind → Bool) (r : Recovers S F) (text : List ℕ) (q : Recovery S F) (l : LexerState) → IsUtf8 text → q ≡ reading [] 0 m.start → l ≡ fresh_lexer text → Met m p r text q l
+at_start m p r text q l w e g = record { utf8 = w; before = []; is = e; stands = begun text l g }
 
 -- ---- one token more
 
@@ -53,37 +47,28 @@ recover_snoc : {S T F : Type 0} (m : Machine Lexeme S T) (p : S → Option Token
 recover_snoc m p r q [] t = refl
 recover_snoc m p r q (u ∷ ts) t = recover_snoc m p r (recovery_step_by m p r q u) ts t
 
-pub ahead_is : {S T F : Type 0} {m : Machine Lexeme S T} {p : S → Option TokenKind → Bool} {r : Recovers S F} {text : List ℕ} {q : Recovery S F} {a : Option Token} {bad : Option ℕ} {l : LexerState} {b : Option Token} → Met m p r text q a bad l → a ≡ b → Met m p r text q b bad l
-ahead_is {m = m} {p = p} {r = r} {text = text} {q = q} {bad = bad} {l = l} w h = subst (λ a. Met m p r text q a bad l) h w
+-- the next token, at what the lexer gave
+pub is_given : (l u : LexerState) (o : Option Token) (bad : Option ℕ) (t : Token) → LexerAnswers l (answer_as o bad) u → o ≡ Some t → LexerAnswers l (Some (Ok t)) u
+is_given l u o bad t g e = subst (λ o. LexerAnswers l (answer_as o bad) u) e g
 
-pub one_more : {S T F : Type 0} (m : Machine Lexeme S T) (p : S → Option TokenKind → Bool) (r : Recovers S F) (text : List ℕ) (q n : Recovery S F) (t : Token) (bad : Option ℕ) (l u : LexerState) (o : Option Token) (b : Option ℕ) → Met m p r text q (Some t) bad l →
-    n ≡ recovery_step_by m p r q (lexeme_of t) → LexerAnswers l (answer_as o b) u → Met m p r text n o b u
-one_more m p r text q n t bad l u o b w h a = record {
+pub token_written : {S T F : Type 0} {m : Machine Lexeme S T} {p : S → Option TokenKind → Bool} {r : Recovers S F} {text : List ℕ} {q : Recovery S F} {l u : LexerState} (t : Token) → Met m p r text q l → LexerAnswers l (Some (Ok t)) u → IsWritten (lexeme_of t)
+token_written {text = text} {l = l} {u = u} t w a = next_written text w.before l u t w.stands a
+
+pub fewer : {S T F : Type 0} {m : Machine Lexeme S T} {p : S → Option TokenKind → Bool} {r : Recovers S F} {text : List ℕ} {q : Recovery S F} {l u : LexerState} (t : Token) → Met m p r text q l → LexerAnswers l (Some (Ok t)) u → bytes_left u < bytes_left l
+fewer {text = text} {l = l} {u = u} t w a = fewer_left text w.before l u t w.utf8 w.stands a
+
+pub one_more : {S T F : Type 0} {m : Machine Lexeme S T} {p : S → Option TokenKind → Bool} {r : Recovers S F} {text : List ℕ} {q n : Recovery S F} {l u : LexerState} (t : Token) → Met m p r text q l → LexerAnswers l (Some (Ok t)) u → n ≡ recovery_step_by m p r q (lexeme_of t) → Met m p r text n u
+one_more {m = m} {p = p} {r = r} {text = text} {l = l} {u = u} t w a h = record {
   utf8 = w.utf8;
   before = w.before ++ lexeme_of t ∷ [];
   is = h ∙ (ap (λ q. recovery_step_by m p r q (lexeme_of t)) w.is ∙ sym (recover_snoc m p r (reading [] 0 m.start) w.before (lexeme_of t)));
-  goes = ahead_of text (w.before ++ lexeme_of t ∷ []) l u o b (behind_of text w.before t l w.goes) a;
+  stands = token_behind text w.before l u t w.stands a;
 }
 
-last_written : (ts : List Lexeme) (t : Lexeme) → AllWritten (ts ++ t ∷ []) → IsWritten t
-last_written [] t h = h.0
-last_written (u ∷ ts) t h = last_written ts t h.1
-
--- what the token ahead is written as
-pub ahead_written : {S T F : Type 0} {m : Machine Lexeme S T} {p : S → Option TokenKind → Bool} {r : Recovers S F} {text : List ℕ} {q : Recovery S F} {t : Token} {bad : Option ℕ} {l : LexerState} → Met m p r text q (Some t) bad l → IsWritten (lexeme_of t)
-ahead_written {t = t} w = last_written w.before (lexeme_of t) (all_written w.goes.0)
-
-fewer_left : {S T F : Type 0} (m : Machine Lexeme S T) (p : S → Option TokenKind → Bool) (r : Recovers S F) (text : List ℕ) (q : Recovery S F) (t : Token) (bad : Option ℕ) (l u : LexerState) (o : Option Token) (b : Option ℕ) → Met m p r text q (Some t) bad l →
-    LexerAnswers l (answer_as o b) u → remaining_length o u < remaining_length (Some t) l
-fewer_left m p r text q t bad l u None b w a = omega arith
-fewer_left m p r text q t bad l u (Some v) b w a =
-    let c = behind_of text w.before t l w.goes in
-    let d = laid_utf8 c.0 (omega arith) w.utf8 in
-    fewer text l u v c.1 d.2 d.0 a
-
-pub fewer_at : {S T F : Type 0} (m : Machine Lexeme S T) (p : S → Option TokenKind → Bool) (r : Recovers S F) (text : List ℕ) (q : Recovery S F) (a : Option Token) (t : Token) (bad : Option ℕ) (l u : LexerState) (o : Option Token) (b : Option ℕ) → Met m p r text q a bad l →
-    a ≡ Some t → LexerAnswers l (answer_as o b) u → remaining_length o u < remaining_length a l
-fewer_at m p r text q a t bad l u o b w h g = subst (λ a. remaining_length o u < remaining_length a l) (sym h) (fewer_left m p r text q t bad l u o b (ahead_is w h) g)
+-- the end, or a bad place
+ends_there : {S T F : Type 0} {m : Machine Lexeme S T} {p : S → Option TokenKind → Bool} {r : Recovers S F} {text : List ℕ} {q : Recovery S F} {l : LexerState} (u : LexerState) (bad : Option ℕ) → (w : Met m p r text q l) → LexerAnswers l (answer_as None bad) u → IsCutOrStop text 0 w.before bad
+ends_there {text = text} {l = l} u None w a = end_behind text w.before l u w.stands a
+ends_there {text = text} {l = l} u (Some place) w a = stops_behind text w.before l place w.stands a.1
 
 -- ---- a run that tells nothing has only read
 
@@ -169,13 +154,13 @@ stage_state doing.Reading xs l n s q e = reading_is e
 stage_state (doing.Skipping w) xs l n s q e = absurd (cc)
 stage_state (doing.Stopped x) xs l n s q e = absurd (cc)
 
-reads_whole : {S T F : Type 0} (m : Machine Lexeme S T) (p : S → Option TokenKind → Bool) (r : Recovers S F) (b : ℕ → F) (text : List ℕ) (run : Run S F) (bad : Option ℕ) (l : LexerState) (x : T) → Met m p r text (stage_of run) None bad l → m.finish run.state ≡ Some x →
-    met_faults p r b (stage_of run) bad ≡ [] → IsRead m text x
-reads_whole m p r b text run bad l x w f e =
+reads_whole : {S T F : Type 0} {m : Machine Lexeme S T} (p : S → Option TokenKind → Bool) (r : Recovers S F) (b : ℕ → F) {text : List ℕ} (run : Run S F) {l : LexerState} (u : LexerState) (bad : Option ℕ) (x : T) → Met m p r text (stage_of run) l → LexerAnswers l (answer_as None bad) u →
+    m.finish run.state ≡ Some x → met_faults p r b (stage_of run) bad ≡ [] → IsRead m text x
+reads_whole {m = m} p r b {text = text} run u bad x w a f e =
     let c = clean_at p r b (stage_of run) bad e in
     record {
       tokens = w.before;
-      cut = subst (λ o. IsCutOrStop text 0 w.before o) c.goes w.goes;
+      cut = subst (λ o. IsCutOrStop text 0 w.before o) c.goes (ends_there u bad w a);
       runs = record {
         last = run.state;
         goes = clean_run m p r 0 c.end m.start c.state w.before (sym w.is ∙ c.is) ∙ ap (λ s. Some s) (sym (stage_state run.doing run.mended run.end c.end run.state c.state c.is));
@@ -183,13 +168,13 @@ reads_whole m p r b text run bad l x w f e =
       };
     }
 
-tells_all : {S T F : Type 0} (m : Machine Lexeme S T) (p : S → Option TokenKind → Bool) (r : Recovers S F) (b : ℕ → F) (text : List ℕ) (q : Recovery S F) (bad : Option ℕ) (l : LexerState) (f : Refusal F) → Met m p r text q None bad l →
+tells_all : {S T F : Type 0} {m : Machine Lexeme S T} (p : S → Option TokenKind → Bool) (r : Recovers S F) (b : ℕ → F) {text : List ℕ} {q : Recovery S F} {l : LexerState} (u : LexerState) (bad : Option ℕ) (f : Refusal F) → Met m p r text q l → LexerAnswers l (answer_as None bad) u →
     RefusesWith (met_faults p r b q bad) f → IsToldBy m p r b text f
-tells_all m p r b text q bad l (refusal.Memory e) w h = tt
-tells_all m p r b text q bad l (refusal.Faults faults) w h = record { tokens = w.before; bad = bad; cut = w.goes; is = h ∙ ap (λ q. met_faults p r b q bad) w.is }
+tells_all p r b u bad (refusal.Memory e) w a h = tt
+tells_all p r b u bad (refusal.Faults faults) w a h = record { tokens = w.before; bad = bad; cut = ends_there u bad w a; is = h ∙ ap (λ q. met_faults p r b q bad) w.is }
 
-pub concluded : {S T F : Type 0} (m : Machine Lexeme S T) (p : S → Option TokenKind → Bool) (r : Recovers S F) (b : ℕ → F) (text : List ℕ) (run : Run S F) (a : Option Token) (bad : Option ℕ) (l : LexerState) (o : Result T (Refusal F)) → Met m p r text (stage_of run) a bad l → a ≡ None →
+pub concluded : {S T F : Type 0} {m : Machine Lexeme S T} (p : S → Option TokenKind → Bool) (r : Recovers S F) (b : ℕ → F) {text : List ℕ} (run : Run S F) {l : LexerState} (u : LexerState) (a : Option Token) (bad : Option ℕ) (o : Result T (Refusal F)) → Met m p r text (stage_of run) l → LexerAnswers l (answer_as a bad) u → a ≡ None →
     IfOk o (λ x. m.finish run.state ≡ Some x) → MatchResult o (λ x. met_faults p r b (stage_of run) bad ≡ []) (λ f. RefusesWith (met_faults p r b (stage_of run) bad) f) →
     MatchResult o (λ x. IsRead m text x) (λ f. IsToldBy m p r b text f)
-concluded m p r b text run a bad l (Ok x) w h f e = reads_whole m p r b text run bad l x (ahead_is w h) f e
-concluded m p r b text run a bad l (Err f) w h g e = tells_all m p r b text (stage_of run) bad l f (ahead_is w h) e
+concluded p r b run {l = l} u a bad (Ok x) w g h f e = reads_whole p r b run u bad x w (subst (λ a. LexerAnswers l (answer_as a bad) u) h g) f e
+concluded p r b run {l = l} u a bad (Err f) w g h i e = tells_all p r b u bad f w (subst (λ a. LexerAnswers l (answer_as a bad) u) h g) e

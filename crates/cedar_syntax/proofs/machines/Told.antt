@@ -20,10 +20,11 @@ use Rattle.cedar_syntax.specs.Place.{placed_or_start}
 use Rattle.cedar_syntax.specs.Tokens.{fits}
 use Rattle.cedar_syntax.specs.Trees.{Cell}
 use Rattle.cedar_syntax.specs.Sentences.{kinds, HasTree, Starts, Sentence, Allowed, IsFirstRefused}
-use Rattle.cedar_syntax.specs.machines.Door.{Answer, next, ended, refused, too_large, Machine, answer_state, steps, Comes, RunsTo, AnswersRightly, is_some}
+use Rattle.cedar_syntax.specs.machines.Door.{Answer, next, ended, refused, too_large, Machine, answer_state, steps, Comes, RunsTo, AnswersRightly, is_some, Reader, machine_of, allowed_by}
 use Rattle.cedar_syntax.specs.machines.Judged.{may_take, ReadsBy, wanted_kinds, IsRead, large_fault, stop_fault, IsStop}
 use Rattle.cedar_syntax.proofs.machines.Laws.{some_is, none_some, false_true, steps-none, then_steps, starts_from, comes}
 use Rattle.cedar_syntax.proofs.machines.Expected.{expected_is, one_list}
+use Rattle.cedar_syntax.proofs.machines.Readers.{may_by}
 
 -- ---- the rule's relation, and the one of nodes
 
@@ -56,12 +57,12 @@ pub record Follows {S T : Type 0} (m : Machine Lexeme S (Cell T)) (R : Rule T) (
   pub runs : (ts : List Lexeme) (x : T) → R src ts x → RunsTo m ts (placed_or_start src ts x)
   pub reads : (ts : List Lexeme) (s : S) (y : Cell T) → Comes m ts s → m.finish s ≡ Some y → IsNodeOf R src ts y
 
-pub follows : {S T : Type 0} (m : Machine Lexeme S (Cell T)) (R : Rule T) (src : List ℕ) (p : S → Option TokenKind → Bool) → ReadsBy m (IsNodeOf R src) p → Follows m R src p
-follows m R src p h = record {
+pub follows : {S A T : Type 0} {r : Reader S A (Cell T)} {R : Rule T} {src : List ℕ} → ReadsBy src r (IsNodeOf R src) → Follows (machine_of src r) R src (allowed_by r)
+follows {r = r} {R = R} {src = src} h = record {
   begins = λ ts s c. let w = starts_from h.door ts s c in (w.0, (w.1.1.tree, w.1.1.reads));
   state = λ ts w. comes h.door ts (w.0, (placed_or_start src (ts ++ w.0) w.1.0, node_of R src (ts ++ w.0) w.1.0 w.1.1));
   exact = λ ts s after c. (λ e. of_allowed R src (kinds ts) after ((h.exact ts s after c).0 e), λ a. (h.exact ts s after c).1 (to_allowed R src (kinds ts) after a));
-  takes = h.takes;
+  takes = λ s t. may_by src r s t;
   ends = h.ends;
   answers = h.door.answers;
   runs = λ ts x r. h.door.complete ts (placed_or_start src ts x) (node_of R src ts x r);

@@ -1,6 +1,6 @@
 -- The classes of tokens that Cedar's grammar of expressions tells apart, where an operand is
 -- wanted and behind one; and the signs before an operand.
-use Rattle.std.specs.Prelude.{ℕ, ◌+◌, List, Option, Some, None, cond, nat_lt}
+use Rattle.std.specs.Prelude.{◌+◌, [], Option, Some, None, cond, nat_lt}
 use Rattle.cedar_lexer.specs.declared.token.TokenKind.{TokenKind}
 use Rattle.cedar_lexer.specs.declared.token.TokenKind.TheVariants as kind
 use Rattle.cedar_expressions.specs.declared.operators.AddOp.TheVariants as sum
@@ -19,38 +19,34 @@ use Rattle.cedar_syntax.specs.declared.reading.class.Access.TheVariants as opens
 use Rattle.cedar_syntax.specs.declared.reading.class.Side.TheVariants as side
 use Rattle.cedar_syntax.specs.declared.reading.class.Operator.{Operator}
 use Rattle.cedar_syntax.specs.declared.reading.class.Operator.TheVariants as operator
-use Rattle.cedar_syntax.specs.Tokens.{number_of, fits, any_of}
+use Rattle.cedar_syntax.specs.Tokens.{any_of}
 use Rattle.cedar_syntax.specs.Signs.{sign_limit}
 
--- digits: a number, or too large a one for 64 bits
-abbrev pub number_class : List ℕ → Beginning
-number_class text = cond (fits text) (beginning.Number (number_of text)) beginning.TooLarge
-
--- what a mark is where an operand is wanted
-abbrev pub mark_class : TokenKind → List ℕ → Beginning
-mark_class kind.Number text = number_class text
-mark_class kind.StringLit text = beginning.String
-mark_class kind.PrincipalSlot text = beginning.Slot slot_token.Principal
-mark_class kind.ResourceSlot text = beginning.Slot slot_token.Resource
-mark_class kind.OtherSlot text = beginning.Slot slot_token.Other
-mark_class kind.Bang text = beginning.Sign sign.Bang
-mark_class kind.Minus text = beginning.Sign sign.Dash
-mark_class kind.OpenParen text = beginning.Paren
-mark_class kind.OpenBracket text = beginning.Bracket
-mark_class kind.OpenBrace text = beginning.Brace
-mark_class kind.CloseParen text = beginning.Ends closing.Paren
-mark_class kind.CloseBracket text = beginning.Ends closing.Bracket
-mark_class kind.CloseBrace text = beginning.Ends closing.Brace
-mark_class _ text = beginning.Other
+-- what a mark is where an operand is wanted; whether a number fits is found where it is read
+abbrev pub mark_class : TokenKind → Beginning
+mark_class kind.Number = beginning.Number
+mark_class kind.StringLit = beginning.String
+mark_class kind.PrincipalSlot = beginning.Slot slot_token.Principal
+mark_class kind.ResourceSlot = beginning.Slot slot_token.Resource
+mark_class kind.OtherSlot = beginning.Slot slot_token.Other
+mark_class kind.Bang = beginning.Sign sign.Bang
+mark_class kind.Minus = beginning.Sign sign.Dash
+mark_class kind.OpenParen = beginning.Paren
+mark_class kind.OpenBracket = beginning.Bracket
+mark_class kind.OpenBrace = beginning.Brace
+mark_class kind.CloseParen = beginning.Ends closing.Paren
+mark_class kind.CloseBracket = beginning.Ends closing.Bracket
+mark_class kind.CloseBrace = beginning.Ends closing.Brace
+mark_class _ = beginning.Other
 
 -- a word of the language, too, is a word where an operand is wanted
-abbrev pub class_or_word : TokenKind → List ℕ → Option Ident → Beginning
-class_or_word k text (Some i) = beginning.Word
-class_or_word k text None = mark_class k text
+abbrev pub class_or_word : TokenKind → Option Ident → Beginning
+class_or_word k (Some i) = beginning.Word
+class_or_word k None = mark_class k
 
--- what a token is where an operand is wanted
-abbrev pub class_of : TokenKind → List ℕ → Beginning
-class_of k text = class_or_word k text (any_of k text)
+-- what a token of this kind is where an operand is wanted
+abbrev pub beginning_of : TokenKind → Beginning
+beginning_of k = class_or_word k (any_of k [])
 
 -- what a token is behind an operand
 abbrev pub operator_of : TokenKind → Operator

@@ -1,6 +1,6 @@
 -- Machines that read tokens, and what one shows of itself to all that stands above it. `K` is what
 -- it takes for a token: the machine itself reads tokens, and its shapes read kinds.
-use Rattle.std.specs.Prelude.{◌≡◌, Bool, true, false, List, [], ◌∷◌, Option, Some, None}
+use Rattle.std.specs.Prelude.{◌≡◌, ℕ, Bool, true, false, List, [], ◌∷◌, Option, Some, None}
 use Rattle.cedar_lexer.specs.Token.{Lexeme}
 use Rattle.cedar_lexer.specs.declared.token.TokenKind.{TokenKind}
 use Rattle.cedar_lexer.specs.declared.token.TokenKind.TheVariants as kind
@@ -73,6 +73,62 @@ AnswersRightly t (ended x) o = o ≡ Some x
 AnswersRightly t refused o = o ≡ None
 AnswersRightly t too_large o = (t.kind ≡ kind.Number) × (fits t.text ≡ false)
 
+-- a form that is read by a plan: what is done with a token is decided by its kind and the state's
+-- shape, and then done. `A` is what may be done.
+pub record Reader (S A T : Type 0) : Type 0 where
+  pub start : S
+  -- what is done with a token of this kind, or nothing where it isn't the form's
+  pub plan : S → TokenKind → Option A
+  -- what that makes of a state, over the source; nothing where a number doesn't fit
+  pub act : List ℕ → S → A → Lexeme → Option S
+  -- whether the tree can end
+  pub ends : S → Bool
+  -- the tree, where it can
+  pub finish : List ℕ → S → Option T
+
+abbrev pub done_answer : {S T : Type 0} → Option S → Answer S T
+done_answer (Some s) = next s
+done_answer None = too_large
+
+abbrev pub end_answer : {S T : Type 0} → Option T → Answer S T
+end_answer (Some x) = ended x
+end_answer None = refused
+
+-- a token that is planned is taken, unless it is a number that doesn't fit; any other has ended
+-- the tree, where one can end
+abbrev pub planned_answer : {S T A : Type 0} → (A → Option S) → Option T → Option A → Answer S T
+planned_answer act tree (Some a) = done_answer (act a)
+planned_answer act tree None = end_answer tree
+
+-- the machine that reads by the plan
+abbrev pub machine_of : {S A T : Type 0} → List ℕ → Reader S A T → Machine Lexeme S T
+machine_of src r = record {
+  start = r.start;
+  step = λ s t. planned_answer (λ a. r.act src s a t) (r.finish src s) (r.plan s t.kind);
+  finish = λ s. r.finish src s;
+}
+
+-- what a state allows next, a kind of token or the end
+abbrev pub allowed_by : {S A T : Type 0} → Reader S A T → S → Option TokenKind → Bool
+allowed_by r s (Some k) = is_some (r.plan s k)
+allowed_by r s None = r.ends s
+
+-- what of a reader's states decides which kinds may come next, and what an act with a token of this
+-- kind makes of it; `V` is what of the tree the form above asks for
+pub record Outline (U A V : Type 0) : Type 0 where
+  pub start : U
+  pub plan : U → TokenKind → Option A
+  pub act : U → A → TokenKind → U
+  pub finish : U → Option V
+
+-- it goes over kinds as the reader goes over tokens
+abbrev pub outline_machine : {U A V : Type 0} → Outline U A V → Machine TokenKind U V
+outline_machine n = record {
+  start = n.start;
+  step = λ u k. planned_answer (λ a. Some (n.act u a k)) (n.finish u) (n.plan u k);
+  finish = n.finish;
+}
+
 -- the door: all that a machine above may use
 pub record Door {S T : Type 0} (m : Machine Lexeme S T)
     (R : List Lexeme → T → Type 0) : Type 0 where
@@ -111,3 +167,19 @@ pub record Shapes {S T U V : Type 0} (m : Machine Lexeme S T) (n : Machine Token
   pub starts : f m.start ≡ n.start
   pub steps : (s : S) (t : Lexeme) → IsShape f g (m.step s t) (n.step (f s) t.kind)
   pub finishes : (s : S) → n.finish (f s) ≡ option_image g (m.finish s)
+
+-- a planned act is total but for numbers that don't fit
+abbrev pub IsDone : {S : Type 0} → Lexeme → Option S → Type 0
+IsDone t (Some s) = (t.kind ≡ kind.Number) → fits t.text ≡ true
+IsDone t None = (t.kind ≡ kind.Number) × (fits t.text ≡ false)
+
+-- all that a reader and its outline owe
+pub record IsOutline {S A T U V : Type 0} (src : List ℕ) (r : Reader S A T) (n : Outline U A V)
+    (f : S → U) (g : T → V) : Type 0 where
+  pub starts : f r.start ≡ n.start
+  pub plans : (s : S) (k : TokenKind) → r.plan s k ≡ n.plan (f s) k
+  pub acts : (s q : S) (a : A) (t : Lexeme) → r.plan s t.kind ≡ Some a →
+      r.act src s a t ≡ Some q → f q ≡ n.act (f s) a t.kind
+  pub done : (s : S) (a : A) (t : Lexeme) → r.plan s t.kind ≡ Some a → IsDone t (r.act src s a t)
+  pub ends : (s : S) → r.ends s ≡ is_some (n.finish (f s))
+  pub finishes : (s : S) → n.finish (f s) ≡ option_image g (r.finish src s)

@@ -1,8 +1,7 @@
 -- How a machine reads a text by a rule, token after token, and what it says where it stops.
-use Rattle.std.specs.Prelude.{◌≡◌, ℕ, ◌+◌, ◌-◌, Bool, true, false, ◌||◌, ◌&&◌, not, cond, IsTrue, ◌↔◌, List, [], ◌∷◌, ◌++◌, Option, Some, None, Ok, length}
-use Rattle.std.specs.Str.{IsUtf8}
-use Rattle.cedar_lexer.specs.Token.{Lexeme, lexeme_of}
-use Rattle.cedar_lexer.specs.Cut.{Layout, Cuts, StopsFrom}
+use Rattle.std.specs.Prelude.{◌≡◌, ℕ, Bool, true, false, ◌||◌, ◌&&◌, not, cond, IsTrue, ◌↔◌, List, [], ◌∷◌, ◌++◌, Option, Some, None, Ok}
+use Rattle.cedar_lexer.specs.Token.{Lexeme}
+use Rattle.cedar_lexer.specs.Cut.{Cuts, StopsFrom}
 use Rattle.cedar_lexer.specs.LexerState.{LexerState, LexerAnswers, IsCutOrStop}
 use Rattle.cedar_lexer.specs.declared.token.Token.{Token}
 use Rattle.cedar_lexer.specs.declared.token.TokenKind.{TokenKind}
@@ -15,24 +14,15 @@ use Rattle.cedar_syntax.specs.declared.err.faults.ParseError.TheVariants.{ToCST}
 use Rattle.cedar_syntax.specs.declared.err.to_cst.RawFault.{RawFault}
 use Rattle.cedar_syntax.specs.declared.err.to_cst.RawFault.TheVariants as fault
 use Rattle.cedar_syntax.specs.declared.reading.expected.Narrowing.{Narrowing}
-use Rattle.cedar_syntax.specs.declared.reading.taken.Taken.{Taken}
-use Rattle.cedar_syntax.specs.declared.reading.taken.Taken.TheVariants as taking
 use Rattle.cedar_syntax.specs.Expected.{by_name, is_closer, can_narrow}
 use Rattle.cedar_syntax.specs.FirstFault.{tokens_end, unexpected_fault, early_at, large_at}
 use Rattle.cedar_syntax.specs.Sentences.{kinds, Allowed}
-use Rattle.cedar_syntax.specs.machines.Door.{Answer, next, ended, refused, too_large, Machine, Comes, RunsTo, Door, is_some}
+use Rattle.cedar_syntax.specs.machines.Door.{Answer, next, ended, refused, too_large, Machine, Comes, RunsTo, Door, is_some, Reader, machine_of, allowed_by}
 
--- what a step that left this state answered
-abbrev pub answer_of : {S T : Type 0} → Taken T → S → Answer S T
-answer_of taking.Next s = next s
-answer_of (taking.Ended x) s = ended x
-answer_of taking.Refused s = refused
-answer_of taking.TooLarge s = too_large
-
--- a token that is allowed was taken, or is a number that doesn't fit
-abbrev pub take_answer : {S T : Type 0} → Bool → S → Answer S T
-take_answer true s = next s
-take_answer false s = too_large
+-- what an act made of a state: nothing is said of it where a number doesn't fit
+abbrev pub done_as : {S : Type 0} → Bool → S → Option S
+done_as true s = Some s
+done_as false s = None
 
 -- whether a kind is allowed, by what a machine answers to a token of it
 abbrev pub may_take : {S T : Type 0} → Answer S T → Bool
@@ -41,14 +31,14 @@ may_take (ended x) = false
 may_take refused = false
 may_take too_large = true
 
--- a machine reads by a rule: its door, and what its states allow, kinds and the end
-pub record ReadsBy {S T : Type 0} (m : Machine Lexeme S T) (R : List Lexeme → T → Type 0)
-    (allowed : S → Option TokenKind → Bool) : Type 0 where
-  pub door : Door m R
-  pub takes : (s : S) (t : Lexeme) → may_take (m.step s t) ≡ allowed s (Some t.kind)
-  pub ends : (s : S) → is_some (m.finish s) ≡ allowed s None
-  pub exact : (ts : List Lexeme) (s : S) (after : Option TokenKind) → Comes m ts s →
-      IsTrue (allowed s after) ↔ Allowed R (kinds ts) after
+-- a form is read by a rule: the door of its machine, and that its states allow just what some
+-- sentence has next, a kind or the end
+pub record ReadsBy {S A T : Type 0} (src : List ℕ) (r : Reader S A T)
+    (R : List Lexeme → T → Type 0) : Type 0 where
+  pub door : Door (machine_of src r) R
+  pub ends : (s : S) → is_some (r.finish src s) ≡ r.ends s
+  pub exact : (ts : List Lexeme) (s : S) (after : Option TokenKind) →
+      Comes (machine_of src r) ts s → IsTrue (allowed_by r s after) ↔ Allowed R (kinds ts) after
 
 -- ---- what is expected, by what a state allows
 
@@ -71,40 +61,13 @@ picked_kinds b p (k ∷ ks) = cond (picks b p k) (k ∷ picked_kinds b p ks) (pi
 abbrev pub wanted_kinds : (Option TokenKind → Bool) → Narrowing → Option TokenKind → List TokenKind
 wanted_kinds p n after = picked_kinds (is_narrowed p n after) p by_name
 
--- ---- progress
-
--- the text's tokens begin with these and then this one
-abbrev pub StandsBehind : List ℕ → List Lexeme → Lexeme → Type 0
-StandsBehind text before t = Layout text 0 (before ++ t ∷ []) t.end
-
--- the lexer stands behind this token, or the text ends
-abbrev pub Ahead : List ℕ → List Lexeme → Option Token → LexerState → Type 0
-Ahead text before (Some t) l =
-    StandsBehind text before (lexeme_of t) × (l.source ≡ text) × (l.offset ≡ t.end) ×
-    (l.ended ≡ false)
-Ahead text before None l = Cuts text before
-
--- some tokens of the text are read, and the next is ahead
-pub record Progress {S T : Type 0} (m : Machine Lexeme S T) (text : List ℕ) (s : S) (end : ℕ)
-    (ahead : Option Token) (l : LexerState) : Type 0 where
-  pub utf8 : IsUtf8 text
-  pub before : List Lexeme
-  pub comes : Comes m before s
-  pub ends : end ≡ tokens_end before
-  pub goes : Ahead text before ahead l
-
--- the bytes that are left, and the token ahead
-abbrev pub remaining_length : Option Token → LexerState → ℕ
-remaining_length None l = 0
-remaining_length (Some t) l = 1 + (length l.source - l.offset)
+-- ---- what the driver answers
 
 -- a tree that the tokens of the text run to
 pub record IsRead {S T : Type 0} (m : Machine Lexeme S T) (text : List ℕ) (x : T) : Type 0 where
   pub tokens : List Lexeme
   pub cut : Cuts text tokens
   pub runs : RunsTo m tokens x
-
--- ---- what the parts of the driver answer
 
 -- the one fault of this text
 abbrev pub IsFault : List ℕ → ParseErrors → RawFault → Type 0

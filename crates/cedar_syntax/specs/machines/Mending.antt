@@ -1,9 +1,8 @@
 -- Runs of the parser that recovers, by what its states allow, and the faults that they tell of a
 -- text.
-use Rattle.std.specs.Prelude.{◌≡◌, ℕ, Bool, false, cond, List, [], ◌∷◌, Option, Some, None, Result, Ok, Err}
-use Rattle.std.specs.Str.{IsUtf8}
-use Rattle.cedar_lexer.specs.Token.{Lexeme, lexeme_of}
-use Rattle.cedar_lexer.specs.LexerState.{LexerState, IsCutOrStop}
+use Rattle.std.specs.Prelude.{◌≡◌, ℕ, Bool, cond, List, [], ◌∷◌, ◌++◌, Option, Some, None, Result, Ok, Err}
+use Rattle.cedar_lexer.specs.Token.{Lexeme}
+use Rattle.cedar_lexer.specs.LexerState.{IsCutOrStop}
 use Rattle.cedar_lexer.specs.declared.token.Token.{Token}
 use Rattle.cedar_lexer.specs.declared.token.InvalidToken.{InvalidToken}
 use Rattle.cedar_lexer.specs.declared.token.TokenKind.{TokenKind}
@@ -24,7 +23,7 @@ use Rattle.cedar_syntax.specs.declared.reading.recovery.Way.{Way}
 use Rattle.cedar_syntax.specs.FirstFault.{unexpected_fault, early_at, large_at}
 use Rattle.cedar_syntax.specs.MendedFaults.{fault_of, faults_with_last}
 use Rattle.cedar_syntax.specs.machines.Door.{Machine, Answer, next, ended, refused, too_large}
-use Rattle.cedar_syntax.specs.machines.Judged.{wanted_kinds, StandsBehind}
+use Rattle.cedar_syntax.specs.machines.Judged.{wanted_kinds}
 use Rattle.cedar_syntax.specs.machines.Marks.{mark_of}
 use Rattle.cedar_syntax.specs.machines.Recovery.{Recovers, Recovery, reading, skipping, stopped}
 use Rattle.cedar_syntax.specs.machines.Skipping.{skip, behind_skip}
@@ -127,23 +126,6 @@ answer_as (Some t) bad = Some (Ok t)
 answer_as None (Some place) = Some (Err record { location = place })
 answer_as None None = None
 
--- the lexer stands behind this token, or the text ends behind the others, or its bad place is
--- there
-abbrev pub AheadOrStop : List ℕ → List Lexeme → Option Token → Option ℕ → LexerState → Type 0
-AheadOrStop text before (Some t) bad l =
-    StandsBehind text before (lexeme_of t) × (l.source ≡ text) × (l.offset ≡ t.end)
-    × (l.ended ≡ false)
-AheadOrStop text before None bad l = IsCutOrStop text 0 before bad
-
--- some tokens of the text have been met, and the next is ahead
-pub record Met {S T F : Type 0} (m : Machine Lexeme S T) (p : S → Option TokenKind → Bool)
-    (r : Recovers S F) (text : List ℕ) (q : Recovery S F) (ahead : Option Token) (bad : Option ℕ)
-    (l : LexerState) : Type 0 where
-  pub utf8 : IsUtf8 text
-  pub before : List Lexeme
-  pub is : q ≡ recovery_of_all_by m p r (reading [] 0 m.start) before
-  pub goes : AheadOrStop text before ahead bad l
-
 -- all faults of a text
 pub record AreAllFaults {S T F : Type 0} (m : Machine Lexeme S T) (p : S → Option TokenKind → Bool)
     (r : Recovers S F) (b : ℕ → F) (text : List ℕ) (xs : List F) : Type 0 where
@@ -167,3 +149,35 @@ abbrev pub IsTold : {S T : Type 0} → Machine Lexeme S T → (S → Option Toke
 IsTold m p r text (Memory e) = Unit {0}
 IsTold m p r text (Errors errors) =
     AreAllFaults m p r (bad_fault fault_of text) text (faults_of errors)
+
+-- ---- what a token makes of a run that is skipping
+
+-- a fault is in hand, which is told behind the first token that ends skipping
+abbrev pub IsSkipping : {F : Type 0} → Doing F → Type 0
+IsSkipping (doing.Skipping w) = Unit {0}
+IsSkipping doing.Reading = ⊥
+IsSkipping (doing.Stopped x) = ⊥
+
+-- and it is left by this way
+abbrev pub IsSkippingBy : {F : Type 0} → Way → Doing F → Type 0
+IsSkippingBy way (doing.Skipping w) = w.way ≡ way
+IsSkippingBy way doing.Reading = ⊥
+IsSkippingBy way (doing.Stopped x) = ⊥
+
+-- where skipping is over, reading goes on behind this place, and the fault in hand is mended
+abbrev pub mended_doing : {S F : Type 0} → Doing F → List F → ℕ → S → Recovery S F
+mended_doing (doing.Skipping w) xs l s = reading (xs ++ w.fault ∷ []) l s
+mended_doing doing.Reading xs l s = reading xs l s
+mended_doing (doing.Stopped x) xs l s = stopped xs x
+
+abbrev pub mended_stage : {S F : Type 0} → Run S F → ℕ → Recovery S F
+mended_stage r l = mended_doing r.doing r.mended l r.state
+
+-- where skipping stops, the fault in hand is the last
+abbrev pub stopped_doing : {S F : Type 0} → Doing F → List F → ℕ → S → Recovery S F
+stopped_doing (doing.Skipping w) xs l s = stopped xs w.fault
+stopped_doing doing.Reading xs l s = reading xs l s
+stopped_doing (doing.Stopped x) xs l s = stopped xs x
+
+abbrev pub stopped_stage : {S F : Type 0} → Run S F → Recovery S F
+stopped_stage r = stopped_doing r.doing r.mended r.end r.state

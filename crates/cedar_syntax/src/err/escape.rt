@@ -61,7 +61,8 @@ impl TryClone for EscapeError {
     }
 }
 
-/// A piece of a string's raw text that is no escape: what is wrong, the whole raw text, and the bytes of the piece in it.
+/// A piece of a string's raw text that is no escape: what is wrong, the whole raw text, and the
+/// bytes of the piece in it.
 #[derive(Debug, Drop, PartialEq, Eq)]
 pub struct UnescapeError {
     pub kind: EscapeError,
@@ -84,7 +85,8 @@ impl UnescapeError {
         Ok(UnescapeError::in_source(kind, input, range))
     }
 
-    /// The fault `kind` at the bytes `range` of a shared raw text: all faults of one text share it. It takes no memory.
+    /// The fault `kind` at the bytes `range` of a shared raw text: all faults of one text share
+    /// it. It takes no memory.
     pub fn in_source(kind: EscapeError, input: Source, range: Range<usize>) -> UnescapeError
         ensures { result ≡ record { kind = kind; input = input; range = range } }
     {
@@ -138,7 +140,8 @@ impl Clone for UnescapeError {
     }
 }
 
-/// With the piece in backquotes; with nothing in them where the range is none of the text on character boundaries.
+/// With the piece in backquotes; with nothing in them where the range is none of the text on
+/// character boundaries.
 impl fmt::Display for UnescapeError {
     ghost use Rattle.cedar_syntax.specs.Messages.{escape_message};
 
@@ -152,7 +155,8 @@ impl fmt::Display for UnescapeError {
 
 impl Error for UnescapeError {}
 
-/// Why a raw text was not unescaped: there was no memory, or these pieces of it are no escapes, in their order.
+/// Why a raw text was not unescaped: there was no memory, or these pieces of it are no escapes, in
+/// their order.
 #[derive(Debug, Drop, PartialEq, Eq)]
 pub enum UnescapeFailure {
     Memory(AllocError),

@@ -14,10 +14,12 @@ use std::alloc::{AllocError, Global};
 use std::collections::{BTreeSet, HashMap, HashSet};
 use std::fmt;
 
-/// How expected tokens are shown: which names are left out, and under which names the others appear.
+/// How expected tokens are shown: which names are left out, and under which names the others
+/// appear.
 #[derive(Debug, Drop)]
 pub struct ExpectedTokenConfig {
-    /// how a name is shown; a name that isn't there is shown as it is, with backquotes in place of double quotes
+    /// how a name is shown; a name that isn't there is shown as it is, with backquotes in place of
+    /// double quotes
     pub friendly_token_names: HashMap<&'static str, &'static str>,
     /// names that are never shown, since every tree with such a token is refused later
     pub impossible_tokens: HashSet<&'static str>,
@@ -25,8 +27,8 @@ pub struct ExpectedTokenConfig {
     pub special_identifier_tokens: HashSet<&'static str>,
     /// the name that stands for whatever identifier
     pub identifier_sentinel: &'static str,
-    /// names of words that begin an expression as themselves, and are identifiers elsewhere: not shown beside
-    /// `identifier_sentinel` without `first_set_sentinel`
+    /// names of words that begin an expression as themselves, and are identifiers elsewhere: not
+    /// shown beside `identifier_sentinel` without `first_set_sentinel`
     pub first_set_identifier_tokens: HashSet<&'static str>,
     /// a name that is there where an expression can begin
     pub first_set_sentinel: &'static str,
@@ -250,8 +252,9 @@ fn set_of<'a>(alloc: Global, names: &[&'a str]) -> Result<BTreeSet<&'a str>, All
     names.iter().copied().collect(alloc)
 }
 
-/// What is said of expected names: `None` where none of them is kept, else `expected ` and the kept ones, in byte order, each
-/// once, as `a`, `a or b` or `a, b, or c`. Only want of memory refuses it.
+/// What is said of expected names: `None` where none of them is kept, else `expected ` and the
+/// kept ones, in byte order, each once, as `a`, `a or b` or `a, b, or c`. Only want of memory
+/// refuses it.
 pub fn expected_to_string(
     alloc: Global,
     expected: &[&str],

@@ -36,8 +36,8 @@ impl ParseError {
         }
     }
 
-    /// What could have stood where a parse stopped, in Cedar's own words for tokens, or `None`; of a
-    /// tree's fault always `None`. Only want of memory refuses it.
+    /// What could have stood where a parse stopped, in Cedar's own words for tokens, or `None`; of
+    /// a tree's fault always `None`. Only want of memory refuses it.
     pub fn label(&self, alloc: Global) -> Result<Option<String>, AllocError>
         ensures { IfOk result (λ label.
             SaysLabel self.now (option_map (λ text. string_bytes text) label)) }
@@ -202,7 +202,8 @@ impl ParseErrors {
         &mut self.faults
     }
 
-    /// Adds the faults of another list after those that are there. After want of memory this list is unchanged.
+    /// Adds the faults of another list after those that are there. After want of memory this list
+    /// is unchanged.
     pub fn extend(&mut self, more: ParseErrors) -> Result<(), AllocError>
         ensures ok { OnOk result (faults_of self.new ≡ faults_of self.old ++ faults_of more) }
         ensures err { OnErr result (self.new ≡ self.old) }

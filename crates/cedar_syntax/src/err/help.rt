@@ -61,7 +61,7 @@ impl ToASTErrorKind {
                 "the last part of an action's type is `Action`, as in `App::Action::\"view\"`",
             ),
             Self::SlotsInConditionClause(_) => Some("slots stand in the scope alone"),
-            Self::WrongNode { suggestion, .. } => lent(suggestion),
+            Self::WrongNode { suggestion, .. } => as_text(suggestion),
             _ => None,
         }
     }
@@ -91,10 +91,10 @@ impl ToASTErrorKind {
                 "a function is called by its name, with no value before it",
             ),
             Self::UnknownMethod { hint, .. } => {
-                lent_or(hint, "the table of extensions has no method of this name")
+                as_text_or(hint, "the table of extensions has no method of this name")
             }
             Self::UnknownFunction { hint, .. } => {
-                lent_or(hint, "the table of extensions has no function of this name")
+                as_text_or(hint, "the table of extensions has no function of this name")
             }
             _ => None,
         }
@@ -102,7 +102,7 @@ impl ToASTErrorKind {
 }
 
 // A text, where one is there.
-fn lent(text: &Option<Text>) -> Option<&str>
+fn as_text(text: &Option<Text>) -> Option<&str>
     ensures { option_map (λ text. text.now) result ≡ text.now }
 {
     match text {
@@ -112,7 +112,7 @@ fn lent(text: &Option<Text>) -> Option<&str>
 }
 
 // A text, or the other one where none is there.
-fn lent_or<'a>(text: &'a Option<Text>, other: &'a str) -> Option<&'a str>
+fn as_text_or<'a>(text: &'a Option<Text>, other: &'a str) -> Option<&'a str>
     ensures { option_map (λ text. text.now) result ≡ Some (unwrap_or text.now other.now) }
 {
     match text {

@@ -70,7 +70,8 @@ impl<T: Drop> NonEmpty<T> {
         self.tail.push(item)
     }
 
-    /// Adds the elements of another list after those that are there, or leaves this list as it was.
+    /// Adds the elements of another list after those that are there, or leaves this list as it
+    /// was.
     pub fn append(&mut self, more: NonEmpty<T>) -> Result<(), AllocError>
         ensures ok { OnOk result (list_of self.new ≡ list_of self.old ++ list_of more) }
         ensures err { OnErr result (self.new ≡ self.old) }

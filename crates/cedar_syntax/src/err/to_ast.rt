@@ -171,7 +171,8 @@ pub enum ToASTErrorKind {
 impl ToASTErrorKind {
     ghost use Rattle.either.specs.declared.Either.TheVariants.{Left, Right};
 
-    /// Another form of node than `expected`, which the words `got` name, and a hint. It takes no memory.
+    /// Another form of node than `expected`, which the words `got` name, and a hint. It takes no
+    /// memory.
     pub fn wrong_node(
         expected: &'static str,
         got: String,
@@ -336,7 +337,8 @@ pub struct ToASTError {
     pub loc: Option<Loc>,
 }
 
-/// A fault is dropped in a frame of its own, so that what lets faults go has one call there and no case for each kind.
+/// A fault is dropped in a frame of its own, so that what lets faults go has one call there and no
+/// case for each kind.
 impl Drop for ToASTError {
     #[inline(never)]
     fn drop(self) {

@@ -15,7 +15,8 @@ use std::error::Error;
 use std::fmt;
 use std::rc::RcStr;
 
-/// What stopped a parse of a text. Places are bytes of the text, `expected` holds the kinds of token that could have stood there.
+/// What stopped a parse of a text. Places are bytes of the text, `expected` holds the kinds of
+/// token that could have stood there.
 #[derive(Debug, Drop)]
 pub enum RawFault {
     /// at `location` neither a token nor white space nor a comment begins
@@ -38,7 +39,8 @@ pub enum RawFault {
     User {
         error: Node<Text>,
     },
-    /// the token at `start..end` stands after the end of a whole form; no parse of this crate gives it
+    /// the token at `start..end` stands after the end of a whole form; no parse of this crate
+    /// gives it
     ExtraToken {
         start: usize,
         end: usize,
@@ -68,12 +70,12 @@ impl RawFault {
                     start: *start,
                     end: *end,
                     token,
-                    expected: copied_kinds(expected)?,
+                    expected: copy_kinds(expected)?,
                 })
             }
             RawFault::UnrecognizedEof { location, expected } => Ok(RawFault::UnrecognizedEof {
                 location: *location,
-                expected: copied_kinds(expected)?,
+                expected: copy_kinds(expected)?,
             }),
             RawFault::User { error } => Ok(RawFault::User {
                 error: error.try_clone()?,
@@ -86,7 +88,8 @@ impl RawFault {
         }
     }
 
-    /// The kinds of token that could have stood there; none but where a token or the end was refused.
+    /// The kinds of token that could have stood there; none but where a token or the end was
+    /// refused.
     pub fn expected_kinds(&self) -> &[TokenKind]
         ensures { result.now ≡ expected_of self.now }
     {
@@ -158,7 +161,7 @@ fn names_of(alloc: Global, kinds: &[TokenKind]) -> Result<Vec<&'static str>, All
 }
 
 // The same kinds, in memory of their own.
-fn copied_kinds(kinds: &Items<TokenKind>) -> Result<Items<TokenKind>, AllocError>
+fn copy_kinds(kinds: &Items<TokenKind>) -> Result<Items<TokenKind>, AllocError>
     ensures { IfOk result (λ copy. copy ≡ kinds.now) }
 {
     let copies = Vec::from_slice(kinds.alloc(), kinds.as_slice())?;
@@ -266,7 +269,8 @@ impl ToCSTError {
         &self.raw
     }
 
-    /// Where the parse stopped: a refused token's bytes, no bytes at an invalid token or the end, the place of the parser's own words. `None` where these have none.
+    /// Where the parse stopped: a refused token's bytes, no bytes at an invalid token or the end,
+    /// the place of the parser's own words. `None` where these have none.
     pub fn primary_source_span(&self) -> Option<SourceSpan>
         ensures { result ≡ span_of_raw self.now.raw }
     {
@@ -283,15 +287,16 @@ impl ToCSTError {
         }
     }
 
-    /// The kinds of token that could have stood there; none but where a token or the end was refused.
+    /// The kinds of token that could have stood there; none but where a token or the end was
+    /// refused.
     pub fn expected_kinds(&self) -> &[TokenKind]
         ensures { result.now ≡ expected_of self.now.raw }
     {
         self.raw.expected_kinds()
     }
 
-    /// What could have stood where the parse stopped, in Cedar's own words for tokens, or `None` where that says nothing.
-    /// Only want of memory refuses it.
+    /// What could have stood where the parse stopped, in Cedar's own words for tokens, or `None`
+    /// where that says nothing. Only want of memory refuses it.
     pub fn label(&self, alloc: Global) -> Result<Option<String>, AllocError>
         ensures { IfOk result (λ label. SaysExpected policy_rules
             (map kind_name (expected_of self.now.raw))
@@ -302,7 +307,8 @@ impl ToCSTError {
         expected_to_string(alloc, names.as_slice(), &config)
     }
 
-    /// A hint at what to change: at an invalid token by the character that stands there, else `None`. Only want of memory refuses it.
+    /// A hint at what to change: at an invalid token by the character that stands there, else
+    /// `None`. Only want of memory refuses it.
     pub fn help(&self, alloc: Global) -> Result<Option<String>, AllocError>
         ensures { IfOk result (λ help.
             option_map (λ text. string_bytes text) help ≡ raw_help self.now.src self.now.raw) }

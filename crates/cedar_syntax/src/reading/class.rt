@@ -1,10 +1,7 @@
 //! Classes of tokens: the 50 kinds are told apart once, where an operand is wanted and behind one.
 
-ghost use Rattle.std.specs.Prelude.{◌≡◌, []};
-ghost use Rattle.std.specs.Str.Parse.{IsNumeral};
-ghost use Rattle.cedar_syntax.specs.machines.Begins.{IsBeginningOf};
-ghost use Rattle.cedar_syntax.specs.WrittenTokens.{Written};
-ghost use Rattle.cedar_syntax.specs.machines.Classes.{class_of, number_class, operator_of};
+ghost use Rattle.std.specs.Prelude.{◌≡◌};
+ghost use Rattle.cedar_syntax.specs.machines.Classes.{beginning_of, operator_of};
 ghost use Rattle.cedar_syntax.specs.machines.Classes.{with_sign};
 
 use crate::cst::{AddOp, MultOp, NegOp, RelOp, SIGN_LIMIT};
@@ -31,9 +28,7 @@ pub enum SlotToken {
 pub enum Beginning {
     /// One of the words, or an identifier.
     Word,
-    Number(u64),
-    /// A number past `u64`.
-    TooLarge,
+    Number,
     String,
     Slot(SlotToken),
     Sign(Sign),
@@ -96,24 +91,12 @@ pub enum Operator {
     Other,
 }
 
-/// What digits are: a number, or too large a one.
-fn as_number(text: &str) -> Beginning
-    requires { IsNumeral 10 text.now }
-    ensures class { result ≡ number_class text.now }
-    ensures text { IsBeginningOf result text.now }
-{
-    match text.parse::<u64>() {
-        Ok(number) => Beginning::Number(number),
-        Err(_) => Beginning::TooLarge,
-    }
-}
-
-/// What a token of this kind can be where an operand is wanted; 0 stands for each number.
-pub fn kind_class(kind: TokenKind) -> Beginning
-    ensures { result ≡ class_of kind [] }
+/// What a token of this kind can be where an operand is wanted.
+pub fn as_beginning(kind: TokenKind) -> Beginning
+    ensures { result ≡ beginning_of kind }
 {
     match kind {
-        TokenKind::Number => Beginning::Number(0),
+        TokenKind::Number => Beginning::Number,
         TokenKind::StringLit => Beginning::String,
         TokenKind::PrincipalSlot => Beginning::Slot(SlotToken::Principal),
         TokenKind::ResourceSlot => Beginning::Slot(SlotToken::Resource),
@@ -133,18 +116,6 @@ pub fn kind_class(kind: TokenKind) -> Beginning
                 Beginning::Other
             }
         }
-    }
-}
-
-/// What a token of this kind and text can be where an operand is wanted.
-pub fn as_beginning(kind: TokenKind, text: &str) -> Beginning
-    requires { Written kind text.now }
-    ensures class { result ≡ class_of kind text.now }
-    ensures text { IsBeginningOf result text.now }
-{
-    match kind {
-        TokenKind::Number => as_number(text),
-        _ => kind_class(kind),
     }
 }
 

@@ -3,7 +3,7 @@ ghost use Rattle.std.specs.Prelude.{◌≡◌, Some, None, IfOk, MatchResult};
 ghost use Rattle.cedar_lexer.specs.Token.{lexeme_of};
 ghost use Rattle.cedar_syntax.specs.WrittenTokens.{IsWritten};
 ghost use Rattle.cedar_syntax.specs.FirstFault.{unexpected_fault, early_at, large_at};
-ghost use Rattle.cedar_syntax.specs.machines.Door.{next};
+ghost use Rattle.cedar_syntax.specs.machines.Door.{next, machine_of, allowed_by};
 ghost use Rattle.cedar_syntax.specs.machines.Judged.{wanted_kinds, IsRead, FailsWith, GivesToken, StopsBadly, StopsAtToken, StopsAtEnd, IsStop};
 
 use crate::err::{Failure, ParseErrors, RawFault, ToCSTError};
@@ -15,46 +15,67 @@ use cedar_lexer::lexer::Lexer;
 use cedar_lexer::token::{InvalidToken, Token, TokenKind};
 use std::alloc::{AllocError, Global};
 
-/// A rule of the grammar by which a whole text is read, as the state of its machine.
-pub trait Entry: Drop {
-    ghost use Rattle.std.specs.Prelude.{◌≡◌, ℕ, Bool, List, Option, Some, None, IsTrue, IfOk};
-    ghost use Rattle.cedar_lexer.specs.Token.{Lexeme, lexeme_of};
-    ghost use Rattle.cedar_lexer.specs.declared.token.TokenKind.{TokenKind};
-    ghost use Rattle.cedar_syntax.specs.declared.node.Node.{Node};
+/// A form of the grammar that is read token after token, as the state of its machine; its tree is
+/// a `T`. What is done with a token is decided by its kind and the state's shape (`plan`), and
+/// then done (`act`): so a token with which no sentence goes on leaves the state as it was.
+pub trait Entry<T: Drop>: Drop {
+    ghost use Rattle.std.specs.Prelude.{◌≡◌, Some, IsTrue, IfOk};
+    ghost use Rattle.cedar_lexer.specs.Token.{lexeme_of};
     ghost use Rattle.cedar_syntax.specs.WrittenTokens.{IsWritten};
-    ghost use Rattle.cedar_syntax.specs.machines.Door.{Machine};
-    ghost use Rattle.cedar_syntax.specs.machines.Judged.{take_answer};
+    ghost use Rattle.cedar_syntax.specs.machines.Door.{Reader};
+    ghost use Rattle.cedar_syntax.specs.machines.Judged.{done_as};
 
-    /// What a text has by the rule.
-    type Tree: Drop;
+    /// What is done with a token that is taken: decided once, by its kind alone.
+    type Act: Drop + Copy;
 
-    // the machine that reads by the rule, over the source
-    ghost machine: { List ℕ → Machine Lexeme Self (Node (Option Self.Tree)) };
-
-    // what a state allows next, a kind of token or the end
-    ghost allowed: { Self → Option TokenKind → Bool };
+    // how the form is read
+    ghost reader: { Reader Self Self.Act T };
 
     /// Before the first token.
     fn start(alloc: Global) -> Self
-        ensures { (src : List ℕ) → (machine src).start ≡ result };
+        ensures { reader.start ≡ result };
 
-    /// Whether some sentence has this next, a kind of token or the end.
-    fn allows(&self, next: Option<TokenKind>) -> bool
-        ensures { result ≡ allowed self.now next };
+    /// What is done with a first token of this kind, or nothing where none begins with it.
+    fn first(kind: TokenKind) -> Option<Self::Act>
+        ensures { result ≡ reader.plan reader.start kind };
 
-    /// Takes a token that is allowed. The answer is false, and nothing is said of the state, if it
-    /// is a number that doesn't fit; nor is anything after want of memory.
-    fn take(&mut self, alloc: Global, source: &Source, token: Token<'_>) -> Result<bool, AllocError>
-        requires written { IsWritten (lexeme_of token) }
-        requires is_allowed { IsTrue (allowed self.old (Some token.kind)) }
+    /// What is done with a token of this kind, or nothing where no sentence has it next.
+    fn plan(&self, kind: TokenKind) -> Option<Self::Act>
+        ensures { result ≡ reader.plan self.now kind };
+
+    /// Whether the tree can end here.
+    fn ends(&self) -> bool
+        ensures { result ≡ reader.ends self.now };
+
+    /// Does with a token what is planned. The answer is false, and nothing is said of the state,
+    /// if the token is a number that doesn't fit; nor is anything said after want of memory.
+    fn act(
+        &mut self,
+        alloc: Global,
+        source: &Source,
+        act: Self::Act,
+        token: &Token<'_>,
+    ) -> Result<bool, AllocError>
+        requires written { IsWritten (lexeme_of token.now) }
+        requires is_planned { reader.plan self.old token.now.kind ≡ Some act }
         ensures { IfOk result
-            (λ fits. take_answer fits self.new ≡ (machine source.now).step self.old
-            (lexeme_of token.entry)) };
+            (λ fits. done_as fits self.new ≡
+            reader.act source.now self.old act (lexeme_of token.now)) };
 
-    /// The tree, where one can end.
-    fn finish(self, source: &Source) -> Result<Node<Option<Self::Tree>>, AllocError>
-        requires { IsTrue (allowed self None) }
-        ensures { IfOk result (λ tree. (machine source.now).finish self ≡ Some tree) };
+    /// The tree, where one can end. Nothing is said of the state behind it.
+    fn finish(&mut self, alloc: Global, source: &Source) -> Result<T, AllocError>
+        requires { IsTrue (reader.ends self.old) }
+        ensures { IfOk result (λ tree. reader.finish source.now self.old ≡ Some tree) };
+}
+
+/// Whether some sentence has this next, a kind of token or the end.
+pub fn allows<T: Drop, E: Entry<T>>(state: &E, next: Option<TokenKind>) -> bool
+    ensures { result ≡ allowed_by E.reader state.now next }
+{
+    match next {
+        Some(kind) => state.plan(kind).is_some(),
+        None => state.ends(),
+    }
 }
 
 /// The recorded words for a number that 64 bits don't hold.
@@ -73,17 +94,17 @@ pub fn failure(alloc: Global, source: &Source, raw: RawFault) -> Failure
 
 /// No sentence goes on with this token.
 #[cold]
-pub fn unexpected<E: Entry>(
+pub fn unexpected<T: Drop, E: Entry<T>>(
     alloc: Global,
     state: &E,
     narrowing: Narrowing,
-    token: Token<'_>,
+    token: &Token<'_>,
 ) -> Result<RawFault, AllocError>
     ensures { IfOk result
-        (λ raw. raw ≡ unexpected_fault (lexeme_of token.entry)
-        (wanted_kinds (E.allowed state.now) narrowing (Some token.entry.kind))) }
+        (λ raw. raw ≡ unexpected_fault (lexeme_of token.now)
+        (wanted_kinds (allowed_by E.reader state.now) narrowing (Some token.now.kind))) }
 {
-    let expected = expected(alloc, state, narrowing, Some(token.kind))?;
+    let expected = expected::<T, E>(alloc, state, narrowing, Some(token.kind))?;
     Ok(RawFault::UnrecognizedToken {
         start: token.start,
         end: token.end,
@@ -94,16 +115,17 @@ pub fn unexpected<E: Entry>(
 
 /// No sentence ends at the end of the text, which stands at this place.
 #[cold]
-pub fn early<E: Entry>(
+pub fn early<T: Drop, E: Entry<T>>(
     alloc: Global,
     state: &E,
     narrowing: Narrowing,
     end: usize,
 ) -> Result<RawFault, AllocError>
     ensures { IfOk result
-        (λ raw. raw ≡ early_at end (wanted_kinds (E.allowed state.now) narrowing None)) }
+        (λ raw. raw ≡ early_at end (wanted_kinds (allowed_by E.reader state.now)
+        narrowing None)) }
 {
-    let expected = expected(alloc, state, narrowing, None)?;
+    let expected = expected::<T, E>(alloc, state, narrowing, None)?;
     Ok(RawFault::UnrecognizedEof {
         location: end,
         expected,
@@ -115,9 +137,9 @@ pub fn early<E: Entry>(
 pub fn large_number(
     alloc: Global,
     source: &Source,
-    token: Token<'_>,
+    token: &Token<'_>,
 ) -> Result<RawFault, AllocError>
-    ensures { IfOk result (λ raw. raw ≡ large_at source.now (lexeme_of token.entry)) }
+    ensures { IfOk result (λ raw. raw ≡ large_at source.now (lexeme_of token.now)) }
 {
     let text = Text::from_str(alloc, TOO_LARGE)?;
     let loc = loc_at(source, Some(token_extent(token)))?;
@@ -145,82 +167,112 @@ pub fn next_token<'a>(
     }
 }
 
+/// The refusal of a text for a token with which no sentence goes on.
+#[cold]
+fn refuse<T: Drop, E: Entry<T>>(
+    alloc: Global,
+    source: &Source,
+    narrowing: Narrowing,
+    state: &E,
+    token: &Token<'_>,
+) -> Failure
+    requires { E.reader.plan state.now token.now.kind ≡ None }
+    ensures { StopsAtToken (machine_of source.now E.reader) (allowed_by E.reader) narrowing
+        source.now state.now (lexeme_of token.now) result }
+{
+    match unexpected::<T, E>(alloc, state, narrowing, token) {
+        Ok(raw) => failure(alloc, source, raw),
+        Err(error) => Failure::Memory(error),
+    }
+}
+
+/// The refusal of a text for a number past 64 bits.
+#[cold]
+fn refuse_number(alloc: Global, source: &Source, token: &Token<'_>) -> Failure
+    ensures { FailsWith source.now (large_at source.now (lexeme_of token.now)) result }
+{
+    match large_number(alloc, source, token) {
+        Ok(raw) => failure(alloc, source, raw),
+        Err(error) => Failure::Memory(error),
+    }
+}
+
 /// One more token.
 #[inline(always)]
-fn judge<E: Entry>(
+fn judge<T: Drop, E: Entry<T>>(
     alloc: Global,
     source: &Source,
     narrowing: Narrowing,
     state: &mut E,
-    token: Token<'_>,
+    token: &Token<'_>,
 ) -> Result<(), Failure>
-    requires { IsWritten (lexeme_of token) }
+    requires { IsWritten (lexeme_of token.now) }
     ensures { MatchResult result
-        (λ _. (E.machine source.now).step state.old (lexeme_of token.entry) ≡ next state.new)
-        (λ f. StopsAtToken (E.machine source.now) E.allowed narrowing source.now state.old
-        (lexeme_of token.entry) f) }
+        (λ _. (machine_of source.now E.reader).step state.old (lexeme_of token.now) ≡
+        next state.new)
+        (λ f. StopsAtToken (machine_of source.now E.reader) (allowed_by E.reader) narrowing
+        source.now state.old (lexeme_of token.now) f) }
 {
-    if !state.allows(Some(token.kind)) {
-        let raw = unexpected(alloc, state, narrowing, token)?;
-        return Err(failure(alloc, source, raw));
-    }
-    if state.take(alloc, source, token)? {
+    let Some(act) = state.plan(token.kind) else {
+        return Err(refuse::<T, E>(alloc, source, narrowing, state, token));
+    };
+    if state.act(alloc, source, act, token)? {
         Ok(())
     } else {
-        Err(failure(alloc, source, large_number(alloc, source, token)?))
+        Err(refuse_number(alloc, source, token))
     }
 }
 
 /// The tree at the end of the text.
-fn conclude<E: Entry>(
+fn conclude<T: Drop, E: Entry<T>>(
     alloc: Global,
     source: &Source,
     narrowing: Narrowing,
-    state: E,
+    mut state: E,
     end: usize,
-) -> Result<Node<Option<E::Tree>>, Failure>
-    ensures { MatchResult result (λ x. (E.machine source.now).finish state ≡ Some x)
-        (λ f. StopsAtEnd (E.machine source.now) E.allowed narrowing source.now state end f) }
+) -> Result<T, Failure>
+    ensures { MatchResult result (λ x. (machine_of source.now E.reader).finish state ≡ Some x)
+        (λ f. StopsAtEnd (machine_of source.now E.reader) (allowed_by E.reader) narrowing
+        source.now state end f) }
 {
-    if !state.allows(None) {
-        let raw = early(alloc, &state, narrowing, end)?;
+    if !state.ends() {
+        let raw = early::<T, E>(alloc, &state, narrowing, end)?;
         return Err(failure(alloc, source, raw));
     }
-    Ok(state.finish(source)?)
+    Ok(state.finish(alloc, source)?)
 }
 
 /// Reads the text, of which the source is a copy, to its end.
-fn read<E: Entry>(
+fn read<T: Drop, E: Entry<T>>(
     alloc: Global,
     source: &Source,
     text: &str,
     narrowing: Narrowing,
-) -> Result<Node<Option<E::Tree>>, Failure>
+) -> Result<T, Failure>
     requires { source.now ≡ text.now }
-    ensures { MatchResult result (λ x. IsRead (E.machine source.now) source.now x)
-        (λ f. IsStop (E.machine source.now) E.allowed narrowing source.now f) }
+    ensures { MatchResult result (λ x. IsRead (machine_of source.now E.reader) source.now x)
+        (λ f. IsStop (machine_of source.now E.reader) (allowed_by E.reader) narrowing source.now
+        f) }
 {
     let mut lexer = Lexer::new(text);
     let mut state = E::start(alloc);
     let mut end = 0;
-    let mut ahead = next_token(alloc, source, &mut lexer)?;
-    while let Some(token) = ahead {
-        judge(alloc, source, narrowing, &mut state, token)?;
+    while let Some(token) = next_token(alloc, source, &mut lexer)? {
+        judge::<T, E>(alloc, source, narrowing, &mut state, &token)?;
         end = token.end;
-        ahead = next_token(alloc, source, &mut lexer)?;
     }
-    conclude(alloc, source, narrowing, state, end)
+    conclude::<T, E>(alloc, source, narrowing, state, end)
 }
 
 /// The tree that a text has by this rule.
-pub fn parse<E: Entry>(
+pub fn parse<T: Drop, E: Entry<T>>(
     alloc: Global,
     text: &str,
     narrowing: Narrowing,
-) -> Result<Node<Option<E::Tree>>, Failure>
-    ensures { MatchResult result (λ x. IsRead (E.machine text.now) text.now x)
-        (λ f. IsStop (E.machine text.now) E.allowed narrowing text.now f) }
+) -> Result<T, Failure>
+    ensures { MatchResult result (λ x. IsRead (machine_of text.now E.reader) text.now x)
+        (λ f. IsStop (machine_of text.now E.reader) (allowed_by E.reader) narrowing text.now f) }
 {
     let source = Source::from_str(alloc, text)?;
-    read::<E>(alloc, &source, text, narrowing)
+    read::<T, E>(alloc, &source, text, narrowing)
 }

@@ -1,9 +1,10 @@
 //! The kinds of token that a refusal records as expected.
 ghost use Rattle.std.specs.Prelude.{◌≡◌, Some, IfOk};
 ghost use Rattle.cedar_syntax.specs.Expected.{is_closer, goes_behind, can_narrow};
+ghost use Rattle.cedar_syntax.specs.machines.Door.{allowed_by};
 ghost use Rattle.cedar_syntax.specs.machines.Judged.{any_closer, is_narrowed, picked_kinds, wanted_kinds};
 
-use crate::reading::driver::Entry;
+use crate::reading::driver::{Entry, allows};
 use cedar_expressions::Items;
 use cedar_lexer::token::TokenKind;
 use std::alloc::{AllocError, Global};
@@ -136,11 +137,12 @@ fn can_narrow(narrowing: Narrowing, refused: Option<TokenKind>) -> bool
 }
 
 /// Whether one of these kinds closes something that is open.
-fn allows_closer<E: Entry>(state: &E, kinds: &[TokenKind]) -> bool
-    ensures { result ≡ any_closer (λ kind. E.allowed state.now (Some kind)) kinds.now }
+fn allows_closer<T: Drop, E: Entry<T>>(state: &E, kinds: &[TokenKind]) -> bool
+    ensures { result ≡ any_closer (λ kind. allowed_by E.reader state.now (Some kind))
+        kinds.now }
 {
     for kind in kinds {
-        if is_closer(*kind) && state.allows(Some(*kind)) {
+        if is_closer(*kind) && allows::<T, E>(state, Some(*kind)) {
             return true;
         }
     }
@@ -148,27 +150,33 @@ fn allows_closer<E: Entry>(state: &E, kinds: &[TokenKind]) -> bool
 }
 
 /// Whether the list is narrowed to what closes something.
-fn is_narrowed<E: Entry>(state: &E, narrowing: Narrowing, refused: Option<TokenKind>) -> bool
-    ensures { result ≡ is_narrowed (E.allowed state.now) narrowing refused }
+fn is_narrowed<T: Drop, E: Entry<T>>(
+    state: &E,
+    narrowing: Narrowing,
+    refused: Option<TokenKind>,
+) -> bool
+    ensures { result ≡ is_narrowed (allowed_by E.reader state.now) narrowing refused }
 {
     can_narrow(narrowing, refused)
-        && (state.allows(Some(TokenKind::Star)) || state.allows(Some(TokenKind::AndAnd)))
-        && allows_closer(state, &KINDS_BY_NAME)
+        && (allows::<T, E>(state, Some(TokenKind::Star))
+            || allows::<T, E>(state, Some(TokenKind::AndAnd)))
+        && allows_closer::<T, E>(state, &KINDS_BY_NAME)
 }
 
 /// Those of these kinds that are allowed, or of them what closes something.
-fn allowed_among<E: Entry>(
+fn allowed_among<T: Drop, E: Entry<T>>(
     alloc: Global,
     state: &E,
     narrowed: bool,
     kinds: &[TokenKind],
 ) -> Result<Items<TokenKind>, AllocError>
     ensures { IfOk result
-        (λ allowed. allowed ≡ picked_kinds narrowed (E.allowed state.now) kinds.now) }
+        (λ allowed. allowed ≡ picked_kinds narrowed (allowed_by E.reader state.now)
+        kinds.now) }
 {
     let mut allowed = Items::new(alloc);
     for kind in kinds {
-        if (!narrowed || is_closer(*kind)) && state.allows(Some(*kind)) {
+        if (!narrowed || is_closer(*kind)) && allows::<T, E>(state, Some(*kind)) {
             allowed.push(*kind)?;
         }
     }
@@ -176,14 +184,15 @@ fn allowed_among<E: Entry>(
 }
 
 /// The kinds that are expected where this is refused, a kind of token or the end.
-pub fn expected<E: Entry>(
+pub fn expected<T: Drop, E: Entry<T>>(
     alloc: Global,
     state: &E,
     narrowing: Narrowing,
     refused: Option<TokenKind>,
 ) -> Result<Items<TokenKind>, AllocError>
-    ensures { IfOk result (λ kinds. kinds ≡ wanted_kinds (E.allowed state.now) narrowing refused) }
+    ensures { IfOk result (λ kinds. kinds ≡ wanted_kinds (allowed_by E.reader state.now)
+        narrowing refused) }
 {
-    let narrowed = is_narrowed(state, narrowing, refused);
-    allowed_among(alloc, state, narrowed, &KINDS_BY_NAME)
+    let narrowed = is_narrowed::<T, E>(state, narrowing, refused);
+    allowed_among::<T, E>(alloc, state, narrowed, &KINDS_BY_NAME)
 }

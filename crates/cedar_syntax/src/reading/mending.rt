@@ -1,5 +1,5 @@
 //! Reads a whole text by a rule in which reading goes on behind a fault, and tells all its faults.
-ghost use Rattle.std.specs.Prelude.{◌≡◌, ℕ, List, [], Some, None, cond, IfOk, MatchResult, MatchOption};
+ghost use Rattle.std.specs.Prelude.{◌≡◌, ℕ, List, [], Some, None, false, cond, IfOk, MatchResult, MatchOption};
 ghost use Rattle.cedar_lexer.specs.LexerState.{LexerAnswers};
 ghost use Rattle.cedar_lexer.specs.Token.{lexeme_of};
 ghost use Rattle.cedar_syntax.specs.NonEmpty.{list_of};
@@ -7,10 +7,14 @@ ghost use Rattle.cedar_syntax.specs.declared.reading.mending.Doing.TheVariants a
 ghost use Rattle.cedar_syntax.specs.MendedFaults.{fault_of, faults_with_last};
 ghost use Rattle.cedar_syntax.specs.WrittenTokens.{IsWritten};
 ghost use Rattle.cedar_syntax.specs.machines.Judged.{IsRead};
-ghost use Rattle.cedar_syntax.specs.machines.Mending.{bad_fault, refused_fault, bad_or, recovers_of, stage_of, skip_step_by, judgment_by, recovery_step_by, last_of, met_faults, answer_as, RefusesWith, IsToldBy, IsTold};
+ghost use Rattle.cedar_syntax.specs.FirstFault.{large_at};
+ghost use Rattle.cedar_syntax.specs.machines.Door.{machine_of, allowed_by};
+ghost use Rattle.cedar_syntax.specs.machines.Marks.{mark_of};
+ghost use Rattle.cedar_syntax.specs.machines.Recovery.{stopped};
+ghost use Rattle.cedar_syntax.specs.machines.Skipping.{skip, skip_answer};
+ghost use Rattle.cedar_syntax.specs.machines.Mending.{IsSkipping, IsSkippingBy, mended_stage, stopped_stage, bad_fault, refused_fault, bad_or, recovers_of, stage_of, skip_step_by, judgment_by, recovery_step_by, last_of, met_faults, answer_as, RefusesWith, IsToldBy, IsTold};
 
 use crate::err::{Failure, NonEmpty, ParseError, ParseErrors, RawFault, ToCSTError};
-use crate::node::Node;
 use crate::reading::driver::{Entry, early, large_number, unexpected};
 use crate::reading::expected::Narrowing;
 use crate::reading::mark::as_mark;
@@ -93,8 +97,8 @@ impl<F: Drop> From<AllocError> for Refusal<F> {
 }
 
 /// Before the first token.
-fn begin<E: Entry, F: Telling>(alloc: Global) -> Run<E, F>
-    ensures state { (src : List ℕ) → (E.machine src).start ≡ result.state }
+fn begin<T: Drop, E: Entry<T>, F: Telling>(alloc: Global) -> Run<E, F>
+    ensures state { E.reader.start ≡ result.state }
     ensures rest { (result.end ≡ 0) × (result.mended ≡ []) × (result.doing ≡ doing.Reading) }
 {
     Run {
@@ -105,18 +109,34 @@ fn begin<E: Entry, F: Telling>(alloc: Global) -> Run<E, F>
     }
 }
 
-/// Skips a token, to leave a fault.
+/// Skips a token by this way, to leave a fault.
+fn leave_by<E: Recovering, F: Telling>(
+    alloc: Global,
+    run: &mut Run<E, F>,
+    way: Way,
+    token: &Token<'_>,
+) -> Skipping
+    ensures answer { skip_answer result run.new.state ≡ skip E.closed E.over way run.old.state
+        (mark_of token.now.kind) }
+    ensures rest { (run.new.end ≡ run.old.end) × (run.new.mended ≡ run.old.mended) ×
+        (run.new.doing ≡ run.old.doing) }
+{
+    skip(alloc, &mut run.state, way, as_mark(token.kind))
+}
+
+/// A fault at a token, and what is done with the token to leave it.
+#[cold]
 fn leave<E: Recovering, F: Telling>(
     alloc: Global,
     run: &mut Run<E, F>,
     pending: Pending<F>,
-    token: Token<'_>,
+    token: &Token<'_>,
 ) -> Result<(), AllocError>
     ensures { IfOk result
         (λ _. stage_of run.new ≡ skip_step_by E.closed E.over run.old.mended pending.way
-        run.old.state pending.fault (lexeme_of token.entry)) }
+        run.old.state pending.fault (lexeme_of token.now)) }
 {
-    match skip(alloc, &mut run.state, pending.way, as_mark(token.kind)) {
+    match leave_by(alloc, run, pending.way, token) {
         Skipping::On => run.doing = Doing::Skipping(pending),
         Skipping::Over => {
             run.mended.push(pending.fault)?;
@@ -128,73 +148,161 @@ fn leave<E: Recovering, F: Telling>(
     Ok(())
 }
 
-/// Reads a token.
-fn judge<E: Entry + Recovering, F: Telling>(
-    alloc: Global,
-    source: &Source,
-    run: &mut Run<E, F>,
-    token: Token<'_>,
-) -> Result<(), AllocError>
-    requires written { IsWritten (lexeme_of token) }
-    requires reading { run.old.doing ≡ doing.Reading }
-    ensures { IfOk result
-        (λ _. stage_of run.new ≡ judgment_by (E.allowed run.old.state (Some token.entry.kind))
-        (recovers_of E.allowed E.left E.closed E.over F.told source.now) run.old.mended run.old.end
-        run.old.state (lexeme_of token.entry)
-        ((E.machine source.now).step run.old.state (lexeme_of token.entry))) }
-{
-    if !run.state.allows(Some(token.kind)) {
-        let raw = unexpected(alloc, &run.state, Narrowing::Tokens, token)?;
-        let fault = F::tell(source, raw)?;
-        let way = run.state.way();
-        return leave(alloc, run, Pending { way, fault }, token);
-    }
-    if run.state.take(alloc, source, token)? {
-        run.end = token.end;
-    } else {
-        let raw = large_number(alloc, source, token)?;
-        run.doing = Doing::Stopped(F::tell(source, raw)?);
-    }
-    Ok(())
-}
-
-/// One more token.
-fn step<E: Entry + Recovering, F: Telling>(
-    alloc: Global,
-    source: &Source,
-    run: &mut Run<E, F>,
-    token: Token<'_>,
-) -> Result<(), AllocError>
-    requires { IsWritten (lexeme_of token) }
-    ensures { IfOk result
-        (λ _. stage_of run.new ≡ recovery_step_by (E.machine source.now) E.allowed
-        (recovers_of E.allowed E.left E.closed E.over F.told source.now) (stage_of run.old)
-        (lexeme_of token.entry)) }
+/// Behind the last token that is skipped: reading goes on.
+#[cold]
+fn mend<E: Recovering, F: Telling>(run: &mut Run<E, F>, end: usize) -> Result<(), AllocError>
+    requires { IsSkipping run.old.doing }
+    ensures { IfOk result (λ _. stage_of run.new ≡ mended_stage run.old end) }
 {
     match mem::replace(&mut run.doing, Doing::Reading) {
-        Doing::Reading => judge(alloc, source, run, token),
-        Doing::Skipping(pending) => leave(alloc, run, pending, token),
-        Doing::Stopped(fault) => {
-            run.doing = Doing::Stopped(fault);
+        Doing::Skipping(pending) => {
+            run.end = end;
+            run.mended.push(pending.fault)
+        }
+        Doing::Reading | Doing::Stopped(_) => unreachable!(),
+    }
+}
+
+/// Behind a token at which skipping stops: nothing more is read.
+#[cold]
+fn stop<E: Recovering, F: Telling>(run: &mut Run<E, F>)
+    requires { IsSkipping run.old.doing }
+    ensures { stage_of run.new ≡ stopped_stage run.old }
+{
+    match mem::replace(&mut run.doing, Doing::Reading) {
+        Doing::Skipping(pending) => run.doing = Doing::Stopped(pending.fault),
+        Doing::Reading | Doing::Stopped(_) => unreachable!(),
+    }
+}
+
+/// Skips one more token; the fault stays where it is until it is left.
+fn skip_on<E: Recovering, F: Telling>(
+    alloc: Global,
+    run: &mut Run<E, F>,
+    way: Way,
+    token: &Token<'_>,
+) -> Result<(), AllocError>
+    requires { IsSkippingBy way run.old.doing }
+    ensures { IfOk result
+        (λ _. (pending : _) → run.old.doing ≡ doing.Skipping pending →
+        stage_of run.new ≡ skip_step_by E.closed E.over run.old.mended way run.old.state
+        pending.fault (lexeme_of token.now)) }
+{
+    match leave_by(alloc, run, way, token) {
+        Skipping::On => Ok(()),
+        Skipping::Over => mend(run, token.end),
+        Skipping::Stop => {
+            stop(run);
             Ok(())
         }
     }
 }
 
+/// A token with which no sentence goes on.
+#[cold]
+fn refuse<T: Drop, E: Entry<T> + Recovering, F: Telling>(
+    alloc: Global,
+    source: &Source,
+    run: &mut Run<E, F>,
+    token: &Token<'_>,
+) -> Result<(), AllocError>
+    requires { E.reader.plan run.old.state token.now.kind ≡ None }
+    ensures { IfOk result
+        (λ _. stage_of run.new ≡ judgment_by false
+        (recovers_of (allowed_by E.reader) E.left E.closed E.over F.told source.now)
+        run.old.mended run.old.end run.old.state (lexeme_of token.now)
+        ((machine_of source.now E.reader).step run.old.state (lexeme_of token.now))) }
+{
+    let raw = unexpected::<T, E>(alloc, &run.state, Narrowing::Tokens, token)?;
+    let fault = F::tell(source, raw)?;
+    let way = run.state.way();
+    leave(alloc, run, Pending { way, fault }, token)
+}
+
+/// A number past 64 bits, where a number may stand: nothing more is read.
+#[cold]
+fn refuse_number<E: Recovering, F: Telling>(
+    alloc: Global,
+    source: &Source,
+    run: &mut Run<E, F>,
+    token: &Token<'_>,
+) -> Result<(), AllocError>
+    ensures { IfOk result
+        (λ _. stage_of run.new ≡ stopped run.old.mended
+        (F.told source.now (large_at source.now (lexeme_of token.now)))) }
+{
+    let raw = large_number(alloc, source, token)?;
+    run.doing = Doing::Stopped(F::tell(source, raw)?);
+    Ok(())
+}
+
+/// Reads a token.
+#[inline(always)]
+fn judge<T: Drop, E: Entry<T> + Recovering, F: Telling>(
+    alloc: Global,
+    source: &Source,
+    run: &mut Run<E, F>,
+    token: &Token<'_>,
+) -> Result<(), AllocError>
+    requires written { IsWritten (lexeme_of token.now) }
+    requires reading { run.old.doing ≡ doing.Reading }
+    ensures { IfOk result
+        (λ _. stage_of run.new ≡ judgment_by
+        (allowed_by E.reader run.old.state (Some token.now.kind))
+        (recovers_of (allowed_by E.reader) E.left E.closed E.over F.told source.now)
+        run.old.mended run.old.end run.old.state (lexeme_of token.now)
+        ((machine_of source.now E.reader).step run.old.state (lexeme_of token.now))) }
+{
+    let Some(act) = run.state.plan(token.kind) else {
+        return refuse::<T, E, F>(alloc, source, run, token);
+    };
+    if !run.state.act(alloc, source, act, token)? {
+        return refuse_number(alloc, source, run, token);
+    }
+    run.end = token.end;
+    Ok(())
+}
+
+/// One more token.
+#[inline(always)]
+fn step<T: Drop, E: Entry<T> + Recovering, F: Telling>(
+    alloc: Global,
+    source: &Source,
+    run: &mut Run<E, F>,
+    token: &Token<'_>,
+) -> Result<(), AllocError>
+    requires { IsWritten (lexeme_of token.now) }
+    ensures { IfOk result
+        (λ _. stage_of run.new ≡ recovery_step_by (machine_of source.now E.reader)
+        (allowed_by E.reader)
+        (recovers_of (allowed_by E.reader) E.left E.closed E.over F.told source.now)
+        (stage_of run.old) (lexeme_of token.now)) }
+{
+    match &run.doing {
+        Doing::Reading => judge::<T, E, F>(alloc, source, run, token),
+        Doing::Skipping(pending) => {
+            let way = pending.way;
+            skip_on(alloc, run, way, token)
+        }
+        Doing::Stopped(_) => Ok(()),
+    }
+}
+
 /// The fault of the end, if the text can't end there.
-fn end_fault<E: Entry, F: Telling>(
+fn end_fault<T: Drop, E: Entry<T>, F: Telling>(
     alloc: Global,
     source: &Source,
     run: &Run<E, F>,
 ) -> Result<Option<F>, AllocError>
     ensures { IfOk result
-        (λ last. last ≡ cond (E.allowed run.now.state None) None
-        (Some (refused_fault F.told (E.allowed run.now.state) source.now run.now.end None))) }
+        (λ last. last ≡ cond (E.reader.ends run.now.state) None
+        (Some (refused_fault F.told (allowed_by E.reader run.now.state) source.now
+        run.now.end None))) }
 {
-    if run.state.allows(None) {
+    if run.state.ends() {
         return Ok(None);
     }
-    let raw = early(alloc, &run.state, Narrowing::Tokens, run.end)?;
+    let raw = early::<T, E>(alloc, &run.state, Narrowing::Tokens, run.end)?;
     Ok(Some(F::tell(source, raw)?))
 }
 
@@ -209,15 +317,15 @@ fn bad_or<F: Telling>(source: &Source, bad: Option<usize>, fault: F) -> Result<F
 }
 
 /// The fault at which the parse stops, if there is one: at the end, or at a bad place.
-fn last_fault<E: Entry + Recovering, F: Telling>(
+fn last_fault<T: Drop, E: Entry<T> + Recovering, F: Telling>(
     alloc: Global,
     source: &Source,
     run: &mut Run<E, F>,
     bad: Option<usize>,
 ) -> Result<Option<F>, AllocError>
     ensures last { IfOk result
-        (λ last. last ≡ last_of E.allowed
-        (recovers_of E.allowed E.left E.closed E.over F.told source.now)
+        (λ last. last ≡ last_of (allowed_by E.reader)
+        (recovers_of (allowed_by E.reader) E.left E.closed E.over F.told source.now)
         (bad_fault F.told source.now) (stage_of run.old) bad) }
     ensures state { run.new.state ≡ run.old.state }
     ensures mended { run.new.mended ≡ run.old.mended }
@@ -225,7 +333,7 @@ fn last_fault<E: Entry + Recovering, F: Telling>(
     match mem::replace(&mut run.doing, Doing::Reading) {
         Doing::Reading => match bad {
             Some(location) => { Ok(Some(F::tell(source, RawFault::InvalidToken { location })?)) }
-            None => end_fault(alloc, source, run),
+            None => end_fault::<T, E, F>(alloc, source, run),
         },
         Doing::Skipping(pending) => Ok(Some(bad_or(source, bad, pending.fault)?)),
         Doing::Stopped(fault) => Ok(Some(fault)),
@@ -259,29 +367,35 @@ fn all_faults<F: Drop>(last: Option<F>, mended: Items<F>) -> Option<NonEmpty<F>>
 }
 
 /// The tree, or the faults, where no token follows.
-fn conclude<E: Entry + Recovering, F: Telling>(
+fn conclude<T: Drop, E: Entry<T> + Recovering, F: Telling>(
     alloc: Global,
     source: &Source,
     mut run: Run<E, F>,
     bad: Option<usize>,
-) -> Result<Node<Option<E::Tree>>, Refusal<F>>
-    ensures tree { IfOk result (λ x. (E.machine source.now).finish run.state ≡ Some x) }
+) -> Result<T, Refusal<F>>
+    ensures tree { IfOk result (λ x. (machine_of source.now E.reader).finish run.state ≡ Some x) }
     ensures faults { MatchResult result
-        (λ _. met_faults E.allowed (recovers_of E.allowed E.left E.closed E.over F.told source.now)
+        (λ _. met_faults (allowed_by E.reader)
+        (recovers_of (allowed_by E.reader) E.left E.closed E.over F.told source.now)
         (bad_fault F.told source.now) (stage_of run) bad ≡ [])
-        (λ f. RefusesWith (met_faults E.allowed
-        (recovers_of E.allowed E.left E.closed E.over F.told source.now)
+        (λ f. RefusesWith (met_faults (allowed_by E.reader)
+        (recovers_of (allowed_by E.reader) E.left E.closed E.over F.told source.now)
         (bad_fault F.told source.now) (stage_of run) bad) f) }
 {
-    let last = last_fault(alloc, source, &mut run, bad)?;
-    let Run { state, mended, .. } = run;
+    let last = last_fault::<T, E, F>(alloc, source, &mut run, bad)?;
+    let Run {
+        mut state,
+        mended,
+        ..
+    } = run;
     match all_faults(last, mended) {
         Some(faults) => Err(Refusal::Faults(faults)),
-        None => Ok(state.finish(source)?),
+        None => Ok(state.finish(alloc, source)?),
     }
 }
 
 /// The next token of the text, or none, at its end or at a bad place.
+#[inline(always)]
 fn next_token<'a>(lexer: &mut Lexer<'a>, bad: &mut Option<usize>) -> Option<Token<'a>>
     ensures { LexerAnswers lexer.old (answer_as result bad.new) lexer.new }
 {
@@ -297,39 +411,35 @@ fn next_token<'a>(lexer: &mut Lexer<'a>, bad: &mut Option<usize>) -> Option<Toke
 }
 
 /// Reads the text, of which the source is a copy, to its end.
-fn read<E: Entry + Recovering, F: Telling>(
+fn read<T: Drop, E: Entry<T> + Recovering, F: Telling>(
     alloc: Global,
     source: &Source,
     text: &str,
-) -> Result<Node<Option<E::Tree>>, Refusal<F>>
+) -> Result<T, Refusal<F>>
     requires { source.now ≡ text.now }
-    ensures { MatchResult result (λ x. IsRead (E.machine source.now) source.now x)
-        (λ f. IsToldBy (E.machine source.now) E.allowed
-        (recovers_of E.allowed E.left E.closed E.over F.told source.now)
+    ensures { MatchResult result (λ x. IsRead (machine_of source.now E.reader) source.now x)
+        (λ f. IsToldBy (machine_of source.now E.reader) (allowed_by E.reader)
+        (recovers_of (allowed_by E.reader) E.left E.closed E.over F.told source.now)
         (bad_fault F.told source.now) source.now f) }
 {
     let mut lexer = Lexer::new(text);
-    let mut run = begin::<E, F>(alloc);
+    let mut run = begin::<T, E, F>(alloc);
     let mut bad = None;
-    let mut ahead = next_token(&mut lexer, &mut bad);
-    while let Some(token) = ahead {
-        step(alloc, source, &mut run, token)?;
-        ahead = next_token(&mut lexer, &mut bad);
+    while let Some(token) = next_token(&mut lexer, &mut bad) {
+        step::<T, E, F>(alloc, source, &mut run, &token)?;
     }
-    conclude(alloc, source, run, bad)
+    conclude::<T, E, F>(alloc, source, run, bad)
 }
 
 /// The tree that a text has by this rule, or all its faults.
-pub fn parse_on<E: Entry + Recovering>(
-    alloc: Global,
-    text: &str,
-) -> Result<Node<Option<E::Tree>>, Failure>
-    ensures { MatchResult result (λ x. IsRead (E.machine text.now) text.now x)
-        (λ f. IsTold (E.machine text.now) E.allowed
-        (recovers_of E.allowed E.left E.closed E.over fault_of text.now) text.now f) }
+pub fn parse_on<T: Drop, E: Entry<T> + Recovering>(alloc: Global, text: &str) -> Result<T, Failure>
+    ensures { MatchResult result (λ x. IsRead (machine_of text.now E.reader) text.now x)
+        (λ f. IsTold (machine_of text.now E.reader) (allowed_by E.reader)
+        (recovers_of (allowed_by E.reader) E.left E.closed E.over fault_of text.now)
+        text.now f) }
 {
     let source = Source::from_str(alloc, text)?;
-    match read::<E, ParseError>(alloc, &source, text) {
+    match read::<T, E, ParseError>(alloc, &source, text) {
         Ok(tree) => Ok(tree),
         Err(Refusal::Memory(error)) => Err(Failure::Memory(error)),
         Err(Refusal::Faults(faults)) => Err(Failure::Errors(ParseErrors { faults })),

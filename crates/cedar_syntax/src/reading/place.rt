@@ -11,8 +11,8 @@ use cedar_lexer::token::Token;
 use std::alloc::AllocError;
 
 /// The bytes that a token takes.
-pub fn token_extent(token: Token<'_>) -> Extent
-    ensures { result ≡ extent_of (lexeme_of token.entry) }
+pub fn token_extent(token: &Token<'_>) -> Extent
+    ensures { result ≡ extent_of (lexeme_of token.now) }
 {
     Extent {
         start: token.start,

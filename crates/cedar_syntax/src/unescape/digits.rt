@@ -4,7 +4,8 @@ ghost use Rattle.std.specs.Prelude.{◌≡◌, ◌<◌, ◌≤◌};
 use crate::err::EscapeError;
 use crate::unescape::piece::PieceValue;
 
-/// The digits between braces so far: how many, seven standing for more, and their number, 110000 standing for more.
+/// The digits between braces so far: how many, seven standing for more, and their number, 110000
+/// standing for more.
 #[derive(Clone, Copy)]
 pub struct Digits {
     count: u32,
@@ -39,7 +40,7 @@ impl Digits {
     }
 
     /// What the digits stand for, once the brace is closed.
-    pub fn closed(self) -> PieceValue
+    pub fn close(self) -> PieceValue
         ensures { result ≡ brace_outcome (tally_of self) }
     {
         if self.count > 6 {

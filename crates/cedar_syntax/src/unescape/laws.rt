@@ -1,4 +1,5 @@
-//! Laws of the pieces of a raw text. Each is a function that does nothing: its contract is the law.
+//! Laws of the pieces of a raw text. Each is a function that does nothing: its contract is the
+//! law.
 ghost use Rattle.std.specs.Prelude.{◌≡◌, ℕ, List};
 ghost use Rattle.cedar_syntax.specs.Piece.{Placed, IsLaidOut};
 

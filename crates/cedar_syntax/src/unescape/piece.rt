@@ -86,7 +86,7 @@ fn inside_braces(mut digits: Digits, text: &str) -> Step<'_>
             '_' => {}
             '}' => {
                 return Step {
-                    outcome: digits.closed(),
+                    outcome: digits.close(),
                     rest,
                 };
             }

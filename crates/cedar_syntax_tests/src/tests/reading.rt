@@ -92,10 +92,10 @@ fn a_number_past_64_bits_is_told_at_its_place(rt: HostRuntime) {
         end: 49,
         text: "a == b",
     };
-    let told = made(&rt, large_number(rt.alloc(), &source, token));
+    let told = made(&rt, large_number(rt.alloc(), &source, &token));
     let error = Node::with_source_loc(text(&rt, TOO_LARGE), place(&rt, 43, 49));
     agrees(&rt, told, RawFault::User { error }, "too large");
-    let told = made(&rt, large_number(rt.alloc(), &source, token));
+    let told = made(&rt, large_number(rt.alloc(), &source, &token));
     says(&rt, failure(rt.alloc(), &source, told), TOO_LARGE);
     drop(source);
 }

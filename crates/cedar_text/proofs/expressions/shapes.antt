@@ -1,2 +1,3 @@
-pub mod Operators
-pub mod Shaped
+pub mod Acts
+pub mod Done
+pub mod Outlined

@@ -1,86 +1,105 @@
--- The door, the shapes and the runs of a machine with another tree.
+-- The door, the outline and the runs of a form whose tree is another's, put in another way.
 use Rattle.std.proofs.Common.{◌≡◌, ℕ, List, [], ◌∷◌, Option, Some, None, refl, sym, ◌∙◌, ap, subst}
 use Rattle.cedar_lexer.specs.Token.{Lexeme}
-use Rattle.cedar_lexer.specs.declared.token.TokenKind.{TokenKind}
 use Rattle.cedar_syntax.specs.declared.cst.Policy.{Policy}
 use Rattle.cedar_syntax.specs.declared.cst.Policies.{Policies}
 use Rattle.cedar_syntax.specs.declared.reading.extent.Extent.{Extent}
+use Rattle.cedar_text.specs.declared.text_to_cst.sequence.Spanned.{Spanned}
 use Rattle.cedar_syntax.specs.Grammar.{IsNodeOf}
 use Rattle.cedar_syntax.specs.LoosePolicies.{ReadsMany, ReadsPolicy, ReadsPolicies}
 use Rattle.cedar_syntax.specs.LoosePolicies as loose
 use Rattle.cedar_syntax.specs.Place.{joint_extent, extent_of, extent, loc_at, placed, placed_or_start}
 use Rattle.cedar_syntax.specs.Trees.{Cell, policies_of}
-use Rattle.cedar_syntax.specs.machines.Door.{Machine, Answer, next, ended, refused, too_large, answer_state, step_from, steps, AnswersRightly, Door, IsShape, option_image, Shapes}
-use Rattle.cedar_syntax.specs.machines.Mapping.{mapped_answer, mapped_machine, loc_or_start, policies_node}
-use Rattle.cedar_text.specs.machines.Placing.{AsNode, as_node, spanned_state, placing}
+use Rattle.cedar_syntax.specs.machines.Door.{steps, Comes, Door, option_image, Reader, machine_of, Outline}
+use Rattle.cedar_syntax.specs.machines.Mapping.{loc_or_start, policies_node}
+use Rattle.cedar_text.specs.machines.Placing.{AsNode, as_node, spanned_state, placing_reader, mapped_reader}
 use Rattle.cedar_text.specs.machines.WordShapes.{no_tree}
 use Rattle.cedar_syntax.proofs.machines.Laws.{some_is}
+use Rattle.cedar_syntax.proofs.machines.Holding as holding
+use Rattle.cedar_syntax.proofs.machines.Holding.{held}
+use Rattle.cedar_syntax.proofs.machines.Readers.{takes, taken_by}
 use Rattle.cedar_text.proofs.machines.Lifted.{Holds}
 use Rattle.cedar_text.proofs.machines.Placing.{forth, back}
+use Rattle.cedar_text.proofs.machines.Rightly.{EndsRightly, DoesRightly, image_of, image_some, does_by, answers_from, image_done}
+use Rattle.cedar_text.proofs.machines.SequenceShapes.{IsOutlineBy}
+
+-- one state holds the other, and nothing else
+pub record IsWrapped {S H : Type 0} (out : H → S) (into : S → H) : Type 0 where
+  pub there : (s : S) → out (into s) ≡ s
+  pub back : (h : H) → into (out h) ≡ h
 
 -- runs
 
-taken_same : {S T Z : Type 0} (g : T → Z) (a : Answer S T) → answer_state (mapped_answer g a) ≡ answer_state a
-taken_same g (next s) = refl
-taken_same g (ended x) = refl
-taken_same g refused = refl
-taken_same g too_large = refl
+puts_in : {S H A T Z : Type 0} (src : List ℕ) (out : H → S) (into : S → H) (g : List ℕ → T → Z) (r : Reader S A T) → IsWrapped out into → holding.Holds (machine_of src r) (machine_of src (mapped_reader out into g r)) into
+puts_in src out into g r w s q t e =
+    let p = taken_by src r s q t e in
+    takes src (mapped_reader out into g r) (into s) (into q) p.what t (ap (λ s. r.plan s t.kind) (w.there s) ∙ p.planned) (ap (λ s. option_image into (r.act src s p.what t)) (w.there s) ∙ ap (λ o. option_image into o) p.made)
 
-from_same : {K S T Z : Type 0} (g : T → Z) (m : Machine K S T) (s : Option S) (t : K) → step_from (mapped_machine g m) s t ≡ step_from m s t
-from_same g m None t = refl
-from_same g m (Some s) t = taken_same g (m.step s t)
+takes_out : {S H A T Z : Type 0} (src : List ℕ) (out : H → S) (into : S → H) (g : List ℕ → T → Z) (r : Reader S A T) → IsWrapped out into → holding.Holds (machine_of src (mapped_reader out into g r)) (machine_of src r) out
+takes_out src out into g r w s q t e =
+    let p = taken_by src (mapped_reader out into g r) s q t e in
+    let o = image_of into (r.act src (out s) p.what t) q p.made in
+    takes src r (out s) (out q) p.what t p.planned (o.1 ∙ ap (λ q. Some q) (sym (w.there o.0) ∙ ap out o.2))
 
-steps_same : {K S T Z : Type 0} (g : T → Z) (m : Machine K S T) (s : Option S) (ts : List K) → steps (mapped_machine g m) s ts ≡ steps m s ts
-steps_same g m s [] = refl
-steps_same g m s (t ∷ ts) = ap (λ s. steps (mapped_machine g m) s ts) (from_same g m s t) ∙ steps_same g m (step_from m s t) ts
+pub mapped_forth : {S H A T Z : Type 0} (src : List ℕ) (out : H → S) (into : S → H) (g : List ℕ → T → Z) (r : Reader S A T) → IsWrapped out into → (ts : List Lexeme) (s : S) → Comes (machine_of src r) ts s → Comes (machine_of src (mapped_reader out into g r)) ts (into s)
+mapped_forth src out into g r w ts s c = held (machine_of src r) (machine_of src (mapped_reader out into g r)) into (puts_in src out into g r w) ts r.start s c
+
+pub mapped_back : {S H A T Z : Type 0} (src : List ℕ) (out : H → S) (into : S → H) (g : List ℕ → T → Z) (r : Reader S A T) → IsWrapped out into → (ts : List Lexeme) (h : H) → Comes (machine_of src (mapped_reader out into g r)) ts h → Comes (machine_of src r) ts (out h)
+mapped_back src out into g r w ts h c =
+    ap (λ s. steps (machine_of src r) (Some s) ts) (sym (w.there r.start)) ∙ held (machine_of src (mapped_reader out into g r)) (machine_of src r) out (takes_out src out into g r w) ts (into r.start) h c
 
 -- the door
 
-mapped_answers : {S T Z : Type 0} (g : T → Z) (t : Lexeme) (a : Answer S T) (o : Option T) → AnswersRightly t a o → AnswersRightly t (mapped_answer g a) (option_image g o)
-mapped_answers g t (next s) o h = h
-mapped_answers g t (ended x) o h = ap (λ o. option_image g o) h
-mapped_answers g t refused o h = ap (λ o. option_image g o) h
-mapped_answers g t too_large o h = h
+pub mapped_right : {S H A T Z : Type 0} (src : List ℕ) (out : H → S) (into : S → H) (g : List ℕ → T → Z) (r : Reader S A T) → EndsRightly src r → EndsRightly src (mapped_reader out into g r)
+mapped_right src out into g r i h = i (out h) ∙ sym (image_some (g src) (r.finish src (out h)))
+
+mapped_does : {S H A T Z : Type 0} (src : List ℕ) (out : H → S) (into : S → H) (g : List ℕ → T → Z) (r : Reader S A T) → DoesRightly src r → DoesRightly src (mapped_reader out into g r)
+mapped_does src out into g r i h a t p = image_done into t (r.act src (out h) a t) (i (out h) a t p)
 
 mapped_sound : {T Z : Type 0} (g : T → Z) (R : T → Type 0) (Q : Z → Type 0) (z : Z) (o : Option T) → ((x : T) → o ≡ Some x → R x) → ((x : T) → R x → Q (g x)) → option_image g o ≡ Some z → Q z
 mapped_sound g R Q z None h k e = absurd (cc)
 mapped_sound g R Q z (Some x) h k e = subst Q (some_is e) (k x (h x refl))
 
-pub mapped_door : {S T Z : Type 0} (g : T → Z) (m : Machine Lexeme S T) (R : List Lexeme → T → Type 0) (Q : List Lexeme → Z → Type 0) → Door m R → ((ts : List Lexeme) (x : T) → R ts x → Q ts (g x)) → ((ts : List Lexeme) (z : Z) → Q ts z → (x : T) × R ts x × (g x ≡ z)) →
-    Door (mapped_machine g m) Q
-mapped_door g m R Q d to of = record {
-  complete = λ ts z q. let w = of ts z q in let h = d.complete ts w.0 w.1 in
-      record { last = h.last; goes = steps_same g m (Some m.start) ts ∙ h.goes; ends = ap (λ o. option_image g o) h.ends ∙ ap (λ z. Some z) w.2 };
-  sound = λ ts s z c e. mapped_sound g (λ x. R ts x) (λ z. Q ts z) z (m.finish s) (λ x h. d.sound ts s x (sym (steps_same g m (Some m.start) ts) ∙ c) h) (λ x r. to ts x r) e;
-  viable = λ s. let c = d.viable s in
-      record { more = c.more; last = c.last; tree = g c.tree; goes = steps_same g m (Some s) c.more ∙ c.goes; ends = ap (λ o. option_image g o) c.ends };
-  answers = λ s t. mapped_answers g t (m.step s t) (m.finish s) (d.answers s t);
+pub mapped_door : {S H A T Z : Type 0} (src : List ℕ) (out : H → S) (into : S → H) (g : List ℕ → T → Z) (r : Reader S A T) → IsWrapped out into → (R : List Lexeme → T → Type 0) (Q : List Lexeme → Z → Type 0) → Door (machine_of src r) R → ((ts : List Lexeme) (x : T) → R ts x → Q ts (g src x)) →
+    ((ts : List Lexeme) (z : Z) → Q ts z → (x : T) × R ts x × (g src x ≡ z)) → Door (machine_of src (mapped_reader out into g r)) Q
+mapped_door src out into g r w R Q d to of = record {
+  complete = λ ts z q. let v = of ts z q in let h = d.complete ts v.0 v.1 in
+      record { last = into h.last; goes = mapped_forth src out into g r w ts h.last h.goes; ends = ap (λ s. option_image (g src) (r.finish src s)) (w.there h.last) ∙ ap (λ o. option_image (g src) o) h.ends ∙ ap (λ z. Some z) v.2 };
+  sound = λ ts h z c e. mapped_sound (g src) (λ x. R ts x) (λ z. Q ts z) z (r.finish src (out h)) (λ x f. d.sound ts (out h) x (mapped_back src out into g r w ts h c) f) (λ x v. to ts x v) e;
+  viable = λ h. let c = d.viable (out h) in
+      record {
+        more = c.more;
+        last = into c.last;
+        tree = g src c.tree;
+        goes = ap (λ q. steps (machine_of src (mapped_reader out into g r)) (Some q) c.more) (sym (w.back h)) ∙ held (machine_of src r) (machine_of src (mapped_reader out into g r)) into (puts_in src out into g r w) c.more (out h) c.last c.goes;
+        ends = ap (λ s. option_image (g src) (r.finish src s)) (w.there c.last) ∙ ap (λ o. option_image (g src) o) c.ends;
+      };
+  answers = answers_from src (mapped_reader out into g r) (mapped_does src out into g r (does_by src r d.answers));
 }
 
--- shapes
-
-shape_mapped : {S T Z U : Type 0} (f : S → U) (g : T → Z) (a : Answer S T) (c : Answer U (Unit {0})) → IsShape f no_tree a c → IsShape f no_tree (mapped_answer g a) c
-shape_mapped f g (next s) c h = h
-shape_mapped f g (ended x) c h = h
-shape_mapped f g refused c h = h
-shape_mapped f g too_large c h = h
+-- the outline
 
 image_mapped : {T Z : Type 0} (g : T → Z) (o : Option T) → option_image no_tree o ≡ option_image no_tree (option_image g o)
 image_mapped g None = refl
 image_mapped g (Some x) = refl
 
-pub mapped_shaped : {S T Z U : Type 0} (g : T → Z) (m : Machine Lexeme S T) (n : Machine TokenKind U (Unit {0})) (f : S → U) → Shapes m n f no_tree → Shapes (mapped_machine g m) n f no_tree
-mapped_shaped g m n f i = record {
-  starts = i.starts;
-  steps = λ s t. shape_mapped f g (m.step s t) (n.step (f s) t.kind) (i.steps s t);
-  finishes = λ s. i.finishes s ∙ image_mapped g (m.finish s);
+pub mapped_outlined : {S H A T Z U : Type 0} (src : List ℕ) (out : H → S) (into : S → H) (g : List ℕ → T → Z) (r : Reader S A T) → IsWrapped out into → (n : Outline U A (Unit {0})) (f : S → U) → IsOutlineBy src r n f → IsOutlineBy src (mapped_reader out into g r) n (λ h. f (out h))
+mapped_outlined src out into g r w n f i = record {
+  starts = ap f (w.there r.start) ∙ i.starts;
+  plans = λ h k. i.plans (out h) k;
+  acts = λ h q a t p e.
+      let o = image_of into (r.act src (out h) a t) q e in
+      ap (λ q. f (out q)) (sym o.2) ∙ ap f (w.there o.0) ∙ i.acts (out h) o.0 a t p o.1;
+  done = λ h a t p. image_done into t (r.act src (out h) a t) (i.done (out h) a t p);
+  ends = λ h. i.ends (out h);
+  finishes = λ h. i.finishes (out h) ∙ image_mapped (g src) (r.finish src (out h));
 }
 
--- what a machine holds whose tree is put as a node
-pub placed_holds : {S T Z : Type 0} (src : List ℕ) (g : Cell T → Z) (m : Machine Lexeme S T) → Holds m (mapped_machine g (placing src m)) (λ q. q.state)
-placed_holds src g m = record {
-  down = λ ts q c. (back src m None m.start ts q (sym (steps_same g (placing src m) (Some (placing src m).start) ts) ∙ c)).goes;
-  up = λ ts s c. (spanned_state (extent ts) s, steps_same g (placing src m) (Some (placing src m).start) ts ∙ forth src m None m.start s ts c, refl);
+-- what a form holds whose tree is put as a node
+pub placed_holds : {S H A T Z : Type 0} (src : List ℕ) (out : H → Spanned S) (into : Spanned S → H) (g : List ℕ → Cell T → Z) (r : Reader S A T) → IsWrapped out into → Holds (machine_of src r) (machine_of src (mapped_reader out into g (placing_reader r))) (λ h. (out h).state)
+placed_holds src out into g r w = record {
+  down = λ ts h c. (back src r None r.start ts (out h) (mapped_back src out into g (placing_reader r) w ts h c)).goes;
+  up = λ ts s c. (into (spanned_state (extent ts) s), mapped_forth src out into g (placing_reader r) w ts (spanned_state (extent ts) s) (forth src r None r.start s ts c), ap (λ q. q.state) (w.there (spanned_state (extent ts) s)));
 }
 
 -- policies

@@ -1,5 +1,5 @@
--- The machine of words, with trees as the machine of expressions takes them: its door, how it ends and goes on, and its shapes.
-use Rattle.std.proofs.Common.{◌≡◌, ℕ, List, [], ◌∷◌, ◌++◌, Option, Some, true, false, refl, sym, ◌∙◌, ap, subst}
+-- Words, with trees as expressions take them: the door, how they end and go on, and the outline.
+use Rattle.std.proofs.Common.{◌≡◌, ℕ, List, [], ◌∷◌, ◌++◌, Option, Some, None, true, false, refl, sym, ◌∙◌, ap, subst}
 use Rattle.cedar_lexer.specs.Token.{Lexeme}
 use Rattle.cedar_lexer.specs.declared.token.TokenKind.{TokenKind}
 use Rattle.cedar_lexer.specs.declared.token.TokenKind.TheVariants as kind
@@ -22,23 +22,23 @@ use Rattle.cedar_syntax.specs.Place.{extent, node_at, placed}
 use Rattle.cedar_syntax.specs.Tokens.{Spot, one}
 use Rattle.cedar_syntax.specs.Trees.{Cell, name_of}
 use Rattle.cedar_text.specs.machines.Closing.{ranged_tree}
-use Rattle.cedar_syntax.specs.machines.Door.{ended, Door}
-use Rattle.cedar_text.specs.machines.Expressions.{alone_of}
-use Rattle.cedar_text.specs.machines.Named.{NameOrEntity, ReadsNamed, words_tree, named_words, joins_words, IsLonger, IsWords}
+use Rattle.cedar_text.specs.machines.Keeping.{kept_end}
+use Rattle.cedar_syntax.specs.machines.Door.{ended, Door, IsOutline, is_some, option_image}
+use Rattle.cedar_text.specs.machines.Expressions.{alone_of, alone_is_if, named_is_if}
+use Rattle.cedar_text.specs.machines.Named.{NameOrEntity, ReadsNamed, words_tree, named_reader, named_words, joins_words, IsLonger, IsWords}
 use Rattle.cedar_text.specs.machines.Named as named
-use Rattle.cedar_text.specs.machines.NamedShapes.{is_if_alone, named_shapes}
-use Rattle.cedar_text.specs.machines.Words.{word_of, word_node, with_word, path_extent, path_had, entity_with_extent, as_words, kept_answer, words_machine}
+use Rattle.cedar_text.specs.machines.NamedShapes.{is_if_alone, named_outline}
+use Rattle.cedar_text.specs.machines.Words.{word_of, word_node, with_word, path_extent, entity_with_extent, words_end, words_reader}
 use Rattle.cedar_text.specs.machines.WordsRead.{ReadsWords, a_path, an_entity}
-use Rattle.cedar_text.specs.machines.WordShapes.{PathKind, truth, condition, a_name, ident_kind, kind_among, WordsShape, WordsKind, words_shape, words_kind, path_kind}
+use Rattle.cedar_text.specs.machines.WordShapes.{PathKind, truth, condition, a_name, kind_among, WordsKind, words_shape, words_kind}
 use Rattle.cedar_text.specs.machines.WordShapes as shaped
 use Rattle.cedar_syntax.proofs.machines.Laws.{some_is, none_some}
 use Rattle.cedar_syntax.proofs.machines.Extents.{at}
-use Rattle.cedar_text.proofs.machines.Images.{image_door, image_shapes}
-use Rattle.cedar_text.proofs.machines.Keeping.{Kept, door_as}
-use Rattle.cedar_text.proofs.machines.WordShapes.{words_shaped}
+use Rattle.cedar_syntax.proofs.machines.Readers.{leaves_tree}
+use Rattle.cedar_text.proofs.machines.Keeping.{Kept, kept_door, kept_completed, door_as}
+use Rattle.cedar_text.proofs.machines.WordShapes.{words_outlined}
 use Rattle.cedar_text.proofs.machines.Words.{entity_runs, PathAs, path_as, as_path, spanned}
-use Rattle.cedar_text.proofs.machines.WordsDoor.{words_door}
-use Rattle.cedar_text.proofs.expressions.shapes.Shaped.{lone_if, is_lone_if, WordsAlike}
+use Rattle.cedar_text.proofs.machines.WordsDoor.{words_door, unplanned_words}
 
 -- ---- the door
 
@@ -73,23 +73,27 @@ as_named {src = src} {ts = ts} y (a_path {q = q} r) e =
 as_named {src = src} {ts = ts} y (an_entity {x = x} e f r) g = subst (λ y. ReadsNamed src ts y) (sym (named_entity src ts e x f) ∙ g) (named.a_ref r)
 
 pub named_door : (src : List ℕ) → Door (named_words src) (ReadsNamed src)
-named_door src = door_as (λ ts y r. image_of r) (λ ts y k. as_named y k.reads (some_is k.is)) (image_door (words_machine src) (ReadsWords src) (λ x. words_tree src x) (words_door src))
+named_door src =
+    door_as (λ ts y r. image_of r) (λ ts y k. as_named y k.reads (some_is k.is))
+    (kept_door src (λ src x. Some (words_tree src x)) (λ s. is_some (words_end s)) words_reader (ReadsWords src) (words_door src)
+    (λ s. kept_completed src (λ src x. words_tree src x) (λ s. is_some (words_end s)) words_reader s ((words_door src).viable s)))
 
 -- ---- how words end, and how they go on
 
-had_ends : (src : List ℕ) (p : Path) (k : TokenKind) → joins_words k ≡ false → kept_answer (λ x. Some (words_tree src x)) (as_words (path_had p k)) ≡ ended (words_tree src (words.Path p))
-had_ends src p kind.ColonColon e = absurd (true_false e)
+not_joined : (k : TokenKind) → joins_words k ≡ false → k ≡ kind.ColonColon → ⊥
+not_joined k e f = false_true (sym e ∙ ap (λ k. joins_words k) f)
   where
-    true_false : true ≡ false → ⊥
-    true_false e = cc
-had_ends src p _ e = refl
+    false_true : false ≡ true → ⊥
+    false_true e = cc
+
+tree_there : (src : List ℕ) (o : Option Words) (x : NameOrEntity) → kept_end (λ x. Some (words_tree src x)) o ≡ Some x → (y : Words) × (o ≡ Some y)
+tree_there src (Some y) x e = (y, refl)
+tree_there src None x e = absurd (none_some refl e)
 
 words_ended : (src : List ℕ) (s : WordsState) (x : NameOrEntity) (t : Lexeme) → joins_words t.kind ≡ false → (named_words src).finish s ≡ Some x → (named_words src).step s t ≡ ended x
-words_ended src (state.Path path.Start) x t e f = absurd (none_some refl f)
-words_ended src (state.Path (path.Have p)) x t e f = had_ends src p t.kind e ∙ ap (λ y. ended y) (some_is f)
-words_ended src (state.Path (path.Behind p)) x t e f = absurd (none_some refl f)
-words_ended src (state.Inits s) x t e f = absurd (none_some refl f)
-words_ended src (state.Entity w) x t e f = ap (λ y. ended y) (some_is f)
+words_ended src s x t e f =
+    let y = tree_there src (words_end s) x f in
+    leaves_tree src named_reader s t x (unplanned_words s y.0 t.kind (not_joined t.kind e) y.1) f
 
 abbrev longer_by : List ℕ → Path → Spot → Path
 longer_by src p q = with_word src p (word_of (ident.Ident q.text) (at q))
@@ -115,7 +119,7 @@ words_longer src (state.Entity w) x p q e = absurd (no_path (ranged_tree (Some w
 pub named_are_words : (src : List ℕ) → IsWords (named_words src)
 named_are_words src = record { ends = λ s x t e f. words_ended src s x t e f; longer = λ s x p q e. words_longer src s x p q e }
 
--- ---- shapes
+-- ---- the outline
 
 abbrev alone_kind : Alone → PathKind
 alone_kind alone.True = truth
@@ -138,15 +142,28 @@ kinds_alike : (src : List ℕ) (x : Words) → named_kind (words_tree src x) ≡
 kinds_alike src (words.Path p) = ap (λ c. shaped.a_path c) (alone_alike src p.last.extent p.before p.last.ident)
 kinds_alike src (words.Entity e) = refl
 
-ifs_alike : (a : Alone) → is_if_alone (shaped.a_path (alone_kind a)) ≡ lone_if a
+ifs_alike : (a : Alone) → is_if_alone (shaped.a_path (alone_kind a)) ≡ alone_is_if a
 ifs_alike alone.True = refl
 ifs_alike alone.False = refl
 ifs_alike alone.If = refl
 ifs_alike alone.Name = refl
 
-named_ifs : (x : NameOrEntity) → is_if_alone (named_kind x) ≡ is_lone_if x
+-- whether they are the word `if` alone
+pub named_ifs : (x : NameOrEntity) → is_if_alone (named_kind x) ≡ named_is_if x
 named_ifs (named.path x) = ifs_alike (alone_of x.tree.path x.tree.name)
 named_ifs (named.entity x) = refl
 
-pub named_alike : (src : List ℕ) → WordsAlike (named_words src) named_shapes words_shape named_kind
-named_alike src = record { shapes = image_shapes words_shape words_kind (λ x. words_tree src x) named_kind (λ x. kinds_alike src x) (words_shaped src); ifs = named_ifs }
+named_end : (src : List ℕ) (o : Option Words) → option_image words_kind o ≡ option_image named_kind (kept_end (λ x. Some (words_tree src x)) o)
+named_end src (Some x) = ap (λ c. Some c) (sym (kinds_alike src x))
+named_end src None = refl
+
+pub named_outlined : (src : List ℕ) → IsOutline src named_reader named_outline.outline words_shape named_kind
+named_outlined src =
+    let o = words_outlined src in record {
+      starts = o.starts;
+      plans = o.plans;
+      acts = o.acts;
+      done = o.done;
+      ends = o.ends;
+      finishes = λ s. o.finishes s ∙ named_end src (words_end s);
+    }

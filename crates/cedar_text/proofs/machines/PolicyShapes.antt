@@ -1,288 +1,229 @@
--- Shapes of a policy's parts go as their states do.
-use Rattle.std.proofs.Common.{◌≡◌, ℕ, List, Option, Some, None, true, refl, sym, ◌∙◌, ap, subst}
+-- The outline of a policy, from those of its parts.
+use Rattle.std.specs.Prelude.{cond}
+use Rattle.std.proofs.Common.{◌≡◌, ℕ, List, Option, Some, None, Bool, true, false, refl, sym, ◌∙◌, ap, subst}
 use Rattle.cedar_lexer.specs.Token.{Lexeme}
 use Rattle.cedar_lexer.specs.declared.token.TokenKind.{TokenKind}
 use Rattle.cedar_lexer.specs.declared.token.TokenKind.TheVariants as kind
-use Rattle.cedar_syntax.specs.declared.cst.RelOp.{RelOp}
-use Rattle.cedar_syntax.specs.declared.cst.Expr.{Expr}
-use Rattle.cedar_syntax.specs.declared.cst.Add.{Add}
 use Rattle.cedar_syntax.specs.declared.cst.Ident.{Ident}
-use Rattle.cedar_syntax.specs.declared.cst.Name.{Name}
-use Rattle.cedar_syntax.specs.declared.cst.Str.{Str}
 use Rattle.cedar_syntax.specs.declared.cst.Annotation.{Annotation}
 use Rattle.cedar_syntax.specs.declared.cst.VariableDef.{VariableDef}
 use Rattle.cedar_syntax.specs.declared.cst.Cond.{Cond}
-use Rattle.cedar_syntax.specs.declared.reading.mark.Mark.{Mark}
-use Rattle.cedar_syntax.specs.declared.reading.mark.Mark.TheVariants as mark
-use Rattle.cedar_text.specs.declared.text_to_cst.annotation.AnnotationState.{AnnotationState}
-use Rattle.cedar_text.specs.declared.text_to_cst.annotation.AnnotationState.TheVariants as annotation
-use Rattle.cedar_text.specs.declared.text_to_cst.scope.ElementState.{ElementState}
-use Rattle.cedar_text.specs.declared.text_to_cst.scope.ElementState.TheVariants as element
-use Rattle.cedar_text.specs.declared.text_to_cst.condition.ConditionState.{ConditionState}
-use Rattle.cedar_text.specs.declared.text_to_cst.condition.ConditionState.TheVariants as condition
-use Rattle.cedar_text.specs.declared.text_to_cst.policy.PolicyState.{PolicyState}
-use Rattle.cedar_text.specs.declared.text_to_cst.policy.PolicyState.TheVariants as policy
-use Rattle.cedar_syntax.specs.Tokens.{any_of}
+use Rattle.cedar_text.specs.declared.text_to_cst.policy.Section.{Section}
+use Rattle.cedar_text.specs.declared.text_to_cst.policy.Section.TheVariants as section
+use Rattle.cedar_text.specs.declared.text_to_cst.policy.PolicyAct.{PolicyAct}
+use Rattle.cedar_text.specs.declared.text_to_cst.policy.PolicyAct.TheVariants as act
+use Rattle.cedar_text.specs.declared.text_to_cst.sequence.Sequence.{Sequence}
+use Rattle.cedar_syntax.specs.Tokens.{any_of, fits}
 use Rattle.cedar_syntax.specs.Trees.{Cell}
-use Rattle.cedar_syntax.specs.machines.Door.{Machine, Answer, next, ended, refused, too_large, is_taken, is_some, option_image, Shapes}
-use Rattle.cedar_syntax.specs.machines.Marks.{mark_of, relation_of}
-use Rattle.cedar_text.specs.machines.Annotation.{at_start, at_key, behind_annotation_key, at_annotation_value, behind_value, annotation_step, annotation_end, annotations}
-use Rattle.cedar_text.specs.machines.Scope.{at_variable, at_constraint, at_entity_type, at_type_name, in_type_name, in_entity_type, in_constraint, PartMachines, element_step, end_type_name, end_entity_type, end_constraint, element_end, elements}
-use Rattle.cedar_text.specs.machines.Condition.{at_word, behind_word, behind_body, at_body, in_body, condition_step, condition_end, conditions}
-use Rattle.cedar_text.specs.machines.Policy.{Sections, at_effect, in_annotations, behind_effect, behind_scope, in_scope, behind_conditions, in_conditions, policy_step, policy_end, policies}
+use Rattle.cedar_syntax.specs.machines.Door.{is_some, option_image, IsDone}
+use Rattle.cedar_text.specs.machines.Annotation.{any_node}
+use Rattle.cedar_text.specs.machines.Policy.{is_word, PolicyOf, Sections, annotations_plan, open_plan, close_plan, scope_plan, shut_plan, conditions_plan, policy_plan, with_annotations, with_scope, with_conditions, behind_effect, behind_scope, behind_conditions, effect_read, policy_act, policy_ends, policy_tree, policy_reader}
+use Rattle.cedar_text.specs.machines.PolicyShapes.{section_shape, policy_shape, SectionOutlines, policy_shape_plan, policy_shape_act, policy_shape_finish, policy_outline, in_head, has_effect, in_parens, behind_parens}
+use Rattle.cedar_text.specs.machines.Words.{token_node}
 use Rattle.cedar_text.specs.machines.WordShapes.{no_tree}
-use Rattle.cedar_text.specs.machines.PolicyShapes.{is_word, annotation_shape, start_shape, annotation_key_shape, behind_key_shape, annotation_value_shape, behind_value_shape, annotation_shape_step, annotation_shape_end, annotation_shapes}
-use Rattle.cedar_text.specs.machines.PolicyShapes.{element_shape, PartShapes, variable_shape, constraint_shape, entity_shape, type_shape, in_type_shape, in_sum_shape, in_expression_shape, element_shape_step, element_shape_end, element_shapes}
-use Rattle.cedar_text.specs.machines.PolicyShapes.{condition_shape, condition_word_shape, behind_word_shape, behind_body_shape, at_body_shape, in_body_shape, condition_shape_step, condition_shape_end, condition_shapes}
-use Rattle.cedar_text.specs.machines.PolicyShapes.{in_head, policy_shape, SectionShapes, effect_shape, in_annotations_shape, behind_effect_shape, behind_scope_shape, in_scope_shape, behind_conditions_shape, in_conditions_shape, policy_shape_step, policy_shape_end, policy_shapes}
-use Rattle.cedar_text.proofs.machines.SequenceShapes.{IsShapeBy, if_taken}
+use Rattle.cedar_syntax.proofs.machines.Laws.{some_is, false_true}
+use Rattle.cedar_text.proofs.machines.Rightly.{EndsRightly, image_of, image_some, image_done, ends_by}
+use Rattle.cedar_text.proofs.machines.SequenceShapes.{IsOutlineBy}
+use Rattle.cedar_text.proofs.machines.WordPlans.{same_any}
 
--- whether a token is a word doesn't hang on its text
-pub words_alike : (k : TokenKind) (text : List ℕ) → is_some (any_of k text) ≡ is_word k
-words_alike kind.Identifier text = refl
-words_alike _ text = refl
+-- a word has a node
+pub word_there : (src : List ℕ) (t : Lexeme) → is_word t.kind ≡ is_some (any_node src t)
+word_there src t = same_any t.kind t.text ∙ sym (image_some (λ i. token_node src t i) (any_of t.kind t.text))
 
--- annotations
+-- ---- what is planned in a section
 
-start_steps : (c : Mark) → IsShapeBy annotation_shape (at_start c) (start_shape c)
-start_steps mark.At = refl
-start_steps _ = refl
+-- what the act asks of the section, and of the part that is begun
+abbrev pub IsSectionPlan : {A V C X Y Z : Type 0} → Sections A V C X Y Z → Section → PolicyOf A V C → TokenKind → PolicyAct X Y Z → Type 0
+IsSectionPlan m n s k (act.Annotation a) = (n ≡ section.Annotations) × (m.annotations.plan s.annotations k ≡ Some a)
+IsSectionPlan m n s k act.Effect = (n ≡ section.Annotations) × (m.annotations.ends s.annotations ≡ true) × (is_word k ≡ true)
+IsSectionPlan m n s k act.Open = (n ≡ section.Effect) × (k ≡ kind.OpenParen)
+IsSectionPlan m n s k (act.Element a) = (n ≡ section.Scope) × (m.scope.plan s.scope k ≡ Some a)
+IsSectionPlan m n s k act.Close = (n ≡ section.Scope) × (m.scope.ends s.scope ≡ true) × (k ≡ kind.CloseParen)
+IsSectionPlan m n s k (act.Condition a) = (n ≡ section.Conditions) × (m.conditions.plan s.conditions k ≡ Some a)
+IsSectionPlan m n s k act.Shut = (n ≡ section.Conditions) × (m.conditions.ends s.conditions ≡ true) × (k ≡ kind.Semicolon)
 
-key_steps : (src : List ℕ) (t : Lexeme) (o : Option Ident) → IsShapeBy annotation_shape (at_key src t o) (annotation_key_shape (is_some o))
-key_steps src t None = refl
-key_steps src t (Some i) = refl
+annotation_is : {X Y Z : Type 0} {a c : X} → ◌≡◌ {A = Option (PolicyAct X Y Z)} (Some (act.Annotation c)) (Some (act.Annotation a)) → Some c ≡ Some a
+annotation_is h = cc
 
-behind_key_steps : (i : Cell Ident) (c : Mark) → IsShapeBy annotation_shape (behind_annotation_key i c) (behind_key_shape c)
-behind_key_steps i mark.OpenParen = refl
-behind_key_steps i _ = refl
+element_is : {X Y Z : Type 0} {a c : Y} → ◌≡◌ {A = Option (PolicyAct X Y Z)} (Some (act.Element c)) (Some (act.Element a)) → Some c ≡ Some a
+element_is h = cc
 
-value_steps : (src : List ℕ) (i : Cell Ident) (t : Lexeme) (c : Mark) → IsShapeBy annotation_shape (at_annotation_value src i t c) (annotation_value_shape c)
-value_steps src i t mark.String = refl
-value_steps src i t _ = refl
+condition_is : {X Y Z : Type 0} {a c : Z} → ◌≡◌ {A = Option (PolicyAct X Y Z)} (Some (act.Condition c)) (Some (act.Condition a)) → Some c ≡ Some a
+condition_is h = cc
 
-behind_value_steps : (i : Cell Ident) (x : Cell Str) (c : Mark) → IsShapeBy annotation_shape (behind_value i x c) (behind_value_shape c)
-behind_value_steps i x mark.CloseParen = refl
-behind_value_steps i x _ = refl
+word_planned : {X Y Z : Type 0} (b : Bool) (a : PolicyAct X Y Z) → cond b (Some act.Effect) None ≡ Some a → (b ≡ true) × (act.Effect ≡ a)
+word_planned true a h = (refl, some_is h)
+word_planned false a h = absurd (cc)
 
-annotation_steps : (src : List ℕ) (s : AnnotationState) (t : Lexeme) → IsShapeBy annotation_shape (annotation_step src s t) (annotation_shape_step (annotation_shape s) t.kind)
-annotation_steps src annotation.Start t = start_steps (mark_of t.kind)
-annotation_steps src annotation.At t = subst (λ b. IsShapeBy annotation_shape (at_key src t (any_of t.kind t.text)) (annotation_key_shape b)) (words_alike t.kind t.text) (key_steps src t (any_of t.kind t.text))
-annotation_steps src (annotation.Key i) t = behind_key_steps i (mark_of t.kind)
-annotation_steps src (annotation.Open i) t = value_steps src i t (mark_of t.kind)
-annotation_steps src (annotation.Value i x) t = behind_value_steps i x (mark_of t.kind)
-annotation_steps src (annotation.Closed i x) t = refl
+in_annotations : {A V C X Y Z : Type 0} (m : Sections A V C X Y Z) (s : PolicyOf A V C) (k : TokenKind) (o : Option X) (b : Bool) (a : PolicyAct X Y Z) → m.annotations.plan s.annotations k ≡ o → m.annotations.ends s.annotations ≡ b →
+    annotations_plan o b k ≡ Some a → IsSectionPlan m section.Annotations s k a
+in_annotations m s k (Some c) b (act.Annotation a) e i h = (refl, e ∙ annotation_is h)
+in_annotations m s k (Some c) b act.Effect e i h = absurd (cc)
+in_annotations m s k (Some c) b act.Open e i h = absurd (cc)
+in_annotations m s k (Some c) b (act.Element a) e i h = absurd (cc)
+in_annotations m s k (Some c) b act.Close e i h = absurd (cc)
+in_annotations m s k (Some c) b (act.Condition a) e i h = absurd (cc)
+in_annotations m s k (Some c) b act.Shut e i h = absurd (cc)
+in_annotations m s k None true a e i h = let w = word_planned (is_word k) a h in subst (λ a. IsSectionPlan m section.Annotations s k a) w.1 (refl, i, w.0)
+in_annotations m s k None false a e i h = absurd (cc)
 
-annotation_ends : (s : AnnotationState) → annotation_shape_end (annotation_shape s) ≡ option_image no_tree (annotation_end s)
-annotation_ends annotation.Start = refl
-annotation_ends annotation.At = refl
-annotation_ends (annotation.Key i) = refl
-annotation_ends (annotation.Open i) = refl
-annotation_ends (annotation.Value i x) = refl
-annotation_ends (annotation.Closed i x) = refl
+open_planned : {X Y Z : Type 0} (k : TokenKind) (a : PolicyAct X Y Z) → open_plan k ≡ Some a → (k ≡ kind.OpenParen) × (act.Open ≡ a)
+open_planned kind.OpenParen a h = (refl, some_is h)
+open_planned _ a h = absurd (cc)
 
-pub annotations_shaped : (src : List ℕ) → Shapes (annotations src) annotation_shapes annotation_shape no_tree
-annotations_shaped src = record { starts = refl; steps = annotation_steps src; finishes = annotation_ends }
+close_planned : {X Y Z : Type 0} (k : TokenKind) (a : PolicyAct X Y Z) → close_plan k ≡ Some a → (k ≡ kind.CloseParen) × (act.Close ≡ a)
+close_planned kind.CloseParen a h = (refl, some_is h)
+close_planned _ a h = absurd (cc)
 
--- elements of the scope
+shut_planned : {X Y Z : Type 0} (k : TokenKind) (a : PolicyAct X Y Z) → shut_plan k ≡ Some a → (k ≡ kind.Semicolon) × (act.Shut ≡ a)
+shut_planned kind.Semicolon a h = (refl, some_is h)
+shut_planned _ a h = absurd (cc)
 
--- the shapes of the parts
-pub record PartsShaped {N S E L M F : Type 0} (m : PartMachines N S E) (n : PartShapes L M F) (f : N → L) (g : S → M) (h : E → F) : Type 0 where
-  pub name : Shapes m.name n.name f no_tree
-  pub sum : Shapes m.sum n.sum g no_tree
-  pub expression : Shapes m.expression n.expression h no_tree
+in_scope : {A V C X Y Z : Type 0} (m : Sections A V C X Y Z) (s : PolicyOf A V C) (k : TokenKind) (o : Option Y) (b : Bool) (a : PolicyAct X Y Z) → m.scope.plan s.scope k ≡ o → m.scope.ends s.scope ≡ b →
+    scope_plan o b k ≡ Some a → IsSectionPlan m section.Scope s k a
+in_scope m s k (Some c) b (act.Element a) e i h = (refl, e ∙ element_is h)
+in_scope m s k (Some c) b (act.Annotation a) e i h = absurd (cc)
+in_scope m s k (Some c) b act.Effect e i h = absurd (cc)
+in_scope m s k (Some c) b act.Open e i h = absurd (cc)
+in_scope m s k (Some c) b act.Close e i h = absurd (cc)
+in_scope m s k (Some c) b (act.Condition a) e i h = absurd (cc)
+in_scope m s k (Some c) b act.Shut e i h = absurd (cc)
+in_scope m s k None true a e i h = let w = close_planned k a h in subst (λ a. IsSectionPlan m section.Scope s k a) w.1 (refl, i, w.0)
+in_scope m s k None false a e i h = absurd (cc)
 
-variable_steps : {N S E L M F : Type 0} (f : N → L) (g : S → M) (h : E → F) (src : List ℕ) (t : Lexeme) (o : Option Ident) → IsShapeBy (element_shape f g h) (at_variable src t o) (variable_shape (is_some o))
-variable_steps f g h src t None = refl
-variable_steps f g h src t (Some i) = refl
+in_conditions : {A V C X Y Z : Type 0} (m : Sections A V C X Y Z) (s : PolicyOf A V C) (k : TokenKind) (o : Option Z) (b : Bool) (a : PolicyAct X Y Z) → m.conditions.plan s.conditions k ≡ o → m.conditions.ends s.conditions ≡ b →
+    conditions_plan o b k ≡ Some a → IsSectionPlan m section.Conditions s k a
+in_conditions m s k (Some c) b (act.Condition a) e i h = (refl, e ∙ condition_is h)
+in_conditions m s k (Some c) b (act.Annotation a) e i h = absurd (cc)
+in_conditions m s k (Some c) b act.Effect e i h = absurd (cc)
+in_conditions m s k (Some c) b act.Open e i h = absurd (cc)
+in_conditions m s k (Some c) b (act.Element a) e i h = absurd (cc)
+in_conditions m s k (Some c) b act.Close e i h = absurd (cc)
+in_conditions m s k (Some c) b act.Shut e i h = absurd (cc)
+in_conditions m s k None true a e i h = let w = shut_planned k a h in subst (λ a. IsSectionPlan m section.Conditions s k a) w.1 (refl, i, w.0)
+in_conditions m s k None false a e i h = absurd (cc)
 
-constraint_steps : {N S E L M F : Type 0} (f : N → L) (g : S → M) (h : E → F) (e : E) (i : Cell Ident) (x : Option (Cell Name)) (y : Option (Cell Add)) (o : Option RelOp) →
-    IsShapeBy (element_shape f g h) (at_constraint e i x y o) (constraint_shape (h e) (is_some o))
-constraint_steps f g h e i x y None = refl
-constraint_steps f g h e i x y (Some o) = refl
+pub section_planned : {A V C X Y Z : Type 0} (m : Sections A V C X Y Z) (n : Section) (s : PolicyOf A V C) (k : TokenKind) (a : PolicyAct X Y Z) → policy_plan m n s k ≡ Some a → IsSectionPlan m n s k a
+section_planned m section.Annotations s k a h = in_annotations m s k (m.annotations.plan s.annotations k) (m.annotations.ends s.annotations) a refl refl h
+section_planned m section.Effect s k a h = let w = open_planned k a h in subst (λ a. IsSectionPlan m section.Effect s k a) w.1 (refl, w.0)
+section_planned m section.Scope s k a h = in_scope m s k (m.scope.plan s.scope k) (m.scope.ends s.scope) a refl refl h
+section_planned m section.Conditions s k a h = in_conditions m s k (m.conditions.plan s.conditions k) (m.conditions.ends s.conditions) a refl refl h
+section_planned m section.Closed s k a h = absurd (cc)
 
-entity_steps : {N S E L M F : Type 0} (f : N → L) (g : S → M) (h : E → F) (s : S) (e : E) (i : Cell Ident) (x : Option (Cell Name)) (t : Lexeme) (c : Mark) →
-    IsShapeBy (element_shape f g h) (at_entity_type s e i x t c) (entity_shape (g s) (h e) t.kind c)
-entity_steps f g h s e i x t mark.Is = refl
-entity_steps f g h s e i x t _ = constraint_steps f g h e i x None (relation_of t.kind)
+-- ---- the outline
 
-type_steps : {N S E L M F : Type 0} (f : N → L) (g : S → M) (h : E → F) (n : N) (s : S) (e : E) (i : Cell Ident) (t : Lexeme) (c : Mark) → IsShapeBy (element_shape f g h) (at_type_name n s e i t c) (type_shape (f n) (g s) (h e) t.kind c)
-type_steps f g h n s e i t mark.Colon = refl
-type_steps f g h n s e i t c = entity_steps f g h s e i None t c
+-- the outlines of the parts
+pub record SectionsOutlined {A V C X Y Z L M F : Type 0} (src : List ℕ) (m : Sections A V C X Y Z) (n : SectionOutlines L M F X Y Z) (f : Sequence A (Cell Annotation) → L) (g : Sequence V (Cell VariableDef) → M) (h : Sequence C (Cell Cond) → F) : Type 0 where
+  pub annotations : IsOutlineBy src m.annotations n.annotations f
+  pub scope : IsOutlineBy src m.scope n.scope g
+  pub conditions : IsOutlineBy src m.conditions n.conditions h
 
-in_type_steps : {N S E L M F : Type 0} (f : N → L) (g : S → M) (h : E → F) (s : S) (e : E) (i : Cell Ident) (t : Lexeme) (a : Answer N (Cell Name)) (c : Answer L (Unit {0})) → IsShapeBy f a c →
-    IsShapeBy (element_shape f g h) (in_type_name s e i t a) (in_type_shape (g s) (h e) t.kind c)
-in_type_steps f g h s e i t (next q) c w = ap (λ c. in_type_shape (g s) (h e) t.kind c) w
-in_type_steps f g h s e i t (ended x) c w =
-    subst (λ c. IsShapeBy (element_shape f g h) (at_entity_type s e i (Some x) t (mark_of t.kind)) (in_type_shape (g s) (h e) t.kind c)) (sym w) (entity_steps f g h s e i (Some x) t (mark_of t.kind))
-in_type_steps f g h s e i t refused c w = ap (λ c. in_type_shape (g s) (h e) t.kind c) w
-in_type_steps {M = M} {F = F} f g h s e i t too_large c w = if_taken (λ c. is_taken (in_type_shape (g s) (h e) t.kind c) ≡ true) (λ u. refl) c w
+policy_plans : {A V C X Y Z L M F : Type 0} (src : List ℕ) (m : Sections A V C X Y Z) (n : SectionOutlines L M F X Y Z) (f : Sequence A (Cell Annotation) → L) (g : Sequence V (Cell VariableDef) → M) (h : Sequence C (Cell Cond) → F) → SectionsOutlined src m n f g h →
+    (c : Section) (s : PolicyOf A V C) (k : TokenKind) → policy_plan m c s k ≡ policy_shape_plan n (section_shape f g h c s) k
+policy_plans src m n f g h i section.Annotations s k =
+    ap (λ o. annotations_plan o (m.annotations.ends s.annotations) k) (i.annotations.plans s.annotations k) ∙ ap (λ b. annotations_plan (n.annotations.plan (f s.annotations) k) b k) (i.annotations.ends s.annotations)
+policy_plans src m n f g h i section.Effect s k = refl
+policy_plans src m n f g h i section.Scope s k =
+    ap (λ o. scope_plan o (m.scope.ends s.scope) k) (i.scope.plans s.scope k) ∙ ap (λ b. scope_plan (n.scope.plan (g s.scope) k) b k) (i.scope.ends s.scope)
+policy_plans src m n f g h i section.Conditions s k =
+    ap (λ o. conditions_plan o (m.conditions.ends s.conditions) k) (i.conditions.plans s.conditions k) ∙ ap (λ b. conditions_plan (n.conditions.plan (h s.conditions) k) b k) (i.conditions.ends s.conditions)
+policy_plans src m n f g h i section.Closed s k = refl
 
-in_sum_steps : {N S E L M F : Type 0} (f : N → L) (g : S → M) (h : E → F) (e : E) (i : Cell Ident) (x : Option (Cell Name)) (t : Lexeme) (a : Answer S (Cell Add)) (c : Answer M (Unit {0})) → IsShapeBy g a c →
-    IsShapeBy (element_shape f g h) (in_entity_type e i x t a) (in_sum_shape (h e) t.kind c)
-in_sum_steps f g h e i x t (next q) c w = ap (λ c. in_sum_shape (h e) t.kind c) w
-in_sum_steps f g h e i x t (ended y) c w =
-    subst (λ c. IsShapeBy (element_shape f g h) (at_constraint e i x (Some y) (relation_of t.kind)) (in_sum_shape (h e) t.kind c)) (sym w) (constraint_steps f g h e i x (Some y) (relation_of t.kind))
-in_sum_steps f g h e i x t refused c w = ap (λ c. in_sum_shape (h e) t.kind c) w
-in_sum_steps {L = L} f g h e i x t too_large c w = if_taken (λ c. is_taken (in_sum_shape {N = L} (h e) t.kind c) ≡ true) (λ u. refl) c w
+-- in the section where it is planned, an act makes of the shape what the outline says
 
-in_expression_steps : {N S E L M F : Type 0} (f : N → L) (g : S → M) (h : E → F) (i : Cell Ident) (x : Option (Cell Name)) (y : Option (Cell Add)) (o : RelOp) (a : Answer E (Cell Expr)) (c : Answer F (Unit {0})) → IsShapeBy h a c →
-    IsShapeBy (element_shape f g h) (in_constraint i x y o a) (in_expression_shape c)
-in_expression_steps f g h i x y o (next q) c w = ap (λ c. in_expression_shape c) w
-in_expression_steps f g h i x y o (ended z) c w = ap (λ c. in_expression_shape c) w
-in_expression_steps f g h i x y o refused c w = ap (λ c. in_expression_shape c) w
-in_expression_steps {L = L} {M = M} f g h i x y o too_large c w = if_taken (λ c. is_taken (in_expression_shape {N = L} {S = M} c) ≡ true) (λ u. refl) c w
+effect_acts : {A V C L M F : Type 0} (f : Sequence A (Cell Annotation) → L) (g : Sequence V (Cell VariableDef) → M) (h : Sequence C (Cell Cond) → F) (s q : PolicyOf A V C) (o : Option (List (Cell Annotation))) (w : Option (Cell Ident)) → effect_read s o w ≡ Some q →
+    policy_shape f g h q ≡ has_effect (g s.scope) (h s.conditions)
+effect_acts f g h s q None w e = absurd (cc)
+effect_acts f g h s q (Some xs) w e = let r = image_of (λ i. behind_effect s xs i) w q e in ap (λ q. policy_shape f g h q) (sym r.2)
 
--- from the starts of the parts
-starts_as : {N S E L M F : Type 0} {m : PartMachines N S E} {n : PartShapes L M F} (f : N → L) (g : S → M) (h : E → F) → PartsShaped m n f g h → (P : L → M → F → Type 0) → P (f m.name.start) (g m.sum.start) (h m.expression.start) →
-    P n.name.start n.sum.start n.expression.start
-starts_as {m = m} {n = n} f g h i P p =
-    subst (λ w. P n.name.start n.sum.start w) i.expression.starts (subst (λ w. P n.name.start w (h m.expression.start)) i.sum.starts (subst (λ w. P w (g m.sum.start) (h m.expression.start)) i.name.starts p))
+policy_acts : {A V C X Y Z L M F : Type 0} (src : List ℕ) (m : Sections A V C X Y Z) (n : SectionOutlines L M F X Y Z) (f : Sequence A (Cell Annotation) → L) (g : Sequence V (Cell VariableDef) → M) (h : Sequence C (Cell Cond) → F) → SectionsOutlined src m n f g h →
+    (s q : PolicyOf A V C) (a : PolicyAct X Y Z) (t : Lexeme) → IsSectionPlan m s.section s t.kind a → policy_act m src s a t ≡ Some q → policy_shape f g h q ≡ policy_shape_act n (policy_shape f g h s) a t.kind
+policy_acts src m n f g h i s q (act.Annotation a) t p e =
+    let w = image_of (λ q. with_annotations s q) (m.annotations.act src s.annotations a t) q e in
+    ap (λ q. policy_shape f g h q) (sym w.2) ∙ ap (λ c. section_shape f g h c (with_annotations s w.0)) p.0
+    ∙ ap (λ u. in_head u (g s.scope) (h s.conditions)) (i.annotations.acts s.annotations w.0 a t p.1 w.1) ∙ ap (λ c. policy_shape_act n (section_shape f g h c s) (act.Annotation a) t.kind) (sym p.0)
+policy_acts src m n f g h i s q act.Effect t p e =
+    effect_acts f g h s q (m.annotations.finish src s.annotations) (any_node src t) e ∙ ap (λ c. policy_shape_act n (section_shape f g h c s) act.Effect t.kind) (sym p.0)
+policy_acts src m n f g h i s q act.Open t p e =
+    ap (λ q. policy_shape f g h q) (sym (some_is e)) ∙ ap (λ c. policy_shape_act n (section_shape f g h c s) act.Open t.kind) (sym p.0)
+policy_acts src m n f g h i s q (act.Element a) t p e =
+    let w = image_of (λ q. with_scope s q) (m.scope.act src s.scope a t) q e in
+    ap (λ q. policy_shape f g h q) (sym w.2) ∙ ap (λ c. section_shape f g h c (with_scope s w.0)) p.0
+    ∙ ap (λ u. in_parens u (h s.conditions)) (i.scope.acts s.scope w.0 a t p.1 w.1) ∙ ap (λ c. policy_shape_act n (section_shape f g h c s) (act.Element a) t.kind) (sym p.0)
+policy_acts src m n f g h i s q act.Close t p e =
+    let w = image_of (λ ys. behind_scope s ys) (m.scope.finish src s.scope) q e in
+    ap (λ q. policy_shape f g h q) (sym w.2) ∙ ap (λ c. policy_shape_act n (section_shape f g h c s) act.Close t.kind) (sym p.0)
+policy_acts src m n f g h i s q (act.Condition a) t p e =
+    let w = image_of (λ q. with_conditions s q) (m.conditions.act src s.conditions a t) q e in
+    ap (λ q. policy_shape f g h q) (sym w.2) ∙ ap (λ c. section_shape f g h c (with_conditions s w.0)) p.0
+    ∙ ap (λ u. behind_parens u) (i.conditions.acts s.conditions w.0 a t p.1 w.1) ∙ ap (λ c. policy_shape_act n (section_shape f g h c s) (act.Condition a) t.kind) (sym p.0)
+policy_acts src m n f g h i s q act.Shut t p e =
+    let w = image_of (λ zs. behind_conditions s zs) (m.conditions.finish src s.conditions) q e in
+    ap (λ q. policy_shape f g h q) (sym w.2)
 
-element_steps : {N S E L M F : Type 0} {m : PartMachines N S E} {n : PartShapes L M F} (f : N → L) (g : S → M) (h : E → F) → PartsShaped m n f g h → (src : List ℕ) (s : ElementState N S E) (t : Lexeme) →
-    IsShapeBy (element_shape f g h) (element_step src m s t) (element_shape_step n (element_shape f g h s) t.kind)
-element_steps f g h i src element.Start t =
-    subst (λ b. IsShapeBy (element_shape f g h) (at_variable src t (any_of t.kind t.text)) (variable_shape b)) (words_alike t.kind t.text) (variable_steps f g h src t (any_of t.kind t.text))
-element_steps {m = m} f g h i src (element.Variable v) t =
-    starts_as f g h i (λ a b c. IsShapeBy (element_shape f g h) (at_type_name m.name.start m.sum.start m.expression.start v t (mark_of t.kind)) (type_shape a b c t.kind (mark_of t.kind))) (type_steps f g h m.name.start m.sum.start m.expression.start v t (mark_of t.kind))
-element_steps {m = m} {n = n} f g h i src (element.TypeName v s) t =
-    starts_as f g h i (λ a b c. IsShapeBy (element_shape f g h) (in_type_name m.sum.start m.expression.start v t (m.name.step s t)) (in_type_shape b c t.kind (n.name.step (f s) t.kind)))
-    (in_type_steps f g h m.sum.start m.expression.start v t (m.name.step s t) (n.name.step (f s) t.kind) (i.name.steps s t))
-element_steps {m = m} {n = n} f g h i src (element.EntityType v x s) t =
-    starts_as f g h i (λ a b c. IsShapeBy (element_shape f g h) (in_entity_type m.expression.start v x t (m.sum.step s t)) (in_sum_shape c t.kind (n.sum.step (g s) t.kind)))
-    (in_sum_steps f g h m.expression.start v x t (m.sum.step s t) (n.sum.step (g s) t.kind) (i.sum.steps s t))
-element_steps {m = m} {n = n} f g h i src (element.Constraint v x y o s) t = in_expression_steps f g h v x y o (m.expression.step s t) (n.expression.step (h s) t.kind) (i.expression.steps s t)
+-- each is done, but for numbers that don't fit
 
-end_type_shaped : (i : Cell Ident) (o : Option (Cell Name)) → option_image no_tree o ≡ option_image no_tree (end_type_name i o)
-end_type_shaped i None = refl
-end_type_shaped i (Some x) = refl
+-- a kind other than a number's
+not_number : {k : TokenKind} (c : TokenKind) → k ≡ c → (c ≡ kind.Number → ⊥) → (text : List ℕ) → (k ≡ kind.Number) → fits text ≡ true
+not_number c e h text g = absurd (h (sym e ∙ g))
 
-end_sum_shaped : (i : Cell Ident) (x : Option (Cell Name)) (o : Option (Cell Add)) → option_image no_tree o ≡ option_image no_tree (end_entity_type i x o)
-end_sum_shaped i x None = refl
-end_sum_shaped i x (Some y) = refl
+effect_done : {A V C : Type 0} (t : Lexeme) (s : PolicyOf A V C) (o : Option (List (Cell Annotation))) (b : Bool) (w : Option (Cell Ident)) (c : Bool) → b ≡ is_some o → b ≡ true → c ≡ is_some w → c ≡ true → ((t.kind ≡ kind.Number) → fits t.text ≡ true) →
+    IsDone t (effect_read s o w)
+effect_done t s (Some xs) b (Some i) c e h k l f = f
+effect_done t s (Some xs) b None c e h k l f = absurd (cc)
+effect_done t s None b w c e h k l f = absurd (cc)
 
-end_expression_shaped : (i : Cell Ident) (x : Option (Cell Name)) (y : Option (Cell Add)) (r : RelOp) (o : Option (Cell Expr)) → option_image no_tree o ≡ option_image no_tree (end_constraint i x y r o)
-end_expression_shaped i x y r None = refl
-end_expression_shaped i x y r (Some z) = refl
+end_done : {S T : Type 0} (f : S → T) (t : Lexeme) (o : Option S) (b : Bool) → b ≡ is_some o → b ≡ true → ((t.kind ≡ kind.Number) → fits t.text ≡ true) → IsDone t (option_image f o)
+end_done f t (Some x) b e h g = g
+end_done f t None b e h g = absurd (cc)
 
-element_ends : {N S E L M F : Type 0} {m : PartMachines N S E} {n : PartShapes L M F} (f : N → L) (g : S → M) (h : E → F) → PartsShaped m n f g h → (s : ElementState N S E) → element_shape_end n (element_shape f g h s) ≡ option_image no_tree (element_end m s)
-element_ends f g h i element.Start = refl
-element_ends f g h i (element.Variable v) = refl
-element_ends {m = m} f g h i (element.TypeName v s) = i.name.finishes s ∙ end_type_shaped v (m.name.finish s)
-element_ends {m = m} f g h i (element.EntityType v x s) = i.sum.finishes s ∙ end_sum_shaped v x (m.sum.finish s)
-element_ends {m = m} f g h i (element.Constraint v x y o s) = i.expression.finishes s ∙ end_expression_shaped v x y o (m.expression.finish s)
+word_is_none : (t : Lexeme) → is_word t.kind ≡ true → (t.kind ≡ kind.Number) → fits t.text ≡ true
+word_is_none t h e = absurd (false_true (ap (λ k. is_word k) e) h)
 
-pub elements_shaped : {N S E L M F : Type 0} (src : List ℕ) (m : PartMachines N S E) (n : PartShapes L M F) (f : N → L) (g : S → M) (h : E → F) → PartsShaped m n f g h → Shapes (elements src m) (element_shapes n) (element_shape f g h) no_tree
-elements_shaped src m n f g h i = record { starts = refl; steps = λ s t. element_steps f g h i src s t; finishes = λ s. element_ends f g h i s }
+policy_done : {A V C X Y Z L M F : Type 0} (src : List ℕ) (m : Sections A V C X Y Z) (n : SectionOutlines L M F X Y Z) (f : Sequence A (Cell Annotation) → L) (g : Sequence V (Cell VariableDef) → M) (h : Sequence C (Cell Cond) → F) → SectionsOutlined src m n f g h →
+    (s : PolicyOf A V C) (a : PolicyAct X Y Z) (t : Lexeme) → IsSectionPlan m s.section s t.kind a → IsDone t (policy_act m src s a t)
+policy_done src m n f g h i s (act.Annotation a) t p = image_done (λ q. with_annotations s q) t (m.annotations.act src s.annotations a t) (i.annotations.done s.annotations a t p.1)
+policy_done src m n f g h i s act.Effect t p =
+    effect_done t s (m.annotations.finish src s.annotations) (m.annotations.ends s.annotations) (any_node src t) (is_word t.kind) (ends_by i.annotations s.annotations) p.1 (word_there src t) p.2 (word_is_none t p.2)
+policy_done src m n f g h i s act.Open t p = not_number kind.OpenParen p.1 (λ e. cc) t.text
+policy_done src m n f g h i s (act.Element a) t p = image_done (λ q. with_scope s q) t (m.scope.act src s.scope a t) (i.scope.done s.scope a t p.1)
+policy_done src m n f g h i s act.Close t p =
+    end_done (λ ys. behind_scope s ys) t (m.scope.finish src s.scope) (m.scope.ends s.scope) (ends_by i.scope s.scope) p.1 (not_number kind.CloseParen p.2 (λ e. cc) t.text)
+policy_done src m n f g h i s (act.Condition a) t p = image_done (λ q. with_conditions s q) t (m.conditions.act src s.conditions a t) (i.conditions.done s.conditions a t p.1)
+policy_done src m n f g h i s act.Shut t p =
+    end_done (λ zs. behind_conditions s zs) t (m.conditions.finish src s.conditions) (m.conditions.ends s.conditions) (ends_by i.conditions s.conditions) p.1 (not_number kind.Semicolon p.2 (λ e. cc) t.text)
 
--- conditions
+policy_ends_shaped : {A V C L M F : Type 0} (f : Sequence A (Cell Annotation) → L) (g : Sequence V (Cell VariableDef) → M) (h : Sequence C (Cell Cond) → F) (c : Section) (s : PolicyOf A V C) → policy_ends c ≡ is_some (policy_shape_finish (section_shape f g h c s))
+policy_ends_shaped f g h section.Annotations s = refl
+policy_ends_shaped f g h section.Effect s = refl
+policy_ends_shaped f g h section.Scope s = refl
+policy_ends_shaped f g h section.Conditions s = refl
+policy_ends_shaped f g h section.Closed s = refl
 
-word_steps : {E F : Type 0} (f : E → F) (src : List ℕ) (t : Lexeme) (o : Option Ident) → IsShapeBy (condition_shape f) (at_word src t o) (condition_word_shape (is_some o))
-word_steps f src t None = refl
-word_steps f src t (Some i) = refl
+policy_finishes : {A V C L M F : Type 0} (f : Sequence A (Cell Annotation) → L) (g : Sequence V (Cell VariableDef) → M) (h : Sequence C (Cell Cond) → F) (c : Section) (s : PolicyOf A V C) → policy_shape_finish (section_shape f g h c s) ≡ option_image no_tree (policy_tree c s)
+policy_finishes f g h section.Annotations s = refl
+policy_finishes f g h section.Effect s = refl
+policy_finishes f g h section.Scope s = refl
+policy_finishes f g h section.Conditions s = refl
+policy_finishes f g h section.Closed s = refl
 
-behind_word_steps : {E F : Type 0} (f : E → F) (i : Cell Ident) (c : Mark) → IsShapeBy (condition_shape f) (behind_word i c) (behind_word_shape c)
-behind_word_steps f i mark.OpenBrace = refl
-behind_word_steps f i _ = refl
+pub policy_outlined : {A V C X Y Z L M F : Type 0} (src : List ℕ) (m : Sections A V C X Y Z) (n : SectionOutlines L M F X Y Z) (f : Sequence A (Cell Annotation) → L) (g : Sequence V (Cell VariableDef) → M) (h : Sequence C (Cell Cond) → F) → SectionsOutlined src m n f g h →
+    IsOutlineBy src (policy_reader m) (policy_outline n) (policy_shape f g h)
+policy_outlined src m n f g h i = record {
+  starts = ap (λ u. in_head u (g m.scope.start) (h m.conditions.start)) i.annotations.starts ∙ (ap (λ v. in_head n.annotations.start v (h m.conditions.start)) i.scope.starts ∙ ap (λ c. in_head n.annotations.start n.scope.start c) i.conditions.starts);
+  plans = λ s k. policy_plans src m n f g h i s.section s k;
+  acts = λ s q a t p e. policy_acts src m n f g h i s q a t (section_planned m s.section s t.kind a p) e;
+  done = λ s a t p. policy_done src m n f g h i s a t (section_planned m s.section s t.kind a p);
+  ends = λ s. policy_ends_shaped f g h s.section s;
+  finishes = λ s. policy_finishes f g h s.section s;
+}
 
-behind_body_steps : {E F : Type 0} (f : E → F) (i : Cell Ident) (x : Option (Cell Expr)) (c : Mark) → IsShapeBy (condition_shape f) (behind_body i x c) (behind_body_shape c)
-behind_body_steps f i x mark.CloseBrace = refl
-behind_body_steps f i x _ = refl
-
-at_body_steps : {E F : Type 0} (f : E → F) (i : Cell Ident) (k : Mark) (a : Answer E (Cell Expr)) (c : Answer F (Unit {0})) → IsShapeBy f a c → IsShapeBy (condition_shape f) (at_body i k a) (at_body_shape k c)
-at_body_steps f i k (next q) c h = ap (λ c. at_body_shape k c) h
-at_body_steps f i k (ended x) c h = subst (λ c. IsShapeBy (condition_shape f) (behind_body i (Some x) k) (at_body_shape k c)) (sym h) (behind_body_steps f i (Some x) k)
-at_body_steps f i k refused c h = subst (λ c. IsShapeBy (condition_shape f) (behind_body i None k) (at_body_shape k c)) (sym h) (behind_body_steps f i None k)
-at_body_steps f i k too_large c h = if_taken (λ c. is_taken (at_body_shape k c) ≡ true) (λ u. refl) c h
-
-in_body_steps : {E F : Type 0} (f : E → F) (i : Cell Ident) (k : Mark) (a : Answer E (Cell Expr)) (c : Answer F (Unit {0})) → IsShapeBy f a c → IsShapeBy (condition_shape f) (in_body i k a) (in_body_shape k c)
-in_body_steps f i k (next q) c h = ap (λ c. in_body_shape k c) h
-in_body_steps f i k (ended x) c h = subst (λ c. IsShapeBy (condition_shape f) (behind_body i (Some x) k) (in_body_shape k c)) (sym h) (behind_body_steps f i (Some x) k)
-in_body_steps f i k refused c h = ap (λ c. in_body_shape k c) h
-in_body_steps f i k too_large c h = if_taken (λ c. is_taken (in_body_shape k c) ≡ true) (λ u. refl) c h
-
-condition_steps : {E F : Type 0} {m : Machine Lexeme E (Cell Expr)} {n : Machine TokenKind F (Unit {0})} (f : E → F) → Shapes m n f no_tree → (src : List ℕ) (s : ConditionState E) (t : Lexeme) →
-    IsShapeBy (condition_shape f) (condition_step src m s t) (condition_shape_step n (condition_shape f s) t.kind)
-condition_steps f i src condition.Start t = subst (λ b. IsShapeBy (condition_shape f) (at_word src t (any_of t.kind t.text)) (condition_word_shape b)) (words_alike t.kind t.text) (word_steps f src t (any_of t.kind t.text))
-condition_steps f i src (condition.Word v) t = behind_word_steps f v (mark_of t.kind)
-condition_steps {m = m} {n = n} f i src (condition.Opened v) t =
-    at_body_steps f v (mark_of t.kind) (m.step m.start t) (n.step n.start t.kind) (subst (λ u. IsShapeBy f (m.step m.start t) (n.step u t.kind)) i.starts (i.steps m.start t))
-condition_steps {m = m} {n = n} f i src (condition.Body v s) t = in_body_steps f v (mark_of t.kind) (m.step s t) (n.step (f s) t.kind) (i.steps s t)
-condition_steps f i src (condition.Closed v x) t = refl
-
-condition_ends : {E F : Type 0} (f : E → F) (s : ConditionState E) → condition_shape_end (condition_shape f s) ≡ option_image no_tree (condition_end s)
-condition_ends f condition.Start = refl
-condition_ends f (condition.Word v) = refl
-condition_ends f (condition.Opened v) = refl
-condition_ends f (condition.Body v s) = refl
-condition_ends f (condition.Closed v x) = refl
-
-pub conditions_shaped : {E F : Type 0} (src : List ℕ) (m : Machine Lexeme E (Cell Expr)) (n : Machine TokenKind F (Unit {0})) (f : E → F) → Shapes m n f no_tree → Shapes (conditions src m) (condition_shapes n) (condition_shape f) no_tree
-conditions_shaped src m n f i = record { starts = refl; steps = λ s t. condition_steps f i src s t; finishes = λ s. condition_ends f s }
-
--- policies
-
--- the shapes of the parts
-pub record SectionsShaped {A V C L M F : Type 0} (m : Sections A V C) (n : SectionShapes L M F) (f : A → L) (g : V → M) (h : C → F) : Type 0 where
-  pub annotations : Shapes m.annotations n.annotations f no_tree
-  pub scope : Shapes m.scope n.scope g no_tree
-  pub conditions : Shapes m.conditions n.conditions h no_tree
-
-effect_steps : {A V C L M F : Type 0} (f : A → L) (g : V → M) (h : C → F) (src : List ℕ) (xs : List (Cell Annotation)) (t : Lexeme) (o : Option Ident) → IsShapeBy (policy_shape f g h) (at_effect src xs t o) (effect_shape (is_some o))
-effect_steps f g h src xs t None = refl
-effect_steps f g h src xs t (Some i) = refl
-
-annotated_steps : {A V C L M F : Type 0} (f : A → L) (g : V → M) (h : C → F) (src : List ℕ) (t : Lexeme) (a : Answer A (List (Cell Annotation))) (c : Answer L (Unit {0})) → IsShapeBy f a c →
-    IsShapeBy (policy_shape f g h) (in_annotations src t a) (in_annotations_shape t.kind c)
-annotated_steps f g h src t (next q) c w = ap (λ c. in_annotations_shape t.kind c) w
-annotated_steps f g h src t (ended xs) c w =
-    subst (λ c. IsShapeBy (policy_shape f g h) (at_effect src xs t (any_of t.kind t.text)) (in_annotations_shape t.kind c)) (sym w)
-    (subst (λ b. IsShapeBy (policy_shape f g h) (at_effect src xs t (any_of t.kind t.text)) (effect_shape b)) (words_alike t.kind t.text) (effect_steps f g h src xs t (any_of t.kind t.text)))
-annotated_steps f g h src t refused c w = ap (λ c. in_annotations_shape t.kind c) w
-annotated_steps {M = M} {F = F} f g h src t too_large c w = if_taken (λ c. is_taken (in_annotations_shape {V = M} {C = F} t.kind c) ≡ true) (λ u. refl) c w
-
-open_steps : {A V C L M F : Type 0} (f : A → L) (g : V → M) (h : C → F) (v : V) (xs : List (Cell Annotation)) (i : Cell Ident) (c : Mark) → IsShapeBy (policy_shape f g h) (behind_effect v xs i c) (behind_effect_shape (g v) c)
-open_steps f g h v xs i mark.OpenParen = refl
-open_steps f g h v xs i _ = refl
-
-close_steps : {A V C L M F : Type 0} (f : A → L) (g : V → M) (h : C → F) (s : C) (xs : List (Cell Annotation)) (i : Cell Ident) (ys : List (Cell VariableDef)) (c : Mark) → IsShapeBy (policy_shape f g h) (behind_scope s xs i ys c) (behind_scope_shape (h s) c)
-close_steps f g h s xs i ys mark.CloseParen = refl
-close_steps f g h s xs i ys _ = refl
-
-scope_steps : {A V C L M F : Type 0} (f : A → L) (g : V → M) (h : C → F) (s : C) (xs : List (Cell Annotation)) (i : Cell Ident) (k : Mark) (a : Answer V (List (Cell VariableDef))) (c : Answer M (Unit {0})) → IsShapeBy g a c →
-    IsShapeBy (policy_shape f g h) (in_scope s xs i k a) (in_scope_shape (h s) k c)
-scope_steps f g h s xs i k (next q) c w = ap (λ c. in_scope_shape (h s) k c) w
-scope_steps f g h s xs i k (ended ys) c w = subst (λ c. IsShapeBy (policy_shape f g h) (behind_scope s xs i ys k) (in_scope_shape (h s) k c)) (sym w) (close_steps f g h s xs i ys k)
-scope_steps f g h s xs i k refused c w = ap (λ c. in_scope_shape (h s) k c) w
-scope_steps {L = L} f g h s xs i k too_large c w = if_taken (λ c. is_taken (in_scope_shape {A = L} (h s) k c) ≡ true) (λ u. refl) c w
-
-end_steps : {A V C L M F : Type 0} (f : A → L) (g : V → M) (h : C → F) (xs : List (Cell Annotation)) (i : Cell Ident) (ys : List (Cell VariableDef)) (zs : List (Cell Cond)) (c : Mark) → IsShapeBy (policy_shape f g h) (behind_conditions xs i ys zs c) (behind_conditions_shape c)
-end_steps f g h xs i ys zs mark.Semicolon = refl
-end_steps f g h xs i ys zs _ = refl
-
-conditions_steps : {A V C L M F : Type 0} (f : A → L) (g : V → M) (h : C → F) (xs : List (Cell Annotation)) (i : Cell Ident) (ys : List (Cell VariableDef)) (k : Mark) (a : Answer C (List (Cell Cond))) (c : Answer F (Unit {0})) → IsShapeBy h a c →
-    IsShapeBy (policy_shape f g h) (in_conditions xs i ys k a) (in_conditions_shape k c)
-conditions_steps f g h xs i ys k (next q) c w = ap (λ c. in_conditions_shape k c) w
-conditions_steps f g h xs i ys k (ended zs) c w = subst (λ c. IsShapeBy (policy_shape f g h) (behind_conditions xs i ys zs k) (in_conditions_shape k c)) (sym w) (end_steps f g h xs i ys zs k)
-conditions_steps f g h xs i ys k refused c w = ap (λ c. in_conditions_shape k c) w
-conditions_steps {L = L} {M = M} f g h xs i ys k too_large c w = if_taken (λ c. is_taken (in_conditions_shape {A = L} {V = M} k c) ≡ true) (λ u. refl) c w
-
-policy_steps : {A V C L M F : Type 0} {m : Sections A V C} {n : SectionShapes L M F} (f : A → L) (g : V → M) (h : C → F) → SectionsShaped m n f g h → (src : List ℕ) (s : PolicyState A V C) (t : Lexeme) →
-    IsShapeBy (policy_shape f g h) (policy_step src m s t) (policy_shape_step n (policy_shape f g h s) t.kind)
-policy_steps {m = m} {n = n} f g h i src (policy.Annotated s) t = annotated_steps f g h src t (m.annotations.step s t) (n.annotations.step (f s) t.kind) (i.annotations.steps s t)
-policy_steps {m = m} f g h i src (policy.Effect xs v) t =
-    subst (λ u. IsShapeBy (policy_shape f g h) (behind_effect m.scope.start xs v (mark_of t.kind)) (behind_effect_shape u (mark_of t.kind))) i.scope.starts (open_steps f g h m.scope.start xs v (mark_of t.kind))
-policy_steps {m = m} {n = n} f g h i src (policy.Scope xs v s) t =
-    subst (λ u. IsShapeBy (policy_shape f g h) (in_scope m.conditions.start xs v (mark_of t.kind) (m.scope.step s t)) (in_scope_shape u (mark_of t.kind) (n.scope.step (g s) t.kind))) i.conditions.starts
-    (scope_steps f g h m.conditions.start xs v (mark_of t.kind) (m.scope.step s t) (n.scope.step (g s) t.kind) (i.scope.steps s t))
-policy_steps {m = m} {n = n} f g h i src (policy.Conditions xs v ys s) t = conditions_steps f g h xs v ys (mark_of t.kind) (m.conditions.step s t) (n.conditions.step (h s) t.kind) (i.conditions.steps s t)
-policy_steps f g h i src (policy.Closed p) t = refl
-
-policy_ends_shaped : {A V C L M F : Type 0} (f : A → L) (g : V → M) (h : C → F) (s : PolicyState A V C) → policy_shape_end (policy_shape f g h s) ≡ option_image no_tree (policy_end s)
-policy_ends_shaped f g h (policy.Annotated s) = refl
-policy_ends_shaped f g h (policy.Effect xs i) = refl
-policy_ends_shaped f g h (policy.Scope xs i s) = refl
-policy_ends_shaped f g h (policy.Conditions xs i ys s) = refl
-policy_ends_shaped f g h (policy.Closed p) = refl
-
-pub policies_shaped : {A V C L M F : Type 0} (src : List ℕ) (m : Sections A V C) (n : SectionShapes L M F) (f : A → L) (g : V → M) (h : C → F) → SectionsShaped m n f g h → Shapes (policies src m) (policy_shapes n) (policy_shape f g h) no_tree
-policies_shaped src m n f g h i = record { starts = ap (λ u. in_head u) i.annotations.starts; steps = λ s t. policy_steps f g h i src s t; finishes = λ s. policy_ends_shaped f g h s }
+pub policy_right : {A V C X Y Z : Type 0} (src : List ℕ) (m : Sections A V C X Y Z) → EndsRightly src (policy_reader m)
+policy_right {A = A} {V = V} {C = C} src m s = go s.section s
+  where
+    go : (c : Section) (s : PolicyOf A V C) → policy_ends c ≡ is_some (policy_tree c s)
+    go section.Annotations s = refl
+    go section.Effect s = refl
+    go section.Scope s = refl
+    go section.Conditions s = refl
+    go section.Closed s = refl

@@ -24,25 +24,25 @@ printed_clause R bare tree law text (Ok x) h = law text x h
 printed_clause R bare tree law text (Err e) h = tt
 
 pub one_policies_tree : HasOneTree ReadsPolicies
-one_policies_tree = λ src ts x y r s. one_tree (follows _ _ src _ (all_policies_read src)) ts x y r s
+one_policies_tree = λ src ts x y r s. one_tree (follows (all_policies_read src)) ts x y r s
 
 pub policies_printed : PrintLaw ReadsPolicies unlocated_policies policies_tree
 policies_printed = again.policies one_policies_tree
 
 pub single_policies_printed : PrintLaw ReadsPolicy unlocated_policy policy_tree
-single_policies_printed = again.single_policies (λ src ts x y r s. one_tree (follows _ _ src _ (one_policy_read src)) ts x y r s)
+single_policies_printed = again.single_policies (λ src ts x y r s. one_tree (follows (one_policy_read src)) ts x y r s)
 
 pub expressions_printed : PrintLaw ReadsExpr unlocated_expr expr_tree
-expressions_printed = again.expressions (λ src ts x y r s. one_tree (follows _ _ src _ (expressions_read src)) ts x y r s)
+expressions_printed = again.expressions (λ src ts x y r s. one_tree (follows (expressions_read src)) ts x y r s)
 
 pub primaries_printed : PrintLaw ReadsPrimary unlocated_primary primary_tree
-primaries_printed = again.primaries (λ src ts x y r s. one_tree (follows _ _ src _ (primaries_read src)) ts x y r s)
+primaries_printed = again.primaries (λ src ts x y r s. one_tree (follows (primaries_read src)) ts x y r s)
 
 pub entity_literals_printed : PrintLaw ReadsRef unlocated_ref ref_tree
-entity_literals_printed = again.entity_literals (λ src ts x y r s. one_tree (follows _ _ src _ (refs_read src)) ts x y r s)
+entity_literals_printed = again.entity_literals (λ src ts x y r s. one_tree (follows (refs_read src)) ts x y r s)
 
 pub names_printed : PrintLaw ReadsName unlocated_name name_tree
-names_printed = again.names (λ src ts x y r s. one_tree (follows _ _ src _ (names_read src)) ts x y r s)
+names_printed = again.names (λ src ts x y r s. one_tree (follows (names_read src)) ts x y r s)
 
 pub identifiers_printed : PrintLaw ReadsIdent unlocated_ident ident_tree
-identifiers_printed = again.identifiers (λ src ts x y r s. one_tree (follows _ _ src _ (idents_read src)) ts x y r s)
+identifiers_printed = again.identifiers (λ src ts x y r s. one_tree (follows (idents_read src)) ts x y r s)

@@ -10,111 +10,99 @@ use Rattle.cedar_syntax.specs.declared.cst.Add.{Add}
 use Rattle.cedar_syntax.specs.declared.cst.Ident.{Ident}
 use Rattle.cedar_syntax.specs.declared.cst.Name.{Name}
 use Rattle.cedar_syntax.specs.declared.cst.VariableDef.{VariableDef}
-use Rattle.cedar_syntax.specs.declared.reading.mark.Mark.{Mark}
-use Rattle.cedar_syntax.specs.declared.reading.mark.Mark.TheVariants as mark
 use Rattle.cedar_text.specs.declared.text_to_cst.scope.ElementState.{ElementState}
-use Rattle.cedar_text.specs.declared.text_to_cst.scope.ElementState.TheVariants as element
-use Rattle.cedar_syntax.specs.Tokens.{Spot, one, any_of}
+use Rattle.cedar_text.specs.declared.text_to_cst.scope.ElementPart.{ElementPart}
+use Rattle.cedar_text.specs.declared.text_to_cst.scope.ElementPart.TheVariants as part
+use Rattle.cedar_text.specs.declared.text_to_cst.scope.ElementAct.{ElementAct}
+use Rattle.cedar_text.specs.declared.text_to_cst.scope.ElementAct.TheVariants as act
+use Rattle.cedar_syntax.specs.Tokens.{Spot, one}
 use Rattle.cedar_syntax.specs.Place.{placed}
 use Rattle.cedar_syntax.specs.Trees.{Cell, variable_def_of}
 use Rattle.cedar_syntax.specs.LooseWords.{ReadsAny, any, ReadsName}
 use Rattle.cedar_syntax.specs.LooseExpressions.{ReadsRelOp, less, less_eq, greater_eq, greater, not_eq, equal, within, single_eq, ReadsExpr, ReadsAdd}
 use Rattle.cedar_syntax.specs.LoosePolicies.{ReadsTypeName, no_type_name, type_name, ReadsEntityType, no_entity_type, entity_type, ReadsConstraint, no_constraint, constraint, ReadsVariableDef, variable_def}
-use Rattle.cedar_syntax.specs.machines.Door.{Answer, next, ended, refused, too_large, answer_state, steps, Comes, RunsTo, Completed, AnswersRightly, Door}
-use Rattle.cedar_syntax.specs.machines.Marks.{mark_of, relation_of}
+use Rattle.cedar_syntax.specs.machines.Door.{next, answer_state, steps, Comes, RunsTo, Completed, Door, machine_of, IsDone, option_image, is_some}
+use Rattle.cedar_syntax.specs.machines.Marks.{relation_of}
 use Rattle.cedar_text.specs.machines.Placing.{AsNode, as_node}
 use Rattle.cedar_syntax.specs.machines.Following.{IsParting, comma, close_paren, FollowsSum, operator, parting, FollowsName, is_word, as_sum}
-use Rattle.cedar_text.specs.machines.Scope.{at_variable, at_constraint, at_entity_type, at_type_name, in_type_name, in_entity_type, in_constraint, PartMachines, element_step, end_type_name, end_entity_type, end_constraint, element_end, elements}
+use Rattle.cedar_text.specs.machines.WordShapes.{if_any}
+use Rattle.cedar_text.specs.machines.Scope.{PartReaders, element_of, with_part, behind_part, compare_plan, narrow_plan, bare_plan, type_name_plan, entity_type_plan, constraint_plan, reader_plans, element_plan, element_ends, element_act, going_on, with_variable, with_type_name, with_entity_type, with_constraint, element_tree, element_finish, element_reader, elements}
+use Rattle.cedar_syntax.proofs.machines.ByActs.{keeps}
 use Rattle.cedar_syntax.proofs.machines.Laws.{some_is, then_steps, some_token}
-use Rattle.cedar_syntax.proofs.machines.Holding.{Holds, held, one_more, kept}
+use Rattle.cedar_syntax.proofs.machines.Holding.{Holds, held, one_more}
+use Rattle.cedar_syntax.proofs.machines.Marked.{related_fits}
+use Rattle.cedar_syntax.proofs.machines.Readers.{takes, taken_by, ended_by, leaves_tree, leaves_none}
 use Rattle.cedar_text.proofs.machines.Ending.{EndsAt, Refuses, IsKind, spot_of, token_at}
-use Rattle.cedar_syntax.proofs.machines.Marked.{IsMarked, at, open_paren, colon, semicolon, a_string, open_brace, close_brace, other, marked, marked_fits, word_fits, related_fits, IsRelated, related_by, unrelated, related}
-use Rattle.cedar_syntax.proofs.machines.Marked as marks
+use Rattle.cedar_text.proofs.machines.Annotation.{word_node_is, word_kept, word_does}
+use Rattle.cedar_text.proofs.machines.ElementPlans.{NarrowPlanned, the_word, the_operator, ElementPlanned, names, colon, behind_variable, type_goes, behind_type, sum_goes, behind_sum, expression_goes, element_planned}
+use Rattle.cedar_text.proofs.machines.Rightly.{EndsRightly, DoesRightly, image_of, image_some, can_end, has_tree, does_by, answers_from, images_done, images_kept}
+use Rattle.cedar_text.proofs.machines.WordPlans.{planned_any}
 
 -- the doors of the parts
-pub record PartDoors {N S E : Type 0} (src : List ℕ) (m : PartMachines N S E) : Type 0 where
-  pub name : Door m.name (AsNode src (ReadsName src))
-  pub sum : Door m.sum (AsNode src (ReadsAdd src))
-  pub expression : Door m.expression (AsNode src (ReadsExpr src))
-  pub behind_name : (k : TokenKind) → FollowsName k → EndsAt m.name (IsKind k)
-  pub behind_sum : (k : TokenKind) → FollowsSum k → EndsAt m.sum (IsKind k)
-  pub behind_expression : (k : TokenKind) → IsParting k → EndsAt m.expression (IsKind k)
+pub record PartDoors {N S E A B C : Type 0} (src : List ℕ) (m : PartReaders N S E A B C) : Type 0 where
+  pub name : Door (machine_of src m.name) (AsNode src (ReadsName src))
+  pub sum : Door (machine_of src m.sum) (AsNode src (ReadsAdd src))
+  pub expression : Door (machine_of src m.expression) (AsNode src (ReadsExpr src))
+  pub name_right : EndsRightly src m.name
+  pub sum_right : EndsRightly src m.sum
+  pub expression_right : EndsRightly src m.expression
+  pub behind_name : (k : TokenKind) → FollowsName k → EndsAt (machine_of src m.name) (IsKind k)
+  pub behind_sum : (k : TokenKind) → FollowsSum k → EndsAt (machine_of src m.sum) (IsKind k)
+  pub behind_expression : (k : TokenKind) → IsParting k → EndsAt (machine_of src m.expression) (IsKind k)
 
-holds_name : {N S E : Type 0} (src : List ℕ) (m : PartMachines N S E) (i : Cell Ident) → Holds m.name (elements src m) (λ q. element.TypeName i q)
-holds_name src m i s q t e = ap (λ a. in_type_name m.sum.start m.expression.start i t a) e
+-- ---- what the element does while a part goes on
 
-holds_sum : {N S E : Type 0} (src : List ℕ) (m : PartMachines N S E) (i : Cell Ident) (x : Option (Cell Name)) → Holds m.sum (elements src m) (λ q. element.EntityType i x q)
-holds_sum src m i x s q t e = ap (λ a. in_entity_type m.expression.start i x t a) e
+holds_name : {N S E A B C : Type 0} (src : List ℕ) (m : PartReaders N S E A B C) (s : ElementState N S E) → Holds (machine_of src m.name) (elements src m) (λ q. with_part s (part.TypeName q))
+holds_name src m s q r t e =
+    let h = taken_by src m.name q r t e in
+    takes src (element_reader m) (with_part s (part.TypeName q)) (with_part s (part.TypeName r)) (act.TypeName h.what) t (ap (λ o. type_name_plan o (m.name.ends q) t.kind) h.planned)
+    (ap (λ o. going_on s (option_image (λ q. part.TypeName q) o)) h.made)
 
-holds_expression : {N S E : Type 0} (src : List ℕ) (m : PartMachines N S E) (i : Cell Ident) (x : Option (Cell Name)) (y : Option (Cell Add)) (o : RelOp) → Holds m.expression (elements src m) (λ q. element.Constraint i x y o q)
-holds_expression src m i x y o s q t e = ap (λ a. in_constraint i x y o a) e
+holds_sum : {N S E A B C : Type 0} (src : List ℕ) (m : PartReaders N S E A B C) (s : ElementState N S E) → Holds (machine_of src m.sum) (elements src m) (λ q. with_part s (part.EntityType q))
+holds_sum src m s q r t e =
+    let h = taken_by src m.sum q r t e in
+    takes src (element_reader m) (with_part s (part.EntityType q)) (with_part s (part.EntityType r)) (act.EntityType h.what) t (ap (λ o. entity_type_plan o (m.sum.ends q) t.kind) h.planned)
+    (ap (λ o. going_on s (option_image (λ q. part.EntityType q) o)) h.made)
 
--- complete
+holds_expression : {N S E A B C : Type 0} (src : List ℕ) (m : PartReaders N S E A B C) (s : ElementState N S E) (o : RelOp) → Holds (machine_of src m.expression) (elements src m) (λ q. with_part s (part.Constraint o q))
+holds_expression src m s o q r t e =
+    let h = taken_by src m.expression q r t e in
+    takes src (element_reader m) (with_part s (part.Constraint o q)) (with_part s (part.Constraint o r)) (act.Constraint h.what) t (ap (λ o. constraint_plan o) h.planned)
+    (ap (λ q. going_on s (option_image (λ q. part.Constraint o q) q)) h.made)
 
--- `is` and the operators
-data FollowsType : TokenKind → Type 0 where
-  the_word : FollowsType kind.Is
-  the_operator : {k : TokenKind} (o : RelOp) → ReadsRelOp k o → FollowsType k
+-- behind a part that ends there
 
--- behind a variable and its type name
-record Typed {N S E : Type 0} (src : List ℕ) (m : PartMachines N S E) (ts : List Lexeme) (i : Cell Ident) (x : Option (Cell Name)) : Type 0 where
-  last : ElementState N S E
-  goes : Comes (elements src m) ts last
-  ends : element_end m last ≡ Some (variable_def_of i x None None)
-  goes_on : (k : TokenKind) (p : Spot) → FollowsType k → element_step src m last (token_at k p) ≡ at_entity_type m.sum.start m.expression.start i x (token_at k p) (mark_of k)
+type_leaves : {N S E A B C : Type 0} (src : List ℕ) (m : PartReaders N S E A B C) → PartDoors src m → (q : N) (x : Cell Name) (t : Lexeme) → FollowsName t.kind → m.name.finish src q ≡ Some x →
+    type_name_plan (m.name.plan q t.kind) (m.name.ends q) t.kind ≡ narrow_plan {A = A} {B = B} {C = C} t.kind
+type_leaves src m d q x t h e =
+    ap (λ o. type_name_plan o (m.name.ends q) t.kind) (ended_by src m.name q t x (d.behind_name t.kind h q x t refl e)).0 ∙ ap (λ b. type_name_plan None b t.kind) (can_end src m.name d.name_right q x e)
 
-no_colon : {N S E : Type 0} (n : N) (s : S) (e : E) (i : Cell Ident) (k : TokenKind) (p : Spot) → FollowsType k → at_type_name n s e i (token_at k p) (mark_of k) ≡ at_entity_type s e i None (token_at k p) (mark_of k)
-no_colon n s e i k p the_word = refl
-no_colon n s e i k p (the_operator o less) = refl
-no_colon n s e i k p (the_operator o less_eq) = refl
-no_colon n s e i k p (the_operator o greater_eq) = refl
-no_colon n s e i k p (the_operator o greater) = refl
-no_colon n s e i k p (the_operator o not_eq) = refl
-no_colon n s e i k p (the_operator o equal) = refl
-no_colon n s e i k p (the_operator o within) = refl
-no_colon n s e i k p (the_operator o single_eq) = refl
+sum_leaves : {N S E A B C : Type 0} (src : List ℕ) (m : PartReaders N S E A B C) → PartDoors src m → (q : S) (x : Cell Add) (t : Lexeme) → FollowsSum t.kind → m.sum.finish src q ≡ Some x →
+    entity_type_plan (m.sum.plan q t.kind) (m.sum.ends q) t.kind ≡ compare_plan {A = A} {B = B} {C = C} t.kind
+sum_leaves src m d q x t h e =
+    ap (λ o. entity_type_plan o (m.sum.ends q) t.kind) (ended_by src m.sum q t x (d.behind_sum t.kind h q x t refl e)).0 ∙ ap (λ b. entity_type_plan None b t.kind) (can_end src m.sum d.sum_right q x e)
 
-follows_name : {k : TokenKind} → FollowsType k → FollowsName k
-follows_name the_word = is_word
-follows_name (the_operator o r) = as_sum (operator o r)
+-- ---- complete
 
-variable_runs : {N S E : Type 0} (src : List ℕ) (m : PartMachines N S E) {ts : List Lexeme} {i : Ident} → ReadsAny ts i → Comes (elements src m) ts (element.Variable (placed src ts i))
-variable_runs src m (any {k = k} q e) = ap (λ o. answer_state (at_variable src (token_at k q) o)) e
+bare_compares : {A B C : Type 0} {k : TokenKind} {o : RelOp} → ReadsRelOp k o → bare_plan {A = A} {B = B} {C = C} k ≡ Some (act.Compare o)
+bare_compares less = refl
+bare_compares less_eq = refl
+bare_compares greater_eq = refl
+bare_compares greater = refl
+bare_compares not_eq = refl
+bare_compares equal = refl
+bare_compares within = refl
+bare_compares single_eq = refl
 
-type_runs : {N S E : Type 0} {src : List ℕ} {m : PartMachines N S E} → PartDoors src m → {ts us : List Lexeme} {i : Ident} {x : Option (Cell Name)} → ReadsAny ts i → ReadsTypeName src us x → Typed src m (ts ++ us) (placed src ts i) x
-type_runs {src = src} {m = m} d {ts = ts} {i = i} w no_type_name = record {
-  last = element.Variable (placed src ts i);
-  goes = ap (λ ts. steps (elements src m) (Some element.Start) ts) (append-nil ts) ∙ variable_runs src m w;
-  ends = refl;
-  goes_on = λ k p h. no_colon m.name.start m.sum.start m.expression.start (placed src ts i) k p h;
-}
-type_runs {src = src} {m = m} d {ts = ts} {i = i} w (type_name {ts = us} {x = x} p r) =
-    let c = d.name.complete us (placed src us x) (as_node r) in
-    let v = placed src ts i in
-    record {
-      last = element.TypeName v c.last;
-      goes = then_steps (elements src m) (Some element.Start) (Some (element.Variable v)) _ ts (one kind.Colon p ++ us) (variable_runs src m w)
-          (held m.name (elements src m) (λ q. element.TypeName v q) (holds_name src m v) us m.name.start c.last c.goes);
-      ends = ap (λ o. end_type_name v o) c.ends;
-      goes_on = λ k p h. ap (λ a. in_type_name m.sum.start m.expression.start v (token_at k p) a) (d.behind_name k (follows_name h) c.last (placed src us x) (token_at k p) refl c.ends);
-    }
-
--- behind the entity type
-record EntityTyped {N S E : Type 0} (src : List ℕ) (m : PartMachines N S E) (ts : List Lexeme) (i : Cell Ident) (x : Option (Cell Name)) (y : Option (Cell Add)) : Type 0 where
-  last : ElementState N S E
-  goes : Comes (elements src m) ts last
-  ends : element_end m last ≡ Some (variable_def_of i x y None)
-  goes_on : (k : TokenKind) (p : Spot) (o : RelOp) → ReadsRelOp k o → element_step src m last (token_at k p) ≡ next (element.Constraint i x y o m.expression.start)
-
-no_is : {N S E : Type 0} (s : S) (e : E) (i : Cell Ident) (x : Option (Cell Name)) (k : TokenKind) (p : Spot) (o : RelOp) → ReadsRelOp k o → at_entity_type {N = N} s e i x (token_at k p) (mark_of k) ≡ next (element.Constraint i x None o e)
-no_is s e i x k p o less = refl
-no_is s e i x k p o less_eq = refl
-no_is s e i x k p o greater_eq = refl
-no_is s e i x k p o greater = refl
-no_is s e i x k p o not_eq = refl
-no_is s e i x k p o equal = refl
-no_is s e i x k p o within = refl
-no_is s e i x k p o single_eq = refl
+narrow_compares : {A B C : Type 0} {k : TokenKind} {o : RelOp} → ReadsRelOp k o → narrow_plan {A = A} {B = B} {C = C} k ≡ Some (act.Compare o)
+narrow_compares less = refl
+narrow_compares less_eq = refl
+narrow_compares greater_eq = refl
+narrow_compares greater = refl
+narrow_compares not_eq = refl
+narrow_compares equal = refl
+narrow_compares within = refl
+narrow_compares single_eq = refl
 
 an_operator : {k : TokenKind} {o : RelOp} → ReadsRelOp k o → relation_of k ≡ Some o
 an_operator less = refl
@@ -126,93 +114,137 @@ an_operator equal = refl
 an_operator within = refl
 an_operator single_eq = refl
 
-entity_runs : {N S E : Type 0} {src : List ℕ} {m : PartMachines N S E} → PartDoors src m → {ts vs : List Lexeme} {i : Cell Ident} {x : Option (Cell Name)} {y : Option (Cell Add)} → Typed src m ts i x → ReadsEntityType src vs y → EntityTyped src m (ts ++ vs) i x y
+-- behind a variable and its type name
+record Typed {N S E A B C : Type 0} (src : List ℕ) (m : PartReaders N S E A B C) (ts : List Lexeme) (i : Cell Ident) (x : Option (Cell Name)) : Type 0 where
+  last : ElementState N S E
+  goes : Comes (elements src m) ts last
+  ends : element_finish m src last ≡ Some (variable_def_of i x None None)
+  narrows : (p : Spot) → (elements src m).step last (token_at kind.Is p) ≡ next (element_of i x None (part.EntityType m.sum.start))
+  compares : (k : TokenKind) (p : Spot) (o : RelOp) → ReadsRelOp k o → (elements src m).step last (token_at k p) ≡ next (element_of i x None (part.Constraint o m.expression.start))
+
+-- a variable alone
+abbrev bare : {N S E : Type 0} → Cell Ident → ElementState N S E
+bare i = element_of i None None part.Nothing
+
+variable_runs : {N S E A B C : Type 0} (src : List ℕ) (m : PartReaders N S E A B C) {ts : List Lexeme} {i : Ident} → ReadsAny ts i → Comes (elements src m) ts (bare (placed src ts i))
+variable_runs src m (any {k = k} {i = i} q e) =
+    ap (λ a. answer_state a)
+    (takes src (element_reader m) (element_reader m).start (bare (placed src (one k q) i)) act.Variable (token_at k q) (planned_any k q.text act.Variable i e)
+    (ap (λ o. option_image (λ i. with_variable (element_reader m).start i) o) (word_node_is src (token_at k q) i e)))
+
+type_runs : {N S E A B C : Type 0} {src : List ℕ} {m : PartReaders N S E A B C} → PartDoors src m → {ts us : List Lexeme} {i : Ident} {x : Option (Cell Name)} → ReadsAny ts i → ReadsTypeName src us x → Typed src m (ts ++ us) (placed src ts i) x
+type_runs {src = src} {m = m} d {ts = ts} {i = i} w no_type_name = record {
+  last = bare (placed src ts i);
+  goes = ap (λ ts. steps (elements src m) (Some (element_reader m).start) ts) (append-nil ts) ∙ variable_runs src m w;
+  ends = refl;
+  narrows = λ p. refl;
+  compares = λ k p o h. takes src (element_reader m) (bare (placed src ts i)) (with_part (bare (placed src ts i)) (part.Constraint o m.expression.start)) (act.Compare o) (token_at k p) (bare_compares h) refl;
+}
+type_runs {src = src} {m = m} d {ts = ts} {i = i} w (type_name {ts = us} {x = x} p r) =
+    let c = d.name.complete us (placed src us x) (as_node r) in
+    let v = bare (placed src ts i) in
+    let last = with_part v (part.TypeName c.last) in
+    record {
+      last = last;
+      goes = then_steps (elements src m) (Some (element_reader m).start) (Some v) _ ts (one kind.Colon p ++ us) (variable_runs src m w)
+          (held (machine_of src m.name) (elements src m) (λ q. with_part v (part.TypeName q)) (holds_name src m v) us m.name.start c.last c.goes);
+      ends = ap (λ o. with_type_name last o) c.ends;
+      narrows = λ p. takes src (element_reader m) last (element_of (placed src ts i) (Some (placed src us x)) None (part.EntityType m.sum.start)) act.Is (token_at kind.Is p)
+          (type_leaves src m d c.last (placed src us x) (token_at kind.Is p) is_word c.ends) (ap (λ o. Some (element_of (placed src ts i) o None (part.EntityType m.sum.start))) c.ends);
+      compares = λ k p o h. takes src (element_reader m) last (element_of (placed src ts i) (Some (placed src us x)) None (part.Constraint o m.expression.start)) (act.Compare o) (token_at k p)
+          (type_leaves src m d c.last (placed src us x) (token_at k p) (as_sum (operator o h)) c.ends ∙ narrow_compares h) (ap (λ n. Some (element_of (placed src ts i) n None (part.Constraint o m.expression.start))) c.ends);
+    }
+
+-- behind the entity type
+record EntityTyped {N S E A B C : Type 0} (src : List ℕ) (m : PartReaders N S E A B C) (ts : List Lexeme) (i : Cell Ident) (x : Option (Cell Name)) (y : Option (Cell Add)) : Type 0 where
+  last : ElementState N S E
+  goes : Comes (elements src m) ts last
+  ends : element_finish m src last ≡ Some (variable_def_of i x y None)
+  compares : (k : TokenKind) (p : Spot) (o : RelOp) → ReadsRelOp k o → (elements src m).step last (token_at k p) ≡ next (element_of i x y (part.Constraint o m.expression.start))
+
+entity_runs : {N S E A B C : Type 0} {src : List ℕ} {m : PartReaders N S E A B C} → PartDoors src m → {ts vs : List Lexeme} {i : Cell Ident} {x : Option (Cell Name)} {y : Option (Cell Add)} → Typed src m ts i x → ReadsEntityType src vs y →
+    EntityTyped src m (ts ++ vs) i x y
 entity_runs {src = src} {m = m} d {ts = ts} {i = i} {x = x} g no_entity_type = record {
   last = g.last;
-  goes = ap (λ ts. steps (elements src m) (Some element.Start) ts) (append-nil ts) ∙ g.goes;
+  goes = ap (λ ts. steps (elements src m) (Some (element_reader m).start) ts) (append-nil ts) ∙ g.goes;
   ends = g.ends;
-  goes_on = λ k p o h. g.goes_on k p (the_operator o h) ∙ no_is m.sum.start m.expression.start i x k p o h;
+  compares = g.compares;
 }
 entity_runs {src = src} {m = m} d {ts = ts} {i = i} {x = x} g (entity_type {ts = us} {x = y} p r) =
     let c = d.sum.complete us (placed src us y) (as_node r) in
+    let v = element_of i x None (part.EntityType m.sum.start) in
+    let last = with_part v (part.EntityType c.last) in
     record {
-      last = element.EntityType i x c.last;
-      goes = then_steps (elements src m) (Some element.Start) (Some g.last) _ ts (one kind.Is p ++ us) g.goes
-          (ap (λ a. steps (elements src m) (answer_state a) us) (g.goes_on kind.Is p the_word) ∙ held m.sum (elements src m) (λ q. element.EntityType i x q) (holds_sum src m i x) us m.sum.start c.last c.goes);
-      ends = ap (λ o. end_entity_type i x o) c.ends;
-      goes_on = λ k p o h. ap (λ a. in_entity_type m.expression.start i x (token_at k p) a) (d.behind_sum k (operator o h) c.last (placed src us y) (token_at k p) refl c.ends)
-          ∙ ap (λ o. at_constraint m.expression.start i x (Some (placed src us y)) o) (an_operator h);
+      last = last;
+      goes = then_steps (elements src m) (Some (element_reader m).start) (Some g.last) _ ts (one kind.Is p ++ us) g.goes
+          (ap (λ a. steps (elements src m) (answer_state a) us) (g.narrows p) ∙ held (machine_of src m.sum) (elements src m) (λ q. with_part v (part.EntityType q)) (holds_sum src m v) us m.sum.start c.last c.goes);
+      ends = ap (λ o. with_entity_type last o) c.ends;
+      compares = λ k p o h. takes src (element_reader m) last (element_of i x (Some (placed src us y)) (part.Constraint o m.expression.start)) (act.Compare o) (token_at k p)
+          (sum_leaves src m d c.last (placed src us y) (token_at k p) (operator o h) c.ends ∙ ap (λ o. option_image (λ o. act.Compare o) o) (an_operator h))
+          (ap (λ n. Some (element_of i x n (part.Constraint o m.expression.start))) c.ends);
     }
 
-constraint_runs : {N S E : Type 0} {src : List ℕ} {m : PartMachines N S E} → PartDoors src m → {ts ws : List Lexeme} {i : Cell Ident} {x : Option (Cell Name)} {y : Option (Cell Add)} {z : Option (RelOp × Cell Expr)} → EntityTyped src m ts i x y → ReadsConstraint src ws z →
-    RunsTo (elements src m) (ts ++ ws) (variable_def_of i x y z)
-constraint_runs {src = src} {m = m} d {ts = ts} g no_constraint = record { last = g.last; goes = ap (λ ts. steps (elements src m) (Some element.Start) ts) (append-nil ts) ∙ g.goes; ends = g.ends }
+constraint_runs : {N S E A B C : Type 0} {src : List ℕ} {m : PartReaders N S E A B C} → PartDoors src m → {ts ws : List Lexeme} {i : Cell Ident} {x : Option (Cell Name)} {y : Option (Cell Add)} {z : Option (RelOp × Cell Expr)} → EntityTyped src m ts i x y →
+    ReadsConstraint src ws z → RunsTo (elements src m) (ts ++ ws) (variable_def_of i x y z)
+constraint_runs {src = src} {m = m} d {ts = ts} g no_constraint = record { last = g.last; goes = ap (λ ts. steps (elements src m) (Some (element_reader m).start) ts) (append-nil ts) ∙ g.goes; ends = g.ends }
 constraint_runs {src = src} {m = m} d {ts = ts} {i = i} {x = x} {y = y} g (constraint {ts = us} {k = k} {o = o} {x = z} p h r) =
     let c = d.expression.complete us (placed src us z) (as_node r) in
+    let v = element_of i x y (part.Constraint o m.expression.start) in
     record {
-      last = element.Constraint i x y o c.last;
-      goes = then_steps (elements src m) (Some element.Start) (Some g.last) _ ts (one k p ++ us) g.goes
-          (ap (λ a. steps (elements src m) (answer_state a) us) (g.goes_on k p o h) ∙ held m.expression (elements src m) (λ q. element.Constraint i x y o q) (holds_expression src m i x y o) us m.expression.start c.last c.goes);
-      ends = ap (λ z. end_constraint i x y o z) c.ends;
+      last = with_part v (part.Constraint o c.last);
+      goes = then_steps (elements src m) (Some (element_reader m).start) (Some g.last) _ ts (one k p ++ us) g.goes
+          (ap (λ a. steps (elements src m) (answer_state a) us) (g.compares k p o h)
+          ∙ held (machine_of src m.expression) (elements src m) (λ q. with_part v (part.Constraint o q)) (holds_expression src m v o) us m.expression.start c.last c.goes);
+      ends = ap (λ z. with_constraint v o z) c.ends;
     }
 
-element_complete : {N S E : Type 0} {src : List ℕ} {m : PartMachines N S E} → PartDoors src m → {ts : List Lexeme} {x : VariableDef} → ReadsVariableDef src ts x → RunsTo (elements src m) ts x
+element_complete : {N S E A B C : Type 0} {src : List ℕ} {m : PartReaders N S E A B C} → PartDoors src m → {ts : List Lexeme} {x : VariableDef} → ReadsVariableDef src ts x → RunsTo (elements src m) ts x
 element_complete {src = src} {m = m} d (variable_def {ts = ts} {us = us} {vs = vs} {ws = ws} {i = i} {x = x} {y = y} {z = z} w t e c) =
     subst (λ ts'. RunsTo (elements src m) ts' (variable_def_of (placed src ts i) x y z)) (assoc ts us vs ws) (constraint_runs d (entity_runs d (type_runs d w t) e) c)
   where
     assoc : (ts us vs ws : List Lexeme) → ts ++ us ++ vs ++ ws ≡ ts ++ (us ++ (vs ++ ws))
     assoc ts us vs ws = simp append_assoc
 
--- sound
+-- ---- sound
 
-data ElementRead {N S E : Type 0} (src : List ℕ) (m : PartMachines N S E) : List Lexeme → ElementState N S E → Type 0 where
-  at_start : ElementRead src m [] element.Start
-  at_word : {ts : List Lexeme} {i : Ident} → ReadsAny ts i → ElementRead src m ts (element.Variable (placed src ts i))
-  at_name : {ts : List Lexeme} {i : Ident} {s : N} (p : Spot) (us : List Lexeme) → ReadsAny ts i → Comes m.name us s → ElementRead src m (ts ++ one kind.Colon p ++ us) (element.TypeName (placed src ts i) s)
-  at_type : {ts us : List Lexeme} {i : Ident} {x : Option (Cell Name)} {s : S} (p : Spot) (vs : List Lexeme) → ReadsAny ts i → ReadsTypeName src us x → Comes m.sum vs s →
-      ElementRead src m (ts ++ us ++ one kind.Is p ++ vs) (element.EntityType (placed src ts i) x s)
+data ElementRead {N S E A B C : Type 0} (src : List ℕ) (m : PartReaders N S E A B C) : List Lexeme → ElementState N S E → Type 0 where
+  at_start : ElementRead src m [] (element_reader m).start
+  at_word : {ts : List Lexeme} {i : Ident} → ReadsAny ts i → ElementRead src m ts (bare (placed src ts i))
+  at_name : {ts : List Lexeme} {i : Ident} {s : N} (p : Spot) (us : List Lexeme) → ReadsAny ts i → Comes (machine_of src m.name) us s → ElementRead src m (ts ++ one kind.Colon p ++ us) (element_of (placed src ts i) None None (part.TypeName s))
+  at_type : {ts us : List Lexeme} {i : Ident} {x : Option (Cell Name)} {s : S} (p : Spot) (vs : List Lexeme) → ReadsAny ts i → ReadsTypeName src us x → Comes (machine_of src m.sum) vs s →
+      ElementRead src m (ts ++ us ++ one kind.Is p ++ vs) (element_of (placed src ts i) x None (part.EntityType s))
   at_operator : {ts us vs : List Lexeme} {i : Ident} {x : Option (Cell Name)} {y : Option (Cell Add)} {k : TokenKind} {o : RelOp} {s : E} (p : Spot) (ws : List Lexeme) →
-      ReadsAny ts i → ReadsTypeName src us x → ReadsEntityType src vs y → ReadsRelOp k o → Comes m.expression ws s →
-      ElementRead src m (ts ++ us ++ vs ++ one k p ++ ws) (element.Constraint (placed src ts i) x y o s)
-
-abbrev After : {N S E : Type 0} → List ℕ → PartMachines N S E → List Lexeme → Answer (ElementState N S E) VariableDef → Type 0
-After src m ts a = IfSome (answer_state a) (λ s. ElementRead src m ts s)
+      ReadsAny ts i → ReadsTypeName src us x → ReadsEntityType src vs y → ReadsRelOp k o → Comes (machine_of src m.expression) ws s →
+      ElementRead src m (ts ++ us ++ vs ++ one k p ++ ws) (element_of (placed src ts i) x y (part.Constraint o s))
 
 snoc : (ts us : List Lexeme) (t : Lexeme) → ts ++ (us ++ t ∷ []) ≡ ts ++ us ++ t ∷ []
 snoc ts us t = simp append_assoc
 
-word_read : {N S E : Type 0} (src : List ℕ) (m : PartMachines N S E) (t : Lexeme) (o : Option Ident) → any_of t.kind t.text ≡ o → After src m (t ∷ []) (at_variable src t o)
-word_read src m t None e = tt
-word_read src m t (Some i) e = at_word (any (spot_of t) e)
+-- where a part begins
 
-constraint_read : {N S E : Type 0} (src : List ℕ) (m : PartMachines N S E) {ts us vs : List Lexeme} {i : Ident} {x : Option (Cell Name)} {y : Option (Cell Add)} → ReadsAny ts i → ReadsTypeName src us x → ReadsEntityType src vs y →
-    (k : TokenKind) (p : Spot) (o : Option RelOp) → IsRelated o k → After src m (ts ++ us ++ vs ++ one k p) (at_constraint m.expression.start (placed src ts i) x y o)
-constraint_read src m {ts = ts} {us = us} {vs = vs} {i = i} {x = x} {y = y} w t e k p (Some o) (related_by h) =
-    subst (λ ts'. ElementRead src m ts' (element.Constraint (placed src ts i) x y o m.expression.start)) (append-nil (ts ++ us ++ vs ++ one k p)) (at_operator p [] w t e h refl)
-constraint_read src m w t e k p None unrelated = tt
+name_begins : {N S E A B C : Type 0} (src : List ℕ) (m : PartReaders N S E A B C) {ts : List Lexeme} {i : Ident} → ReadsAny ts i → (p : Spot) → ElementRead src m (ts ++ one kind.Colon p) (element_of (placed src ts i) None None (part.TypeName m.name.start))
+name_begins src m {ts = ts} {i = i} w p = subst (λ ts'. ElementRead src m ts' (element_of (placed src ts i) None None (part.TypeName m.name.start))) (append-nil (ts ++ one kind.Colon p)) (at_name p [] w refl)
 
--- behind a type name, where no `is` stands
-bare_read : {N S E : Type 0} (src : List ℕ) (m : PartMachines N S E) {ts us : List Lexeme} {i : Ident} {x : Option (Cell Name)} → ReadsAny ts i → ReadsTypeName src us x → (k : TokenKind) (p : Spot) →
-    After src m (ts ++ us ++ one k p) (at_constraint m.expression.start (placed src ts i) x None (relation_of k))
-bare_read src m {ts = ts} {us = us} {i = i} {x = x} w t k p =
-    subst (λ ts'. After src m (ts' ++ one k p) (at_constraint m.expression.start (placed src ts i) x None (relation_of k))) (append-nil (ts ++ us)) (constraint_read src m w t no_entity_type k p (relation_of k) (related k))
+sum_begins : {N S E A B C : Type 0} (src : List ℕ) (m : PartReaders N S E A B C) {ts us : List Lexeme} {i : Ident} {x : Option (Cell Name)} → ReadsAny ts i → ReadsTypeName src us x → (p : Spot) →
+    ElementRead src m (ts ++ us ++ one kind.Is p) (element_of (placed src ts i) x None (part.EntityType m.sum.start))
+sum_begins src m {ts = ts} {us = us} {i = i} {x = x} w n p =
+    subst (λ ts'. ElementRead src m ts' (element_of (placed src ts i) x None (part.EntityType m.sum.start))) (append-nil (ts ++ us ++ one kind.Is p)) (at_type p [] w n refl)
 
-type_read : {N S E : Type 0} (src : List ℕ) (m : PartMachines N S E) {ts us : List Lexeme} {i : Ident} {x : Option (Cell Name)} → ReadsAny ts i → ReadsTypeName src us x → (c : Mark) (k : TokenKind) (p : Spot) → IsMarked c k →
-    After src m (ts ++ us ++ one k p) (at_entity_type m.sum.start m.expression.start (placed src ts i) x (token_at k p) c)
-type_read src m {ts = ts} {us = us} {i = i} {x = x} w t mark.Is k p marks.is_word =
-    subst (λ ts'. ElementRead src m ts' (element.EntityType (placed src ts i) x m.sum.start)) (append-nil (ts ++ us ++ one kind.Is p)) (at_type p [] w t refl)
-type_read src m w t _ k p h = bare_read src m w t k p
+constraint_begins : {N S E A B C : Type 0} (src : List ℕ) (m : PartReaders N S E A B C) {ts us vs : List Lexeme} {i : Ident} {x : Option (Cell Name)} {y : Option (Cell Add)} → ReadsAny ts i → ReadsTypeName src us x → ReadsEntityType src vs y →
+    (k : TokenKind) (p : Spot) (o : RelOp) → ReadsRelOp k o → ElementRead src m (ts ++ us ++ vs ++ one k p) (element_of (placed src ts i) x y (part.Constraint o m.expression.start))
+constraint_begins src m {ts = ts} {us = us} {vs = vs} {i = i} {x = x} {y = y} w n f k p o r =
+    subst (λ ts'. ElementRead src m ts' (element_of (placed src ts i) x y (part.Constraint o m.expression.start))) (append-nil (ts ++ us ++ vs ++ one k p)) (at_operator p [] w n f r refl)
 
--- behind a variable, where no `:` stands
-alone_read : {N S E : Type 0} (src : List ℕ) (m : PartMachines N S E) {ts : List Lexeme} {i : Ident} → ReadsAny ts i → (c : Mark) (k : TokenKind) (p : Spot) → IsMarked c k →
-    After src m (ts ++ one k p) (at_entity_type m.sum.start m.expression.start (placed src ts i) None (token_at k p) c)
-alone_read src m {ts = ts} {i = i} w c k p h =
-    subst (λ ts'. After src m (ts' ++ one k p) (at_entity_type m.sum.start m.expression.start (placed src ts i) None (token_at k p) c)) (append-nil ts) (type_read src m w no_type_name c k p h)
+-- behind a variable and its type name, where another part begins
+narrow_kept : {N S E A B C : Type 0} (src : List ℕ) (m : PartReaders N S E A B C) {ts us : List Lexeme} {i : Ident} {x : Option (Cell Name)} → ReadsAny ts i → ReadsTypeName src us x → (s : ElementState N S E) →
+    ((u : ElementPart N S E) → behind_part src m s s.part u ≡ element_of (placed src ts i) x None u) → (k : TokenKind) (a : ElementAct A B C) (p : Spot) → NarrowPlanned k a →
+    IfSome (element_act m src s a (token_at k p)) (λ q. ElementRead src m (ts ++ us ++ one k p) q)
+narrow_kept src m {ts = ts} {us = us} w n s b k a p the_word = subst (λ q. ElementRead src m (ts ++ us ++ one kind.Is p) q) (sym (b (part.EntityType m.sum.start))) (sum_begins src m w n p)
+narrow_kept src m {ts = ts} {us = us} {i = i} {x = x} w n s b k a p (the_operator {o = o} r) =
+    subst (λ q. ElementRead src m (ts ++ us ++ one k p) q) (sym (b (part.Constraint o m.expression.start)))
+    (subst (λ ts'. ElementRead src m (ts' ++ one k p) (element_of (placed src ts i) x None (part.Constraint o m.expression.start))) (append-nil (ts ++ us)) (constraint_begins src m w n no_entity_type k p o r))
 
-name_read : {N S E : Type 0} (src : List ℕ) (m : PartMachines N S E) {ts : List Lexeme} {i : Ident} → ReadsAny ts i → (c : Mark) (k : TokenKind) (p : Spot) → IsMarked c k →
-    After src m (ts ++ one k p) (at_type_name m.name.start m.sum.start m.expression.start (placed src ts i) (token_at k p) c)
-name_read src m {ts = ts} {i = i} w mark.Colon k p colon = subst (λ ts'. ElementRead src m ts' (element.TypeName (placed src ts i) m.name.start)) (append-nil (ts ++ one kind.Colon p)) (at_name p [] w refl)
-name_read src m w c k p h = alone_read src m w c k p h
+-- what a part makes of its tokens
 
 type_of : {src : List ℕ} {us : List Lexeme} {x : Cell Name} (p : Spot) → AsNode src (ReadsName src) us x → ReadsTypeName src (one kind.Colon p ++ us) (Some x)
 type_of p (as_node r) = type_name p r
@@ -223,72 +255,57 @@ entity_of p (as_node r) = entity_type p r
 constraint_of : {src : List ℕ} {us : List Lexeme} {k : TokenKind} {o : RelOp} {x : Cell Expr} (p : Spot) → ReadsRelOp k o → AsNode src (ReadsExpr src) us x → ReadsConstraint src (one k p ++ us) (Some (o, x))
 constraint_of p h (as_node r) = constraint p h r
 
-in_name_read : {N S E : Type 0} {src : List ℕ} {m : PartMachines N S E} → PartDoors src m → {ts : List Lexeme} {i : Ident} {s : N} (p : Spot) (us : List Lexeme) → ReadsAny ts i → Comes m.name us s → (t : Lexeme) (a : Answer N (Cell Name)) → m.name.step s t ≡ a →
-    AnswersRightly t a (m.name.finish s) → After src m (ts ++ one kind.Colon p ++ us ++ t ∷ []) (in_type_name m.sum.start m.expression.start (placed src ts i) t a)
-in_name_read {src = src} {m = m} d {ts = ts} {i = i} {s = s} p us w c t (next q) e h =
-    subst (λ ts'. ElementRead src m ts' (element.TypeName (placed src ts i) q)) (snoc (ts ++ one kind.Colon p) us t) (at_name p (us ++ t ∷ []) w (one_more m.name us s q t c e))
-in_name_read {src = src} {m = m} d {ts = ts} {i = i} {s = s} p us w c t (ended x) e h =
-    subst (λ ts'. After src m (ts' ++ t ∷ []) (at_entity_type m.sum.start m.expression.start (placed src ts i) (Some x) t (mark_of t.kind))) (assoc ts us)
-    (type_read src m w (type_of p (d.name.sound us s x c h)) (mark_of t.kind) t.kind (spot_of t) (marked t.kind))
-  where
-    assoc : (ts us : List Lexeme) → ts ++ (one kind.Colon p ++ us) ≡ ts ++ one kind.Colon p ++ us
-    assoc ts us = simp append_assoc
-in_name_read d p us w c t refused e h = tt
-in_name_read d p us w c t too_large e h = tt
+behind_colon : (ts us : List Lexeme) (p : Spot) → ts ++ (one kind.Colon p ++ us) ≡ ts ++ one kind.Colon p ++ us
+behind_colon ts us p = simp append_assoc
 
-in_sum_read : {N S E : Type 0} {src : List ℕ} {m : PartMachines N S E} → PartDoors src m → {ts us : List Lexeme} {i : Ident} {x : Option (Cell Name)} {s : S} (p : Spot) (vs : List Lexeme) → ReadsAny ts i → ReadsTypeName src us x → Comes m.sum vs s →
-    (t : Lexeme) (a : Answer S (Cell Add)) → m.sum.step s t ≡ a → AnswersRightly t a (m.sum.finish s) → After src m (ts ++ us ++ one kind.Is p ++ vs ++ t ∷ []) (in_entity_type m.expression.start (placed src ts i) x t a)
-in_sum_read {src = src} {m = m} d {ts = ts} {us = us} {i = i} {x = x} {s = s} p vs w n c t (next q) e h =
-    subst (λ ts'. ElementRead src m ts' (element.EntityType (placed src ts i) x q)) (snoc (ts ++ us ++ one kind.Is p) vs t) (at_type p (vs ++ t ∷ []) w n (one_more m.sum vs s q t c e))
-in_sum_read {src = src} {m = m} d {ts = ts} {us = us} {i = i} {x = x} {s = s} p vs w n c t (ended y) e h =
-    subst (λ ts'. After src m (ts' ++ t ∷ []) (at_constraint m.expression.start (placed src ts i) x (Some y) (relation_of t.kind))) (assoc (ts ++ us) vs)
-    (constraint_read src m w n (entity_of p (d.sum.sound vs s y c h)) t.kind (spot_of t) (relation_of t.kind) (related t.kind))
-  where
-    assoc : (ts us : List Lexeme) → ts ++ (one kind.Is p ++ us) ≡ ts ++ one kind.Is p ++ us
-    assoc ts us = simp append_assoc
-in_sum_read d p vs w n c t refused e h = tt
-in_sum_read d p vs w n c t too_large e h = tt
+behind_is : (ts us : List Lexeme) (p : Spot) → ts ++ (one kind.Is p ++ us) ≡ ts ++ one kind.Is p ++ us
+behind_is ts us p = simp append_assoc
 
-in_expression_read : {N S E : Type 0} {src : List ℕ} (m : PartMachines N S E) {ts us vs : List Lexeme} {i : Ident} {x : Option (Cell Name)} {y : Option (Cell Add)} {k : TokenKind} {o : RelOp} {s : E} (p : Spot) (ws : List Lexeme) → ReadsAny ts i → ReadsTypeName src us x →
-    ReadsEntityType src vs y → ReadsRelOp k o → Comes m.expression ws s → (t : Lexeme) (a : Answer E (Cell Expr)) → m.expression.step s t ≡ a → After src m (ts ++ us ++ vs ++ one k p ++ ws ++ t ∷ []) (in_constraint (placed src ts i) x y o a)
-in_expression_read {src = src} m {ts = ts} {us = us} {vs = vs} {i = i} {x = x} {y = y} {k = k} {o = o} {s = s} p ws w n f h c t (next q) e =
-    subst (λ ts'. ElementRead src m ts' (element.Constraint (placed src ts i) x y o q)) (snoc (ts ++ us ++ vs ++ one k p) ws t) (at_operator p (ws ++ t ∷ []) w n f h (one_more m.expression ws s q t c e))
-in_expression_read m p ws w n f h c t (ended z) e = tt
-in_expression_read m p ws w n f h c t refused e = tt
-in_expression_read m p ws w n f h c t too_large e = tt
+one_kept : {N S E A B C : Type 0} {src : List ℕ} {m : PartReaders N S E A B C} → PartDoors src m → (ts : List Lexeme) (s : ElementState N S E) (k : TokenKind) (a : ElementAct A B C) (p : Spot) → ElementRead src m ts s → ElementPlanned (reader_plans m) s.part k a →
+    IfSome (element_act m src s a (token_at k p)) (λ q. ElementRead src m (ts ++ one k p) q)
+one_kept {src = src} {m = m} d ts s k a p at_start (names h) = word_kept src (token_at k p) (λ i. with_variable (element_reader m).start i) (λ q. ElementRead src m (one k p) q) (λ i e. at_word (any p e))
+one_kept {src = src} {m = m} d ts s k a p (at_word w) colon = name_begins src m w p
+one_kept {src = src} {m = m} d ts s k a p (at_word {ts = us} {i = i} w) (behind_variable h) =
+    subst (λ us'. IfSome (element_act m src (bare (placed src us i)) a (token_at k p)) (λ q. ElementRead src m (us' ++ one k p) q)) (append-nil us) (narrow_kept src m w no_type_name (bare (placed src us i)) (λ u. refl) k a p h)
+one_kept {src = src} {m = m} d ts s k a p (at_name {ts = vs} {i = i} {s = q} l us w c) (type_goes {a = b} h) =
+    images_kept (λ u. with_part (bare (placed src vs i)) u) (λ q. part.TypeName q) (λ q. ElementRead src m (vs ++ one kind.Colon l ++ us ++ one k p) q) (m.name.act src q b (token_at k p))
+    (λ r f. subst (λ ts'. ElementRead src m ts' (element_of (placed src vs i) None None (part.TypeName r))) (snoc (vs ++ one kind.Colon l) us (token_at k p))
+    (at_name l (us ++ one k p) w (one_more (machine_of src m.name) us q r (token_at k p) c (takes src m.name q r b (token_at k p) h f))))
+one_kept {src = src} {m = m} d ts s k a p (at_name {ts = vs} {i = i} {s = q} l us w c) (behind_type g h) =
+    let f = has_tree src m.name d.name_right q g in
+    let v = element_of (placed src vs i) None None (part.TypeName q) in
+    subst (λ ts'. IfSome (element_act m src v a (token_at k p)) (λ q. ElementRead src m (ts' ++ one k p) q)) (behind_colon vs us l)
+    (narrow_kept src m w (type_of l (d.name.sound us q f.0 c f.1)) v (λ u. ap (λ o. element_of (placed src vs i) o None u) f.1) k a p h)
+one_kept {src = src} {m = m} d ts s k a p (at_type {ts = ws} {us = us} {i = i} {x = x} {s = q} l vs w n c) (sum_goes {a = b} h) =
+    images_kept (λ u. element_of (placed src ws i) x None u) (λ q. part.EntityType q) (λ q. ElementRead src m (ws ++ us ++ one kind.Is l ++ vs ++ one k p) q) (m.sum.act src q b (token_at k p))
+    (λ r f. subst (λ ts'. ElementRead src m ts' (element_of (placed src ws i) x None (part.EntityType r))) (snoc (ws ++ us ++ one kind.Is l) vs (token_at k p))
+    (at_type l (vs ++ one k p) w n (one_more (machine_of src m.sum) vs q r (token_at k p) c (takes src m.sum q r b (token_at k p) h f))))
+one_kept {src = src} {m = m} d ts s k a p (at_type {ts = ws} {us = us} {i = i} {x = x} {s = q} l vs w n c) (behind_sum {o = o} g r) =
+    let f = has_tree src m.sum d.sum_right q g in
+    subst (λ y. ElementRead src m (ws ++ us ++ one kind.Is l ++ vs ++ one k p) (element_of (placed src ws i) x y (part.Constraint o m.expression.start))) (sym f.1)
+    (subst (λ ts'. ElementRead src m (ts' ++ one k p) (element_of (placed src ws i) x (Some f.0) (part.Constraint o m.expression.start))) (behind_is (ws ++ us) vs l) (constraint_begins src m w n (entity_of l (d.sum.sound vs q f.0 c f.1)) k p o r))
+one_kept {src = src} {m = m} d ts s k a p (at_operator {ts = os} {us = us} {vs = vs} {i = i} {x = x} {y = y} {k = j} {o = o} {s = q} l ws w n f h c) (expression_goes {a = b} g) =
+    images_kept (λ u. element_of (placed src os i) x y u) (λ q. part.Constraint o q) (λ q. ElementRead src m (os ++ us ++ vs ++ one j l ++ ws ++ one k p) q) (m.expression.act src q b (token_at k p))
+    (λ r e. subst (λ ts'. ElementRead src m ts' (element_of (placed src os i) x y (part.Constraint o r))) (snoc (os ++ us ++ vs ++ one j l) ws (token_at k p))
+    (at_operator l (ws ++ one k p) w n f h (one_more (machine_of src m.expression) ws q r (token_at k p) c (takes src m.expression q r b (token_at k p) g e))))
 
-element_keeps : {N S E : Type 0} {src : List ℕ} {m : PartMachines N S E} → PartDoors src m → (ts : List Lexeme) (s : ElementState N S E) (t : Lexeme) → ElementRead src m ts s → After src m (ts ++ t ∷ []) (element_step src m s t)
-element_keeps {src = src} {m = m} d ts s t at_start = word_read src m t (any_of t.kind t.text) refl
-element_keeps {src = src} {m = m} d ts s t (at_word w) = name_read src m w (mark_of t.kind) t.kind (spot_of t) (marked t.kind)
-element_keeps {m = m} d ts s t (at_name {s = q} p us w c) = in_name_read d p us w c t (m.name.step q t) refl (d.name.answers q t)
-element_keeps {m = m} d ts s t (at_type {s = q} p vs w n c) = in_sum_read d p vs w n c t (m.sum.step q t) refl (d.sum.answers q t)
-element_keeps {m = m} d ts s t (at_operator {s = q} p ws w n f h c) = in_expression_read m p ws w n f h c t (m.expression.step q t) refl
+element_kept : {N S E A B C : Type 0} {src : List ℕ} {m : PartReaders N S E A B C} → PartDoors src m → (ts : List Lexeme) (s : ElementState N S E) → Comes (elements src m) ts s → ElementRead src m ts s
+element_kept {src = src} {m = m} d =
+    keeps src (element_reader m) (λ ts s. ElementRead src m ts s) at_start (λ ts s t a r e. one_kept d ts s t.kind a (spot_of t) r (element_planned (reader_plans m) s.part t.kind a e))
 
-name_there : (i : Cell Ident) (o : Option (Cell Name)) (v : VariableDef) → end_type_name i o ≡ Some v → (x : Cell Name) × (o ≡ Some x) × (variable_def_of i (Some x) None None ≡ v)
-name_there i None v e = absurd (cc)
-name_there i (Some x) v e = (x, refl, some_is e)
-
-sum_there : (i : Cell Ident) (n : Option (Cell Name)) (o : Option (Cell Add)) (v : VariableDef) → end_entity_type i n o ≡ Some v → (x : Cell Add) × (o ≡ Some x) × (variable_def_of i n (Some x) None ≡ v)
-sum_there i n None v e = absurd (cc)
-sum_there i n (Some x) v e = (x, refl, some_is e)
-
-expression_there : (i : Cell Ident) (n : Option (Cell Name)) (y : Option (Cell Add)) (r : RelOp) (o : Option (Cell Expr)) (v : VariableDef) → end_constraint i n y r o ≡ Some v → (x : Cell Expr) × (o ≡ Some x) × (variable_def_of i n y (Some (r, x)) ≡ v)
-expression_there i n y r None v e = absurd (cc)
-expression_there i n y r (Some x) v e = (x, refl, some_is e)
-
-element_sound : {N S E : Type 0} {src : List ℕ} {m : PartMachines N S E} → PartDoors src m → {ts : List Lexeme} {s : ElementState N S E} (v : VariableDef) → ElementRead src m ts s → element_end m s ≡ Some v → ReadsVariableDef src ts v
+element_sound : {N S E A B C : Type 0} {src : List ℕ} {m : PartReaders N S E A B C} → PartDoors src m → {ts : List Lexeme} {s : ElementState N S E} (v : VariableDef) → ElementRead src m ts s → element_finish m src s ≡ Some v → ReadsVariableDef src ts v
 element_sound d v at_start e = absurd (cc)
 element_sound {src = src} d v (at_word {ts = ts} {i = i} w) e =
     let r : ReadsVariableDef src (ts ++ []) (variable_def_of (placed src ts i) None None None) = variable_def w no_type_name no_entity_type no_constraint in
     subst (λ ts. ReadsVariableDef src ts v) (append-nil ts) (subst (λ v. ReadsVariableDef src (ts ++ []) v) (some_is e) r)
 element_sound {src = src} {m = m} d v (at_name {ts = ts} {i = i} {s = s} p us w c) e =
-    let f = name_there (placed src ts i) (m.name.finish s) v e in
+    let f = image_of (λ x. variable_def_of (placed src ts i) (Some x) None None) (m.name.finish src s) v e in
     subst (λ ts. ReadsVariableDef src ts v) (assoc ts us) (subst (λ v. ReadsVariableDef src (ts ++ ((one kind.Colon p ++ us) ++ [])) v) f.2 (variable_def w (type_of p (d.name.sound us s f.0 c f.1)) no_entity_type no_constraint))
   where
     assoc : (ts us : List Lexeme) → ts ++ ((one kind.Colon p ++ us) ++ []) ≡ ts ++ one kind.Colon p ++ us
     assoc ts us = ap (λ us. ts ++ us) (append-nil (one kind.Colon p ++ us)) ∙ sym (append_assoc ts (one kind.Colon p) us)
 element_sound {src = src} {m = m} d v (at_type {ts = ts} {us = us} {i = i} {x = x} {s = s} p vs w n c) e =
-    let f = sum_there (placed src ts i) x (m.sum.finish s) v e in
+    let f = image_of (λ y. variable_def_of (placed src ts i) x (Some y) None) (m.sum.finish src s) v e in
     subst (λ ts. ReadsVariableDef src ts v) (assoc ts us vs) (subst (λ v. ReadsVariableDef src (ts ++ (us ++ ((one kind.Is p ++ vs) ++ []))) v) f.2 (variable_def w n (entity_of p (d.sum.sound vs s f.0 c f.1)) no_constraint))
   where
     assoc : (ts us vs : List Lexeme) → ts ++ (us ++ ((one kind.Is p ++ vs) ++ [])) ≡ ts ++ us ++ one kind.Is p ++ vs
@@ -297,123 +314,132 @@ element_sound {src = src} {m = m} d v (at_type {ts = ts} {us = us} {i = i} {x = 
         again : (ts us vs : List Lexeme) → ts ++ (us ++ (one kind.Is p ++ vs)) ≡ ts ++ us ++ one kind.Is p ++ vs
         again ts us vs = simp append_assoc
 element_sound {src = src} {m = m} d v (at_operator {ts = ts} {us = us} {vs = vs} {i = i} {x = x} {y = y} {k = k} {o = o} {s = s} p ws w n f h c) e =
-    let g = expression_there (placed src ts i) x y o (m.expression.finish s) v e in
+    let g = image_of (λ z. variable_def_of (placed src ts i) x y (Some (o, z))) (m.expression.finish src s) v e in
     subst (λ ts. ReadsVariableDef src ts v) (assoc ts us vs ws) (subst (λ v. ReadsVariableDef src (ts ++ (us ++ (vs ++ (one k p ++ ws)))) v) g.2 (variable_def w n f (constraint_of p h (d.expression.sound ws s g.0 c g.1))))
   where
     assoc : (ts us vs ws : List Lexeme) → ts ++ (us ++ (vs ++ (one k p ++ ws))) ≡ ts ++ us ++ vs ++ one k p ++ ws
     assoc ts us vs ws = simp append_assoc
 
--- viable
+-- ---- viable
 
-element_viable : {N S E : Type 0} {src : List ℕ} {m : PartMachines N S E} → PartDoors src m → (s : ElementState N S E) → Completed (elements src m) s
-element_viable d element.Start = record { more = some_token kind.Identifier ∷ []; last = _; tree = _; goes = refl; ends = refl }
-element_viable d (element.Variable i) = record { more = []; last = element.Variable i; tree = variable_def_of i None None None; goes = refl; ends = refl }
-element_viable {src = src} {m = m} d (element.TypeName i s) =
-    let c = d.name.viable s in
-    record { more = c.more; last = element.TypeName i c.last; tree = variable_def_of i (Some c.tree) None None; goes = held m.name (elements src m) (λ q. element.TypeName i q) (holds_name src m i) c.more s c.last c.goes; ends = ap (λ o. end_type_name i o) c.ends }
-element_viable {src = src} {m = m} d (element.EntityType i x s) =
-    let c = d.sum.viable s in
-    record { more = c.more; last = element.EntityType i x c.last; tree = variable_def_of i x (Some c.tree) None; goes = held m.sum (elements src m) (λ q. element.EntityType i x q) (holds_sum src m i x) c.more s c.last c.goes; ends = ap (λ o. end_entity_type i x o) c.ends }
-element_viable {src = src} {m = m} d (element.Constraint i x y o s) =
-    let c = d.expression.viable s in
+viable_at : {N S E A B C : Type 0} {src : List ℕ} {m : PartReaders N S E A B C} → PartDoors src m → (s : ElementState N S E) (u : ElementPart N S E) → Completed (elements src m) (with_part s u)
+viable_at d s part.Start = record { more = some_token kind.Identifier ∷ []; last = _; tree = _; goes = refl; ends = refl }
+viable_at d s part.Nothing = record { more = []; last = with_part s part.Nothing; tree = variable_def_of s.variable s.unused_type_name s.entity_type None; goes = refl; ends = refl }
+viable_at {src = src} {m = m} d s (part.TypeName q) =
+    let c = d.name.viable q in
     record {
       more = c.more;
-      last = element.Constraint i x y o c.last;
-      tree = variable_def_of i x y (Some (o, c.tree));
-      goes = held m.expression (elements src m) (λ q. element.Constraint i x y o q) (holds_expression src m i x y o) c.more s c.last c.goes;
-      ends = ap (λ z. end_constraint i x y o z) c.ends;
+      last = with_part s (part.TypeName c.last);
+      tree = variable_def_of s.variable (Some c.tree) s.entity_type None;
+      goes = held (machine_of src m.name) (elements src m) (λ q. with_part s (part.TypeName q)) (holds_name src m s) c.more q c.last c.goes;
+      ends = ap (λ o. with_type_name s o) c.ends;
+    }
+viable_at {src = src} {m = m} d s (part.EntityType q) =
+    let c = d.sum.viable q in
+    record {
+      more = c.more;
+      last = with_part s (part.EntityType c.last);
+      tree = variable_def_of s.variable s.unused_type_name (Some c.tree) None;
+      goes = held (machine_of src m.sum) (elements src m) (λ q. with_part s (part.EntityType q)) (holds_sum src m s) c.more q c.last c.goes;
+      ends = ap (λ o. with_entity_type s o) c.ends;
+    }
+viable_at {src = src} {m = m} d s (part.Constraint o q) =
+    let c = d.expression.viable q in
+    record {
+      more = c.more;
+      last = with_part s (part.Constraint o c.last);
+      tree = variable_def_of s.variable s.unused_type_name s.entity_type (Some (o, c.tree));
+      goes = held (machine_of src m.expression) (elements src m) (λ q. with_part s (part.Constraint o q)) (holds_expression src m s o) c.more q c.last c.goes;
+      ends = ap (λ z. with_constraint s o z) c.ends;
     }
 
--- answers rightly
+-- ---- answers
 
-word_answers : (N S E : Type 0) (src : List ℕ) (t : Lexeme) (o : Option Ident) → any_of t.kind t.text ≡ o → AnswersRightly t (at_variable {N = N} {S = S} {E = E} src t o) None
-word_answers N S E src t None e = refl
-word_answers N S E src t (Some i) e = word_fits t i e
+-- what the parts do
+pub record PartsDo {N S E A B C : Type 0} (src : List ℕ) (m : PartReaders N S E A B C) : Type 0 where
+  pub name : DoesRightly src m.name
+  pub sum : DoesRightly src m.sum
+  pub expression : DoesRightly src m.expression
 
-constraint_answers : (N S : Type 0) {E : Type 0} (e : E) (i : Cell Ident) (x : Option (Cell Name)) (y : Option (Cell Add)) (t : Lexeme) (o : Option RelOp) → relation_of t.kind ≡ o →
-    AnswersRightly t (at_constraint {N = N} {S = S} e i x y o) (Some (variable_def_of i x y None))
-constraint_answers N S e i x y t None h = refl
-constraint_answers N S e i x y t (Some o) h = related_fits t o h
+ends_at : {N S E A B C : Type 0} (src : List ℕ) (m : PartReaders N S E A B C) → EndsRightly src m.name → EndsRightly src m.sum → EndsRightly src m.expression → (s : ElementState N S E) (u : ElementPart N S E) →
+    element_ends (reader_plans m) u ≡ is_some (element_tree src m s u)
+ends_at src m f g h s part.Start = refl
+ends_at src m f g h s part.Nothing = refl
+ends_at src m f g h s (part.TypeName q) = f q ∙ sym (image_some (λ x. variable_def_of s.variable (Some x) s.entity_type None) (m.name.finish src q))
+ends_at src m f g h s (part.EntityType q) = g q ∙ sym (image_some (λ y. variable_def_of s.variable s.unused_type_name (Some y) None) (m.sum.finish src q))
+ends_at src m f g h s (part.Constraint o q) = h q ∙ sym (image_some (λ z. variable_def_of s.variable s.unused_type_name s.entity_type (Some (o, z))) (m.expression.finish src q))
 
-type_answers : (N : Type 0) {S E : Type 0} (s : S) (e : E) (i : Cell Ident) (x : Option (Cell Name)) (t : Lexeme) (c : Mark) → mark_of t.kind ≡ c → AnswersRightly t (at_entity_type {N = N} s e i x t c) (Some (variable_def_of i x None None))
-type_answers N s e i x t mark.Is h = marked_fits t mark.Is h refl
-type_answers N {S = S} s e i x t _ h = constraint_answers N S e i x None t (relation_of t.kind) refl
+pub element_right : {N S E A B C : Type 0} (src : List ℕ) (m : PartReaders N S E A B C) → EndsRightly src m.name → EndsRightly src m.sum → EndsRightly src m.expression → EndsRightly src (element_reader m)
+element_right src m f g h s = ends_at src m f g h s s.part
 
-name_answers : {N S E : Type 0} (n : N) (s : S) (e : E) (i : Cell Ident) (t : Lexeme) (c : Mark) → mark_of t.kind ≡ c → AnswersRightly t (at_type_name n s e i t c) (Some (variable_def_of i None None None))
-name_answers n s e i t mark.Colon h = marked_fits t mark.Colon h refl
-name_answers {N = N} n s e i t c h = type_answers N s e i None t c h
+narrow_does : {N S E A B C : Type 0} (src : List ℕ) (m : PartReaders N S E A B C) (s : ElementState N S E) (k : TokenKind) (a : ElementAct A B C) (p : Spot) → NarrowPlanned k a → IsDone (token_at k p) (element_act m src s a (token_at k p))
+narrow_does src m s k a p the_word = λ e. absurd (cc)
+narrow_does src m s k a p (the_operator {o = o} r) = related_fits (token_at k p) o (an_operator r)
 
-in_name_answers : {N S E : Type 0} (s : S) (e : E) (i : Cell Ident) (t : Lexeme) (a : Answer N (Cell Name)) (o : Option (Cell Name)) → AnswersRightly t a o → AnswersRightly t (in_type_name s e i t a) (end_type_name i o)
-in_name_answers s e i t (next q) o h = h
-in_name_answers {N = N} s e i t (ended x) o h = subst (λ o. AnswersRightly t (at_entity_type {N = N} s e i (Some x) t (mark_of t.kind)) (end_type_name i o)) (sym h) (type_answers N s e i (Some x) t (mark_of t.kind) refl)
-in_name_answers s e i t refused o h = ap (λ o. end_type_name i o) h
-in_name_answers s e i t too_large o h = h
+does_at : {N S E A B C : Type 0} (src : List ℕ) (m : PartReaders N S E A B C) → PartsDo src m → (s : ElementState N S E) (u : ElementPart N S E) (k : TokenKind) (a : ElementAct A B C) (p : Spot) → ElementPlanned (reader_plans m) u k a →
+    IsDone (token_at k p) (element_act m src (with_part s u) a (token_at k p))
+does_at src m d s u k a p (names h) = word_does src (token_at k p) (λ i. with_variable s i) act.Variable act.Variable h
+does_at src m d s u k a p colon = λ e. absurd (cc)
+does_at src m d s u k a p (behind_variable h) = narrow_does src m (with_part s part.Nothing) k a p h
+does_at src m d s u k a p (type_goes {s = q} {a = b} h) = images_done (λ u. with_part s u) (λ q. part.TypeName q) (token_at k p) (m.name.act src q b (token_at k p)) (d.name q b (token_at k p) h)
+does_at src m d s u k a p (behind_type {s = q} g h) = narrow_does src m (with_part s (part.TypeName q)) k a p h
+does_at src m d s u k a p (sum_goes {s = q} {a = b} h) = images_done (λ u. with_part s u) (λ q. part.EntityType q) (token_at k p) (m.sum.act src q b (token_at k p)) (d.sum q b (token_at k p) h)
+does_at src m d s u k a p (behind_sum {o = o} g r) = related_fits (token_at k p) o (an_operator r)
+does_at src m d s u k a p (expression_goes {o = o} {s = q} {a = b} h) =
+    images_done (λ u. with_part s u) (λ q. part.Constraint o q) (token_at k p) (m.expression.act src q b (token_at k p)) (d.expression q b (token_at k p) h)
 
-in_sum_answers : (N : Type 0) {S E : Type 0} (e : E) (i : Cell Ident) (x : Option (Cell Name)) (t : Lexeme) (a : Answer S (Cell Add)) (o : Option (Cell Add)) → AnswersRightly t a o → AnswersRightly t (in_entity_type {N = N} e i x t a) (end_entity_type i x o)
-in_sum_answers N e i x t (next q) o h = h
-in_sum_answers N {S = S} e i x t (ended y) o h =
-    subst (λ o. AnswersRightly t (at_constraint {N = N} {S = S} e i x (Some y) (relation_of t.kind)) (end_entity_type i x o)) (sym h) (constraint_answers N S e i x (Some y) t (relation_of t.kind) refl)
-in_sum_answers N e i x t refused o h = ap (λ o. end_entity_type i x o) h
-in_sum_answers N e i x t too_large o h = h
+pub element_does : {N S E A B C : Type 0} (src : List ℕ) (m : PartReaders N S E A B C) → PartsDo src m → DoesRightly src (element_reader m)
+element_does src m d s a t e = does_at src m d s s.part t.kind a (spot_of t) (element_planned (reader_plans m) s.part t.kind a e)
 
-in_expression_answers : (N S : Type 0) {E : Type 0} (i : Cell Ident) (x : Option (Cell Name)) (y : Option (Cell Add)) (r : RelOp) (t : Lexeme) (a : Answer E (Cell Expr)) (o : Option (Cell Expr)) → AnswersRightly t a o →
-    AnswersRightly t (in_constraint {N = N} {S = S} i x y r a) (end_constraint i x y r o)
-in_expression_answers N S i x y r t (next q) o h = h
-in_expression_answers N S i x y r t (ended z) o h = ap (λ o. end_constraint i x y r o) h
-in_expression_answers N S i x y r t refused o h = ap (λ o. end_constraint i x y r o) h
-in_expression_answers N S i x y r t too_large o h = h
+parts_do : {N S E A B C : Type 0} (src : List ℕ) (m : PartReaders N S E A B C) → PartDoors src m → PartsDo src m
+parts_do src m d = record { name = does_by src m.name d.name.answers; sum = does_by src m.sum d.sum.answers; expression = does_by src m.expression d.expression.answers }
 
-element_answers : {N S E : Type 0} {src : List ℕ} {m : PartMachines N S E} → PartDoors src m → (s : ElementState N S E) (t : Lexeme) → AnswersRightly t (element_step src m s t) (element_end m s)
-element_answers {N = N} {S = S} {E = E} {src = src} d element.Start t = word_answers N S E src t (any_of t.kind t.text) refl
-element_answers {m = m} d (element.Variable i) t = name_answers m.name.start m.sum.start m.expression.start i t (mark_of t.kind) refl
-element_answers {m = m} d (element.TypeName i s) t = in_name_answers m.sum.start m.expression.start i t (m.name.step s t) (m.name.finish s) (d.name.answers s t)
-element_answers {N = N} {m = m} d (element.EntityType i x s) t = in_sum_answers N m.expression.start i x t (m.sum.step s t) (m.sum.finish s) (d.sum.answers s t)
-element_answers {N = N} {S = S} {m = m} d (element.Constraint i x y o s) t = in_expression_answers N S i x y o t (m.expression.step s t) (m.expression.finish s) (d.expression.answers s t)
-
-pub element_door : {N S E : Type 0} (src : List ℕ) (m : PartMachines N S E) → PartDoors src m → Door (elements src m) (ReadsVariableDef src)
+pub element_door : {N S E A B C : Type 0} (src : List ℕ) (m : PartReaders N S E A B C) → PartDoors src m → Door (elements src m) (ReadsVariableDef src)
 element_door src m d = record {
   complete = λ ts v r. element_complete d r;
-  sound = λ ts s v f e. element_sound d v (kept (elements src m) (λ ts s. ElementRead src m ts s) at_start (λ ts s t h. element_keeps d ts s t h) ts s f) e;
-  viable = element_viable d;
-  answers = element_answers d;
+  sound = λ ts s v f e. element_sound d v (element_kept d ts s f) e;
+  viable = λ s. viable_at d s s.part;
+  answers = answers_from src (element_reader m) (element_does src m (parts_do src m d));
 }
 
--- where one ends
+-- ---- where one ends
 
 -- a comma, or the end of the scope
 abbrev pub IsBehindElement : Lexeme → Type 0
 IsBehindElement t = IsParting t.kind
 
-name_parted : {N S E : Type 0} (n : N) (s : S) (e : E) (i : Cell Ident) (k : TokenKind) (p : Spot) → IsParting k → at_type_name n s e i (token_at k p) (mark_of k) ≡ ended (variable_def_of i None None None)
-name_parted n s e i k p comma = refl
-name_parted n s e i k p close_paren = refl
+bare_parted : {A B C : Type 0} (k : TokenKind) → IsParting k → bare_plan {A = A} {B = B} {C = C} k ≡ None
+bare_parted k comma = refl
+bare_parted k close_paren = refl
 
-type_parted : (N : Type 0) {S E : Type 0} (s : S) (e : E) (i : Cell Ident) (x : Option (Cell Name)) (k : TokenKind) (p : Spot) → IsParting k → at_entity_type {N = N} s e i x (token_at k p) (mark_of k) ≡ ended (variable_def_of i x None None)
-type_parted N s e i x k p comma = refl
-type_parted N s e i x k p close_paren = refl
+narrow_parted : {A B C : Type 0} (k : TokenKind) → IsParting k → narrow_plan {A = A} {B = B} {C = C} k ≡ None
+narrow_parted k comma = refl
+narrow_parted k close_paren = refl
 
-no_operator : {k : TokenKind} → IsParting k → relation_of k ≡ None
-no_operator comma = refl
-no_operator close_paren = refl
+compare_parted : {A B C : Type 0} (k : TokenKind) → IsParting k → compare_plan {A = A} {B = B} {C = C} k ≡ None
+compare_parted k comma = refl
+compare_parted k close_paren = refl
 
-pub element_ends : {N S E : Type 0} (src : List ℕ) (m : PartMachines N S E) → PartDoors src m → EndsAt (elements src m) IsBehindElement
-element_ends src m d element.Start v t h e = absurd (cc)
-element_ends src m d (element.Variable i) v t h e = name_parted m.name.start m.sum.start m.expression.start i t.kind (spot_of t) h ∙ ap (λ v. ended v) (some_is e)
-element_ends {N = N} src m d (element.TypeName i s) v t h e =
-    let f = name_there i (m.name.finish s) v e in
-    ap (λ a. in_type_name m.sum.start m.expression.start i t a) (d.behind_name t.kind (as_sum (parting h)) s f.0 t refl f.1)
-    ∙ type_parted N m.sum.start m.expression.start i (Some f.0) t.kind (spot_of t) h ∙ ap (λ v. ended v) f.2
-element_ends src m d (element.EntityType i x s) v t h e =
-    let f = sum_there i x (m.sum.finish s) v e in
-    ap (λ a. in_entity_type m.expression.start i x t a) (d.behind_sum t.kind (parting h) s f.0 t refl f.1)
-    ∙ ap (λ o. at_constraint m.expression.start i x (Some f.0) o) (no_operator h) ∙ ap (λ v. ended v) f.2
-element_ends src m d (element.Constraint i x y o s) v t h e =
-    let f = expression_there i x y o (m.expression.finish s) v e in
-    ap (λ a. in_constraint i x y o a) (d.behind_expression t.kind h s f.0 t refl f.1) ∙ ap (λ v. ended v) f.2
+variable_parted : {A B C : Type 0} (k : TokenKind) → IsParting k → if_any {A = ElementAct A B C} k act.Variable ≡ None
+variable_parted k comma = refl
+variable_parted k close_paren = refl
 
-no_word : (N S E : Type 0) (src : List ℕ) (k : TokenKind) (p : Spot) → IsParting k → at_variable {N = N} {S = S} {E = E} src (token_at k p) (any_of k p.text) ≡ refused
-no_word N S E src k p comma = refl
-no_word N S E src k p close_paren = refl
+parted_at : {N S E A B C : Type 0} (src : List ℕ) (m : PartReaders N S E A B C) → PartDoors src m → (s : ElementState N S E) (u : ElementPart N S E) (v : VariableDef) (t : Lexeme) → IsParting t.kind → element_tree src m s u ≡ Some v →
+    element_plan (reader_plans m) u t.kind ≡ None
+parted_at src m d s part.Start v t h e = absurd (cc)
+parted_at src m d s part.Nothing v t h e = bare_parted t.kind h
+parted_at src m d s (part.TypeName q) v t h e =
+    let f = image_of (λ x. variable_def_of s.variable (Some x) s.entity_type None) (m.name.finish src q) v e in
+    type_leaves src m d q f.0 t (as_sum (parting h)) f.1 ∙ narrow_parted t.kind h
+parted_at src m d s (part.EntityType q) v t h e =
+    let f = image_of (λ y. variable_def_of s.variable s.unused_type_name (Some y) None) (m.sum.finish src q) v e in
+    sum_leaves src m d q f.0 t (parting h) f.1 ∙ compare_parted t.kind h
+parted_at src m d s (part.Constraint o q) v t h e =
+    let f = image_of (λ z. variable_def_of s.variable s.unused_type_name s.entity_type (Some (o, z))) (m.expression.finish src q) v e in
+    ap (λ o. constraint_plan o) (ended_by src m.expression q t f.0 (d.behind_expression t.kind h q f.0 t refl f.1)).0
 
-pub element_refuses : {N S E : Type 0} (src : List ℕ) (m : PartMachines N S E) → Refuses (elements src m) IsBehindElement
-element_refuses {N = N} {S = S} {E = E} src m t h = no_word N S E src t.kind (spot_of t) h
+pub element_ends_at : {N S E A B C : Type 0} (src : List ℕ) (m : PartReaders N S E A B C) → PartDoors src m → EndsAt (elements src m) IsBehindElement
+element_ends_at src m d s v t h e = leaves_tree src (element_reader m) s t v (parted_at src m d s s.part v t h e) e
+
+pub element_refuses : {N S E A B C : Type 0} (src : List ℕ) (m : PartReaders N S E A B C) → Refuses (elements src m) IsBehindElement
+element_refuses src m t h = leaves_none src (element_reader m) (element_reader m).start t (variable_parted t.kind h) refl

@@ -16,18 +16,17 @@ use Rattle.cedar_syntax.specs.MendedFaults.{fault_of, Unallowed, a_token, the_en
 use Rattle.cedar_syntax.specs.declared.reading.extent.Extent.{Extent}
 use Rattle.cedar_syntax.specs.Place.{joint_extent, extent_of, extent}
 use Rattle.cedar_syntax.specs.Sentences.{kinds}
-use Rattle.cedar_syntax.specs.machines.Door.{Machine, Answer, next, ended, refused, too_large, Comes, is_taken, is_some, allows, Shapes, Door}
-use Rattle.cedar_syntax.specs.machines.Judged.{may_take, wanted_kinds}
+use Rattle.cedar_syntax.specs.machines.Door.{Machine, Answer, next, ended, refused, too_large, Comes, is_some, Reader, machine_of, allowed_by}
+use Rattle.cedar_syntax.specs.machines.Judged.{may_take, wanted_kinds, ReadsBy}
 use Rattle.cedar_syntax.specs.machines.Marks.{mark_of}
 use Rattle.cedar_syntax.specs.machines.Mending.{refused_fault, bad_fault, judgment_by, recovery_step_by, recovery_of_all_by, met_faults, AreAllFaults, IsTold}
 use Rattle.cedar_syntax.specs.machines.Recovery.{Recovers, Recovery, reading, skipping, stopped, judgment, recovery_step, recovery_of_all, told_reading, told_end}
-use Rattle.cedar_text.specs.machines.WordShapes.{no_tree}
-use Rattle.cedar_text.proofs.machines.Entries.{may_take_shape}
 use Rattle.cedar_syntax.proofs.machines.Expected.{expected_is, one_list}
 use Rattle.cedar_text.proofs.machines.Faults.{has_faults, faults_exactly}
-use Rattle.cedar_syntax.proofs.machines.Laws.{exactly, ends_alike}
+use Rattle.cedar_syntax.proofs.machines.Readers.{may_by}
 use Rattle.cedar_text.proofs.machines.Recovery.{end_from, Recoverable}
 use Rattle.cedar_syntax.proofs.machines.Skipping.{as_skipped}
+use Rattle.cedar_text.proofs.machines.Rightly.{EndsRightly}
 
 -- ---- what states allow is what the machine takes
 
@@ -41,16 +40,14 @@ judged_same false r xs l s t (ended x) e = as_skipped r xs (r.way s) s (r.tell s
 judged_same false r xs l s t refused e = as_skipped r xs (r.way s) s (r.tell s l (Some t)) t (mark_of t.kind)
 judged_same false r xs l s t too_large e = absurd (cc)
 
-recover_same : {S T V F : Type 0} (m : Machine Lexeme S T) (n : Machine TokenKind V (Unit {0})) (f : S → V) (r : Recovers S F) → Shapes m n f no_tree → (q : Recovery S F) (t : Lexeme) →
-    recovery_step_by m (λ s after. allows n (f s) after) r q t ≡ recovery_step m r q t
-recover_same m n f r i (reading xs l s) t = judged_same (is_taken (n.step (f s) t.kind)) r xs l s t (m.step s t) (may_take_shape f no_tree (m.step s t) (n.step (f s) t.kind) (i.steps s t))
-recover_same m n f r i (skipping xs w s x) t = as_skipped r xs w s x t (mark_of t.kind)
-recover_same m n f r i (stopped xs x) t = refl
+recover_same : {S A T F : Type 0} (src : List ℕ) (p : Reader S A T) (r : Recovers S F) (q : Recovery S F) (t : Lexeme) → recovery_step_by (machine_of src p) (allowed_by p) r q t ≡ recovery_step (machine_of src p) r q t
+recover_same src p r (reading xs l s) t = judged_same (is_some (p.plan s t.kind)) r xs l s t ((machine_of src p).step s t) (may_by src p s t)
+recover_same src p r (skipping xs w s x) t = as_skipped r xs w s x t (mark_of t.kind)
+recover_same src p r (stopped xs x) t = refl
 
-all_same : {S T V F : Type 0} (m : Machine Lexeme S T) (n : Machine TokenKind V (Unit {0})) (f : S → V) (r : Recovers S F) → Shapes m n f no_tree → (q : Recovery S F) (ts : List Lexeme) →
-    recovery_of_all_by m (λ s after. allows n (f s) after) r q ts ≡ recovery_of_all m r q ts
-all_same m n f r i q [] = refl
-all_same m n f r i q (t ∷ ts) = ap (λ q. recovery_of_all_by m (λ s after. allows n (f s) after) r q ts) (recover_same m n f r i q t) ∙ all_same m n f r i (recovery_step m r q t) ts
+all_same : {S A T F : Type 0} (src : List ℕ) (p : Reader S A T) (r : Recovers S F) (q : Recovery S F) (ts : List Lexeme) → recovery_of_all_by (machine_of src p) (allowed_by p) r q ts ≡ recovery_of_all (machine_of src p) r q ts
+all_same src p r q [] = refl
+all_same src p r q (t ∷ ts) = ap (λ q. recovery_of_all_by (machine_of src p) (allowed_by p) r q ts) (recover_same src p r q t) ∙ all_same src p r (recovery_step (machine_of src p) r q t) ts
 
 -- ---- what is told at last
 
@@ -64,22 +61,23 @@ reading_list : {T : Type 0} (src : List ℕ) (place : ℕ) (xs : List ParseError
 reading_list src place xs y None = inl refl
 reading_list src place xs y (Some x) = inl refl
 
-told_list : {S T V : Type 0} (src : List ℕ) (m : Machine Lexeme S T) (n : Machine TokenKind V (Unit {0})) (f : S → V) (r : Recovers S ParseError) → Shapes m n f no_tree → (q : Recovery S ParseError) (bad : Option ℕ) →
-    IsListed src bad (told_end m r q).mended (told_end m r q).last (met_faults (λ s after. allows n (f s) after) r (bad_fault fault_of src) q bad)
-told_list src m n f r i (reading xs l s) None = end_list xs (r.tell s l None) (m.finish s) (is_some (n.finish (f s))) (sym (ends_alike f no_tree i s))
-told_list src m n f r i (reading xs l s) (Some place) = reading_list src place xs (r.tell s l None) (m.finish s)
-told_list src m n f r i (skipping xs w s x) None = refl
-told_list src m n f r i (skipping xs w s x) (Some place) = inl refl
-told_list src m n f r i (stopped xs x) None = refl
-told_list src m n f r i (stopped xs x) (Some place) = inr (x, refl, refl)
+told_list : {S A T : Type 0} (src : List ℕ) (p : Reader S A T) → EndsRightly src p → (r : Recovers S ParseError) (q : Recovery S ParseError) (bad : Option ℕ) →
+    IsListed src bad (told_end (machine_of src p) r q).mended (told_end (machine_of src p) r q).last (met_faults (allowed_by p) r (bad_fault fault_of src) q bad)
+told_list src p i r (reading xs l s) None = end_list xs (r.tell s l None) (p.finish src s) (p.ends s) (sym (i s))
+told_list src p i r (reading xs l s) (Some place) = reading_list src place xs (r.tell s l None) (p.finish src s)
+told_list src p i r (skipping xs w s x) None = refl
+told_list src p i r (skipping xs w s x) (Some place) = inl refl
+told_list src p i r (stopped xs x) None = refl
+told_list src p i r (stopped xs x) (Some place) = inr (x, refl, refl)
 
-tells_list : {S T V : Type 0} {R : Rule T} {W : List ℕ → List Lexeme → Type 0} {r : Recovers S ParseError} {m : Machine Lexeme S (Cell T)} {n : Machine TokenKind V (Unit {0})} {f : S → V} (text : List ℕ) →
-    Recoverable text m (IsNodeOf R text) (W text) (Unallowed (IsNodeOf R text) narrowing.Tokens text) (IsLarge text) r n f → (xs : List ParseError) → AreAllFaults m (λ s after. allows n (f s) after) r (bad_fault fault_of text) text xs → IsFaultList R W text xs
-tells_list {r = r} {m = m} {n = n} {f = f} text d xs h =
+tells_list : {S A T V : Type 0} {R : Rule T} {W : List ℕ → List Lexeme → Type 0} {r : Recovers S ParseError} {n : Machine TokenKind V (Unit {0})} {f : S → V} (text : List ℕ) (p : Reader S A (Cell T)) → EndsRightly text p →
+    Recoverable text (machine_of text p) (IsNodeOf R text) (W text) (Unallowed (IsNodeOf R text) narrowing.Tokens text) (IsLarge text) r n f → (xs : List ParseError) → AreAllFaults (machine_of text p) (allowed_by p) r (bad_fault fault_of text) text xs → IsFaultList R W text xs
+tells_list {r = r} text p i d xs h =
+    let m = machine_of text p in
     let a = has_faults d h.tokens in
     let q = recovery_of_all m r (reading [] 0 m.start) h.tokens in
     let e = (faults_exactly d h.tokens a.mended a.last).0 a.stands in
-    let same : xs ≡ met_faults (λ s after. allows n (f s) after) r (bad_fault fault_of text) q h.bad = h.is ∙ ap (λ q. met_faults (λ s after. allows n (f s) after) r (bad_fault fault_of text) q h.bad) (all_same m n f r d.shaped (reading [] 0 m.start) h.tokens) in
+    let same : xs ≡ met_faults (allowed_by p) r (bad_fault fault_of text) q h.bad = h.is ∙ ap (λ q. met_faults (allowed_by p) r (bad_fault fault_of text) q h.bad) (all_same text p r (reading [] 0 m.start) h.tokens) in
     record {
       tokens = h.tokens;
       bad = h.bad;
@@ -87,13 +85,13 @@ tells_list {r = r} {m = m} {n = n} {f = f} text d xs h =
       mended = a.mended;
       last = a.last;
       stands = a.stands;
-      is = subst (λ a. IsListed text h.bad a.mended a.last xs) e (subst (λ xs. IsListed text h.bad (told_end m r q).mended (told_end m r q).last xs) (sym same) (told_list text m n f r d.shaped q h.bad));
+      is = subst (λ a. IsListed text h.bad a.mended a.last xs) e (subst (λ xs. IsListed text h.bad (told_end m r q).mended (told_end m r q).last xs) (sym same) (told_list text p i r q h.bad));
     }
 
-pub refused_list : {S T V : Type 0} {R : Rule T} {r : Recovers S ParseError} {m : Machine Lexeme S (Cell T)} {n : Machine TokenKind V (Unit {0})} {f : S → V} (W : List ℕ → List Lexeme → Type 0) (text : List ℕ) →
-    Recoverable text m (IsNodeOf R text) (W text) (Unallowed (IsNodeOf R text) narrowing.Tokens text) (IsLarge text) r n f → (e : Failure) → IsTold m (λ s after. allows n (f s) after) r text e → IsMendedRefusal R W text e
-refused_list W text d (Memory e) h = tt
-refused_list W text d (Errors errors) h = tells_list text d (faults_of errors) h
+pub refused_list : {S A T V : Type 0} {R : Rule T} {r : Recovers S ParseError} {n : Machine TokenKind V (Unit {0})} {f : S → V} (W : List ℕ → List Lexeme → Type 0) (text : List ℕ) (p : Reader S A (Cell T)) → EndsRightly text p →
+    Recoverable text (machine_of text p) (IsNodeOf R text) (W text) (Unallowed (IsNodeOf R text) narrowing.Tokens text) (IsLarge text) r n f → (e : Failure) → IsTold (machine_of text p) (allowed_by p) r text e → IsMendedRefusal R W text e
+refused_list W text p i d (Memory e) h = tt
+refused_list W text p i d (Errors errors) h = tells_list text p i d (faults_of errors) h
 
 -- ---- a fault is told as it is recorded
 
@@ -109,17 +107,17 @@ pub end_is : (ts : List Lexeme) → tokens_end ts ≡ end_from 0 ts
 end_is [] = refl
 end_is (t ∷ ts) = last_end t ts
 
-pub tells_exactly : {S T V : Type 0} {m : Machine Lexeme S T} {n : Machine TokenKind V (Unit {0})} {R : List Lexeme → T → Type 0} (f : S → V) → Door m R → Shapes m n f no_tree → (src : List ℕ) (ts : List Lexeme) (s : S) (o : Option Lexeme) (x : ParseError) → Comes m ts s →
-    Unallowed R narrowing.Tokens src ts o x ↔ (refused_fault fault_of (λ after. allows n (f s) after) src (end_from 0 ts) o ≡ x)
-tells_exactly {m = m} {n = n} {R = R} f d i src ts s o x c = (λ h. there o x h, λ e. subst (λ x. Unallowed R narrowing.Tokens src ts o x) e (back o))
+pub tells_exactly : {S A T : Type 0} {p : Reader S A T} {R : List Lexeme → T → Type 0} {src : List ℕ} → ReadsBy src p R → (ts : List Lexeme) (s : S) (o : Option Lexeme) (x : ParseError) → Comes (machine_of src p) ts s →
+    Unallowed R narrowing.Tokens src ts o x ↔ (refused_fault fault_of (allowed_by p s) src (end_from 0 ts) o ≡ x)
+tells_exactly {p = p} {R = R} {src = src} h ts s o x c = (λ g. there o x g, λ e. subst (λ x. Unallowed R narrowing.Tokens src ts o x) e (back o))
   where
-    expects : (after : Option TokenKind) → IsExpected R narrowing.Tokens (kinds ts) after (wanted_kinds (λ after. allows n (f s) after) narrowing.Tokens after)
-    expects after = expected_is R (kinds ts) (λ after. allows n (f s) after) narrowing.Tokens after (λ k. exactly f no_tree d i ts s (Some k) c)
+    expects : (after : Option TokenKind) → IsExpected R narrowing.Tokens (kinds ts) after (wanted_kinds (allowed_by p s) narrowing.Tokens after)
+    expects after = expected_is R (kinds ts) (allowed_by p s) narrowing.Tokens after (λ k. h.exact ts s (Some k) c)
 
-    there : (o : Option Lexeme) (x : ParseError) → Unallowed R narrowing.Tokens src ts o x → refused_fault fault_of (λ after. allows n (f s) after) src (end_from 0 ts) o ≡ x
-    there (Some t) x (a_token h) = ap (λ ks. fault_of src (unexpected_fault t ks)) (one_list (expects (Some t.kind)) h)
-    there None x (the_end {ks = ks} h) = ap (λ ks. fault_of src (early_at (end_from 0 ts) ks)) (one_list (expects None) h) ∙ ap (λ l. fault_of src (early_at l ks)) (sym (end_is ts))
+    there : (o : Option Lexeme) (x : ParseError) → Unallowed R narrowing.Tokens src ts o x → refused_fault fault_of (allowed_by p s) src (end_from 0 ts) o ≡ x
+    there (Some t) x (a_token g) = ap (λ ks. fault_of src (unexpected_fault t ks)) (one_list (expects (Some t.kind)) g)
+    there None x (the_end {ks = ks} g) = ap (λ ks. fault_of src (early_at (end_from 0 ts) ks)) (one_list (expects None) g) ∙ ap (λ l. fault_of src (early_at l ks)) (sym (end_is ts))
 
-    back : (o : Option Lexeme) → Unallowed R narrowing.Tokens src ts o (refused_fault fault_of (λ after. allows n (f s) after) src (end_from 0 ts) o)
+    back : (o : Option Lexeme) → Unallowed R narrowing.Tokens src ts o (refused_fault fault_of (allowed_by p s) src (end_from 0 ts) o)
     back (Some t) = a_token (expects (Some t.kind))
-    back None = subst (λ l. Unallowed R narrowing.Tokens src ts None (fault_of src (early_at l (wanted_kinds (λ after. allows n (f s) after) narrowing.Tokens None)))) (end_is ts) (the_end (expects None))
+    back None = subst (λ l. Unallowed R narrowing.Tokens src ts None (fault_of src (early_at l (wanted_kinds (allowed_by p s) narrowing.Tokens None)))) (end_is ts) (the_end (expects None))

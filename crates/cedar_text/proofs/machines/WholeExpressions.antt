@@ -1,31 +1,51 @@
--- Expressions and primaries as whole texts: their machines read by the rules of the grammar.
-use Rattle.std.proofs.Common.{◌≡◌, ℕ, List, Some, refl, sym, ◌∙◌, ap, subst}
+-- Expressions and primaries as whole texts, and expressions and sums in a policy: their machines read by the rules of the grammar.
+use Rattle.cedar_text.proofs.expressions.shapes.Done.{BeginWithIdents}
+use Rattle.std.specs.Prelude.{cond}
+use Rattle.std.proofs.Common.{◌≡◌, ℕ, List, [], Some, None, Bool, true, false, refl, sym, ◌∙◌, ap, subst}
 use Rattle.cedar_lexer.specs.Token.{Lexeme}
+use Rattle.cedar_lexer.specs.declared.token.TokenKind.{TokenKind}
 use Rattle.cedar_syntax.specs.declared.cst.Expr.{Expr}
 use Rattle.cedar_syntax.specs.declared.cst.Primary.{Primary}
 use Rattle.cedar_syntax.specs.Grammar.{IsNodeOf}
-use Rattle.cedar_syntax.specs.LooseExpressions.{ReadsExpr, ReadsPrimary}
+use Rattle.cedar_syntax.specs.LooseExpressions.{ReadsExpr, ReadsAdd, ReadsPrimary}
+use Rattle.cedar_syntax.specs.Tokens.{any_of}
 use Rattle.cedar_syntax.specs.Trees.{Cell}
 use Rattle.cedar_text.specs.machines.Closing.{node_of}
-use Rattle.cedar_syntax.specs.machines.Door.{Door, Shapes}
-use Rattle.cedar_text.specs.machines.ExpressionShapes.{expression_shapes, primary_shapes, shape_of}
-use Rattle.cedar_text.specs.machines.Expressions.{expressions}
+use Rattle.cedar_syntax.specs.machines.Door.{machine_of, Door, outline_machine, IsOutline, Shapes, is_some}
 use Rattle.cedar_syntax.specs.machines.Judged.{ReadsBy}
-use Rattle.cedar_text.specs.machines.Named.{named_words}
-use Rattle.cedar_text.specs.machines.NamedShapes.{named_shapes}
-use Rattle.cedar_text.specs.machines.WholeExpressions.{whole_expressions, expression_allows, whole_primaries, primary_allows}
+use Rattle.cedar_text.specs.declared.text_to_cst.expression.state.Wanted.TheVariants as form
+use Rattle.cedar_text.specs.declared.text_to_cst.state.WordsAct.{WordsAct}
+use Rattle.cedar_text.specs.declared.text_to_cst.state.WordsAct.TheVariants as words_acts
+use Rattle.cedar_text.specs.declared.text_to_cst.state.PathAct.TheVariants as path_acts
+use Rattle.cedar_text.specs.machines.Expressions.{expression_reader, sum_reader}
+use Rattle.cedar_text.specs.machines.Named.{named_reader}
+use Rattle.cedar_text.specs.machines.NamedShapes.{named_outline}
+use Rattle.cedar_text.specs.machines.WholeExpressions.{state_shape, whole_outline, whole_expression_reader, whole_sum_reader, whole_primary_reader, whole_expressions, whole_primaries}
 use Rattle.cedar_text.specs.machines.WordShapes.{no_tree, words_shape}
 use Rattle.cedar_syntax.proofs.WordPlaces.{start_is}
 use Rattle.cedar_syntax.proofs.ExpressionTokens.{expr_some, primary_some}
-use Rattle.cedar_text.proofs.expressions.Doors.{expressions_door, primaries_door}
-use Rattle.cedar_text.proofs.expressions.shapes.Shaped.{expressions_shaped, primaries_shaped}
+use Rattle.cedar_syntax.proofs.machines.Laws.{some_is}
+use Rattle.cedar_syntax.proofs.machines.Readers.{shaped_by, reads_by}
+use Rattle.cedar_text.proofs.expressions.Doors.{expressions_door, sums_door, primaries_door}
+use Rattle.cedar_text.proofs.expressions.Held.{Held}
+use Rattle.cedar_text.proofs.expressions.shapes.Outlined.{expressions_outlined, sums_outlined, primaries_outlined}
 use Rattle.cedar_text.proofs.expressions.sound.Begun.{Reading, reads}
 use Rattle.cedar_text.proofs.expressions.sound.Whole.{AloneAt, alone_reads}
-use Rattle.cedar_text.proofs.machines.Entries.{reads_by}
-use Rattle.cedar_text.proofs.machines.Images.{image_door, image_shapes}
+use Rattle.cedar_text.proofs.machines.Images.{image_door, image_outlined}
 use Rattle.cedar_text.proofs.machines.Keeping.{Kept, door_as}
-use Rattle.cedar_syntax.proofs.machines.Laws.{some_is}
-use Rattle.cedar_text.proofs.machines.Named.{named_door, named_are_words, named_alike, named_kind}
+use Rattle.cedar_text.proofs.machines.Named.{named_door, named_are_words, named_outlined, named_kind, named_ifs}
+
+-- the words that expressions hold
+pub words_held : (src : List ℕ) → Held src named_reader named_outline words_shape named_kind
+words_held src = record { door = named_door src; outlined = named_outlined src; ifs = named_ifs }
+
+planned_where : (a : WordsAct) (b : Bool) → is_some (cond b (Some a) None) ≡ b
+planned_where a true = refl
+planned_where a false = refl
+
+-- each identifier begins some
+words_begin : BeginWithIdents named_reader
+words_begin k = planned_where (words_acts.Path path_acts.First) (is_some (any_of k []))
 
 -- ---- expressions
 
@@ -41,16 +61,36 @@ expr_node {src = src} {ts = ts} {y = y} k = go k.reads k.is
     go : {x : _} → Reading (ReadsExpr src) ts x → Some (node_of src x) ≡ Some y → IsNodeOf ReadsExpr src ts y
     go (reads {x = x} r) e = record { tree = x; reads = r; is = sym (some_is e) ∙ sym (start_is src ts x (expr_some r)) }
 
+expressions_planned : (src : List ℕ) → IsOutline src (expression_reader named_reader named_outline words_shape) (whole_outline form.Expr) (λ s. state_shape s) no_tree
+expressions_planned src = expressions_outlined (words_held src) words_begin
+
 pub whole_expressions_door : (src : List ℕ) → Door (whole_expressions src) (IsNodeOf ReadsExpr src)
 whole_expressions_door src =
     door_as (λ ts y h. expr_image h) (λ ts y k. expr_node k)
-    (image_door (expressions src (named_words src)) (Reading (ReadsExpr src)) (λ x. node_of src x) (expressions_door src (named_words src) (named_door src) (named_are_words src)))
+    (image_door src (λ src x. node_of src x) (expression_reader named_reader named_outline words_shape) (Reading (ReadsExpr src))
+    (expressions_door src named_reader named_outline words_shape named_kind (words_held src) (named_are_words src) (expressions_planned src)))
 
-pub whole_expressions_shaped : (src : List ℕ) → Shapes (whole_expressions src) (expression_shapes named_shapes) (λ s. shape_of words_shape s) no_tree
-whole_expressions_shaped src = image_shapes (λ s. shape_of words_shape s) no_tree (λ x. node_of src x) no_tree (λ x. refl) (expressions_shaped words_shape named_kind src (named_words src) named_shapes (named_alike src))
+pub whole_expressions_outlined : (src : List ℕ) → IsOutline src whole_expression_reader (whole_outline form.Expr) (λ s. state_shape s) no_tree
+whole_expressions_outlined src = image_outlined (λ src x. node_of src x) (expressions_planned src)
 
-pub expressions_read : (src : List ℕ) → ReadsBy (whole_expressions src) (IsNodeOf ReadsExpr src) expression_allows
-expressions_read src = reads_by (λ s. shape_of words_shape s) no_tree (whole_expressions_door src) (whole_expressions_shaped src)
+pub whole_expressions_shaped : (src : List ℕ) → Shapes (whole_expressions src) (outline_machine (whole_outline form.Expr)) (λ s. state_shape s) no_tree
+whole_expressions_shaped src = shaped_by (whole_expressions_outlined src)
+
+pub expressions_read : (src : List ℕ) → ReadsBy src whole_expression_reader (IsNodeOf ReadsExpr src)
+expressions_read src = reads_by (whole_expressions_outlined src) (whole_expressions_door src)
+
+-- ---- sums, in a policy
+
+sums_planned : (src : List ℕ) → IsOutline src (sum_reader named_reader named_outline words_shape) (whole_outline form.Sum) (λ s. state_shape s) no_tree
+sums_planned src = sums_outlined (words_held src) words_begin
+
+pub sum_images_door : (src : List ℕ) → Door (machine_of src whole_sum_reader) (Kept (Reading (ReadsAdd src)) (λ x. Some (node_of src x)))
+sum_images_door src =
+    image_door src (λ src x. node_of src x) (sum_reader named_reader named_outline words_shape) (Reading (ReadsAdd src))
+    (sums_door src named_reader named_outline words_shape named_kind (words_held src) (named_are_words src) (sums_planned src))
+
+pub whole_sums_outlined : (src : List ℕ) → IsOutline src whole_sum_reader (whole_outline form.Sum) (λ s. state_shape s) no_tree
+whole_sums_outlined src = image_outlined (λ src x. node_of src x) (sums_planned src)
 
 -- ---- primaries
 
@@ -60,11 +100,16 @@ primary_alone {src = src} {ts = ts} h = subst (λ y. AloneAt src ts y) (sym (h.i
 alone_node : {src : List ℕ} {ts : List Lexeme} {y : Cell Primary} → AloneAt src ts y → IsNodeOf ReadsPrimary src ts y
 alone_node {src = src} {ts = ts} (alone_reads {x = x} r) = record { tree = x; reads = r; is = sym (start_is src ts x (primary_some r)) }
 
+pub whole_primaries_outlined : (src : List ℕ) → IsOutline src whole_primary_reader (whole_outline form.Primary) (λ s. state_shape s) no_tree
+whole_primaries_outlined src = primaries_outlined (words_held src) words_begin
+
 pub whole_primaries_door : (src : List ℕ) → Door (whole_primaries src) (IsNodeOf ReadsPrimary src)
-whole_primaries_door src = door_as (λ ts y h. primary_alone h) (λ ts y a. alone_node a) (primaries_door src (named_words src) (named_door src) (named_are_words src))
+whole_primaries_door src =
+    door_as (λ ts y h. primary_alone h) (λ ts y a. alone_node a)
+    (primaries_door src named_reader named_outline words_shape named_kind (words_held src) (named_are_words src) (whole_primaries_outlined src))
 
-pub whole_primaries_shaped : (src : List ℕ) → Shapes (whole_primaries src) (primary_shapes named_shapes) (λ s. shape_of words_shape s) no_tree
-whole_primaries_shaped src = primaries_shaped words_shape named_kind src (named_words src) named_shapes (named_alike src)
+pub whole_primaries_shaped : (src : List ℕ) → Shapes (whole_primaries src) (outline_machine (whole_outline form.Primary)) (λ s. state_shape s) no_tree
+whole_primaries_shaped src = shaped_by (whole_primaries_outlined src)
 
-pub primaries_read : (src : List ℕ) → ReadsBy (whole_primaries src) (IsNodeOf ReadsPrimary src) primary_allows
-primaries_read src = reads_by (λ s. shape_of words_shape s) no_tree (whole_primaries_door src) (whole_primaries_shaped src)
+pub primaries_read : (src : List ℕ) → ReadsBy src whole_primary_reader (IsNodeOf ReadsPrimary src)
+primaries_read src = reads_by (whole_primaries_outlined src) (whole_primaries_door src)

@@ -1,4 +1,4 @@
--- The doors of the machines of paths and of entity literals: complete, sound, viable, and what they answer.
+-- Complete: the machines of paths and of entity literals come to each path and entity literal.
 use Rattle.std.proofs.Common.{◌≡◌, ℕ, List, [], ◌∷◌, ◌++◌, Option, Some, refl, sym, ◌∙◌, ap, append_assoc}
 use Rattle.cedar_lexer.specs.Token.{Lexeme}
 use Rattle.cedar_lexer.specs.declared.token.TokenKind.{TokenKind}
@@ -15,6 +15,7 @@ use Rattle.cedar_syntax.specs.declared.reading.extent.Extent.{Extent}
 use Rattle.cedar_text.specs.declared.text_to_cst.state.Path.{Path}
 use Rattle.cedar_text.specs.declared.text_to_cst.state.PathState.TheVariants as path
 use Rattle.cedar_text.specs.declared.text_to_cst.state.Entity.{Entity}
+use Rattle.cedar_text.specs.declared.text_to_cst.state.OpenEntity.{OpenEntity}
 use Rattle.cedar_text.specs.declared.text_to_cst.state.InitPlace.{InitPlace}
 use Rattle.cedar_text.specs.declared.text_to_cst.state.InitPlace.TheVariants as place
 use Rattle.cedar_text.specs.declared.text_to_cst.state.WordsState.{WordsState}
@@ -25,11 +26,16 @@ use Rattle.cedar_syntax.specs.Place.{extent, node_at, placed}
 use Rattle.cedar_syntax.specs.Tokens.{Spot, one, between_quotes, any_of}
 use Rattle.cedar_syntax.specs.Trees.{Cell, name_of, ref_init_of}
 use Rattle.cedar_syntax.specs.LooseWords.{ReadsItems, one_item, more_items, ReadsList, no_item, items, items_comma, ReadsLiteral, truth, falsity, number, string, any, ReadsPath, one_word, more_words, ReadsRefInit, ref_init, ReadsRef, uid, with_inits}
-use Rattle.cedar_syntax.specs.machines.Door.{answer_state, steps, Comes, RunsTo}
-use Rattle.cedar_text.specs.machines.Words.{word_node, one_word_path, with_word, path_extent, path_beginning, path_more, paths, path_node, entity_with_extent, inits_of, wanted_item, number_value, as_words, words_more, words_machine}
+use Rattle.cedar_syntax.specs.machines.Door.{answer_state, steps, Comes, RunsTo, option_image}
+use Rattle.cedar_text.specs.declared.text_to_cst.state.PathAct.TheVariants as path_acts
+use Rattle.cedar_text.specs.declared.text_to_cst.state.InitAct.TheVariants as init_acts
+use Rattle.cedar_text.specs.declared.text_to_cst.state.WordsAct.TheVariants as words_acts
+use Rattle.cedar_text.specs.machines.Words.{word_node, one_word_path, with_word, path_extent, path_begun, path_longer, path_reader, paths, path_node, entity_with_extent, open_entity, inits_at, inits_named, number_valued, words_reader, words_machine}
 use Rattle.cedar_text.specs.machines.WordsRead.{word_at, ReadsWholePath, first, further, ReadsWords, a_path, an_entity}
 use Rattle.cedar_syntax.proofs.machines.Laws.{some_is, then_steps}
 use Rattle.cedar_syntax.proofs.machines.Extents.{at, spans, from_to}
+use Rattle.cedar_syntax.proofs.machines.Readers.{takes}
+use Rattle.cedar_text.proofs.machines.WordPlans.{planned_any, planned_more, planned_item}
 
 -- ---- a path of the grammar, and a path as it is read
 
@@ -72,57 +78,72 @@ named_as src ts xs x h = named_is src ts h.path h.reads ∙ ap (λ w. placed src
 
 -- ---- complete: paths
 
+-- a token of this kind there
+abbrev pub token : TokenKind → Spot → Lexeme
+token k p = record { kind = k; start = p.start; end = p.end; text = p.text }
+
 path_runs : {src : List ℕ} {ts : List Lexeme} {q : Path} → ReadsWholePath src ts q → Comes (paths src) ts (path.Have q)
-path_runs (first p e) = ap (λ o. answer_state (path_beginning o (at p))) e
-path_runs {src = src} (further {ts = ts} {q = q} k p r s e) =
+path_runs {src = src} (first {k = k} {i = i} p e) =
+    ap (λ a. answer_state a) (takes src path_reader path.Start (path.Have (one_word_path (word_at i p))) path_acts.First (token k p) (planned_any k p.text path_acts.First i e) (ap (λ o. path_begun o (at p)) e))
+path_runs {src = src} (further {ts = ts} {q = q} {i = i} k p r s e) =
     then_steps (paths src) (Some path.Start) (Some (path.Behind q)) _ (ts ++ one kind.ColonColon p) (one k r)
     (then_steps (paths src) (Some path.Start) (Some (path.Have q)) _ ts (one kind.ColonColon p) (path_runs s) refl)
-    (ap (λ o. answer_state (path_more src q o (at r))) e)
+    (ap (λ a. answer_state a)
+    (takes src path_reader (path.Behind q) (path.Have (with_word src q (word_at i r))) path_acts.More (token k r) (planned_any k r.text path_acts.More i e) (ap (λ o. path_longer src (path.Behind q) o (at r)) e)))
 
 pub words_run : {src : List ℕ} {ts : List Lexeme} {q : Path} → ReadsWholePath src ts q → Comes (words_machine src) ts (state.Path (path.Have q))
-words_run (first p e) = ap (λ o. answer_state (as_words (path_beginning o (at p)))) e
-words_run {src = src} (further {ts = ts} {q = q} k p r s e) =
+words_run {src = src} (first {k = k} {i = i} p e) =
+    ap (λ a. answer_state a)
+    (takes src words_reader (state.Path path.Start) (state.Path (path.Have (one_word_path (word_at i p)))) (words_acts.Path path_acts.First) (token k p) (planned_any k p.text (words_acts.Path path_acts.First) i e)
+    (ap (λ o. option_image (λ s. state.Path s) (path_begun o (at p))) e))
+words_run {src = src} (further {ts = ts} {q = q} {i = i} k p r s e) =
     then_steps (words_machine src) (Some (state.Path path.Start)) (Some (state.Path (path.Behind q))) _ (ts ++ one kind.ColonColon p) (one k r)
     (then_steps (words_machine src) (Some (state.Path path.Start)) (Some (state.Path (path.Have q))) _ ts (one kind.ColonColon p) (words_run s) refl)
-    (ap (λ o. answer_state (words_more src q o k record { kind = k; start = r.start; end = r.end; text = r.text })) e)
+    (ap (λ a. answer_state a)
+    (takes src words_reader (state.Path (path.Behind q)) (state.Path (path.Have (with_word src q (word_at i r)))) (words_acts.Path path_acts.More) (token k r) (planned_more k r.text i e)
+    (ap (λ o. option_image (λ s. state.Path s) (path_longer src (path.Behind q) o (at r))) e)))
 
 -- ---- complete: entity literals
 
 abbrev Goes : List ℕ → Cell Name → ℕ → List (Cell RefInit) → InitPlace → List Lexeme → List (Cell RefInit) → InitPlace → Type 0
-Goes src x n ys p us zs q = steps (words_machine src) (Some (state.Inits (inits_of x n ys p))) us ≡ Some (state.Inits (inits_of x n zs q))
+Goes src x n ys p us zs q = steps (words_machine src) (Some (inits_at (open_entity x n ys) p)) us ≡ Some (inits_at (open_entity x n zs) q)
 
 value_runs : (src : List ℕ) (x : Cell Name) (n : ℕ) (ys : List (Cell RefInit)) (k : TokenKind) (p q : Spot) (i : Ident) {us : List Lexeme} {v : Literal} → ReadsLiteral src us v →
     Goes src x n ys (place.Value (word_at i p)) us (ys ++ placed src (one k p ++ one kind.Colon q ++ us) (ref_init_of (placed src (one k p) i) (placed src us v)) ∷ []) place.Behind
 value_runs src x n ys k p q i (truth r) = refl
 value_runs src x n ys k p q i (falsity r) = refl
 value_runs src x n ys k p q i (number r e) =
-    ap (λ b. answer_state (number_value src x n ys (word_at i p) b record { kind = kind.Number; start = r.start; end = r.end; text = r.text })) e
+    let b : OpenEntity = open_entity x n ys in
+    ap (λ a. answer_state a)
+    (takes src words_reader (inits_at b (place.Value (word_at i p))) _ (words_acts.Init init_acts.Number) (token kind.Number r) refl (ap (λ b. number_valued src (open_entity x n ys) (place.Value (word_at i p)) b (token kind.Number r)) e))
 value_runs src x n ys k p q i (string r) = refl
 
 init_runs : (src : List ℕ) (x : Cell Name) (n : ℕ) (ys : List (Cell RefInit)) {us : List Lexeme} {y : RefInit} → ReadsRefInit src us y → Goes src x n ys place.Item us (ys ++ placed src us y ∷ []) place.Behind
 init_runs src x n ys (ref_init {us = us} q (any {k = k} {i = i} p e) r) =
     let m = words_machine src in
-    then_steps m (Some (state.Inits (inits_of x n ys place.Item))) (Some (state.Inits (inits_of x n ys (place.Value (word_at i p))))) _ (one k p ++ one kind.Colon q) us
-    (ap (λ o. steps m (answer_state (wanted_item src x n ys o k (at p))) (one kind.Colon q)) e)
+    let b : OpenEntity = open_entity x n ys in
+    then_steps m (Some (inits_at (open_entity x n ys) place.Item)) (Some (inits_at (open_entity x n ys) (place.Value (word_at i p)))) _ (one k p ++ one kind.Colon q) us
+    (ap (λ a. steps m (answer_state a) (one kind.Colon q))
+    (takes src words_reader (inits_at b place.Item) (inits_at b (place.Key (word_at i p))) (words_acts.Init init_acts.Key) (token k p) (ap (λ o. option_image (λ a. words_acts.Init a) o) (planned_item k p.text i e)) (ap (λ o. inits_named b o (at p)) e)))
     (value_runs src x n ys k p q i r)
 
 items_run : (src : List ℕ) (x : Cell Name) (n : ℕ) {us : List Lexeme} {ys : List (Cell RefInit)} → ReadsItems src (ReadsRefInit src) us ys → Goes src x n [] place.Item us ys place.Behind
 items_run src x n (one_item r) = init_runs src x n [] r
 items_run src x n (more_items {ts = ts} {us = us} {xs = xs} p r s) =
     let m = words_machine src in
-    let begun : Option WordsState = Some (state.Inits (inits_of x n [] place.Item)) in
-    then_steps m begun (Some (state.Inits (inits_of x n xs place.Item))) _ (ts ++ one kind.Comma p) us
-    (then_steps m begun (Some (state.Inits (inits_of x n xs place.Behind))) _ ts (one kind.Comma p) (items_run src x n r) refl) (init_runs src x n xs s)
+    let begun : Option WordsState = Some (inits_at (open_entity x n []) place.Item) in
+    then_steps m begun (Some (inits_at (open_entity x n xs) place.Item)) _ (ts ++ one kind.Comma p) us
+    (then_steps m begun (Some (inits_at (open_entity x n xs) place.Behind)) _ ts (one kind.Comma p) (items_run src x n r) refl) (init_runs src x n xs s)
 
 abbrev pub closed_entity : List ℕ → Cell Name → ℕ → List (Cell RefInit) → Spot → Entity
 closed_entity src x n ys p = entity_with_extent src (ref.Ref x ys) record { start = n; end = p.end }
 
 pub list_runs : (src : List ℕ) (x : Cell Name) (n : ℕ) (m : Spot) {us : List Lexeme} {ys : List (Cell RefInit)} → ReadsList src (ReadsRefInit src) us ys →
-    steps (words_machine src) (Some (state.Inits (inits_of x n [] place.Item))) (us ++ one kind.CloseBrace m) ≡ Some (state.Entity (closed_entity src x n ys m))
+    steps (words_machine src) (Some (inits_at (open_entity x n []) place.Item)) (us ++ one kind.CloseBrace m) ≡ Some (state.Entity (closed_entity src x n ys m))
 list_runs src x n m no_item = refl
 list_runs src x n m (items {ts = ts} r) = then_steps (words_machine src) _ _ _ ts (one kind.CloseBrace m) (items_run src x n r) refl
 list_runs src x n m (items_comma {ts = ts} {xs = xs} p r) =
-    then_steps (words_machine src) (Some (state.Inits (inits_of x n [] place.Item))) (Some (state.Inits (inits_of x n xs place.Item))) _ (ts ++ one kind.Comma p) (one kind.CloseBrace m)
+    then_steps (words_machine src) (Some (inits_at (open_entity x n []) place.Item)) (Some (inits_at (open_entity x n xs) place.Item)) _ (ts ++ one kind.Comma p) (one kind.CloseBrace m)
     (then_steps (words_machine src) _ _ _ ts (one kind.Comma p) (items_run src x n r) refl) refl
 
 -- ---- complete: a path or an entity literal

@@ -24,8 +24,9 @@ use Rattle.cedar_text.specs.declared.text_to_cst.expression.state.Left.TheVarian
 use Rattle.cedar_text.specs.declared.text_to_cst.expression.state.Levels.{Levels}
 use Rattle.cedar_text.specs.declared.text_to_cst.expression.state.Signs.{Signs}
 use Rattle.cedar_text.specs.declared.text_to_cst.expression.state.Operand.{Operand}
+use Rattle.cedar_syntax.specs.declared.loc.Loc.{Loc}
 use Rattle.cedar_syntax.specs.declared.reading.extent.Extent.{Extent}
-use Rattle.cedar_syntax.specs.Place.{joint_extent, node_at}
+use Rattle.cedar_syntax.specs.Place.{joint_extent, loc_at, node_at}
 use Rattle.cedar_syntax.specs.Trees.{Cell, expr_of, if_of, or_of, and_of, common_of, has_of, like_of, is_of, add_of, mult_of, unary_of, member_of, name_of}
 
 -- a tree and its bytes
@@ -44,8 +45,14 @@ Plain T = Chain T (Cell T)
 abbrev pub Marked : Type 0 → Type 0 → Type 0
 Marked T O = Chain T (O × Cell T)
 
+-- one operand alone, at this place
+abbrev pub begun_at : {T I : Type 0} → Ranged T → Option Loc → Chain T I
+begun_at x l =
+    record { initial = record { node = Some x.tree; loc = l }; extended = []; extent = x.extent }
+
+-- and at its bytes
 abbrev pub begun_chain : {T I : Type 0} → List ℕ → Ranged T → Chain T I
-begun_chain src x = record { initial = node_of src x; extended = []; extent = x.extent }
+begun_chain src x = begun_at x (loc_at src x.extent)
 
 abbrev pub longer : {T I : Type 0} → Chain T I → I → Option Extent → Chain T I
 longer c y e = record {
@@ -73,6 +80,18 @@ onward c e = record {
 
 abbrev pub pending : {T O : Type 0} → Marked T O → O → Extent → Pending T O
 pending c o e = record { chain = onward c e; op = o }
+
+-- one more operand that is a node already, with the operator behind it in its bytes
+
+abbrev pub plain_with : {T : Type 0} → Option (Plain T) → Cell T → Option Extent → Plain T
+plain_with None y e = record { initial = y; extended = []; extent = e }
+plain_with (Some c) y e = longer c y e
+
+abbrev pub pending_with : {T O : Type 0} → Option (Pending T O) → Cell T → Option Extent → O
+    → Pending T O
+pending_with None y e o =
+    record { chain = record { initial = y; extended = []; extent = e }; op = o }
+pending_with (Some p) y e o = record { chain = longer p.chain (p.op, y) e; op = o }
 
 -- what a level and its last operand are
 

@@ -1,83 +1,143 @@
--- The machine of conditions, over a machine of expressions.
-use Rattle.std.specs.Prelude.{ℕ, List, Option, Some, None}
+-- How a condition is read: a word, and an expression in braces, or none (`ReadsCond` of
+-- `LoosePolicies`), over any reader of expressions.
+use Rattle.std.specs.Prelude.{◌≡◌, ℕ, List, Bool, true, false, IsTrue, Option, Some, None}
 use Rattle.cedar_lexer.specs.Token.{Lexeme}
+use Rattle.cedar_lexer.specs.declared.token.TokenKind.{TokenKind}
+use Rattle.cedar_lexer.specs.declared.token.TokenKind.TheVariants as kind
 use Rattle.cedar_syntax.specs.declared.cst.Expr.{Expr}
 use Rattle.cedar_syntax.specs.declared.cst.Ident.{Ident}
 use Rattle.cedar_syntax.specs.declared.cst.Cond.{Cond}
-use Rattle.cedar_syntax.specs.declared.reading.mark.Mark.{Mark}
-use Rattle.cedar_syntax.specs.declared.reading.mark.Mark.TheVariants as mark
 use Rattle.cedar_text.specs.declared.text_to_cst.condition.ConditionState.{ConditionState}
-use Rattle.cedar_text.specs.declared.text_to_cst.condition.ConditionState.TheVariants as condition
-use Rattle.cedar_syntax.specs.Tokens.{any_of}
+use Rattle.cedar_text.specs.declared.text_to_cst.condition.ConditionPart.{ConditionPart}
+use Rattle.cedar_text.specs.declared.text_to_cst.condition.ConditionPart.TheVariants as part
+use Rattle.cedar_text.specs.declared.text_to_cst.condition.ConditionAct.{ConditionAct}
+use Rattle.cedar_text.specs.declared.text_to_cst.condition.ConditionAct.TheVariants as act
 use Rattle.cedar_syntax.specs.Trees.{Cell, cond_of}
-use Rattle.cedar_syntax.specs.machines.Door.{Machine, Answer, next, ended, refused, too_large}
-use Rattle.cedar_syntax.specs.machines.Marks.{mark_of}
-use Rattle.cedar_text.specs.machines.Words.{token_node}
+use Rattle.cedar_syntax.specs.machines.Door.{Machine, Reader, machine_of, option_image}
+use Rattle.cedar_text.specs.machines.Annotation.{any_node}
+use Rattle.cedar_text.specs.machines.WordShapes.{if_any}
 
-abbrev pub ConditionAnswer : Type 0 → Type 0
-ConditionAnswer E = Answer (ConditionState E) Cond
+-- the word, and what stands behind it
+abbrev pub condition_of : {E : Type 0} → Cell Ident → ConditionPart E → ConditionState E
+condition_of i p = record { word = i; part = p }
 
-abbrev pub at_word : {E : Type 0} → List ℕ → Lexeme → Option Ident → ConditionAnswer E
-at_word src t None = refused
-at_word src t (Some i) = next (condition.Word (token_node src t i))
+-- ---- plans, by the part that is begun, for any plan of the body
 
-abbrev pub behind_word : {E : Type 0} → Cell Ident → Mark → ConditionAnswer E
-behind_word i mark.OpenBrace = next (condition.Opened i)
-behind_word i _ = refused
+-- `{` behind the word
+abbrev pub brace_plan : {C : Type 0} → TokenKind → Option (ConditionAct C)
+brace_plan kind.OpenBrace = Some act.Open
+brace_plan _ = None
+
+-- braces may be empty
+abbrev pub empty_plan : {C : Type 0} → TokenKind → Option (ConditionAct C)
+empty_plan kind.CloseBrace = Some act.CloseEmpty
+empty_plan _ = None
+
+-- behind `{`: the body's first token, or what closes an empty one
+abbrev pub opened_plan : {C : Type 0} → Option C → TokenKind → Option (ConditionAct C)
+opened_plan (Some a) k = Some (act.First a)
+opened_plan None k = empty_plan k
+
+-- behind a body that can end
+abbrev pub close_plan : {C : Type 0} → TokenKind → Option (ConditionAct C)
+close_plan kind.CloseBrace = Some act.Close
+close_plan _ = None
+
+-- in the body; `b` says whether it can end
+abbrev pub body_plan : {C : Type 0} → Option C → Bool → TokenKind → Option (ConditionAct C)
+body_plan (Some a) b k = Some (act.Body a)
+body_plan None true k = close_plan k
+body_plan None false k = None
+
+-- what the body does with a first token and with each further one, and whether it can end
+abbrev pub condition_plan : {E C : Type 0} → (TokenKind → Option C) → (E → TokenKind → Option C) →
+    (E → Bool) → ConditionPart E → TokenKind → Option (ConditionAct C)
+condition_plan first on ends part.Start k = if_any k act.Word
+condition_plan first on ends part.Word k = brace_plan k
+condition_plan first on ends part.Opened k = opened_plan (first k) k
+condition_plan first on ends (part.Body s) k = body_plan (on s k) (ends s) k
+condition_plan first on ends (part.Closed x) k = None
+
+-- ---- acts; of a part where one isn't planned nothing is said
+
+-- a token of the body, whose state that makes
+abbrev pub body_going : {E : Type 0} → ConditionState E → Option E → Option (ConditionState E)
+body_going s o = option_image (λ q. condition_of s.word (part.Body q)) o
+
+-- of the body that is begun
+abbrev pub in_body : {E C : Type 0} → List ℕ → Reader E C (Cell Expr) → ConditionState E →
+    ConditionPart E → C → Lexeme → Option (ConditionState E)
+in_body src e s (part.Body q) a t = body_going s (e.act src q a t)
+in_body src e s _ a t = None
 
 -- the body has ended
-abbrev pub behind_body : {E : Type 0} → Cell Ident → Option (Cell Expr) → Mark → ConditionAnswer E
-behind_body i x mark.CloseBrace = next (condition.Closed i x)
-behind_body i x _ = refused
+abbrev pub behind_body : {E C : Type 0} → List ℕ → Reader E C (Cell Expr) → ConditionState E →
+    ConditionPart E → Option (ConditionState E)
+behind_body src e s (part.Body q) =
+    Some (condition_of s.word (part.Closed (e.finish src q)))
+behind_body src e s _ = None
 
--- the first token in braces, which may be empty
-abbrev pub at_body : {E : Type 0} → Cell Ident → Mark → Answer E (Cell Expr) → ConditionAnswer E
-at_body i c (next s) = next (condition.Body i s)
-at_body i c (ended x) = behind_body i (Some x) c
-at_body i c refused = behind_body i None c
-at_body i c too_large = too_large
+-- what each act makes
+abbrev pub condition_act : {E C : Type 0} → Reader E C (Cell Expr) → List ℕ → ConditionState E →
+    ConditionAct C → Lexeme → Option (ConditionState E)
+condition_act e src s act.Word t = option_image (λ i. condition_of i part.Word) (any_node src t)
+condition_act e src s act.Open t = Some (condition_of s.word part.Opened)
+condition_act e src s (act.First a) t = body_going s (e.act src e.start a t)
+condition_act e src s (act.Body a) t = in_body src e s s.part a t
+condition_act e src s act.Close t = behind_body src e s s.part
+condition_act e src s act.CloseEmpty t = Some (condition_of s.word (part.Closed None))
 
-abbrev pub in_body : {E : Type 0} → Cell Ident → Mark → Answer E (Cell Expr) → ConditionAnswer E
-in_body i c (next s) = next (condition.Body i s)
-in_body i c (ended x) = behind_body i (Some x) c
-in_body i c refused = refused
-in_body i c too_large = too_large
+-- ---- the tree
 
-abbrev pub condition_step : {E : Type 0} → List ℕ → Machine Lexeme E (Cell Expr) →
-    ConditionState E → Lexeme → ConditionAnswer E
-condition_step src m condition.Start t = at_word src t (any_of t.kind t.text)
-condition_step src m (condition.Word i) t = behind_word i (mark_of t.kind)
-condition_step src m (condition.Opened i) t = at_body i (mark_of t.kind) (m.step m.start t)
-condition_step src m (condition.Body i s) t = in_body i (mark_of t.kind) (m.step s t)
-condition_step src m (condition.Closed i x) t = ended (cond_of i x)
+-- behind `}` alone
+abbrev pub condition_ends : {E : Type 0} → ConditionPart E → Bool
+condition_ends part.Start = false
+condition_ends part.Word = false
+condition_ends part.Opened = false
+condition_ends (part.Body s) = false
+condition_ends (part.Closed x) = true
 
-abbrev pub condition_end : {E : Type 0} → ConditionState E → Option Cond
-condition_end condition.Start = None
-condition_end (condition.Word i) = None
-condition_end (condition.Opened i) = None
-condition_end (condition.Body i s) = None
-condition_end (condition.Closed i x) = Some (cond_of i x)
+abbrev pub condition_tree : {E : Type 0} → Cell Ident → ConditionPart E → Option Cond
+condition_tree i part.Start = None
+condition_tree i part.Word = None
+condition_tree i part.Opened = None
+condition_tree i (part.Body s) = None
+condition_tree i (part.Closed x) = Some (cond_of i x)
 
-abbrev pub conditions : {E : Type 0} → List ℕ → Machine Lexeme E (Cell Expr) →
-    Machine Lexeme (ConditionState E) Cond
-conditions src m = record {
-  start = condition.Start;
-  step = condition_step src m;
-  finish = condition_end;
+abbrev pub condition_finish : {E : Type 0} → ConditionState E → Option Cond
+condition_finish s = condition_tree s.word s.part
+
+-- the reader, and its machine
+
+abbrev pub condition_reader : {E C : Type 0} → Reader E C (Cell Expr) →
+    Reader (ConditionState E) (ConditionAct C) Cond
+condition_reader e = record {
+  start = condition_of record { node = None; loc = None } part.Start;
+  plan = λ s k. condition_plan (λ k. e.plan e.start k) e.plan e.ends s.part k;
+  act = λ src s a t. condition_act e src s a t;
+  ends = λ s. condition_ends s.part;
+  finish = λ src s. condition_finish s;
 }
 
--- the body that is begun has ended with this tree
-abbrev pub body_ending : {E : Type 0} → ConditionState E → Cell Expr → Mark → ConditionAnswer E
-body_ending condition.Start x c = refused
-body_ending (condition.Word i) x c = refused
-body_ending (condition.Opened i) x c = refused
-body_ending (condition.Body i s) x c = behind_body i (Some x) c
-body_ending (condition.Closed i y) x c = refused
+abbrev pub conditions : {E C : Type 0} → List ℕ → Reader E C (Cell Expr) →
+    Machine Lexeme (ConditionState E) Cond
+conditions src e = machine_of src (condition_reader e)
 
--- no body is begun
-abbrev pub IsOutsideBody : {E : Type 0} → ConditionState E → Type 0
-IsOutsideBody condition.Start = Unit {0}
-IsOutsideBody (condition.Word i) = Unit {0}
-IsOutsideBody (condition.Opened i) = Unit {0}
-IsOutsideBody (condition.Body i s) = ⊥
-IsOutsideBody (condition.Closed i x) = Unit {0}
+-- ---- what the code asks of a state
+
+-- a body is begun, and this is planned with a token of this kind
+abbrev pub IsBodyPlan : {E C : Type 0} → (E → TokenKind → Option C) → ConditionPart E → TokenKind →
+    C → Type 0
+IsBodyPlan on part.Start k a = ⊥
+IsBodyPlan on part.Word k a = ⊥
+IsBodyPlan on part.Opened k a = ⊥
+IsBodyPlan on (part.Body s) k a = on s k ≡ Some a
+IsBodyPlan on (part.Closed x) k a = ⊥
+
+-- a body is begun, and can end
+abbrev pub HasBody : {E : Type 0} → (E → Bool) → ConditionPart E → Type 0
+HasBody ends part.Start = ⊥
+HasBody ends part.Word = ⊥
+HasBody ends part.Opened = ⊥
+HasBody ends (part.Body s) = IsTrue (ends s)
+HasBody ends (part.Closed x) = ⊥

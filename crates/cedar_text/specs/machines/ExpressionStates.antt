@@ -1,6 +1,5 @@
--- The states of the machine of expressions, the classes of tokens that it tells apart, and how far
--- an operand goes on.
-use Rattle.std.specs.Prelude.{ℕ, List, [], ◌∷◌, Option, Some, cond}
+-- The states of the machine of expressions.
+use Rattle.std.specs.Prelude.{ℕ, List, Option, Some, None}
 use Rattle.cedar_syntax.specs.declared.cst.Primary.{Primary}
 use Rattle.cedar_text.specs.declared.text_to_cst.expression.state.Ranged.{Ranged}
 use Rattle.cedar_text.specs.declared.text_to_cst.expression.state.Branch.{Branch}
@@ -13,10 +12,6 @@ use Rattle.cedar_text.specs.declared.text_to_cst.expression.state.Place.TheVaria
 use Rattle.cedar_text.specs.declared.text_to_cst.expression.state.Mode.{Mode}
 use Rattle.cedar_text.specs.declared.text_to_cst.expression.state.Mode.TheVariants as mode
 use Rattle.cedar_text.specs.declared.text_to_cst.expression.state.State.{State}
-use Rattle.cedar_text.specs.declared.text_to_cst.expression.state.Wanted.{Wanted}
-use Rattle.cedar_text.specs.declared.text_to_cst.expression.state.Wanted.TheVariants as form
-use Rattle.cedar_text.specs.declared.text_to_cst.expression.state.Reach.{Reach}
-use Rattle.cedar_text.specs.declared.text_to_cst.expression.state.Reach.TheVariants as reach
 use Rattle.cedar_syntax.specs.declared.reading.extent.Extent.{Extent}
 use Rattle.cedar_syntax.specs.Place.{joint_extent}
 use Rattle.cedar_text.specs.machines.Closing.{fresh, no_signs, operand_of}
@@ -38,7 +33,7 @@ abbrev pub going_on : List Frame → Levels → State
 going_on st lv = state st lv (wants place.Operand)
 
 abbrev pub has_operand : List Frame → Levels → Operand → State
-has_operand st lv m = state st lv (mode.Have m)
+has_operand st lv m = state st lv (mode.Have m None)
 
 abbrev pub has_primary : List ℕ → List Frame → Levels → Signs → Ranged Primary → State
 has_primary src st lv sg x = has_operand st lv (operand_of src sg x)
@@ -46,17 +41,3 @@ has_primary src st lv sg x = has_operand st lv (operand_of src sg x)
 -- from an open bracket to its end
 abbrev pub around : Extent → Extent → Option Extent
 around l m = joint_extent (Some l) (Some m)
-
--- how far an operand goes on: inside of brackets as a whole expression's
-
-abbrev pub alone_reach : Wanted → Reach
-alone_reach form.Expr = reach.Whole
-alone_reach form.Sum = reach.Sum
-alone_reach form.Primary = reach.Primary
-
-abbrev pub edge : Wanted → List Frame → Reach
-edge w [] = alone_reach w
-edge w (f ∷ st) = reach.Whole
-
-abbrev pub reach_of : Wanted → List Frame → Operand → Reach
-reach_of w st m = cond m.is_if reach.If (edge w st)

@@ -1,6 +1,6 @@
--- The machine of expressions: what one token makes of the forms begun. `names` is any machine that
--- reads words.
-use Rattle.std.specs.Prelude.{ℕ, List, [], ◌∷◌, Option, Some, None}
+-- How expressions, sums and primaries are read: what is done with a token that is planned, and the
+-- tree at the end. `names` is how words are read, `n` their outline, and `f` their shape.
+use Rattle.std.specs.Prelude.{ℕ, Bool, true, false, List, [], ◌∷◌, Option, Some, None, cond}
 use Rattle.cedar_lexer.specs.Token.{Lexeme}
 use Rattle.cedar_syntax.specs.declared.cst.Expr.{Expr}
 use Rattle.cedar_syntax.specs.declared.cst.Add.{Add}
@@ -10,12 +10,13 @@ use Rattle.cedar_syntax.specs.declared.cst.Literal.TheVariants as literal
 use Rattle.cedar_syntax.specs.declared.cst.Ident.{Ident}
 use Rattle.cedar_syntax.specs.declared.cst.Ident.TheVariants as ident
 use Rattle.cedar_syntax.specs.declared.cst.Name.{Name}
-use Rattle.cedar_syntax.specs.declared.reading.class.Closing.TheVariants as closing
-use Rattle.cedar_syntax.specs.declared.reading.class.Operator.{Operator}
-use Rattle.cedar_syntax.specs.declared.reading.class.Operator.TheVariants as operator
 use Rattle.cedar_text.specs.machines.Named.{NameOrEntity}
 use Rattle.cedar_text.specs.machines.Named as named
 use Rattle.cedar_text.specs.declared.text_to_cst.state.WordsState.{WordsState}
+use Rattle.cedar_text.specs.declared.text_to_cst.state.WordsAct.{WordsAct}
+use Rattle.cedar_text.specs.declared.text_to_cst.expression.state.Act.{Act}
+use Rattle.cedar_text.specs.declared.text_to_cst.expression.state.Act.TheVariants as act
+use Rattle.cedar_text.specs.declared.text_to_cst.expression.state.Begin.{Begin}
 use Rattle.cedar_text.specs.declared.text_to_cst.expression.state.Ranged.{Ranged}
 use Rattle.cedar_text.specs.declared.text_to_cst.expression.state.Levels.{Levels}
 use Rattle.cedar_text.specs.declared.text_to_cst.expression.state.Signs.{Signs}
@@ -31,18 +32,17 @@ use Rattle.cedar_text.specs.declared.text_to_cst.expression.state.Wanted.{Wanted
 use Rattle.cedar_text.specs.declared.text_to_cst.expression.state.Wanted.TheVariants as form
 use Rattle.cedar_text.specs.declared.text_to_cst.expression.state.Alone.{Alone}
 use Rattle.cedar_text.specs.declared.text_to_cst.expression.state.Alone.TheVariants as alone
-use Rattle.cedar_text.specs.machines.Advance.{Advance}
-use Rattle.cedar_text.specs.machines.Advance as advance
 use Rattle.cedar_syntax.specs.declared.reading.extent.Extent.{Extent}
 use Rattle.cedar_syntax.specs.Place.{extent_of}
 use Rattle.cedar_syntax.specs.Tokens.{any_of}
 use Rattle.cedar_syntax.specs.Trees.{Cell}
-use Rattle.cedar_syntax.specs.machines.Door.{Machine, Answer, next, ended, refused, too_large, option_image}
+use Rattle.cedar_syntax.specs.machines.Door.{Reader, option_image}
 use Rattle.cedar_text.specs.machines.Closing.{ranged_tree, node_of, add_at, whole, fresh, no_signs, operand_of, if_operand, if_key}
-use Rattle.cedar_syntax.specs.machines.Classes.{operator_of}
-use Rattle.cedar_text.specs.machines.ExpressionStates.{state, opening}
-use Rattle.cedar_text.specs.machines.Wanting.{literal_at, wanting}
-use Rattle.cedar_text.specs.machines.Having.{field_reading, value_beginning, having}
+use Rattle.cedar_text.specs.machines.ExpressionStates.{opening}
+use Rattle.cedar_text.specs.machines.Wanting.{literal_at, word_held, begin_act}
+use Rattle.cedar_text.specs.machines.Having.{field_reading, value_beginning, follow_act}
+use Rattle.cedar_text.specs.machines.ExpressionShapes.{start_place, WordOutline, shape_of}
+use Rattle.cedar_text.specs.machines.ExpressionPlans.{if_ends, shape_plan, shape_ends}
 
 -- behind words
 
@@ -60,144 +60,143 @@ alone_of (y ∷ ys) x = alone.Name
 abbrev pub name_at : List ℕ → Ranged Name → Ranged Primary
 name_at src x = ranged_tree x.extent (primary.Name (node_of src x))
 
--- `if` alone: the guard of a conditional begins with the token behind it
-abbrev pub guard_beginning : List ℕ → Machine Lexeme WordsState NameOrEntity → List Frame → Levels
-    → Option Extent → Lexeme → Advance
-guard_beginning src names st lv l t = wanting src names
+-- the operand that words of one identifier are: `if` alone is one right of `has`
+abbrev pub alone_operand : List ℕ → Signs → Ranged Name → Alone → Operand
+alone_operand src sg x alone.True = operand_of src sg (literal_at src x.extent literal.True)
+alone_operand src sg x alone.False = operand_of src sg (literal_at src x.extent literal.False)
+alone_operand src sg x alone.If = if_operand src x.extent
+alone_operand src sg x alone.Name = operand_of src sg (name_at src x)
+
+-- the operand that words are
+abbrev pub named_operand : List ℕ → Signs → NameOrEntity → Operand
+named_operand src sg (named.path x) =
+    alone_operand src sg x (alone_of x.tree.path x.tree.name)
+named_operand src sg (named.entity x) =
+    operand_of src sg (ranged_tree x.extent (primary.Ref x.tree))
+
+abbrev pub named_extent : NameOrEntity → Option Extent
+named_extent (named.path x) = x.extent
+named_extent (named.entity x) = x.extent
+
+-- what is done with words that have ended, if they have
+abbrev pub with_words : {T : Type 0} → Option NameOrEntity → (NameOrEntity → Option T) → Option T
+with_words None g = None
+with_words (Some x) g = g x
+
+-- words have ended as `if`: the guard of a conditional begins with the token behind it
+abbrev pub guard_beginning : List ℕ → Reader WordsState WordsAct NameOrEntity → List Frame
+    → Levels → Option Extent → Begin → Lexeme → Option State
+guard_beginning src names st lv l b t = begin_act src names
     (frame.Guard record { branches = lv.branches; opened = l } ∷ st)
-    (fresh []) place.Expr no_signs t
+    (fresh []) place.Expr no_signs b t
 
--- `if` and a colon where a key is wanted
-abbrev pub if_key_reading : List ℕ → List Frame → Option Extent → Extent → Advance
-if_key_reading src (frame.Key f ∷ st) l e = advance.next (value_beginning st f (if_key src l) l e)
-if_key_reading src _ l e = advance.not_taken
+-- `if` as a key, and its colon
+abbrev pub if_key_reading : List ℕ → List Frame → Option Extent → Extent → Option State
+if_key_reading src (frame.Record f ∷ st) l e = Some (value_beginning st f (if_key src l) l e)
+if_key_reading src _ l e = None
 
-abbrev pub key_or_guard : List ℕ → Machine Lexeme WordsState NameOrEntity → List Frame → Levels
-    → Option Extent → Lexeme → Operator → Advance
-key_or_guard src names st lv l t (operator.Ends closing.Colon) =
-    if_key_reading src st l (extent_of t)
-key_or_guard src names st lv l t _ = guard_beginning src names st lv l t
+-- ---- what is done with a token, by the mode in which it is planned
 
-abbrev pub if_alone : Wanted → List ℕ → Machine Lexeme WordsState NameOrEntity → List Frame
-    → Levels → Place → Option Extent → Lexeme → Advance
-if_alone w src names st lv place.Expr l t = guard_beginning src names st lv l t
-if_alone w src names st lv place.Item l t = guard_beginning src names st lv l t
-if_alone w src names st lv place.Key l t = key_or_guard src names st lv l t (operator_of t.kind)
-if_alone w src names st lv place.Has l t = having w src st lv (if_operand src l) t
-if_alone w src names st lv place.Operand l t = advance.not_taken
-if_alone w src names st lv place.Primary l t = advance.not_taken
+abbrev pub want_act : List ℕ → Reader WordsState WordsAct NameOrEntity → List Frame → Levels
+    → Place → Signs → Act → Lexeme → Option State
+want_act src names st lv p sg (act.Begin b) t = begin_act src names st lv p sg b t
+want_act src names st lv p sg _ t = None
 
-abbrev pub alone_reading : Wanted → List ℕ → Machine Lexeme WordsState NameOrEntity → List Frame
-    → Levels → Place → Signs → Ranged Name → Alone → Lexeme → Advance
-alone_reading w src names st lv p sg x alone.True t =
-    having w src st lv (operand_of src sg (literal_at src x.extent literal.True)) t
-alone_reading w src names st lv p sg x alone.False t =
-    having w src st lv (operand_of src sg (literal_at src x.extent literal.False)) t
-alone_reading w src names st lv p sg x alone.If t = if_alone w src names st lv p x.extent t
-alone_reading w src names st lv p sg x alone.Name t =
-    having w src st lv (operand_of src sg (name_at src x)) t
+abbrev pub word_act : List ℕ → Reader WordsState WordsAct NameOrEntity → List Frame → Levels
+    → Place → Signs → WordsState → Act → Lexeme → Option State
+word_act src names st lv p sg w (act.Words a) t =
+    option_image (λ v. word_held st lv p sg v) (names.act src w a t)
+word_act src names st lv p sg w (act.Settle o) t = with_words (names.finish src w)
+    (λ x. follow_act src st lv (named_operand src sg x) o (extent_of t))
+word_act src names st lv p sg w (act.Guard b) t = with_words (names.finish src w)
+    (λ x. guard_beginning src names st lv (named_extent x) b t)
+word_act src names st lv p sg w act.Key t = with_words (names.finish src w)
+    (λ x. if_key_reading src st (named_extent x) (extent_of t))
+word_act src names st lv p sg w _ t = None
 
-abbrev pub name_reading : Wanted → List ℕ → Machine Lexeme WordsState NameOrEntity → List Frame
-    → Levels → Place → Signs → NameOrEntity → Lexeme → Advance
-name_reading w src names st lv p sg (named.path x) t =
-    alone_reading w src names st lv p sg x (alone_of x.tree.path x.tree.name) t
-name_reading w src names st lv p sg (named.entity x) t =
-    having w src st lv (operand_of src sg (ranged_tree x.extent (primary.Ref x.tree))) t
-
-abbrev pub word_reading : Wanted → List ℕ → Machine Lexeme WordsState NameOrEntity → List Frame
-    → Levels → Place → Signs → Answer WordsState NameOrEntity → Lexeme → Advance
-word_reading w src names st lv p sg (next s) t = advance.next (state st lv (mode.Word p sg s))
-word_reading w src names st lv p sg (ended x) t = name_reading w src names st lv p sg x t
-word_reading w src names st lv p sg refused t = advance.not_taken
-word_reading w src names st lv p sg too_large t = advance.too_large
-
--- token after token
-
-abbrev pub mode_step : Wanted → List ℕ → Machine Lexeme WordsState NameOrEntity → List Frame
-    → Levels → Mode → Lexeme → Advance
-mode_step w src names st lv (mode.Want p sg) t = wanting src names st lv p sg t
-mode_step w src names st lv (mode.Word p sg s) t =
-    word_reading w src names st lv p sg (names.step s t) t
-mode_step w src names st lv (mode.Field m d) t =
+abbrev pub dot_act : List ℕ → List Frame → Levels → Operand → Extent → Act → Lexeme
+    → Option State
+dot_act src st lv m d act.Field t =
     field_reading src st lv m d (any_of t.kind t.text) (extent_of t)
-mode_step w src names st lv (mode.Have m) t = having w src st lv m t
+dot_act src st lv m d _ t = None
 
-abbrev pub step_of : Wanted → List ℕ → Machine Lexeme WordsState NameOrEntity → State → Lexeme
-    → Advance
-step_of w src names s t = mode_step w src names s.stack s.levels s.mode t
+abbrev pub have_act : List ℕ → List Frame → Levels → Operand → Act → Lexeme → Option State
+have_act src st lv m (act.Follow o) t = follow_act src st lv m o (extent_of t)
+have_act src st lv m _ t = None
 
--- the end
+abbrev pub mode_act : List ℕ → Reader WordsState WordsAct NameOrEntity → List Frame → Levels
+    → Mode → Act → Lexeme → Option State
+mode_act src names st lv (mode.Want p sg) a t = want_act src names st lv p sg a t
+mode_act src names st lv (mode.Word p sg w) a t = word_act src names st lv p sg w a t
+mode_act src names st lv (mode.Have m (Some d)) a t = dot_act src st lv m d a t
+mode_act src names st lv (mode.Have m None) a t = have_act src st lv m a t
 
--- the operand that words alone are at the end: `if` is one only right of `has`
-abbrev pub if_at_end : List ℕ → Place → Option Extent → Option Operand
-if_at_end src place.Has l = Some (if_operand src l)
-if_at_end src _ l = None
+abbrev pub expression_act : List ℕ → Reader WordsState WordsAct NameOrEntity → State → Act
+    → Lexeme → Option State
+expression_act src names s a t = mode_act src names s.stack s.levels s.mode a t
 
-abbrev pub alone_at_end : List ℕ → Place → Signs → Ranged Name → Alone → Option Operand
-alone_at_end src p sg x alone.True =
-    Some (operand_of src sg (literal_at src x.extent literal.True))
-alone_at_end src p sg x alone.False =
-    Some (operand_of src sg (literal_at src x.extent literal.False))
-alone_at_end src p sg x alone.If = if_at_end src p x.extent
-alone_at_end src p sg x alone.Name = Some (operand_of src sg (name_at src x))
+-- ---- the end
 
-abbrev pub named_at_end : List ℕ → Place → Signs → Option NameOrEntity → Option Operand
-named_at_end src p sg None = None
-named_at_end src p sg (Some (named.path x)) =
-    alone_at_end src p sg x (alone_of x.tree.path x.tree.name)
-named_at_end src p sg (Some (named.entity x)) =
-    Some (operand_of src sg (ranged_tree x.extent (primary.Ref x.tree)))
+-- the word `if` alone, which is an operand right of `has` only
+
+abbrev pub alone_is_if : Alone → Bool
+alone_is_if alone.True = false
+alone_is_if alone.False = false
+alone_is_if alone.If = true
+alone_is_if alone.Name = false
+
+abbrev pub named_is_if : NameOrEntity → Bool
+named_is_if (named.path x) = alone_is_if (alone_of x.tree.path x.tree.name)
+named_is_if (named.entity x) = false
 
 -- the last operand, if no bracket is open and nothing more has to come
-abbrev pub last_operand : List ℕ → Machine Lexeme WordsState NameOrEntity → List Frame → Mode
+abbrev pub named_at_end : List ℕ → Place → Signs → NameOrEntity → Option Operand
+named_at_end src p sg x = cond (if_ends p (named_is_if x)) (Some (named_operand src sg x)) None
+
+abbrev pub last_operand : List ℕ → Reader WordsState WordsAct NameOrEntity → List Frame → Mode
     → Option Operand
 last_operand src names [] (mode.Want p sg) = None
-last_operand src names [] (mode.Word p sg s) = named_at_end src p sg (names.finish s)
-last_operand src names [] (mode.Field m d) = None
-last_operand src names [] (mode.Have m) = Some m
+last_operand src names [] (mode.Word p sg w) =
+    with_words (names.finish src w) (λ x. named_at_end src p sg x)
+last_operand src names [] (mode.Have m (Some d)) = None
+last_operand src names [] (mode.Have m None) = Some m
 last_operand src names (f ∷ st) m = None
 
-abbrev pub expr_at_end : List ℕ → Machine Lexeme WordsState NameOrEntity → State
+abbrev pub expr_at_end : List ℕ → Reader WordsState WordsAct NameOrEntity → State
     → Option (Ranged Expr)
 expr_at_end src names s =
     option_image (λ m. whole src s.levels m) (last_operand src names s.stack s.mode)
 
-abbrev pub sum_at_end : List ℕ → Machine Lexeme WordsState NameOrEntity → State
+abbrev pub sum_at_end : List ℕ → Reader WordsState WordsAct NameOrEntity → State
     → Option (Ranged Add)
 sum_at_end src names s =
     option_image (λ m. add_at src s.levels m) (last_operand src names s.stack s.mode)
 
-abbrev pub primary_at_end : List ℕ → Machine Lexeme WordsState NameOrEntity → State
+abbrev pub primary_at_end : List ℕ → Reader WordsState WordsAct NameOrEntity → State
     → Option (Cell Primary)
 primary_at_end src names s = option_image (λ m. m.item) (last_operand src names s.stack s.mode)
 
--- what is not taken has ended the tree where there is one
-abbrev pub advance_answer : {T : Type 0} → Option T → Advance → Answer State T
-advance_answer o (advance.next s) = next s
-advance_answer (Some x) advance.not_taken = ended x
-advance_answer None advance.not_taken = refused
-advance_answer o advance.too_large = too_large
+-- ---- the readers
 
-abbrev pub expressions : List ℕ → Machine Lexeme WordsState NameOrEntity
-    → Machine Lexeme State (Ranged Expr)
-expressions src names = record {
-  start = opening [] [] place.Expr;
-  step = λ s t. advance_answer (expr_at_end src names s) (step_of form.Expr src names s t);
-  finish = λ s. expr_at_end src names s;
+-- by the tree that is wanted of the whole, and how it is made at the end
+abbrev pub reader_of : {W K T : Type 0} → Wanted → Reader WordsState WordsAct NameOrEntity
+    → WordOutline W K → (WordsState → W) → (List ℕ → State → Option T) → Reader State Act T
+reader_of w names n f tree = record {
+  start = opening [] [] (start_place w);
+  plan = λ s k. shape_plan w n (shape_of f s) k;
+  act = λ src s a t. expression_act src names s a t;
+  ends = λ s. shape_ends n (shape_of f s);
+  finish = tree;
 }
 
-abbrev pub sums : List ℕ → Machine Lexeme WordsState NameOrEntity
-    → Machine Lexeme State (Ranged Add)
-sums src names = record {
-  start = opening [] [] place.Operand;
-  step = λ s t. advance_answer (sum_at_end src names s) (step_of form.Sum src names s t);
-  finish = λ s. sum_at_end src names s;
-}
+abbrev pub expression_reader : {W K : Type 0} → Reader WordsState WordsAct NameOrEntity
+    → WordOutline W K → (WordsState → W) → Reader State Act (Ranged Expr)
+expression_reader names n f = reader_of form.Expr names n f (λ src s. expr_at_end src names s)
 
-abbrev pub primaries : List ℕ → Machine Lexeme WordsState NameOrEntity
-    → Machine Lexeme State (Cell Primary)
-primaries src names = record {
-  start = opening [] [] place.Primary;
-  step = λ s t. advance_answer (primary_at_end src names s) (step_of form.Primary src names s t);
-  finish = λ s. primary_at_end src names s;
-}
+abbrev pub sum_reader : {W K : Type 0} → Reader WordsState WordsAct NameOrEntity
+    → WordOutline W K → (WordsState → W) → Reader State Act (Ranged Add)
+sum_reader names n f = reader_of form.Sum names n f (λ src s. sum_at_end src names s)
+
+abbrev pub primary_reader : {W K : Type 0} → Reader WordsState WordsAct NameOrEntity
+    → WordOutline W K → (WordsState → W) → Reader State Act (Cell Primary)
+primary_reader names n f = reader_of form.Primary names n f (λ src s. primary_at_end src names s)

@@ -16,8 +16,10 @@ use Rattle.cedar_syntax.specs.Tokens.{Spot, one}
 use Rattle.cedar_syntax.specs.Trees.{Cell, name_of}
 use Rattle.cedar_syntax.specs.LooseWords.{ReadsPath, ReadsRef}
 use Rattle.cedar_text.specs.machines.Closing.{ranged_tree}
-use Rattle.cedar_syntax.specs.machines.Door.{Machine, ended, steps}
-use Rattle.cedar_text.specs.machines.Words.{word_node, path_extent, keeping, words_machine}
+use Rattle.cedar_text.specs.declared.text_to_cst.state.WordsAct.{WordsAct}
+use Rattle.cedar_syntax.specs.machines.Door.{Machine, ended, steps, is_some, Reader, machine_of}
+use Rattle.cedar_text.specs.machines.Keeping.{kept_reader}
+use Rattle.cedar_text.specs.machines.Words.{word_node, path_extent, words_end, words_reader}
 
 pub data NameOrEntity : Type 0 where
   path : Ranged Name → NameOrEntity
@@ -35,9 +37,13 @@ words_tree src (words.Path p) =
     path (ranged_tree (Some (path_extent p)) (name_of p.before (word_node src p.last)))
 words_tree src (words.Entity e) = entity (ranged_tree (Some e.extent) e.node)
 
--- the machine of words, with such trees
+-- words, with such trees
+abbrev pub named_reader : Reader WordsState WordsAct NameOrEntity
+named_reader =
+    kept_reader (λ src x. Some (words_tree src x)) (λ s. is_some (words_end s)) words_reader
+
 abbrev pub named_words : List ℕ → Machine Lexeme WordsState NameOrEntity
-named_words src = keeping (λ x. Some (words_tree src x)) (words_machine src)
+named_words src = machine_of src named_reader
 
 -- `::`, by which alone words go on that could end
 abbrev pub joins_words : TokenKind → Bool

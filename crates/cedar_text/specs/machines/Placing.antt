@@ -1,11 +1,12 @@
--- A machine whose tree is put as a node, at the place of the tokens that it has read.
+-- A form whose tree is put as a node, at the place of the tokens that it has read; and one whose
+-- tree is another's, put in another way.
 use Rattle.std.specs.Prelude.{ℕ, List, Option, Some, None}
 use Rattle.cedar_lexer.specs.Token.{Lexeme}
 use Rattle.cedar_syntax.specs.declared.reading.extent.Extent.{Extent}
 use Rattle.cedar_text.specs.declared.text_to_cst.sequence.Spanned.{Spanned}
 use Rattle.cedar_syntax.specs.Place.{joint_extent, extent_of, node_at, placed}
 use Rattle.cedar_syntax.specs.Trees.{Cell}
-use Rattle.cedar_syntax.specs.machines.Door.{Machine, Answer, next, ended, refused, too_large}
+use Rattle.cedar_syntax.specs.machines.Door.{Machine, Reader, machine_of, option_image}
 
 -- the tree that the relation gives, as a node at the place of the tokens
 pub data AsNode {T : Type 0} (src : List ℕ) (R : List Lexeme → T → Type 0) : List Lexeme → Cell T →
@@ -15,21 +16,34 @@ pub data AsNode {T : Type 0} (src : List ℕ) (R : List Lexeme → T → Type 0)
 abbrev pub spanned_state : {S : Type 0} → Option Extent → S → Spanned S
 spanned_state e s = record { extent = e; state = s }
 
-abbrev pub spanned_answer : {S T : Type 0} → List ℕ → Option Extent → Lexeme → Answer S T →
-    Answer (Spanned S) (Cell T)
-spanned_answer src e t (next s) = next (spanned_state (joint_extent e (Some (extent_of t))) s)
-spanned_answer src e t (ended x) = ended (node_at src e x)
-spanned_answer src e t refused = refused
-spanned_answer src e t too_large = too_large
+-- the same, and one token more
+abbrev pub spanned_by : {S : Type 0} → Option Extent → Lexeme → S → Spanned S
+spanned_by e t s = spanned_state (joint_extent e (Some (extent_of t))) s
 
 abbrev pub node_if : {T : Type 0} → List ℕ → Option Extent → Option T → Option (Cell T)
 node_if src e None = None
 node_if src e (Some x) = Some (node_at src e x)
 
-abbrev pub placing : {S T : Type 0} → List ℕ → Machine Lexeme S T →
+abbrev pub placing_reader : {S A T : Type 0} → Reader S A T → Reader (Spanned S) A (Cell T)
+placing_reader r = record {
+  start = spanned_state None r.start;
+  plan = λ s k. r.plan s.state k;
+  act = λ src s a t. option_image (λ q. spanned_by s.extent t q) (r.act src s.state a t);
+  ends = λ s. r.ends s.state;
+  finish = λ src s. node_if src s.extent (r.finish src s.state);
+}
+
+abbrev pub placing : {S A T : Type 0} → List ℕ → Reader S A T →
     Machine Lexeme (Spanned S) (Cell T)
-placing src m = record {
-  start = spanned_state None m.start;
-  step = λ s t. spanned_answer src s.extent t (m.step s.state t);
-  finish = λ s. node_if src s.extent (m.finish s.state);
+placing src r = machine_of src (placing_reader r)
+
+-- the state is held in another, which `out` takes it out of and `into` puts it into
+abbrev pub mapped_reader : {S H A T Z : Type 0} → (H → S) → (S → H) → (List ℕ → T → Z)
+    → Reader S A T → Reader H A Z
+mapped_reader out into g r = record {
+  start = into r.start;
+  plan = λ h k. r.plan (out h) k;
+  act = λ src h a t. option_image into (r.act src (out h) a t);
+  ends = λ h. r.ends (out h);
+  finish = λ src h. option_image (g src) (r.finish src (out h));
 }

@@ -1,63 +1,67 @@
--- Policies over the machines of names, sums and expressions.
-use Rattle.std.specs.Prelude.{ℕ, Bool, List, Option}
+-- How one policy and policies are read as whole texts, over the readers of names, sums and
+-- expressions.
+use Rattle.std.specs.Prelude.{ℕ, List}
 use Rattle.cedar_lexer.specs.Token.{Lexeme}
-use Rattle.cedar_lexer.specs.declared.token.TokenKind.{TokenKind}
 use Rattle.cedar_syntax.specs.declared.cst.Policy.{Policy}
 use Rattle.cedar_syntax.specs.declared.cst.Policies.{Policies}
+use Rattle.cedar_text.specs.declared.text_to_cst.expression.state.Act.{Act}
 use Rattle.cedar_text.specs.declared.text_to_cst.expression.state.State.{State}
-use Rattle.cedar_text.specs.declared.text_to_cst.sequence.Sequence.{Sequence}
+use Rattle.cedar_text.specs.declared.text_to_cst.expression.state.Wanted.TheVariants as form
+use Rattle.cedar_text.specs.declared.text_to_cst.policy_entries.AllState.{AllState}
+use Rattle.cedar_text.specs.declared.text_to_cst.sequence.SequenceAct.{SequenceAct}
 use Rattle.cedar_text.specs.declared.text_to_cst.sequence.Spanned.{Spanned}
+use Rattle.cedar_text.specs.declared.text_to_cst.state.PathAct.{PathAct}
 use Rattle.cedar_text.specs.declared.text_to_cst.state.PathState.{PathState}
 use Rattle.cedar_syntax.specs.Trees.{Cell}
-use Rattle.cedar_syntax.specs.machines.Door.{Machine, allows}
-use Rattle.cedar_text.specs.machines.ExpressionShapes.{expression_shapes, sum_shapes}
-use Rattle.cedar_syntax.specs.machines.Mapping.{mapped_machine, policies_node}
-use Rattle.cedar_text.specs.machines.NamedShapes.{named_shapes}
-use Rattle.cedar_text.specs.machines.Placing.{placing}
-use Rattle.cedar_text.specs.machines.Policies.{OnePolicy, policy_machine, policies_machine, one_policy_shapes, one_policy_shape, all_policies_shapes, all_policies_shape}
-use Rattle.cedar_text.specs.machines.PolicyShapes.{PartShapes}
-use Rattle.cedar_text.specs.machines.Scope.{PartMachines}
-use Rattle.cedar_text.specs.machines.WholeExpressions.{StateShape, state_shape, whole_expressions, whole_sums}
-use Rattle.cedar_text.specs.machines.Words.{names}
-use Rattle.cedar_text.specs.machines.WordShapes.{PathShape, path_shape, name_shapes}
+use Rattle.cedar_syntax.specs.machines.Door.{Machine, Reader, machine_of}
+use Rattle.cedar_syntax.specs.machines.Mapping.{policies_node}
+use Rattle.cedar_text.specs.machines.PartOutlines.{PartOutlines}
+use Rattle.cedar_text.specs.machines.Placing.{placing_reader, mapped_reader}
+use Rattle.cedar_text.specs.machines.Policies.{SpannedPolicy, PoliciesState, OneAct, one_policy_reader, all_policies_reader}
+use Rattle.cedar_text.specs.machines.Scope.{PartReaders, readers_of}
+use Rattle.cedar_text.specs.machines.WholeExpressions.{StateShape, whole_expression_reader, whole_sum_reader, whole_outline}
+use Rattle.cedar_text.specs.machines.Words.{name_reader}
+use Rattle.cedar_text.specs.machines.WordShapes.{PathShape, name_outline}
 
--- the machines of the parts, and their shapes
-abbrev pub policy_parts : List ℕ → PartMachines PathState State State
-policy_parts src = record {
-  name = names src;
-  sum = whole_sums src;
-  expression = whole_expressions src;
+-- the parts, and their outlines
+
+abbrev pub policy_parts : PartReaders PathState State State PathAct Act Act
+policy_parts = readers_of name_reader whole_sum_reader whole_expression_reader
+
+abbrev pub policy_part_outlines : PartOutlines PathShape StateShape StateShape PathAct Act Act
+policy_part_outlines = record {
+  name = name_outline;
+  sum = whole_outline form.Sum;
+  expression = whole_outline form.Expr;
 }
 
-abbrev pub policy_part_shapes : PartShapes PathShape StateShape StateShape
-policy_part_shapes = record {
-  name = name_shapes;
-  sum = sum_shapes named_shapes;
-  expression = expression_shapes named_shapes;
-}
+-- one policy as a whole text
 
--- one policy that is read, and policies
 abbrev pub OneState : Type 0
-OneState = Spanned (OnePolicy PathState State State)
+OneState = SpannedPolicy PathState State State
 
-abbrev pub AllState : Type 0
-AllState = Spanned (Sequence OneState (Cell Policy))
+abbrev pub whole_policy_reader : Reader OneState (OneAct PathAct Act Act) (Cell Policy)
+whole_policy_reader = one_policy_reader policy_parts
 
--- one policy as a whole text, and what its states allow next
 abbrev pub whole_policy : List ℕ → Machine Lexeme OneState (Cell Policy)
-whole_policy src = policy_machine src (policy_parts src)
-
-abbrev pub policy_allows : OneState → Option TokenKind → Bool
-policy_allows s after =
-    allows (one_policy_shapes policy_part_shapes)
-    (one_policy_shape path_shape state_shape state_shape s) after
+whole_policy src = machine_of src whole_policy_reader
 
 -- and policies
-abbrev pub whole_policies : List ℕ → Machine Lexeme AllState (Cell Policies)
-whole_policies src =
-    mapped_machine (policies_node src) (placing src (policies_machine src (policy_parts src)))
 
-abbrev pub policies_allow : AllState → Option TokenKind → Bool
-policies_allow s after =
-    allows (all_policies_shapes policy_part_shapes)
-    (all_policies_shape path_shape state_shape state_shape s.state) after
+abbrev pub TextState : Type 0
+TextState = Spanned (PoliciesState PathState State State)
+
+abbrev pub text_of : AllState → TextState
+text_of s = s.text
+
+abbrev pub of_text : TextState → AllState
+of_text s = record { text = s }
+
+abbrev pub whole_policies_reader : Reader AllState (SequenceAct (OneAct PathAct Act Act))
+    (Cell Policies)
+whole_policies_reader =
+    mapped_reader text_of of_text (λ src x. policies_node src x)
+    (placing_reader (all_policies_reader policy_parts))
+
+abbrev pub whole_policies : List ℕ → Machine Lexeme AllState (Cell Policies)
+whole_policies src = machine_of src whole_policies_reader

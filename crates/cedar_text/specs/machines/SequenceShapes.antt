@@ -1,12 +1,12 @@
--- What of the states of sequences decides which kinds may come next.
+-- What of the states of placed trees and of sequences decides which kinds may come next.
 use Rattle.std.specs.Prelude.{Option, Some, None}
 use Rattle.cedar_lexer.specs.declared.token.TokenKind.{TokenKind}
-use Rattle.cedar_syntax.specs.declared.reading.mark.Mark.{Mark}
-use Rattle.cedar_syntax.specs.declared.reading.mark.Mark.TheVariants as mark
 use Rattle.cedar_text.specs.declared.text_to_cst.sequence.Spanned.{Spanned}
 use Rattle.cedar_text.specs.declared.text_to_cst.sequence.Sequence.{Sequence}
-use Rattle.cedar_syntax.specs.machines.Door.{Machine, Answer, next, ended, refused, too_large, option_image}
-use Rattle.cedar_syntax.specs.machines.Marks.{mark_of}
+use Rattle.cedar_text.specs.declared.text_to_cst.sequence.SequenceAct.{SequenceAct}
+use Rattle.cedar_text.specs.declared.text_to_cst.sequence.SequenceAct.TheVariants as act
+use Rattle.cedar_syntax.specs.machines.Door.{Outline, option_image, is_some}
+use Rattle.cedar_text.specs.machines.Sequences.{many_plan, list_plan}
 
 abbrev pub spanned_shape : {S U : Type 0} → (S → U) → Spanned S → U
 spanned_shape f s = f s.state
@@ -15,57 +15,34 @@ spanned_shape f s = f s.state
 abbrev pub sequence_shape : {S T U : Type 0} → (S → U) → Sequence S T → Option U
 sequence_shape f s = option_image f s.begun
 
-abbrev pub beginning_shape : {U : Type 0} → Answer U (Unit {0}) → Answer (Option U) (Unit {0})
-beginning_shape (next u) = next (Some u)
-beginning_shape (ended x) = ended tt
-beginning_shape refused = ended tt
-beginning_shape too_large = too_large
-
 abbrev pub sequence_shape_end : {U : Type 0} → (U → Option (Unit {0})) → Option U →
     Option (Unit {0})
 sequence_shape_end finish None = Some tt
 sequence_shape_end finish (Some u) = finish u
 
-abbrev pub many_shape_answer : {U : Type 0} → Machine TokenKind U (Unit {0}) → TokenKind →
-    Answer U (Unit {0}) → Answer (Option U) (Unit {0})
-many_shape_answer n k (next u) = next (Some u)
-many_shape_answer n k (ended x) = beginning_shape (n.step n.start k)
-many_shape_answer n k refused = refused
-many_shape_answer n k too_large = too_large
+abbrev pub sequence_shape_act : {U A : Type 0} → Outline U A (Unit {0}) → Option U →
+    SequenceAct A → TokenKind → Option U
+sequence_shape_act n b (act.On a) k = option_image (λ u. n.act u a k) b
+sequence_shape_act n b (act.First a) k = Some (n.act n.start a k)
+sequence_shape_act n b (act.Next a) k = Some (n.act n.start a k)
+sequence_shape_act n b act.Comma k = None
 
-abbrev pub many_shape_step : {U : Type 0} → Machine TokenKind U (Unit {0}) → Option U → TokenKind →
-    Answer (Option U) (Unit {0})
-many_shape_step n None k = beginning_shape (n.step n.start k)
-many_shape_step n (Some u) k = many_shape_answer n k (n.step u k)
-
-abbrev pub many_shapes : {U : Type 0} → Machine TokenKind U (Unit {0}) →
-    Machine TokenKind (Option U) (Unit {0})
-many_shapes n = record {
+abbrev pub many_outline : {U A : Type 0} → Outline U A (Unit {0}) →
+    Outline (Option U) (SequenceAct A) (Unit {0})
+many_outline n = record {
   start = None;
-  step = λ b k. many_shape_step n b k;
+  plan =
+      λ b k. many_plan (λ k. n.plan n.start k) n.plan (λ u. is_some (n.finish u)) b k;
+  act = λ b a k. sequence_shape_act n b a k;
   finish = λ b. sequence_shape_end n.finish b;
 }
 
-abbrev pub behind_item_shape : {U : Type 0} → Mark → Answer (Option U) (Unit {0})
-behind_item_shape mark.Comma = next None
-behind_item_shape _ = ended tt
-
-abbrev pub listed_shape_answer : {U : Type 0} → Mark → Answer U (Unit {0}) →
-    Answer (Option U) (Unit {0})
-listed_shape_answer c (next u) = next (Some u)
-listed_shape_answer c (ended x) = behind_item_shape c
-listed_shape_answer c refused = refused
-listed_shape_answer c too_large = too_large
-
-abbrev pub listed_shape_step : {U : Type 0} → Machine TokenKind U (Unit {0}) → Option U →
-    TokenKind → Answer (Option U) (Unit {0})
-listed_shape_step n None k = beginning_shape (n.step n.start k)
-listed_shape_step n (Some u) k = listed_shape_answer (mark_of k) (n.step u k)
-
-abbrev pub listed_shapes : {U : Type 0} → Machine TokenKind U (Unit {0}) →
-    Machine TokenKind (Option U) (Unit {0})
-listed_shapes n = record {
+abbrev pub list_outline : {U A : Type 0} → Outline U A (Unit {0}) →
+    Outline (Option U) (SequenceAct A) (Unit {0})
+list_outline n = record {
   start = None;
-  step = λ b k. listed_shape_step n b k;
+  plan =
+      λ b k. list_plan (λ k. n.plan n.start k) n.plan (λ u. is_some (n.finish u)) b k;
+  act = λ b a k. sequence_shape_act n b a k;
   finish = λ b. sequence_shape_end n.finish b;
 }

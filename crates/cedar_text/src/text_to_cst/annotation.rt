@@ -1,24 +1,19 @@
 //! An annotation: `@`, a key, and possibly a string in parentheses.
-ghost use Rattle.std.specs.Prelude.{◌≡◌, IfOk};
+ghost use Rattle.std.specs.Prelude.{◌≡◌, Some, None, cond, OnOk};
 ghost use Rattle.cedar_lexer.specs.Token.{lexeme_of};
-ghost use Rattle.cedar_syntax.specs.Tokens.{any_of};
-ghost use Rattle.cedar_syntax.specs.WrittenTokens.{IsWritten};
-ghost use Rattle.cedar_syntax.specs.machines.Marks.{mark_of};
-ghost use Rattle.cedar_text.specs.machines.Annotation.{at_start, at_key, behind_annotation_key, at_annotation_value, behind_value};
-ghost use Rattle.cedar_syntax.specs.machines.Judged.{answer_of};
+ghost use Rattle.cedar_lexer.specs.declared.token.TokenKind.TheVariants as kind;
+ghost use Rattle.cedar_syntax.specs.WrittenTokens.{Written};
+ghost use Rattle.cedar_text.specs.machines.Annotation.{annotation_shape, annotation_opening, annotation_filling, annotation_closing, has_key, wants_value, has_value};
 
 use crate::text_to_cst::literal::string_node;
-use crate::text_to_cst::reader::{Reader, put};
-use crate::text_to_cst::words::token_node;
+use crate::text_to_cst::put::put;
+use crate::text_to_cst::words::{ident_node, if_any, take_node};
 use cedar_expressions::Source;
 use cedar_lexer::token::{Token, TokenKind};
 use cedar_syntax::cst::{Annotation, Ident, Str};
 use cedar_syntax::node::Node;
-use cedar_syntax::reading::mark::{Mark, as_mark};
-use cedar_syntax::reading::taken::Taken;
-use cedar_syntax::reading::words::as_ident;
+use cedar_syntax::reading::driver::Entry;
 use std::alloc::{AllocError, Global};
-use std::mem;
 
 /// What has been read of an annotation.
 #[derive(Drop)]
@@ -34,122 +29,145 @@ pub enum AnnotationState {
     Closed(Node<Option<Ident>>, Node<Option<Str>>),
 }
 
+/// What is done with a token of an annotation.
+#[derive(Drop, Clone, Copy)]
+pub enum AnnotationAct {
+    /// `@`
+    Mark,
+    Key,
+    /// `(`
+    Open,
+    Value,
+    /// `)`
+    Close,
+}
+
+/// This act, where a token of this kind is this mark.
+pub fn if_mark<A: Drop>(is_mark: bool, act: A) -> Option<A>
+    ensures { result ≡ cond is_mark (Some act) None }
+{
+    if is_mark { Some(act) } else { None }
+}
+
 impl AnnotationState {
-    /// The `@`.
-    fn mark(&mut self, mark: Mark) -> Taken<Annotation>
-        ensures { answer_of result self.new ≡ at_start mark }
+    /// `(` behind the key.
+    fn open(&mut self)
+        requires { annotation_shape self.old ≡ has_key }
+        ensures { Some self.new ≡ annotation_opening self.old }
     {
-        match mark {
-            Mark::At => {
-                put(self, AnnotationState::At);
-                Taken::Next
-            }
-            _ => Taken::Refused,
-        }
-    }
-
-    /// The key behind `@`.
-    fn name(
-        &mut self,
-        alloc: Global,
-        source: &Source,
-        token: Token<'_>,
-    ) -> Result<Taken<Annotation>, AllocError>
-        ensures { IfOk result (λ taken. answer_of taken self.new
-            ≡ at_key source.now (lexeme_of token.entry)
-            (any_of token.entry.kind token.entry.text.now)) }
-    {
-        match as_ident(alloc, token.kind, token.text)? {
-            Some(ident) => {
-                let key = token_node(source, token, ident)?;
-                put(self, AnnotationState::Key(key));
-                Ok(Taken::Next)
-            }
-            None => Ok(Taken::Refused),
-        }
-    }
-
-    /// The `(` behind the key, or the end of the annotation.
-    fn open(&mut self, key: Node<Option<Ident>>, mark: Mark) -> Taken<Annotation>
-        ensures { answer_of result self.new ≡ behind_annotation_key key mark }
-    {
-        match mark {
-            Mark::OpenParen => {
+        match self {
+            AnnotationState::Key(key) => {
+                let key = take_node(key);
                 put(self, AnnotationState::Open(key));
-                Taken::Next
             }
-            _ => Taken::Ended(Annotation { key, value: None }),
+            _ => unreachable!(),
         }
     }
 
     /// The string behind `(`.
-    fn fill(
-        &mut self,
-        alloc: Global,
-        source: &Source,
-        key: Node<Option<Ident>>,
-        token: Token<'_>,
-    ) -> Result<Taken<Annotation>, AllocError>
-        requires { IsWritten (lexeme_of token) }
-        ensures { IfOk result (λ taken. answer_of taken self.new
-            ≡ at_annotation_value source.now key (lexeme_of token.entry)
-            (mark_of token.entry.kind)) }
+    fn fill(&mut self, alloc: Global, source: &Source, token: &Token<'_>) -> Result<(), AllocError>
+        requires written { Written kind.StringLit token.now.text.now }
+        requires open { annotation_shape self.old ≡ wants_value }
+        ensures { OnOk result (Some self.new
+            ≡ annotation_filling source.now self.old (lexeme_of token.now)) }
     {
-        match token.kind {
-            TokenKind::StringLit => {
-                *self = AnnotationState::Value(key, string_node(alloc, source, token)?);
-                Ok(Taken::Next)
+        match self {
+            AnnotationState::Open(key) => {
+                let value = string_node(alloc, source, token)?;
+                let key = take_node(key);
+                put(self, AnnotationState::Value(key, value));
+                Ok(())
             }
-            _ => Ok(Taken::Refused),
+            _ => unreachable!(),
         }
     }
 
-    /// The `)` behind the string.
-    fn close(
-        &mut self,
-        key: Node<Option<Ident>>,
-        value: Node<Option<Str>>,
-        mark: Mark,
-    ) -> Taken<Annotation>
-        ensures { answer_of result self.new ≡ behind_value key value mark }
+    /// `)` behind the string.
+    fn close(&mut self)
+        requires { annotation_shape self.old ≡ has_value }
+        ensures { Some self.new ≡ annotation_closing self.old }
     {
-        match mark {
-            Mark::CloseParen => {
+        match self {
+            AnnotationState::Value(key, value) => {
+                let key = take_node(key);
+                let value = take_node(value);
                 put(self, AnnotationState::Closed(key, value));
-                Taken::Next
             }
-            _ => Taken::Refused,
+            _ => unreachable!(),
         }
     }
 }
 
-impl Reader<Annotation> for AnnotationState {
-    ghost use Rattle.cedar_text.specs.machines.Annotation.{annotations};
+impl Entry<Annotation> for AnnotationState {
+    ghost use Rattle.cedar_text.specs.machines.Annotation.{annotation_reader};
 
-    ghost machine = { λ src. annotations src };
+    type Act = AnnotationAct;
 
-    fn begin(_: Global) -> AnnotationState {
+    ghost reader = { annotation_reader };
+
+    fn start(_: Global) -> AnnotationState {
         AnnotationState::Start
     }
 
-    fn step(
+    fn first(kind: TokenKind) -> Option<AnnotationAct> {
+        if_mark(matches!(kind, TokenKind::At), AnnotationAct::Mark)
+    }
+
+    fn plan(&self, kind: TokenKind) -> Option<AnnotationAct> {
+        match self {
+            AnnotationState::Start => AnnotationState::first(kind),
+            AnnotationState::At => if_any(kind, AnnotationAct::Key),
+            AnnotationState::Key(_) => {
+                if_mark(matches!(kind, TokenKind::OpenParen), AnnotationAct::Open)
+            }
+            AnnotationState::Open(_) => {
+                if_mark(matches!(kind, TokenKind::StringLit), AnnotationAct::Value)
+            }
+            AnnotationState::Value(_, _) => {
+                if_mark(matches!(kind, TokenKind::CloseParen), AnnotationAct::Close)
+            }
+            AnnotationState::Closed(_, _) => None,
+        }
+    }
+
+    fn ends(&self) -> bool {
+        matches!(
+            self,
+            AnnotationState::Key(_) | AnnotationState::Closed(_, _)
+        )
+    }
+
+    fn act(
         &mut self,
         alloc: Global,
         source: &Source,
-        token: Token<'_>,
-    ) -> Result<Taken<Annotation>, AllocError> {
-        match mem::replace(self, AnnotationState::Start) {
-            AnnotationState::Start => Ok(self.mark(as_mark(token.kind))),
-            AnnotationState::At => self.name(alloc, source, token),
-            AnnotationState::Key(key) => Ok(self.open(key, as_mark(token.kind))),
-            AnnotationState::Open(key) => self.fill(alloc, source, key, token),
-            AnnotationState::Value(key, value) => {
-                Ok(self.close(key, value, as_mark(token.kind)))
+        act: AnnotationAct,
+        token: &Token<'_>,
+    ) -> Result<bool, AllocError> {
+        match act {
+            AnnotationAct::Mark => put(self, AnnotationState::At),
+            AnnotationAct::Key => {
+                let key = ident_node(alloc, source, token)?;
+                put(self, AnnotationState::Key(key));
             }
-            AnnotationState::Closed(key, value) => Ok(Taken::Ended(Annotation {
-                key,
-                value: Some(value),
-            })),
+            AnnotationAct::Open => self.open(),
+            AnnotationAct::Value => self.fill(alloc, source, token)?,
+            AnnotationAct::Close => self.close(),
+        }
+        Ok(true)
+    }
+
+    fn finish(&mut self, alloc: Global, source: &Source) -> Result<Annotation, AllocError> {
+        match self {
+            AnnotationState::Key(key) => Ok(Annotation {
+                key: take_node(key),
+                value: None,
+            }),
+            AnnotationState::Closed(key, value) => Ok(Annotation {
+                key: take_node(key),
+                value: Some(take_node(value)),
+            }),
+            _ => unreachable!(),
         }
     }
 }

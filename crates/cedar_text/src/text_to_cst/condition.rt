@@ -1,177 +1,200 @@
 //! A condition: a word, and an expression in braces, or none.
-ghost use Rattle.std.specs.Prelude.{◌≡◌, Some, None, IfOk};
+ghost use Rattle.std.specs.Prelude.{◌≡◌, Some, IfOk, OnOk};
 ghost use Rattle.cedar_lexer.specs.Token.{lexeme_of};
-ghost use Rattle.cedar_syntax.specs.Tokens.{any_of};
 ghost use Rattle.cedar_syntax.specs.WrittenTokens.{IsWritten};
-ghost use Rattle.cedar_syntax.specs.machines.Marks.{mark_of};
-ghost use Rattle.cedar_text.specs.machines.Condition.{at_word, behind_word, behind_body, at_body, body_ending, condition_step, IsOutsideBody};
-ghost use Rattle.cedar_syntax.specs.machines.Judged.{answer_of};
+ghost use Rattle.cedar_syntax.specs.machines.Judged.{done_as};
+ghost use Rattle.cedar_text.specs.machines.Condition.{body_going, in_body, behind_body, IsBodyPlan, HasBody};
 
-use crate::text_to_cst::reader::{Reader, put};
-use crate::text_to_cst::words::token_node;
+use crate::text_to_cst::annotation::if_mark;
+use crate::text_to_cst::put::put;
+use crate::text_to_cst::words::{ident_node, if_any, take_node};
 use cedar_expressions::Source;
-use cedar_lexer::token::Token;
+use cedar_lexer::token::{Token, TokenKind};
 use cedar_syntax::cst::{Cond, Expr, Ident};
 use cedar_syntax::node::Node;
-use cedar_syntax::reading::mark::{Mark, as_mark};
-use cedar_syntax::reading::taken::Taken;
-use cedar_syntax::reading::words::as_ident;
+use cedar_syntax::reading::driver::Entry;
 use std::alloc::{AllocError, Global};
-use std::mem;
 
-/// What has been read of a condition, with the state `E` of the expression that is begun.
+/// What stands behind the word of a condition, with the state `E` of the expression that is begun.
 #[derive(Drop)]
-pub enum ConditionState<E> {
+pub enum ConditionPart<E> {
+    /// The word is to come.
     Start,
-    Word(Node<Option<Ident>>),
+    /// Behind the word.
+    Word,
     /// Behind `{`, before the first token of the expression.
-    Opened(Node<Option<Ident>>),
-    Body(Node<Option<Ident>>, E),
+    Opened,
+    Body(E),
     /// Behind `}`.
-    Closed(Node<Option<Ident>>, Option<Node<Option<Expr>>>),
+    Closed(Option<Node<Option<Expr>>>),
 }
 
-impl<E: Reader<Node<Option<Expr>>>> ConditionState<E> {
-    /// The word.
-    fn name(
-        &mut self,
-        alloc: Global,
-        source: &Source,
-        token: Token<'_>,
-    ) -> Result<Taken<Cond>, AllocError>
-        ensures { IfOk result (λ taken. answer_of taken self.new
-            ≡ at_word source.now (lexeme_of token.entry)
-            (any_of token.entry.kind token.entry.text.now)) }
-    {
-        match as_ident(alloc, token.kind, token.text)? {
-            Some(ident) => {
-                put(
-                    self,
-                    ConditionState::Word(token_node(source, token, ident)?),
-                );
-                Ok(Taken::Next)
-            }
-            None => Ok(Taken::Refused),
-        }
-    }
+/// What has been read of a condition.
+#[derive(Drop)]
+pub struct ConditionState<E> {
+    pub word: Node<Option<Ident>>,
+    pub part: ConditionPart<E>,
+}
 
-    /// The `{` behind the word.
-    fn open(&mut self, word: Node<Option<Ident>>, mark: Mark) -> Taken<Cond>
-        ensures { answer_of result self.new ≡ behind_word word mark }
-    {
-        match mark {
-            Mark::OpenBrace => {
-                put(self, ConditionState::Opened(word));
-                Taken::Next
-            }
-            _ => Taken::Refused,
-        }
-    }
+/// What is done with a token of a condition, whose body does `A` with one.
+#[derive(Drop, Clone, Copy)]
+pub enum ConditionAct<A> {
+    Word,
+    /// `{`
+    Open,
+    /// The first token of the body.
+    First(A),
+    Body(A),
+    /// `}` behind the body, or behind nothing.
+    Close,
+    CloseEmpty,
+}
 
-    /// The `}` behind the expression, or behind nothing.
-    fn close(
-        &mut self,
-        word: Node<Option<Ident>>,
-        body: Option<Node<Option<Expr>>>,
-        mark: Mark,
-    ) -> Taken<Cond>
-        ensures { answer_of result self.new ≡ behind_body word body mark }
-    {
-        match mark {
-            Mark::CloseBrace => {
-                put(self, ConditionState::Closed(word, body));
-                Taken::Next
-            }
-            _ => Taken::Refused,
-        }
-    }
-
+impl<E: Entry<Node<Option<Expr>>>> ConditionState<E> {
     /// The first token in braces.
+    #[inline(never)]
     fn enter(
         &mut self,
         alloc: Global,
         source: &Source,
-        word: Node<Option<Ident>>,
-        token: Token<'_>,
-    ) -> Result<Taken<Cond>, AllocError>
-        requires { IsWritten (lexeme_of token) }
-        ensures { IfOk result (λ taken. answer_of taken self.new
-            ≡ at_body word (mark_of token.entry.kind)
-            ((E.machine source.now).step (E.machine source.now).start (lexeme_of token.entry))) }
+        act: E::Act,
+        token: &Token<'_>,
+    ) -> Result<bool, AllocError>
+        requires written { IsWritten (lexeme_of token.now) }
+        requires is_planned { E.reader.plan E.reader.start token.now.kind ≡ Some act }
+        ensures { IfOk result (λ fits. done_as fits self.new
+            ≡ body_going self.old (E.reader.act source.now E.reader.start act
+            (lexeme_of token.now))) }
     {
-        let mut held = E::begin(alloc);
-        match held.step(alloc, source, token)? {
-            Taken::Next => {
-                put(self, ConditionState::Body(word, held));
-                Ok(Taken::Next)
-            }
-            Taken::Ended(body) => Ok(self.close(word, Some(body), as_mark(token.kind))),
-            Taken::Refused => Ok(self.close(word, None, as_mark(token.kind))),
-            Taken::TooLarge => Ok(Taken::TooLarge),
-        }
+        put(&mut self.part, ConditionPart::Body(E::start(alloc)));
+        self.go_on(alloc, source, act, token)
     }
 
-    /// The body that is begun has ended before this mark.
-    fn leave(&mut self, body: Node<Option<Expr>>, mark: Mark) -> Taken<Cond>
-        ensures { answer_of result self.new ≡ body_ending self.old body mark }
-    {
-        match mem::replace(self, ConditionState::Start) {
-            ConditionState::Body(word, _) => self.close(word, Some(body), mark),
-            ConditionState::Start
-            | ConditionState::Word(_)
-            | ConditionState::Opened(_)
-            | ConditionState::Closed(_, _) => Taken::Refused,
-        }
-    }
-
-    /// A token outside of a body.
+    /// A token of the body.
+    #[inline(always)]
     fn go_on(
         &mut self,
         alloc: Global,
         source: &Source,
-        token: Token<'_>,
-    ) -> Result<Taken<Cond>, AllocError>
-        requires written { IsWritten (lexeme_of token) }
-        requires outside { IsOutsideBody self.old }
-        ensures { IfOk result (λ taken. answer_of taken self.new
-            ≡ condition_step source.now (E.machine source.now) self.old (lexeme_of token.entry)) }
+        act: E::Act,
+        token: &Token<'_>,
+    ) -> Result<bool, AllocError>
+        requires written { IsWritten (lexeme_of token.now) }
+        requires is_planned { IsBodyPlan E.reader.plan self.old.part token.now.kind act }
+        ensures { IfOk result (λ fits. done_as fits self.new
+            ≡ in_body source.now E.reader self.old self.old.part act (lexeme_of token.now)) }
     {
-        match mem::replace(self, ConditionState::Start) {
-            ConditionState::Start => self.name(alloc, source, token),
-            ConditionState::Word(word) => Ok(self.open(word, as_mark(token.kind))),
-            ConditionState::Opened(word) => self.enter(alloc, source, word, token),
-            ConditionState::Closed(cond, expr) => Ok(Taken::Ended(Cond { cond, expr })),
-            ConditionState::Body(_, _) => unreachable!(),
+        match &mut self.part {
+            ConditionPart::Body(held) => held.act(alloc, source, act, token),
+            _ => unreachable!(),
+        }
+    }
+
+    /// `}` behind the body, which has ended.
+    #[inline(never)]
+    fn close(&mut self, alloc: Global, source: &Source) -> Result<(), AllocError>
+        requires { HasBody E.reader.ends self.old.part }
+        ensures { OnOk result (Some self.new
+            ≡ behind_body source.now E.reader self.old self.old.part) }
+    {
+        match &mut self.part {
+            ConditionPart::Body(held) => {
+                let body = held.finish(alloc, source)?;
+                put(&mut self.part, ConditionPart::Closed(Some(body)));
+                Ok(())
+            }
+            _ => unreachable!(),
         }
     }
 }
 
-impl<E: Reader<Node<Option<Expr>>>> Reader<Cond> for ConditionState<E> {
-    ghost use Rattle.cedar_text.specs.machines.Condition.{conditions};
+impl<E: Entry<Node<Option<Expr>>>> Entry<Cond> for ConditionState<E> {
+    ghost use Rattle.cedar_text.specs.machines.Condition.{condition_reader};
 
-    ghost machine = { λ src. conditions src (E.machine src) };
+    type Act = ConditionAct<E::Act>;
 
-    fn begin(_: Global) -> ConditionState<E> {
-        ConditionState::Start
+    ghost reader = { condition_reader E.reader };
+
+    fn start(_: Global) -> ConditionState<E> {
+        ConditionState {
+            word: Node {
+                node: None,
+                loc: None,
+            },
+            part: ConditionPart::Start,
+        }
     }
 
-    fn step(
+    fn first(kind: TokenKind) -> Option<ConditionAct<E::Act>> {
+        if_any(kind, ConditionAct::Word)
+    }
+
+    fn plan(&self, kind: TokenKind) -> Option<ConditionAct<E::Act>> {
+        match &self.part {
+            ConditionPart::Body(held) => match held.plan(kind) {
+                Some(act) => Some(ConditionAct::Body(act)),
+                None => {
+                    let closes = matches!(kind, TokenKind::CloseBrace) && held.ends();
+                    if_mark(closes, ConditionAct::Close)
+                }
+            },
+            ConditionPart::Opened => match E::first(kind) {
+                Some(act) => Some(ConditionAct::First(act)),
+                None => if_mark(
+                    matches!(kind, TokenKind::CloseBrace),
+                    ConditionAct::CloseEmpty,
+                ),
+            },
+            ConditionPart::Start => if_any(kind, ConditionAct::Word),
+            ConditionPart::Word => {
+                if_mark(matches!(kind, TokenKind::OpenBrace), ConditionAct::Open)
+            }
+            ConditionPart::Closed(_) => None,
+        }
+    }
+
+    fn ends(&self) -> bool {
+        matches!(&self.part, ConditionPart::Closed(_))
+    }
+
+    #[inline(always)]
+    fn act(
         &mut self,
         alloc: Global,
         source: &Source,
-        token: Token<'_>,
-    ) -> Result<Taken<Cond>, AllocError> {
-        match self {
-            ConditionState::Body(_, held) => match held.step(alloc, source, token)? {
-                Taken::Next => Ok(Taken::Next),
-                Taken::Ended(body) => Ok(self.leave(body, as_mark(token.kind))),
-                Taken::Refused => Ok(Taken::Refused),
-                Taken::TooLarge => Ok(Taken::TooLarge),
-            },
-            ConditionState::Start
-            | ConditionState::Word(_)
-            | ConditionState::Opened(_)
-            | ConditionState::Closed(_, _) => self.go_on(alloc, source, token),
+        act: ConditionAct<E::Act>,
+        token: &Token<'_>,
+    ) -> Result<bool, AllocError> {
+        match act {
+            ConditionAct::Body(act) => self.go_on(alloc, source, act, token),
+            ConditionAct::First(act) => self.enter(alloc, source, act, token),
+            ConditionAct::Word => {
+                put(&mut self.word, ident_node(alloc, source, token)?);
+                put(&mut self.part, ConditionPart::Word);
+                Ok(true)
+            }
+            ConditionAct::Open => {
+                put(&mut self.part, ConditionPart::Opened);
+                Ok(true)
+            }
+            ConditionAct::Close => {
+                self.close(alloc, source)?;
+                Ok(true)
+            }
+            ConditionAct::CloseEmpty => {
+                put(&mut self.part, ConditionPart::Closed(None));
+                Ok(true)
+            }
+        }
+    }
+
+    fn finish(&mut self, alloc: Global, source: &Source) -> Result<Cond, AllocError> {
+        match &mut self.part {
+            ConditionPart::Closed(expr) => Ok(Cond {
+                cond: take_node(&mut self.word),
+                expr: expr.take(),
+            }),
+            _ => unreachable!(),
         }
     }
 }

@@ -1,22 +1,24 @@
 //! Paths and entity literals. A word is read as a path until the next token tells; behind `::` a
 //! string or a brace makes an entity.
-ghost use Rattle.std.specs.Prelude.{◌≡◌, [], Some, None, IfOk, OnOk};
+ghost use Rattle.std.specs.Prelude.{◌≡◌, [], Some, IsTrue, IfOk, OnOk};
 ghost use Rattle.cedar_lexer.specs.Token.{lexeme_of};
 ghost use Rattle.cedar_lexer.specs.declared.token.TokenKind.TheVariants as kind;
 ghost use Rattle.cedar_syntax.specs.Place.{extent_of};
 ghost use Rattle.cedar_syntax.specs.Tokens.{any_of};
 ghost use Rattle.cedar_syntax.specs.WrittenTokens.{IsWritten, Written};
-ghost use Rattle.cedar_syntax.specs.machines.Door.{allows, is_taken};
-ghost use Rattle.cedar_syntax.specs.machines.Judged.{answer_of};
-ghost use Rattle.cedar_text.specs.machines.Words.{as_words, path_beginning, path_words, words_more, words_step, entity_with_extent, uid_of, at_inits, inits_closing, wanted_item, with_value, string_literal, wanted_value, inits_step, path_node};
-ghost use Rattle.cedar_text.specs.machines.WordShapes.{any_kind, more_shape, item_shape, init_shape, init_shape_step, words_shapes, words_shape};
+ghost use Rattle.cedar_syntax.specs.machines.Door.{is_some};
+ghost use Rattle.cedar_syntax.specs.machines.Judged.{done_as};
+ghost use Rattle.cedar_text.specs.machines.Words.{entity_with_extent, uid_of, opened, inits_at, inits_named, inits_parted, with_value, inits_valued, inits_closed, init_act, words_named, words_opened, in_inits, words_act};
+ghost use Rattle.cedar_text.specs.machines.WordShapes as shape;
+ghost use Rattle.cedar_text.specs.machines.WordShapes.{more_plan, item_plan, value_plan, init_shape, init_plan, words_plan, words_shape};
 
 use crate::text_to_cst::literal::string_node;
-use crate::text_to_cst::path::{first_word, with_word};
+use crate::text_to_cst::put::put;
 use crate::text_to_cst::state::{
-    Entity, InitPlace, Inits, OpenEntity, Path, PathState, Word, Words, WordsState,
+    Entity, InitAct, InitPlace, Inits, OpenEntity, Path, PathAct, PathState, Word, WordsAct,
+    WordsState,
 };
-use crate::text_to_cst::words::word_node;
+use crate::text_to_cst::words::{if_any, word_node, word_of};
 use cedar_expressions::{Boxed, Items, Source};
 use cedar_lexer::token::{Token, TokenKind};
 use cedar_syntax::cst::{Literal, Ref, RefInit};
@@ -25,8 +27,6 @@ use cedar_syntax::reading::driver::Entry;
 use cedar_syntax::reading::extent::Extent;
 use cedar_syntax::reading::literal::as_number;
 use cedar_syntax::reading::place::{node_at, token_extent};
-use cedar_syntax::reading::taken::Taken;
-use cedar_syntax::reading::words::{as_ident, is_any};
 use std::alloc::{AllocError, Global};
 use std::mem;
 
@@ -51,10 +51,10 @@ fn uid_of(
     alloc: Global,
     source: &Source,
     path: Path,
-    token: Token<'_>,
+    token: &Token<'_>,
 ) -> Result<Entity, AllocError>
-    requires { Written kind.StringLit token.text.now }
-    ensures { IfOk result (λ entity. entity ≡ uid_of source.now path (lexeme_of token.entry)) }
+    requires { Written kind.StringLit token.now.text.now }
+    ensures { IfOk result (λ entity. entity ≡ uid_of source.now path (lexeme_of token.now)) }
 {
     let start = path.start;
     let eid = string_node(alloc, source, token)?;
@@ -68,9 +68,7 @@ fn uid_of(
 
 /// An entity literal whose brace opens.
 fn open_entity(alloc: Global, source: &Source, path: Path) -> Result<OpenEntity, AllocError>
-    ensures { IfOk result
-        (λ begun. begun
-        ≡ record { path = path_node source.now path; start = path.start; inits = [] }) }
+    ensures { IfOk result (λ begun. begun ≡ opened source.now path) }
 {
     let start = path.start;
     let path = path.into_name(source)?;
@@ -81,39 +79,57 @@ fn open_entity(alloc: Global, source: &Source, path: Path) -> Result<OpenEntity,
     })
 }
 
-/// Whether an entity literal or a path goes on behind `::` with a token of this kind.
-fn goes_behind_colons(kind: TokenKind) -> bool
-    ensures { result ≡ is_taken (more_shape (any_kind kind) kind) }
+/// What is done with a token of this kind behind `::`.
+fn plan_more(kind: TokenKind) -> Option<WordsAct>
+    ensures { result ≡ more_plan kind }
 {
     match kind {
-        TokenKind::StringLit | TokenKind::OpenBrace => true,
-        _ => is_any(kind),
+        TokenKind::StringLit => Some(WordsAct::Eid),
+        TokenKind::OpenBrace => Some(WordsAct::Open),
+        _ => if_any(kind, WordsAct::Path(PathAct::More)),
     }
 }
 
-/// Whether a token of this kind may stand where an item may.
-fn begins_item(kind: TokenKind) -> bool
-    ensures { result ≡ is_taken (item_shape (any_kind kind) kind) }
+/// What is done with it where an item may stand.
+fn plan_item(kind: TokenKind) -> Option<InitAct>
+    ensures { result ≡ item_plan kind }
 {
     match kind {
-        TokenKind::CloseBrace => true,
-        _ => is_any(kind),
+        TokenKind::CloseBrace => Some(InitAct::Close),
+        _ => if_any(kind, InitAct::Key),
+    }
+}
+
+/// What is done with it where a value stands.
+fn plan_value(kind: TokenKind) -> Option<InitAct>
+    ensures { result ≡ value_plan kind }
+{
+    match kind {
+        TokenKind::True => Some(InitAct::True),
+        TokenKind::False => Some(InitAct::False),
+        TokenKind::Number => Some(InitAct::Number),
+        TokenKind::StringLit => Some(InitAct::String),
+        _ => None,
     }
 }
 
 impl InitPlace {
-    /// Whether the list goes on with a token of this kind, or closes with it.
-    fn takes(&self, kind: TokenKind) -> bool
-        ensures { result ≡ is_taken (init_shape_step (init_shape self.now) kind) }
+    /// What is done with a token of this kind in braces.
+    fn plan(&self, kind: TokenKind) -> Option<InitAct>
+        ensures { result ≡ init_plan (init_shape self.now) kind }
     {
         match self {
-            InitPlace::Item => begins_item(kind),
-            InitPlace::Key(_) => matches!(kind, TokenKind::Colon),
-            InitPlace::Value(_) => matches!(
-                kind,
-                TokenKind::True | TokenKind::False | TokenKind::Number | TokenKind::StringLit
-            ),
-            InitPlace::Behind => matches!(kind, TokenKind::Comma | TokenKind::CloseBrace),
+            InitPlace::Item => plan_item(kind),
+            InitPlace::Key(_) => match kind {
+                TokenKind::Colon => Some(InitAct::Colon),
+                _ => None,
+            },
+            InitPlace::Value(_) => plan_value(kind),
+            InitPlace::Behind => match kind {
+                TokenKind::Comma => Some(InitAct::Comma),
+                TokenKind::CloseBrace => Some(InitAct::Close),
+                _ => None,
+            },
         }
     }
 }
@@ -127,9 +143,7 @@ impl OpenEntity {
         value: Literal,
         extent: Extent,
     ) -> Result<(), AllocError>
-        ensures { OnOk result
-            (with_value source.now self.old.path self.old.start self.old.inits key value extent
-            ≡ at_inits self.new.path self.new.start self.new.inits InitPlace.Behind) }
+        ensures { OnOk result (self.new ≡ with_value source.now self.old key value extent) }
     {
         let whole = Extent {
             start: key.extent.start,
@@ -142,211 +156,163 @@ impl OpenEntity {
     }
 }
 
-impl WordsState {
-    /// Whether the path or the entity literal goes on with a token of this kind.
-    pub fn takes(&self, kind: TokenKind) -> bool
-        ensures { result ≡ allows words_shapes (words_shape self.now) (Some kind) }
+impl Inits {
+    /// The key of an item.
+    fn name(self, alloc: Global, token: &Token<'_>) -> Result<WordsState, AllocError>
+        requires { IsTrue (is_some (any_of token.now.kind [])) }
+        ensures { IfOk result (λ state. Some state
+            ≡ inits_named self.begun (any_of token.now.kind token.now.text.now)
+            (extent_of (lexeme_of token.now))) }
     {
-        match self {
-            WordsState::Path(PathState::Start) => is_any(kind),
-            WordsState::Path(PathState::Have(_)) => matches!(kind, TokenKind::ColonColon),
-            WordsState::Path(PathState::Behind(_)) => goes_behind_colons(kind),
-            WordsState::Inits(inits) => inits.place.takes(kind),
-            WordsState::Entity(_) => false,
+        let Inits { begun, place: _ } = self;
+        let place = InitPlace::Key(word_of(alloc, token)?);
+        Ok(WordsState::Inits(Inits { begun, place }))
+    }
+
+    /// `:` behind the key.
+    fn part(self) -> WordsState
+        requires { init_plan (init_shape self.place) kind.Colon ≡ Some InitAct.Colon }
+        ensures { Some result ≡ inits_parted self.begun self.place }
+    {
+        let Inits { begun, place } = self;
+        match place {
+            InitPlace::Key(key) => {
+                let place = InitPlace::Value(key);
+                WordsState::Inits(Inits { begun, place })
+            }
+            InitPlace::Item | InitPlace::Value(_) | InitPlace::Behind => unreachable!(),
         }
     }
 
-    /// An identifier where the path begins.
-    fn begin(&mut self, alloc: Global, token: Token<'_>) -> Result<Taken<Words>, AllocError>
-        ensures { IfOk result
-            (λ taken. answer_of taken self.new ≡ as_words
-            (path_beginning (any_of token.entry.kind token.entry.text.now)
-            (extent_of (lexeme_of token.entry)))) }
+    /// A value behind the `:`.
+    fn put(self, source: &Source, value: Literal, extent: Extent) -> Result<WordsState, AllocError>
+        requires { init_shape self.place ≡ shape.value }
+        ensures { IfOk result (λ state. Some state
+            ≡ inits_valued source.now self.begun self.place value extent) }
     {
-        match as_ident(alloc, token.kind, token.text)? {
-            Some(ident) => {
-                let extent = token_extent(token);
-                let path = first_word(alloc, Word { ident, extent });
-                *self = WordsState::Path(PathState::Have(path));
-                Ok(Taken::Next)
+        let Inits { mut begun, place } = self;
+        match place {
+            InitPlace::Value(key) => {
+                begun.push(source, key, value, extent)?;
+                let place = InitPlace::Behind;
+                Ok(WordsState::Inits(Inits { begun, place }))
             }
-            None => Ok(Taken::Refused),
+            InitPlace::Item | InitPlace::Key(_) | InitPlace::Behind => unreachable!(),
         }
     }
 
-    /// What no identifier is, behind `::`: a string or a brace makes an entity literal.
-    fn end_path(
-        &mut self,
-        alloc: Global,
-        source: &Source,
-        path: Path,
-        token: Token<'_>,
-    ) -> Result<Taken<Words>, AllocError>
-        requires { IsWritten (lexeme_of token) }
-        ensures { IfOk result
-            (λ taken. answer_of taken self.new ≡ words_more source.now path None token.entry.kind
-            (lexeme_of token.entry)) }
+    /// `,` behind an item.
+    fn go_on(self) -> WordsState
+        ensures { result ≡ inits_at self.begun InitPlace.Item }
     {
-        match token.kind {
-            TokenKind::StringLit => {
-                *self = WordsState::Entity(uid_of(alloc, source, path, token)?);
-                Ok(Taken::Next)
-            }
-            TokenKind::OpenBrace => {
-                let begun = open_entity(alloc, source, path)?;
-                let place = InitPlace::Item;
-                *self = WordsState::Inits(Inits { begun, place });
-                Ok(Taken::Next)
-            }
-            _ => Ok(Taken::Refused),
-        }
-    }
-
-    /// A token behind `::`.
-    fn go_on(
-        &mut self,
-        alloc: Global,
-        source: &Source,
-        path: Path,
-        token: Token<'_>,
-    ) -> Result<Taken<Words>, AllocError>
-        requires { IsWritten (lexeme_of token) }
-        ensures { IfOk result
-            (λ taken. answer_of taken self.new ≡ words_more source.now path
-            (any_of token.entry.kind token.entry.text.now) token.entry.kind
-            (lexeme_of token.entry)) }
-    {
-        match as_ident(alloc, token.kind, token.text)? {
-            Some(ident) => {
-                let extent = token_extent(token);
-                let path = with_word(source, path, Word { ident, extent })?;
-                *self = WordsState::Path(PathState::Have(path));
-                Ok(Taken::Next)
-            }
-            None => self.end_path(alloc, source, path, token),
-        }
+        let Inits { begun, place: _ } = self;
+        let place = InitPlace::Item;
+        WordsState::Inits(Inits { begun, place })
     }
 
     /// The closing brace.
-    fn close(
-        &mut self,
-        alloc: Global,
-        source: &Source,
-        begun: OpenEntity,
-        end: Extent,
-    ) -> Result<Taken<Words>, AllocError>
-        ensures { IfOk result
-            (λ taken. answer_of taken self.new
-            ≡ inits_closing source.now begun.path begun.start begun.inits end) }
+    fn close(self, alloc: Global, source: &Source, end: Extent) -> Result<WordsState, AllocError>
+        ensures { IfOk result (λ state. state ≡ inits_closed source.now self.begun end) }
     {
-        let OpenEntity { path, start, inits } = begun;
+        let OpenEntity { path, start, inits } = self.begun;
         let reference = Ref::Ref {
             path: path.into_inner(),
             rinits: inits,
         };
         let end = end.end;
-        *self = WordsState::Entity(entity_of(alloc, source, reference, Extent { start, end })?);
-        Ok(Taken::Next)
+        let entity = entity_of(alloc, source, reference, Extent { start, end })?;
+        Ok(WordsState::Entity(entity))
     }
 
-    /// The list stands there.
-    fn stand(&mut self, begun: OpenEntity, place: InitPlace) -> Result<Taken<Words>, AllocError>
-        ensures { IfOk result
-            (λ taken. answer_of taken self.new
-            ≡ at_inits begun.path begun.start begun.inits place) }
-    {
-        *self = WordsState::Inits(Inits { begun, place });
-        Ok(Taken::Next)
-    }
-
-    /// A token where an item may stand.
-    fn item(
-        &mut self,
+    /// What a token in braces makes of the literal, or nothing if it is a number that doesn't fit.
+    fn read(
+        self,
         alloc: Global,
         source: &Source,
-        begun: OpenEntity,
-        token: Token<'_>,
-    ) -> Result<Taken<Words>, AllocError>
-        ensures { IfOk result
-            (λ taken. answer_of taken self.new
-            ≡ wanted_item source.now begun.path begun.start begun.inits
-            (any_of token.entry.kind token.entry.text.now) token.entry.kind
-            (extent_of (lexeme_of token.entry))) }
+        act: InitAct,
+        token: &Token<'_>,
+    ) -> Result<Option<WordsState>, AllocError>
+        requires written { IsWritten (lexeme_of token.now) }
+        requires is_planned { init_plan (init_shape self.place) token.now.kind ≡ Some act }
+        ensures { IfOk result (λ state. state
+            ≡ init_act source.now self.begun self.place act (lexeme_of token.now)) }
     {
         let extent = token_extent(token);
-        match as_ident(alloc, token.kind, token.text)? {
-            Some(ident) => self.stand(begun, InitPlace::Key(Word { ident, extent })),
-            None => match token.kind {
-                TokenKind::CloseBrace => self.close(alloc, source, begun, extent),
-                _ => Ok(Taken::Refused),
+        match act {
+            InitAct::Key => Ok(Some(self.name(alloc, token)?)),
+            InitAct::Colon => Ok(Some(self.part())),
+            InitAct::True => Ok(Some(self.put(source, Literal::True, extent)?)),
+            InitAct::False => Ok(Some(self.put(source, Literal::False, extent)?)),
+            InitAct::Number => match as_number(token.text) {
+                Some(number) => Ok(Some(self.put(source, Literal::Num(number), extent)?)),
+                None => Ok(None),
             },
+            InitAct::String => {
+                let text = string_node(alloc, source, token)?;
+                Ok(Some(self.put(source, Literal::Str(text), extent)?))
+            }
+            InitAct::Comma => Ok(Some(self.go_on())),
+            InitAct::Close => Ok(Some(self.close(alloc, source, extent)?)),
+        }
+    }
+}
+
+impl WordsState {
+    /// What is done with a token of this kind.
+    #[inline(always)]
+    pub fn plan_words(&self, kind: TokenKind) -> Option<WordsAct>
+        ensures { result ≡ words_plan (words_shape self.now) kind }
+    {
+        match self {
+            WordsState::Path(PathState::Start) => if_any(kind, WordsAct::Path(PathAct::First)),
+            WordsState::Path(PathState::Have(_)) => match kind {
+                TokenKind::ColonColon => Some(WordsAct::Path(PathAct::Colons)),
+                _ => None,
+            },
+            WordsState::Path(PathState::Behind(_)) => plan_more(kind),
+            WordsState::Inits(inits) => match inits.place.plan(kind) {
+                Some(act) => Some(WordsAct::Init(act)),
+                None => None,
+            },
+            WordsState::Entity(_) => None,
         }
     }
 
-    /// A value behind the `:` of an item.
-    fn put(
-        &mut self,
-        source: &Source,
-        begun: OpenEntity,
-        key: Word,
-        value: Literal,
-        extent: Extent,
-    ) -> Result<Taken<Words>, AllocError>
-        ensures { IfOk result
-            (λ taken. answer_of taken self.new
-            ≡ with_value source.now begun.path begun.start begun.inits key value extent) }
+    /// A string behind `::`.
+    fn name(&mut self, alloc: Global, source: &Source, token: &Token<'_>) -> Result<(), AllocError>
+        requires written { IsWritten (lexeme_of token.now) }
+        requires is_planned { words_plan (words_shape self.old) token.now.kind
+            ≡ Some WordsAct.Eid }
+        ensures { OnOk result
+            (Some self.new ≡ words_named source.now self.old (lexeme_of token.now)) }
     {
-        let mut begun = begun;
-        begun.push(source, key, value, extent)?;
-        self.stand(begun, InitPlace::Behind)
+        match mem::replace(self, WordsState::Path(PathState::Start)) {
+            WordsState::Path(PathState::Behind(path)) => {
+                let entity = uid_of(alloc, source, path, token)?;
+                put(self, WordsState::Entity(entity));
+                Ok(())
+            }
+            WordsState::Path(PathState::Start | PathState::Have(_))
+            | WordsState::Inits(_)
+            | WordsState::Entity(_) => unreachable!(),
+        }
     }
 
-    /// A string behind the `:` of an item.
-    fn put_string(
-        &mut self,
-        alloc: Global,
-        source: &Source,
-        begun: OpenEntity,
-        key: Word,
-        token: Token<'_>,
-    ) -> Result<Taken<Words>, AllocError>
-        requires { Written kind.StringLit token.text.now }
-        ensures { IfOk result
-            (λ taken. answer_of taken self.new
-            ≡ with_value source.now begun.path begun.start begun.inits key
-            (string_literal source.now (lexeme_of token.entry))
-            (extent_of (lexeme_of token.entry))) }
+    /// `{` behind `::`.
+    fn open(&mut self, alloc: Global, source: &Source) -> Result<(), AllocError>
+        requires { words_plan (words_shape self.old) kind.OpenBrace ≡ Some WordsAct.Open }
+        ensures { OnOk result (Some self.new ≡ words_opened source.now self.old) }
     {
-        let text = string_node(alloc, source, token)?;
-        let extent = token_extent(token);
-        self.put(source, begun, key, Literal::Str(text), extent)
-    }
-
-    /// A token behind the `:` of an item.
-    fn value(
-        &mut self,
-        alloc: Global,
-        source: &Source,
-        begun: OpenEntity,
-        key: Word,
-        token: Token<'_>,
-    ) -> Result<Taken<Words>, AllocError>
-        requires { IsWritten (lexeme_of token) }
-        ensures { IfOk result
-            (λ taken. answer_of taken self.new
-            ≡ wanted_value source.now begun.path begun.start begun.inits key token.entry.kind
-            (lexeme_of token.entry)) }
-    {
-        let extent = token_extent(token);
-        match token.kind {
-            TokenKind::True => self.put(source, begun, key, Literal::True, extent),
-            TokenKind::False => self.put(source, begun, key, Literal::False, extent),
-            TokenKind::Number => match as_number(token.text) {
-                Some(number) => self.put(source, begun, key, Literal::Num(number), extent),
-                None => Ok(Taken::TooLarge),
-            },
-            TokenKind::StringLit => self.put_string(alloc, source, begun, key, token),
-            _ => Ok(Taken::Refused),
+        match mem::replace(self, WordsState::Path(PathState::Start)) {
+            WordsState::Path(PathState::Behind(path)) => {
+                let begun = open_entity(alloc, source, path)?;
+                let place = InitPlace::Item;
+                put(self, WordsState::Inits(Inits { begun, place }));
+                Ok(())
+            }
+            WordsState::Path(PathState::Start | PathState::Have(_))
+            | WordsState::Inits(_)
+            | WordsState::Entity(_) => unreachable!(),
         }
     }
 
@@ -355,116 +321,97 @@ impl WordsState {
         &mut self,
         alloc: Global,
         source: &Source,
-        inits: Inits,
-        token: Token<'_>,
-    ) -> Result<Taken<Words>, AllocError>
-        requires { IsWritten (lexeme_of token) }
-        ensures { IfOk result
-            (λ taken. answer_of taken self.new
-            ≡ inits_step source.now inits.begun.path inits.begun.start inits.begun.inits
-            inits.place
-            (lexeme_of token.entry)) }
-    {
-        let Inits { begun, place } = inits;
-        match place {
-            InitPlace::Item => self.item(alloc, source, begun, token),
-            InitPlace::Key(key) => match token.kind {
-                TokenKind::Colon => self.stand(begun, InitPlace::Value(key)),
-                _ => Ok(Taken::Refused),
-            },
-            InitPlace::Value(key) => self.value(alloc, source, begun, key, token),
-            InitPlace::Behind => match token.kind {
-                TokenKind::Comma => self.stand(begun, InitPlace::Item),
-                TokenKind::CloseBrace => self.close(alloc, source, begun, token_extent(token)),
-                _ => Ok(Taken::Refused),
-            },
-        }
-    }
-
-    /// A token in a path.
-    fn path(
-        &mut self,
-        alloc: Global,
-        source: &Source,
-        path: PathState,
-        token: Token<'_>,
-    ) -> Result<Taken<Words>, AllocError>
-        requires { IsWritten (lexeme_of token) }
-        ensures { IfOk result
-            (λ taken. answer_of taken self.new ≡ path_words source.now path
-            (lexeme_of token.entry)) }
-    {
-        match path {
-            PathState::Start => self.begin(alloc, token),
-            PathState::Have(path) => match token.kind {
-                TokenKind::ColonColon => {
-                    *self = WordsState::Path(PathState::Behind(path));
-                    Ok(Taken::Next)
-                }
-                _ => Ok(Taken::Ended(Words::Path(path))),
-            },
-            PathState::Behind(path) => self.go_on(alloc, source, path, token),
-        }
-    }
-
-    /// One token more.
-    pub fn step(
-        &mut self,
-        alloc: Global,
-        source: &Source,
-        token: Token<'_>,
-    ) -> Result<Taken<Words>, AllocError>
-        requires { IsWritten (lexeme_of token) }
-        ensures { IfOk result
-            (λ taken. answer_of taken self.new ≡ words_step source.now self.old
-            (lexeme_of token.entry)) }
+        act: InitAct,
+        token: &Token<'_>,
+    ) -> Result<bool, AllocError>
+        requires written { IsWritten (lexeme_of token.now) }
+        requires is_planned { words_plan (words_shape self.old) token.now.kind
+            ≡ Some (WordsAct.Init act) }
+        ensures { IfOk result (λ fits. done_as fits self.new
+            ≡ in_inits source.now self.old act (lexeme_of token.now)) }
     {
         match mem::replace(self, WordsState::Path(PathState::Start)) {
-            WordsState::Path(path) => self.path(alloc, source, path, token),
-            WordsState::Inits(inits) => self.list(alloc, source, inits, token),
-            WordsState::Entity(entity) => Ok(Taken::Ended(Words::Entity(entity))),
+            WordsState::Inits(inits) => match inits.read(alloc, source, act, token)? {
+                Some(next) => {
+                    put(self, next);
+                    Ok(true)
+                }
+                None => Ok(false),
+            },
+            WordsState::Path(_) | WordsState::Entity(_) => unreachable!(),
+        }
+    }
+
+    /// Does with a token what is planned. The answer is false if it is a number that doesn't fit.
+    pub fn act_words(
+        &mut self,
+        alloc: Global,
+        source: &Source,
+        act: WordsAct,
+        token: &Token<'_>,
+    ) -> Result<bool, AllocError>
+        requires written { IsWritten (lexeme_of token.now) }
+        requires is_planned { words_plan (words_shape self.old) token.now.kind ≡ Some act }
+        ensures { IfOk result (λ fits. done_as fits self.new
+            ≡ words_act source.now self.old act (lexeme_of token.now)) }
+    {
+        match act {
+            WordsAct::Path(act) => {
+                match self {
+                    WordsState::Path(path) => path.act_path(alloc, source, act, token)?,
+                    WordsState::Inits(_) | WordsState::Entity(_) => unreachable!(),
+                }
+                Ok(true)
+            }
+            WordsAct::Eid => {
+                self.name(alloc, source, token)?;
+                Ok(true)
+            }
+            WordsAct::Open => {
+                self.open(alloc, source)?;
+                Ok(true)
+            }
+            WordsAct::Init(act) => self.list(alloc, source, act, token),
         }
     }
 }
 
 /// An entity literal as a whole text.
-impl Entry for WordsState {
-    ghost use Rattle.cedar_syntax.specs.machines.Door.{allows};
-    ghost use Rattle.cedar_text.specs.machines.Words.{refs};
-    ghost use Rattle.cedar_text.specs.machines.WordShapes.{ref_shapes, words_shape};
+impl Entry<Node<Option<Ref>>> for WordsState {
+    ghost use Rattle.cedar_text.specs.machines.Words.{ref_reader};
 
-    type Tree = Ref;
+    type Act = WordsAct;
 
-    ghost machine = { λ src. refs src };
-
-    ghost allowed = { λ s after. allows ref_shapes (words_shape s) after };
+    ghost reader = { ref_reader };
 
     fn start(alloc: Global) -> WordsState {
         WordsState::Path(PathState::Start)
     }
 
-    fn allows(&self, next: Option<TokenKind>) -> bool {
-        match next {
-            Some(kind) => self.takes(kind),
-            None => matches!(self, WordsState::Entity(_)),
-        }
+    fn first(kind: TokenKind) -> Option<WordsAct> {
+        if_any(kind, WordsAct::Path(PathAct::First))
     }
 
-    fn take(
+    fn plan(&self, kind: TokenKind) -> Option<WordsAct> {
+        self.plan_words(kind)
+    }
+
+    fn ends(&self) -> bool {
+        matches!(self, WordsState::Entity(_))
+    }
+
+    fn act(
         &mut self,
         alloc: Global,
         source: &Source,
-        token: Token<'_>,
+        act: WordsAct,
+        token: &Token<'_>,
     ) -> Result<bool, AllocError> {
-        match self.step(alloc, source, token)? {
-            Taken::Next => Ok(true),
-            Taken::TooLarge => Ok(false),
-            Taken::Ended(_) | Taken::Refused => unreachable!(),
-        }
+        self.act_words(alloc, source, act, token)
     }
 
-    fn finish(self, source: &Source) -> Result<Node<Option<Ref>>, AllocError> {
-        match self {
+    fn finish(&mut self, alloc: Global, source: &Source) -> Result<Node<Option<Ref>>, AllocError> {
+        match mem::replace(self, WordsState::Path(PathState::Start)) {
             WordsState::Entity(entity) => Ok(entity.node.into_inner()),
             WordsState::Path(_) | WordsState::Inits(_) => unreachable!(),
         }

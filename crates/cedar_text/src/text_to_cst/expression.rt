@@ -1,5 +1,4 @@
 //! The machine of expressions: what is begun, and what one token makes of it.
-pub mod allow;
 pub mod alone;
 pub mod begin;
 pub mod call;
@@ -9,12 +8,13 @@ pub mod conditional;
 pub mod entries;
 pub mod finish;
 pub mod have;
-pub mod held;
 pub mod lists;
 pub mod literal;
 pub mod operators;
 pub mod paren;
+pub mod plan;
 pub mod record;
+pub mod relate;
 pub mod relations;
 pub mod set;
 pub mod signs;

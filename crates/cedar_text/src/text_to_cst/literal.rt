@@ -17,10 +17,10 @@ use std::alloc::{AllocError, Global};
 pub fn string_node(
     alloc: Global,
     source: &Source,
-    token: Token<'_>,
+    token: &Token<'_>,
 ) -> Result<Node<Option<Str>>, AllocError>
-    requires { Written kind.StringLit token.text.now }
-    ensures { IfOk result (λ node. node ≡ string_node source.now (lexeme_of token.entry)) }
+    requires { Written kind.StringLit token.now.text.now }
+    ensures { IfOk result (λ node. node ≡ string_node source.now (lexeme_of token.now)) }
 {
     let raw = Str::String(Text::from_str(alloc, between_quotes(token.text))?);
     node_at(source, Some(token_extent(token)), raw)

@@ -1,25 +1,24 @@
 //! Paths: identifiers with `::` between them. A path alone is a name.
-ghost use Rattle.std.specs.Prelude.{◌≡◌, Some, IfOk};
+ghost use Rattle.std.specs.Prelude.{◌≡◌, [], Some, IsTrue, IfOk, OnOk};
 ghost use Rattle.cedar_lexer.specs.Token.{lexeme_of};
+ghost use Rattle.cedar_lexer.specs.declared.token.TokenKind.TheVariants as kind;
 ghost use Rattle.cedar_syntax.specs.Place.{extent_of};
 ghost use Rattle.cedar_syntax.specs.Tokens.{any_of};
 ghost use Rattle.cedar_syntax.specs.LooseWords.{is_common};
-ghost use Rattle.cedar_syntax.specs.machines.Door.{allows, is_some};
-ghost use Rattle.cedar_syntax.specs.machines.Judged.{answer_of};
-ghost use Rattle.cedar_text.specs.machines.Words.{one_word_path, with_word, path_beginning, path_more, path_step, path_node};
-ghost use Rattle.cedar_text.specs.machines.WordShapes.{path_kind, name_kind, path_shapes, path_shape};
+ghost use Rattle.cedar_syntax.specs.machines.Door.{is_some};
+ghost use Rattle.cedar_text.specs.machines.Words.{one_word_path, with_word, path_begun, path_parted, path_longer, path_act, path_node, is_name};
+ghost use Rattle.cedar_text.specs.machines.WordShapes.{path_plan, path_shape};
 
-use crate::text_to_cst::state::{Path, PathState, Word};
-use crate::text_to_cst::words::word_node;
+use crate::text_to_cst::put::put;
+use crate::text_to_cst::state::{Path, PathAct, PathState, Word};
+use crate::text_to_cst::words::{if_any, word_node, word_of};
 use cedar_expressions::{Items, Source};
 use cedar_lexer::token::{Token, TokenKind};
 use cedar_syntax::cst::{Ident, Name};
 use cedar_syntax::node::Node;
 use cedar_syntax::reading::driver::Entry;
 use cedar_syntax::reading::extent::Extent;
-use cedar_syntax::reading::place::{node_at, token_extent};
-use cedar_syntax::reading::taken::Taken;
-use cedar_syntax::reading::words::{as_ident, is_any};
+use cedar_syntax::reading::place::node_at;
 use std::alloc::{AllocError, Global};
 use std::mem;
 
@@ -64,7 +63,7 @@ fn is_common(ident: &Ident) -> bool
 impl Path {
     /// Whether it is a name.
     pub fn is_name(&self) -> bool
-        ensures { result ≡ is_some (name_kind (path_kind self.now)) }
+        ensures { result ≡ is_name self.now }
     {
         !self.before.is_empty() || is_common(&self.last.ident)
     }
@@ -86,121 +85,123 @@ impl Path {
 }
 
 impl PathState {
-    /// Whether the path goes on with a token of this kind.
-    pub fn takes(&self, kind: TokenKind) -> bool
-        ensures { result ≡ allows path_shapes (path_shape self.now) (Some kind) }
+    /// What is done with a token of this kind.
+    pub fn plan_path(&self, kind: TokenKind) -> Option<PathAct>
+        ensures { result ≡ path_plan (path_shape self.now) kind }
     {
         match self {
-            PathState::Start => is_any(kind),
-            PathState::Have(_) => matches!(kind, TokenKind::ColonColon),
-            PathState::Behind(_) => is_any(kind),
+            PathState::Start => if_any(kind, PathAct::First),
+            PathState::Have(_) => match kind {
+                TokenKind::ColonColon => Some(PathAct::Colons),
+                _ => None,
+            },
+            PathState::Behind(_) => if_any(kind, PathAct::More),
         }
     }
 
     /// An identifier where the path begins.
-    fn begin(&mut self, alloc: Global, token: Token<'_>) -> Result<Taken<Path>, AllocError>
-        ensures { IfOk result
-            (λ taken. answer_of taken self.new ≡ path_beginning
-            (any_of token.entry.kind token.entry.text.now) (extent_of (lexeme_of token.entry))) }
+    fn begin(&mut self, alloc: Global, token: &Token<'_>) -> Result<(), AllocError>
+        requires { IsTrue (is_some (any_of token.now.kind [])) }
+        ensures { OnOk result
+            (Some self.new ≡ path_begun (any_of token.now.kind token.now.text.now)
+            (extent_of (lexeme_of token.now))) }
     {
-        match as_ident(alloc, token.kind, token.text)? {
-            Some(ident) => {
-                let extent = token_extent(token);
-                *self = PathState::Have(first_word(alloc, Word { ident, extent }));
-                Ok(Taken::Next)
-            }
-            None => Ok(Taken::Refused),
+        let word = word_of(alloc, token)?;
+        put(self, PathState::Have(first_word(alloc, word)));
+        Ok(())
+    }
+
+    /// `::` behind an identifier.
+    fn part(&mut self)
+        requires { path_plan (path_shape self.old) kind.ColonColon ≡ Some PathAct.Colons }
+        ensures { Some self.new ≡ path_parted self.old }
+    {
+        match mem::replace(self, PathState::Start) {
+            PathState::Have(path) => put(self, PathState::Behind(path)),
+            PathState::Start | PathState::Behind(_) => unreachable!(),
         }
     }
 
     /// An identifier behind `::`.
-    fn go_on(
-        &mut self,
-        alloc: Global,
-        source: &Source,
-        path: Path,
-        token: Token<'_>,
-    ) -> Result<Taken<Path>, AllocError>
-        ensures { IfOk result
-            (λ taken. answer_of taken self.new ≡ path_more source.now path
-            (any_of token.entry.kind token.entry.text.now) (extent_of (lexeme_of token.entry))) }
+    fn go_on(&mut self, alloc: Global, source: &Source, token: &Token<'_>) -> Result<(), AllocError>
+        requires { path_plan (path_shape self.old) token.now.kind ≡ Some PathAct.More }
+        ensures { OnOk result
+            (Some self.new ≡ path_longer source.now self.old
+            (any_of token.now.kind token.now.text.now) (extent_of (lexeme_of token.now))) }
     {
-        match as_ident(alloc, token.kind, token.text)? {
-            Some(ident) => {
-                let extent = token_extent(token);
-                *self = PathState::Have(with_word(source, path, Word { ident, extent })?);
-                Ok(Taken::Next)
+        match mem::replace(self, PathState::Start) {
+            PathState::Behind(path) => {
+                let path = with_word(source, path, word_of(alloc, token)?)?;
+                put(self, PathState::Have(path));
+                Ok(())
             }
-            None => Ok(Taken::Refused),
+            PathState::Start | PathState::Have(_) => unreachable!(),
         }
     }
 
-    /// One token more.
-    pub fn step(
+    /// Does with a token what is planned.
+    pub fn act_path(
         &mut self,
         alloc: Global,
         source: &Source,
-        token: Token<'_>,
-    ) -> Result<Taken<Path>, AllocError>
-        ensures { IfOk result
-            (λ taken. answer_of taken self.new ≡ path_step source.now self.old
-            (lexeme_of token.entry)) }
+        act: PathAct,
+        token: &Token<'_>,
+    ) -> Result<(), AllocError>
+        requires { path_plan (path_shape self.old) token.now.kind ≡ Some act }
+        ensures { OnOk result
+            (Some self.new ≡ path_act source.now self.old act (lexeme_of token.now)) }
     {
-        match mem::replace(self, PathState::Start) {
-            PathState::Start => self.begin(alloc, token),
-            PathState::Have(path) => match token.kind {
-                TokenKind::ColonColon => {
-                    *self = PathState::Behind(path);
-                    Ok(Taken::Next)
-                }
-                _ => Ok(Taken::Ended(path)),
-            },
-            PathState::Behind(path) => self.go_on(alloc, source, path, token),
+        match act {
+            PathAct::First => self.begin(alloc, token),
+            PathAct::Colons => {
+                self.part();
+                Ok(())
+            }
+            PathAct::More => self.go_on(alloc, source, token),
         }
     }
 }
 
-/// A name as a whole text.
-impl Entry for PathState {
-    ghost use Rattle.cedar_syntax.specs.machines.Door.{allows};
-    ghost use Rattle.cedar_text.specs.machines.Words.{names};
-    ghost use Rattle.cedar_text.specs.machines.WordShapes.{name_shapes, path_shape};
+/// A name, as a whole text and in a policy.
+impl Entry<Node<Option<Name>>> for PathState {
+    ghost use Rattle.cedar_text.specs.machines.Words.{name_reader};
 
-    type Tree = Name;
+    type Act = PathAct;
 
-    ghost machine = { λ src. names src };
-
-    ghost allowed = { λ s after. allows name_shapes (path_shape s) after };
+    ghost reader = { name_reader };
 
     fn start(alloc: Global) -> PathState {
         PathState::Start
     }
 
-    fn allows(&self, next: Option<TokenKind>) -> bool {
-        match next {
-            Some(kind) => self.takes(kind),
-            None => match self {
-                PathState::Have(path) => path.is_name(),
-                PathState::Start | PathState::Behind(_) => false,
-            },
+    fn first(kind: TokenKind) -> Option<PathAct> {
+        if_any(kind, PathAct::First)
+    }
+
+    fn plan(&self, kind: TokenKind) -> Option<PathAct> {
+        self.plan_path(kind)
+    }
+
+    fn ends(&self) -> bool {
+        match self {
+            PathState::Have(path) => path.is_name(),
+            PathState::Start | PathState::Behind(_) => false,
         }
     }
 
-    fn take(
+    fn act(
         &mut self,
         alloc: Global,
         source: &Source,
-        token: Token<'_>,
+        act: PathAct,
+        token: &Token<'_>,
     ) -> Result<bool, AllocError> {
-        match self.step(alloc, source, token)? {
-            Taken::Next => Ok(true),
-            Taken::TooLarge => Ok(false),
-            Taken::Ended(_) | Taken::Refused => unreachable!(),
-        }
+        self.act_path(alloc, source, act, token)?;
+        Ok(true)
     }
 
-    fn finish(self, source: &Source) -> Result<Node<Option<Name>>, AllocError> {
-        match self {
+    fn finish(&mut self, alloc: Global, source: &Source) -> Result<Node<Option<Name>>, AllocError> {
+        match mem::replace(self, PathState::Start) {
             PathState::Have(path) => path.into_name(source),
             PathState::Start | PathState::Behind(_) => unreachable!(),
         }

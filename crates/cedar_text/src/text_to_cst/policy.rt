@@ -1,26 +1,24 @@
 //! A policy: annotations, an effect, a scope in parentheses, conditions, and `;`.
-ghost use Rattle.std.specs.Prelude.{◌≡◌, [], None, IfOk};
+ghost use Rattle.std.specs.Prelude.{◌≡◌, Some, IsTrue, OnOk};
 ghost use Rattle.cedar_lexer.specs.Token.{lexeme_of};
-ghost use Rattle.cedar_syntax.specs.Tokens.{any_of};
-ghost use Rattle.cedar_syntax.specs.Trees.{policy_of};
-ghost use Rattle.cedar_text.specs.machines.Policy.{at_effect, behind_effect, behind_parts, scope_ending, conditions_ending, outside_sections, IsOutsideSections};
-ghost use Rattle.cedar_syntax.specs.machines.Judged.{answer_of};
+ghost use Rattle.cedar_text.specs.machines.Annotation.{any_node};
+ghost use Rattle.cedar_text.specs.machines.Policies.{sections, unknown_policy};
+ghost use Rattle.cedar_text.specs.machines.Policy.{is_word, effect_read};
+ghost use Rattle.cedar_text.specs.machines.Scope.{readers_of};
 
-use crate::text_to_cst::annotation::AnnotationState;
-use crate::text_to_cst::condition::ConditionState;
-use crate::text_to_cst::reader::{Reader, put};
-use crate::text_to_cst::scope::ElementState;
-use crate::text_to_cst::sequence::{Sequence, Spanned};
-use crate::text_to_cst::words::token_node;
+use crate::text_to_cst::annotation::{AnnotationAct, AnnotationState, if_mark};
+use crate::text_to_cst::condition::{ConditionAct, ConditionState};
+use crate::text_to_cst::put::put;
+use crate::text_to_cst::scope::{ElementAct, ElementState};
+use crate::text_to_cst::sequence::{Sequence, SequenceAct, Spanned};
+use crate::text_to_cst::words::{ident_node, if_any, take_node};
 use cedar_expressions::{Items, Source};
-use cedar_lexer::token::Token;
+use cedar_lexer::token::{Token, TokenKind};
 use cedar_syntax::cst::{
     Add, Annotation, Cond, Expr, Ident, Name, Policy, PolicyImpl, VariableDef,
 };
 use cedar_syntax::node::Node;
-use cedar_syntax::reading::mark::{Mark, as_mark};
-use cedar_syntax::reading::taken::Taken;
-use cedar_syntax::reading::words::as_ident;
+use cedar_syntax::reading::driver::Entry;
 use std::alloc::{AllocError, Global};
 use std::mem;
 
@@ -33,220 +31,223 @@ pub type Scope<N, S, E> = Sequence<Spanned<ElementState<N, S, E>>, Node<Option<V
 /// Its conditions.
 pub type Conditions<E> = Sequence<Spanned<ConditionState<E>>, Node<Option<Cond>>>;
 
-/// What has been read of a policy, with the state of the part that is begun: annotations `A`, elements `V` or conditions `C`.
-#[derive(Drop)]
-pub enum PolicyState<A, V, C> {
+/// Where a policy stands.
+#[derive(Drop, Clone, Copy)]
+pub enum Section {
     /// Annotations, or the effect, are to come.
-    Annotated(A),
-    Effect(Items<Node<Option<Annotation>>>, Node<Option<Ident>>),
+    Annotations,
+    /// Behind the effect.
+    Effect,
     /// Behind `(`.
-    Scope(Items<Node<Option<Annotation>>>, Node<Option<Ident>>, V),
+    Scope,
     /// Behind `)`.
-    Conditions(
-        Items<Node<Option<Annotation>>>,
-        Node<Option<Ident>>,
-        Items<Node<Option<VariableDef>>>,
-        C,
-    ),
+    Conditions,
     /// Behind `;`.
-    Closed(Policy),
+    Closed,
+}
+
+/// What has been read of a policy, each part where it stays: annotations `A`, elements `V` and
+/// conditions `C`.
+#[derive(Drop)]
+pub struct PolicyState<A, V, C> {
+    pub section: Section,
+    pub annotations: A,
+    pub effect: Node<Option<Ident>>,
+    pub scope: V,
+    pub conditions: C,
 }
 
 /// A policy that is begun.
 pub type Begun<N, S, E> = PolicyState<Annotations, Scope<N, S, E>, Conditions<E>>;
 
-/// A policy of these parts.
-fn whole(
-    annotations: Items<Node<Option<Annotation>>>,
-    effect: Node<Option<Ident>>,
-    variables: Items<Node<Option<VariableDef>>>,
-    conds: Items<Node<Option<Cond>>>,
-) -> Policy
-    ensures { result ≡ policy_of annotations effect variables conds }
-{
-    Policy::Policy(PolicyImpl {
-        annotations,
-        effect,
-        variables,
-        conds,
-    })
+/// What is done with a token of a policy, whose parts do `A`, `V` and `C` with one.
+#[derive(Drop, Clone, Copy)]
+pub enum PolicyAct<A, V, C> {
+    Annotation(A),
+    Effect,
+    /// `(`
+    Open,
+    Element(V),
+    /// `)`
+    Close,
+    Condition(C),
+    /// `;`
+    Shut,
 }
 
 impl<N, S, E> PolicyState<Annotations, Scope<N, S, E>, Conditions<E>>
 where
-    N: Reader<Node<Option<Name>>>,
-    S: Reader<Node<Option<Add>>>,
-    E: Reader<Node<Option<Expr>>>,
+    N: Entry<Node<Option<Name>>>,
+    S: Entry<Node<Option<Add>>>,
+    E: Entry<Node<Option<Expr>>>,
 {
-    /// The effect behind the annotations.
-    fn name(
-        &mut self,
-        alloc: Global,
-        source: &Source,
-        annotations: Items<Node<Option<Annotation>>>,
-        token: Token<'_>,
-    ) -> Result<Taken<Policy>, AllocError>
-        ensures { IfOk result (λ taken. answer_of taken self.new
-            ≡ at_effect source.now annotations (lexeme_of token.entry)
-            (any_of token.entry.kind token.entry.text.now)) }
+    /// A policy of which nothing is known.
+    pub fn unknown(alloc: Global) -> PolicyState<Annotations, Scope<N, S, E>, Conditions<E>>
+        ensures { result ≡ unknown_policy }
     {
-        match as_ident(alloc, token.kind, token.text)? {
-            Some(ident) => {
-                let effect = token_node(source, token, ident)?;
-                put(self, PolicyState::Effect(annotations, effect));
-                Ok(Taken::Next)
-            }
-            None => Ok(Taken::Refused),
-        }
-    }
-
-    /// The `(` behind the effect.
-    fn open(
-        &mut self,
-        alloc: Global,
-        annotations: Items<Node<Option<Annotation>>>,
-        effect: Node<Option<Ident>>,
-        mark: Mark,
-    ) -> Taken<Policy>
-        ensures { answer_of result self.new
-            ≡ behind_effect record { done = []; begun = None } annotations effect mark }
-    {
-        match mark {
-            Mark::OpenParen => {
-                put(
-                    self,
-                    PolicyState::Scope(annotations, effect, Sequence::new(alloc)),
-                );
-                Taken::Next
-            }
-            _ => Taken::Refused,
-        }
-    }
-
-    /// The scope that is begun has ended before this mark.
-    fn leave_scope(
-        &mut self,
-        alloc: Global,
-        variables: Items<Node<Option<VariableDef>>>,
-        mark: Mark,
-    ) -> Taken<Policy>
-        ensures { answer_of result self.new
-            ≡ scope_ending record { done = []; begun = None } self.old variables mark }
-    {
-        match mem::replace(self, PolicyState::Annotated(Sequence::new(alloc))) {
-            PolicyState::Scope(annotations, effect, held) => match mark {
-                Mark::CloseParen => {
-                    drop(held);
-                    let conditions = Sequence::new(alloc);
-                    let next = PolicyState::Conditions(annotations, effect, variables, conditions);
-                    put(self, next);
-                    Taken::Next
-                }
-                _ => Taken::refuse((annotations, effect, held, variables)),
+        PolicyState {
+            section: Section::Closed,
+            annotations: Sequence::new(alloc),
+            effect: Node {
+                node: None,
+                loc: None,
             },
-            other => Taken::refuse((other, variables)),
+            scope: Sequence::new(alloc),
+            conditions: Sequence::new(alloc),
         }
     }
 
-    /// The `;` behind all parts.
-    fn shut(&mut self, policy: Policy, mark: Mark) -> Taken<Policy>
-        ensures { answer_of result self.new ≡ behind_parts policy mark }
+    /// The effect behind the annotations.
+    #[inline(never)]
+    fn name(&mut self, alloc: Global, source: &Source, token: &Token<'_>) -> Result<(), AllocError>
+        requires ended { IsTrue (
+            (sections (readers_of N.reader S.reader E.reader)).annotations.ends
+            self.old.annotations) }
+        requires word { IsTrue (is_word token.now.kind) }
+        ensures { OnOk result (effect_read self.old
+            ((sections (readers_of N.reader S.reader E.reader)).annotations.finish source.now
+            self.old.annotations) (any_node source.now (lexeme_of token.now)) ≡ Some self.new) }
     {
-        match mark {
-            Mark::Semicolon => {
-                put(self, PolicyState::Closed(policy));
-                Taken::Next
-            }
-            _ => Taken::Refused,
-        }
-    }
-
-    /// The conditions have ended before this mark.
-    fn leave_conditions(
-        &mut self,
-        alloc: Global,
-        conds: Items<Node<Option<Cond>>>,
-        mark: Mark,
-    ) -> Taken<Policy>
-        ensures { answer_of result self.new ≡ conditions_ending self.old conds mark }
-    {
-        match mem::replace(self, PolicyState::Annotated(Sequence::new(alloc))) {
-            PolicyState::Conditions(annotations, effect, variables, held) => {
-                drop(held);
-                let policy = whole(annotations, effect, variables, conds);
-                self.shut(policy, mark)
-            }
-            other => Taken::refuse((other, conds)),
-        }
-    }
-
-    /// A token outside of a part.
-    fn go_on(&mut self, alloc: Global, mark: Mark) -> Taken<Policy>
-        requires { IsOutsideSections self.old }
-        ensures { answer_of result self.new
-            ≡ outside_sections record { done = []; begun = None } self.old mark }
-    {
-        match mem::replace(self, PolicyState::Annotated(Sequence::new(alloc))) {
-            PolicyState::Effect(annotations, effect) => {
-                self.open(alloc, annotations, effect, mark)
-            }
-            PolicyState::Closed(policy) => Taken::Ended(policy),
-            PolicyState::Annotated(_)
-            | PolicyState::Scope(_, _, _)
-            | PolicyState::Conditions(_, _, _, _) => unreachable!(),
-        }
+        self.annotations.end_item(alloc, source)?;
+        put(&mut self.effect, ident_node(alloc, source, token)?);
+        self.section = Section::Effect;
+        Ok(())
     }
 }
 
-impl<N, S, E> Reader<Policy> for PolicyState<Annotations, Scope<N, S, E>, Conditions<E>>
+impl<N, S, E> Entry<Policy> for PolicyState<Annotations, Scope<N, S, E>, Conditions<E>>
 where
-    N: Reader<Node<Option<Name>>>,
-    S: Reader<Node<Option<Add>>>,
-    E: Reader<Node<Option<Expr>>>,
+    N: Entry<Node<Option<Name>>>,
+    S: Entry<Node<Option<Add>>>,
+    E: Entry<Node<Option<Expr>>>,
 {
-    ghost use Rattle.cedar_text.specs.machines.Policy.{policies};
     ghost use Rattle.cedar_text.specs.machines.Policies.{sections};
+    ghost use Rattle.cedar_text.specs.machines.Policy.{policy_reader};
+    ghost use Rattle.cedar_text.specs.machines.Scope.{readers_of};
 
-    ghost machine = { λ src. policies src (sections src record {
-      name = N.machine src;
-      sum = S.machine src;
-      expression = E.machine src;
-    }) };
+    type Act = PolicyAct<
+        SequenceAct<AnnotationAct>,
+        SequenceAct<ElementAct<N::Act, S::Act, E::Act>>,
+        SequenceAct<ConditionAct<E::Act>>,
+    >;
 
-    fn begin(alloc: Global) -> PolicyState<Annotations, Scope<N, S, E>, Conditions<E>> {
-        PolicyState::Annotated(Sequence::new(alloc))
+    ghost reader = { policy_reader (sections (readers_of N.reader S.reader E.reader)) };
+
+    fn start(alloc: Global) -> PolicyState<Annotations, Scope<N, S, E>, Conditions<E>> {
+        PolicyState {
+            section: Section::Annotations,
+            annotations: Sequence::new(alloc),
+            effect: Node {
+                node: None,
+                loc: None,
+            },
+            scope: Sequence::new(alloc),
+            conditions: Sequence::new(alloc),
+        }
     }
 
-    fn step(
+    fn first(
+        kind: TokenKind,
+    ) -> Option<
+        PolicyAct<
+            SequenceAct<AnnotationAct>,
+            SequenceAct<ElementAct<N::Act, S::Act, E::Act>>,
+            SequenceAct<ConditionAct<E::Act>>,
+        >,
+    > {
+        match Annotations::plan_item(kind) {
+            Some(act) => Some(PolicyAct::Annotation(act)),
+            None => if_any(kind, PolicyAct::Effect),
+        }
+    }
+
+    fn plan(
+        &self,
+        kind: TokenKind,
+    ) -> Option<
+        PolicyAct<
+            SequenceAct<AnnotationAct>,
+            SequenceAct<ElementAct<N::Act, S::Act, E::Act>>,
+            SequenceAct<ConditionAct<E::Act>>,
+        >,
+    > {
+        match self.section {
+            Section::Conditions => match self.conditions.plan_many(kind) {
+                Some(act) => Some(PolicyAct::Condition(act)),
+                None => {
+                    let shuts = matches!(kind, TokenKind::Semicolon) && self.conditions.items_end();
+                    if_mark(shuts, PolicyAct::Shut)
+                }
+            },
+            Section::Scope => match self.scope.plan_listed(kind) {
+                Some(act) => Some(PolicyAct::Element(act)),
+                None => {
+                    let closes = matches!(kind, TokenKind::CloseParen) && self.scope.items_end();
+                    if_mark(closes, PolicyAct::Close)
+                }
+            },
+            Section::Annotations => match self.annotations.plan_many(kind) {
+                Some(act) => Some(PolicyAct::Annotation(act)),
+                None => {
+                    if self.annotations.items_end() {
+                        if_any(kind, PolicyAct::Effect)
+                    } else {
+                        None
+                    }
+                }
+            },
+            Section::Effect => if_mark(matches!(kind, TokenKind::OpenParen), PolicyAct::Open),
+            Section::Closed => None,
+        }
+    }
+
+    fn ends(&self) -> bool {
+        matches!(self.section, Section::Closed)
+    }
+
+    #[inline(always)]
+    fn act(
         &mut self,
         alloc: Global,
         source: &Source,
-        token: Token<'_>,
-    ) -> Result<Taken<Policy>, AllocError> {
-        match self {
-            PolicyState::Annotated(held) => match held.step_many(alloc, source, token)? {
-                Taken::Next => Ok(Taken::Next),
-                Taken::Ended(annotations) => self.name(alloc, source, annotations, token),
-                Taken::Refused => Ok(Taken::Refused),
-                Taken::TooLarge => Ok(Taken::TooLarge),
-            },
-            PolicyState::Scope(_, _, held) => match held.step_listed(alloc, source, token)? {
-                Taken::Next => Ok(Taken::Next),
-                Taken::Ended(variables) => {
-                    Ok(self.leave_scope(alloc, variables, as_mark(token.kind)))
-                }
-                Taken::Refused => Ok(Taken::Refused),
-                Taken::TooLarge => Ok(Taken::TooLarge),
-            },
-            PolicyState::Conditions(_, _, _, held) => match held.step_many(alloc, source, token)? {
-                Taken::Next => Ok(Taken::Next),
-                Taken::Ended(conds) => Ok(self.leave_conditions(alloc, conds, as_mark(token.kind))),
-                Taken::Refused => Ok(Taken::Refused),
-                Taken::TooLarge => Ok(Taken::TooLarge),
-            },
-            PolicyState::Effect(_, _) | PolicyState::Closed(_) => {
-                Ok(self.go_on(alloc, as_mark(token.kind)))
+        act: PolicyAct<
+            SequenceAct<AnnotationAct>,
+            SequenceAct<ElementAct<N::Act, S::Act, E::Act>>,
+            SequenceAct<ConditionAct<E::Act>>,
+        >,
+        token: &Token<'_>,
+    ) -> Result<bool, AllocError> {
+        match act {
+            PolicyAct::Condition(act) => self.conditions.act_many(alloc, source, act, token),
+            PolicyAct::Element(act) => self.scope.act_many(alloc, source, act, token),
+            PolicyAct::Annotation(act) => self.annotations.act_many(alloc, source, act, token),
+            PolicyAct::Effect => {
+                self.name(alloc, source, token)?;
+                Ok(true)
+            }
+            PolicyAct::Open => {
+                self.section = Section::Scope;
+                Ok(true)
+            }
+            PolicyAct::Close => {
+                self.scope.end_item(alloc, source)?;
+                self.section = Section::Conditions;
+                Ok(true)
+            }
+            PolicyAct::Shut => {
+                self.conditions.end_item(alloc, source)?;
+                self.section = Section::Closed;
+                Ok(true)
             }
         }
+    }
+
+    fn finish(&mut self, alloc: Global, source: &Source) -> Result<Policy, AllocError> {
+        Ok(Policy::Policy(PolicyImpl {
+            annotations: mem::replace(&mut self.annotations.done, Items::new(alloc)),
+            effect: take_node(&mut self.effect),
+            variables: mem::replace(&mut self.scope.done, Items::new(alloc)),
+            conds: mem::replace(&mut self.conditions.done, Items::new(alloc)),
+        }))
     }
 }

@@ -1,103 +1,106 @@
 //! One policy and policies as whole texts.
-use crate::text_to_cst::expression::entries::ExprState;
-use crate::text_to_cst::expression::held::SumState;
-use crate::text_to_cst::policies::Text;
-use crate::text_to_cst::policy::{Begun, PolicyState};
-use crate::text_to_cst::reader::Reader;
-use crate::text_to_cst::sequence::{Sequence, Spanned};
+use crate::text_to_cst::expression::entries::{ExprState, SumState};
+use crate::text_to_cst::policies::{Text, Whole};
+use crate::text_to_cst::policy::Begun;
+use crate::text_to_cst::sequence::Spanned;
 use crate::text_to_cst::state::PathState;
-use cedar_expressions::Source;
+use cedar_expressions::{Items, Source};
 use cedar_lexer::token::{Token, TokenKind};
 use cedar_syntax::cst::{Policies, Policy};
 use cedar_syntax::node::Node;
 use cedar_syntax::reading::driver::Entry;
-use cedar_syntax::reading::taken::Taken;
+use cedar_syntax::reading::extent::Extent;
+use cedar_syntax::reading::place::node_at;
+use cedar_syntax::reading::recovery::{Recovering, Way};
 use std::alloc::{AllocError, Global};
 
 /// One policy that is read as a whole text.
 pub type OneState = Spanned<Begun<PathState, SumState, ExprState>>;
 
 /// Policies that are.
-pub type AllState = Text<PathState, SumState, ExprState>;
+type Many = Whole<PathState, SumState, ExprState>;
 
-impl Entry for OneState {
-    ghost use Rattle.cedar_text.specs.machines.PolicyParts.{whole_policy, policy_allows};
+/// Their trees.
+type Listed = Items<Node<Option<Policy>>>;
 
-    type Tree = Policy;
+/// Policies that are read as a whole text: without any, they stand at its beginning.
+#[derive(Drop)]
+pub struct AllState {
+    text: Text<PathState, SumState, ExprState>,
+}
 
-    ghost machine = { λ src. whole_policy src };
+impl Entry<Node<Option<Policies>>> for AllState {
+    ghost use Rattle.cedar_text.specs.machines.PolicyParts.{whole_policies_reader};
 
-    ghost allowed = { λ s after. policy_allows s after };
+    type Act = <Many as Entry<Listed>>::Act;
 
-    fn start(alloc: Global) -> OneState {
-        Spanned {
-            extent: None,
-            state: PolicyState::Annotated(Sequence::new(alloc)),
+    ghost reader = { whole_policies_reader };
+
+    fn start(alloc: Global) -> AllState {
+        AllState {
+            text: Spanned {
+                extent: None,
+                state: Many::start(alloc),
+            },
         }
     }
 
-    fn allows(&self, next: Option<TokenKind>) -> bool {
-        self.allows_one(next)
+    fn first(kind: TokenKind) -> Option<<Many as Entry<Listed>>::Act> {
+        Many::first(kind)
     }
 
-    fn take(
+    fn plan(&self, kind: TokenKind) -> Option<<Many as Entry<Listed>>::Act> {
+        self.text.plan(kind)
+    }
+
+    fn ends(&self) -> bool {
+        self.text.ends()
+    }
+
+    #[inline(always)]
+    fn act(
         &mut self,
         alloc: Global,
         source: &Source,
-        token: Token<'_>,
+        act: <Many as Entry<Listed>>::Act,
+        token: &Token<'_>,
     ) -> Result<bool, AllocError> {
-        match self.step(alloc, source, token)? {
-            Taken::Next => Ok(true),
-            Taken::TooLarge => Ok(false),
-            Taken::Ended(_) | Taken::Refused => unreachable!(),
-        }
+        self.text.act(alloc, source, act, token)
     }
 
-    fn finish(self, source: &Source) -> Result<Node<Option<Policy>>, AllocError> {
-        let Some(tree) = self.into_node(source)? else {
-            unreachable!()
+    fn finish(
+        &mut self,
+        alloc: Global,
+        source: &Source,
+    ) -> Result<Node<Option<Policies>>, AllocError> {
+        let policies = Policies(self.text.state.finish(alloc, source)?);
+        let place = match self.text.extent {
+            Some(extent) => extent,
+            None => Extent { start: 0, end: 0 },
         };
-        Ok(tree)
+        node_at(source, Some(place), policies)
     }
 }
 
-impl Entry for AllState {
-    ghost use Rattle.cedar_text.specs.machines.PolicyParts.{whole_policies, policies_allow};
+impl Recovering for AllState {
+    ghost use Rattle.cedar_text.specs.machines.Policies.{begun_policy_way, text_closing, text_ending};
+    ghost use Rattle.cedar_text.specs.machines.PolicyParts.{of_text};
 
-    type Tree = Policies;
+    ghost left = { λ s. begun_policy_way s.text.state.begun };
 
-    ghost machine = { λ src. whole_policies src };
+    ghost closed = { λ s. of_text (text_closing s.text) };
 
-    ghost allowed = { λ s after. policies_allow s after };
+    ghost over = { λ s. of_text (text_ending s.text) };
 
-    fn start(alloc: Global) -> AllState {
-        Spanned {
-            extent: None,
-            state: Sequence::new(alloc),
-        }
+    fn way(&self) -> Way {
+        self.text.way()
     }
 
-    fn allows(&self, next: Option<TokenKind>) -> bool {
-        self.state.allows_all(next)
+    fn close(&mut self) {
+        self.text.close();
     }
 
-    fn take(
-        &mut self,
-        alloc: Global,
-        source: &Source,
-        token: Token<'_>,
-    ) -> Result<bool, AllocError> {
-        match self.step(alloc, source, token)? {
-            Taken::Next => Ok(true),
-            Taken::TooLarge => Ok(false),
-            Taken::Ended(_) | Taken::Refused => unreachable!(),
-        }
-    }
-
-    fn finish(self, source: &Source) -> Result<Node<Option<Policies>>, AllocError> {
-        let Some(tree) = self.into_tree(source)? else {
-            unreachable!()
-        };
-        Ok(tree)
+    fn end(&mut self, alloc: Global) {
+        self.text.end(alloc);
     }
 }

@@ -1,282 +1,281 @@
 //! An element of the scope: a variable, and possibly a type name, an entity type and a constraint.
-ghost use Rattle.std.specs.Prelude.{◌≡◌, ℕ, List, None, Some, IfOk};
-ghost use Rattle.cedar_lexer.specs.Token.{lexeme_of};
-ghost use Rattle.cedar_syntax.specs.Tokens.{any_of};
-ghost use Rattle.cedar_syntax.specs.machines.Marks.{mark_of};
-ghost use Rattle.cedar_text.specs.machines.Scope.{at_variable, at_constraint, at_entity_type, at_type_name, name_ending, sum_ending, expression_ending, element_step, IsOutsideParts};
-ghost use Rattle.cedar_syntax.specs.machines.Judged.{answer_of};
+ghost use Rattle.std.specs.Prelude.{◌≡◌, Some, None, IfOk, OnOk, IsTrue};
+ghost use Rattle.cedar_syntax.specs.Trees.{variable_def_of};
+ghost use Rattle.cedar_text.specs.machines.Scope.{readers_of, reader_plans, with_part, compare_plan, narrow_plan, behind_part, sum_beginning, constraint_beginning, element_ends, element_finish, MayLeave};
 
-use crate::text_to_cst::reader::{Reader, put};
-use crate::text_to_cst::words::token_node;
+use crate::text_to_cst::put::put;
+use crate::text_to_cst::words::{ident_node, if_any, take_node};
 use cedar_expressions::Source;
 use cedar_lexer::token::{Token, TokenKind};
 use cedar_syntax::cst::{Add, Expr, Ident, Name, RelOp, VariableDef};
 use cedar_syntax::node::Node;
-use cedar_syntax::reading::mark::{Mark, as_mark, as_relation};
-use cedar_syntax::reading::taken::Taken;
-use cedar_syntax::reading::words::as_ident;
+use cedar_syntax::reading::driver::Entry;
+use cedar_syntax::reading::mark::as_relation;
 use std::alloc::{AllocError, Global};
-use std::mem;
 
-/// What has been read of an element, with the state of the part that is begun: a name `N`, a sum `S` or an expression `E`.
+/// The part of an element that is begun: a name `N`, a sum `S` or an expression `E`.
 #[derive(Drop)]
-pub enum ElementState<N, S, E> {
+pub enum ElementPart<N, S, E> {
+    /// The variable is to come.
     Start,
-    Variable(Node<Option<Ident>>),
+    /// The variable is there, and no part is begun.
+    Nothing,
     /// Behind `:`.
-    TypeName(Node<Option<Ident>>, N),
+    TypeName(N),
     /// Behind `is`.
-    EntityType(Node<Option<Ident>>, Option<Node<Option<Name>>>, S),
+    EntityType(S),
     /// Behind an operator.
-    Constraint(
-        Node<Option<Ident>>,
-        Option<Node<Option<Name>>>,
-        Option<Node<Option<Add>>>,
-        RelOp,
-        E,
-    ),
+    Constraint(RelOp, E),
+}
+
+/// What has been read of an element, each where it stays, and the part that is begun.
+#[derive(Drop)]
+pub struct ElementState<N, S, E> {
+    pub variable: Node<Option<Ident>>,
+    pub unused_type_name: Option<Node<Option<Name>>>,
+    pub entity_type: Option<Node<Option<Add>>>,
+    pub part: ElementPart<N, S, E>,
+}
+
+/// What is done with a token of an element, whose parts do `N`, `S` and `E` with one.
+#[derive(Drop, Clone, Copy)]
+pub enum ElementAct<N, S, E> {
+    /// The variable.
+    Variable,
+    /// `:`
+    Colon,
+    TypeName(N),
+    /// `is`
+    Is,
+    EntityType(S),
+    /// An operator.
+    Compare(RelOp),
+    Constraint(E),
+}
+
+/// What is done with an operator.
+fn plan_compare<N: Drop, S: Drop, E: Drop>(kind: TokenKind) -> Option<ElementAct<N, S, E>>
+    ensures { result ≡ compare_plan kind }
+{
+    match as_relation(kind) {
+        Some(op) => Some(ElementAct::Compare(op)),
+        None => None,
+    }
+}
+
+/// What is done with `is`, or an operator.
+fn plan_narrow<N: Drop, S: Drop, E: Drop>(kind: TokenKind) -> Option<ElementAct<N, S, E>>
+    ensures { result ≡ narrow_plan kind }
+{
+    match kind {
+        TokenKind::Is => Some(ElementAct::Is),
+        _ => plan_compare(kind),
+    }
 }
 
 impl<N, S, E> ElementState<N, S, E>
 where
-    N: Reader<Node<Option<Name>>>,
-    S: Reader<Node<Option<Add>>>,
-    E: Reader<Node<Option<Expr>>>,
+    N: Entry<Node<Option<Name>>>,
+    S: Entry<Node<Option<Add>>>,
+    E: Entry<Node<Option<Expr>>>,
 {
-    /// The variable.
-    fn name(
+    /// A type name or an entity type that has ended is put where it stays.
+    #[inline(never)]
+    fn end_part(&mut self, alloc: Global, source: &Source) -> Result<(), AllocError>
+        requires { MayLeave (reader_plans (readers_of N.reader S.reader E.reader))
+            self.old.part }
+        ensures slots { OnOk result ((part : _) → with_part self.new part
+            ≡ behind_part source.now (readers_of N.reader S.reader E.reader) self.old
+            self.old.part part) }
+        ensures tree { OnOk result (element_finish (readers_of N.reader S.reader E.reader)
+            source.now self.old ≡ Some (variable_def_of self.new.variable
+            self.new.unused_type_name self.new.entity_type None)) }
+    {
+        match &mut self.part {
+            ElementPart::TypeName(held) => {
+                let name = held.finish(alloc, source)?;
+                put(&mut self.unused_type_name, Some(name));
+            }
+            ElementPart::EntityType(held) => {
+                let sum = held.finish(alloc, source)?;
+                put(&mut self.entity_type, Some(sum));
+            }
+            ElementPart::Nothing => {}
+            _ => unreachable!(),
+        }
+        Ok(())
+    }
+
+    /// Begins a part behind one that may have ended.
+    #[inline(never)]
+    fn begin_sum(&mut self, alloc: Global, source: &Source) -> Result<(), AllocError>
+        requires { MayLeave (reader_plans (readers_of N.reader S.reader E.reader))
+            self.old.part }
+        ensures { OnOk result (self.new ≡ sum_beginning source.now
+            (readers_of N.reader S.reader E.reader) self.old) }
+    {
+        self.end_part(alloc, source)?;
+        put(&mut self.part, ElementPart::EntityType(S::start(alloc)));
+        Ok(())
+    }
+
+    /// The same, of a constraint.
+    #[inline(never)]
+    fn begin_constraint(
         &mut self,
         alloc: Global,
         source: &Source,
-        token: Token<'_>,
-    ) -> Result<Taken<VariableDef>, AllocError>
-        ensures { IfOk result (λ taken. answer_of taken self.new
-            ≡ at_variable source.now (lexeme_of token.entry)
-            (any_of token.entry.kind token.entry.text.now)) }
+        op: RelOp,
+    ) -> Result<(), AllocError>
+        requires { MayLeave (reader_plans (readers_of N.reader S.reader E.reader))
+            self.old.part }
+        ensures { OnOk result (self.new ≡ constraint_beginning source.now
+            (readers_of N.reader S.reader E.reader) self.old op) }
     {
-        match as_ident(alloc, token.kind, token.text)? {
-            Some(ident) => {
-                put(
-                    self,
-                    ElementState::Variable(token_node(source, token, ident)?),
-                );
-                Ok(Taken::Next)
-            }
-            None => Ok(Taken::Refused),
-        }
+        self.end_part(alloc, source)?;
+        put(&mut self.part, ElementPart::Constraint(op, E::start(alloc)));
+        Ok(())
     }
 
-    /// An operator behind a variable, its type name and its entity type, or the end of the element.
-    fn compare(
-        &mut self,
-        alloc: Global,
-        variable: Node<Option<Ident>>,
-        unused_type_name: Option<Node<Option<Name>>>,
-        entity_type: Option<Node<Option<Add>>>,
-        operator: Option<RelOp>,
-    ) -> Taken<VariableDef>
-        ensures { (src : List ℕ) → answer_of result self.new
-            ≡ at_constraint (E.machine src).start variable unused_type_name entity_type operator }
-    {
-        match operator {
-            Some(operator) => {
-                let next = ElementState::Constraint(
-                    variable,
-                    unused_type_name,
-                    entity_type,
-                    operator,
-                    E::begin(alloc),
-                );
-                put(self, next);
-                Taken::Next
-            }
-            None => Taken::Ended(VariableDef {
-                variable,
-                unused_type_name,
-                entity_type,
-                ineq: None,
-            }),
-        }
-    }
-
-    /// `is` behind a variable and its type name, or what follows.
-    fn narrow(
-        &mut self,
-        alloc: Global,
-        variable: Node<Option<Ident>>,
-        unused_type_name: Option<Node<Option<Name>>>,
-        token: Token<'_>,
-    ) -> Taken<VariableDef>
-        ensures { (src : List ℕ) → answer_of result self.new
-            ≡ at_entity_type (S.machine src).start (E.machine src).start variable unused_type_name
-            (lexeme_of token.entry) (mark_of token.entry.kind) }
-    {
-        match as_mark(token.kind) {
-            Mark::Is => {
-                put(
-                    self,
-                    ElementState::EntityType(variable, unused_type_name, S::begin(alloc)),
-                );
-                Taken::Next
-            }
-            _ => self.compare(
-                alloc,
-                variable,
-                unused_type_name,
-                None,
-                as_relation(token.kind),
-            ),
-        }
-    }
-
-    /// `:` behind a variable, or what follows.
-    fn describe(
-        &mut self,
-        alloc: Global,
-        variable: Node<Option<Ident>>,
-        token: Token<'_>,
-        mark: Mark,
-    ) -> Taken<VariableDef>
-        requires { mark ≡ mark_of token.kind }
-        ensures { (src : List ℕ) → answer_of result self.new
-            ≡ at_type_name (N.machine src).start (S.machine src).start (E.machine src).start
-            variable (lexeme_of token.entry) mark }
-    {
-        match mark {
-            Mark::Colon => {
-                put(self, ElementState::TypeName(variable, N::begin(alloc)));
-                Taken::Next
-            }
-            _ => self.narrow(alloc, variable, None, token),
-        }
-    }
-
-    /// The type name that is begun has ended before this token.
-    fn leave_name(
-        &mut self,
-        alloc: Global,
-        name: Node<Option<Name>>,
-        token: Token<'_>,
-    ) -> Taken<VariableDef>
-        ensures { (src : List ℕ) → answer_of result self.new
-            ≡ name_ending (S.machine src).start (E.machine src).start self.old name
-            (lexeme_of token.entry) }
-    {
-        match mem::replace(self, ElementState::Start) {
-            ElementState::TypeName(variable, held) => {
-                drop(held);
-                self.narrow(alloc, variable, Some(name), token)
-            }
-            other => Taken::refuse((other, name)),
-        }
-    }
-
-    /// The entity type that is begun has ended before a token of this kind.
-    fn leave_sum(
-        &mut self,
-        alloc: Global,
-        sum: Node<Option<Add>>,
-        kind: TokenKind,
-    ) -> Taken<VariableDef>
-        ensures { (src : List ℕ) → answer_of result self.new
-            ≡ sum_ending (E.machine src).start self.old sum kind }
-    {
-        match mem::replace(self, ElementState::Start) {
-            ElementState::EntityType(variable, name, held) => {
-                drop(held);
-                self.compare(alloc, variable, name, Some(sum), as_relation(kind))
-            }
-            other => Taken::refuse((other, sum)),
-        }
-    }
-
-    /// The constraint that is begun has ended.
-    fn leave_expression(&mut self, expression: Node<Option<Expr>>) -> Taken<VariableDef>
-        ensures { answer_of result self.new ≡ expression_ending self.old expression }
-    {
-        match mem::replace(self, ElementState::Start) {
-            ElementState::Constraint(variable, unused_type_name, entity_type, operator, held) => {
-                drop(held);
-                Taken::Ended(VariableDef {
-                    variable,
-                    unused_type_name,
-                    entity_type,
-                    ineq: Some((operator, expression)),
-                })
-            }
-            other => Taken::refuse((other, expression)),
-        }
-    }
-
-    /// A token outside of a part.
-    fn go_on(
+    /// What the constraint compares with, where one is begun, which has ended; another part ends.
+    fn end_constraint(
         &mut self,
         alloc: Global,
         source: &Source,
-        token: Token<'_>,
-    ) -> Result<Taken<VariableDef>, AllocError>
-        requires { IsOutsideParts self.old }
-        ensures { IfOk result (λ taken. answer_of taken self.new
-            ≡ element_step source.now record {
-              name = N.machine source.now;
-              sum = S.machine source.now;
-              expression = E.machine source.now;
-            }
-            self.old (lexeme_of token.entry)) }
+    ) -> Result<Option<(RelOp, Node<Option<Expr>>)>, AllocError>
+        requires { IsTrue (element_ends
+            (reader_plans (readers_of N.reader S.reader E.reader)) self.old.part) }
+        ensures { IfOk result (λ ineq. element_finish (readers_of N.reader S.reader E.reader)
+            source.now self.old ≡ Some (variable_def_of self.new.variable
+            self.new.unused_type_name self.new.entity_type ineq)) }
     {
-        match mem::replace(self, ElementState::Start) {
-            ElementState::Start => self.name(alloc, source, token),
-            ElementState::Variable(variable) => {
-                Ok(self.describe(alloc, variable, token, as_mark(token.kind)))
+        match &mut self.part {
+            ElementPart::Constraint(op, held) => {
+                let right = held.finish(alloc, source)?;
+                Ok(Some((*op, right)))
             }
-            ElementState::TypeName(_, _)
-            | ElementState::EntityType(_, _, _)
-            | ElementState::Constraint(_, _, _, _, _) => unreachable!(),
+            _ => {
+                self.end_part(alloc, source)?;
+                Ok(None)
+            }
         }
     }
 }
 
-impl<N, S, E> Reader<VariableDef> for ElementState<N, S, E>
+impl<N, S, E> Entry<VariableDef> for ElementState<N, S, E>
 where
-    N: Reader<Node<Option<Name>>>,
-    S: Reader<Node<Option<Add>>>,
-    E: Reader<Node<Option<Expr>>>,
+    N: Entry<Node<Option<Name>>>,
+    S: Entry<Node<Option<Add>>>,
+    E: Entry<Node<Option<Expr>>>,
 {
-    ghost use Rattle.cedar_text.specs.machines.Scope.{elements};
+    ghost use Rattle.cedar_text.specs.machines.Scope.{readers_of, element_reader};
 
-    ghost machine = { λ src. elements src
-        record { name = N.machine src; sum = S.machine src; expression = E.machine src } };
+    type Act = ElementAct<N::Act, S::Act, E::Act>;
 
-    fn begin(_: Global) -> ElementState<N, S, E> {
-        ElementState::Start
+    ghost reader = { element_reader (readers_of N.reader S.reader E.reader) };
+
+    fn start(_: Global) -> ElementState<N, S, E> {
+        ElementState {
+            variable: Node {
+                node: None,
+                loc: None,
+            },
+            unused_type_name: None,
+            entity_type: None,
+            part: ElementPart::Start,
+        }
     }
 
-    fn step(
+    fn first(kind: TokenKind) -> Option<ElementAct<N::Act, S::Act, E::Act>> {
+        if_any(kind, ElementAct::Variable)
+    }
+
+    fn plan(&self, kind: TokenKind) -> Option<ElementAct<N::Act, S::Act, E::Act>> {
+        match &self.part {
+            ElementPart::Start => if_any(kind, ElementAct::Variable),
+            ElementPart::Nothing => match kind {
+                TokenKind::Colon => Some(ElementAct::Colon),
+                _ => plan_narrow(kind),
+            },
+            ElementPart::TypeName(held) => match held.plan(kind) {
+                Some(act) => Some(ElementAct::TypeName(act)),
+                None => { if held.ends() { plan_narrow(kind) } else { None } }
+            },
+            ElementPart::EntityType(held) => match held.plan(kind) {
+                Some(act) => Some(ElementAct::EntityType(act)),
+                None => {
+                    if held.ends() {
+                        plan_compare(kind)
+                    } else {
+                        None
+                    }
+                }
+            },
+            ElementPart::Constraint(_, held) => match held.plan(kind) {
+                Some(act) => Some(ElementAct::Constraint(act)),
+                None => None,
+            },
+        }
+    }
+
+    fn ends(&self) -> bool {
+        match &self.part {
+            ElementPart::Start => false,
+            ElementPart::Nothing => true,
+            ElementPart::TypeName(held) => held.ends(),
+            ElementPart::EntityType(held) => held.ends(),
+            ElementPart::Constraint(_, held) => held.ends(),
+        }
+    }
+
+    fn act(
         &mut self,
         alloc: Global,
         source: &Source,
-        token: Token<'_>,
-    ) -> Result<Taken<VariableDef>, AllocError> {
-        match self {
-            ElementState::TypeName(_, held) => match held.step(alloc, source, token)? {
-                Taken::Next => Ok(Taken::Next),
-                Taken::Ended(name) => Ok(self.leave_name(alloc, name, token)),
-                Taken::Refused => Ok(Taken::Refused),
-                Taken::TooLarge => Ok(Taken::TooLarge),
+        act: ElementAct<N::Act, S::Act, E::Act>,
+        token: &Token<'_>,
+    ) -> Result<bool, AllocError> {
+        match act {
+            ElementAct::Constraint(act) => match &mut self.part {
+                ElementPart::Constraint(_, held) => held.act(alloc, source, act, token),
+                _ => unreachable!(),
             },
-            ElementState::EntityType(_, _, held) => match held.step(alloc, source, token)? {
-                Taken::Next => Ok(Taken::Next),
-                Taken::Ended(sum) => Ok(self.leave_sum(alloc, sum, token.kind)),
-                Taken::Refused => Ok(Taken::Refused),
-                Taken::TooLarge => Ok(Taken::TooLarge),
+            ElementAct::EntityType(act) => match &mut self.part {
+                ElementPart::EntityType(held) => held.act(alloc, source, act, token),
+                _ => unreachable!(),
             },
-            ElementState::Constraint(_, _, _, _, held) => match held.step(alloc, source, token)? {
-                Taken::Next => Ok(Taken::Next),
-                Taken::Ended(expression) => Ok(self.leave_expression(expression)),
-                Taken::Refused => Ok(Taken::Refused),
-                Taken::TooLarge => Ok(Taken::TooLarge),
+            ElementAct::TypeName(act) => match &mut self.part {
+                ElementPart::TypeName(held) => held.act(alloc, source, act, token),
+                _ => unreachable!(),
             },
-            ElementState::Start | ElementState::Variable(_) => self.go_on(alloc, source, token),
+            ElementAct::Variable => {
+                put(&mut self.variable, ident_node(alloc, source, token)?);
+                put(&mut self.part, ElementPart::Nothing);
+                Ok(true)
+            }
+            ElementAct::Colon => {
+                put(&mut self.part, ElementPart::TypeName(N::start(alloc)));
+                Ok(true)
+            }
+            ElementAct::Is => {
+                self.begin_sum(alloc, source)?;
+                Ok(true)
+            }
+            ElementAct::Compare(op) => {
+                self.begin_constraint(alloc, source, op)?;
+                Ok(true)
+            }
         }
+    }
+
+    #[inline(always)]
+    fn finish(&mut self, alloc: Global, source: &Source) -> Result<VariableDef, AllocError> {
+        let ineq = self.end_constraint(alloc, source)?;
+        Ok(VariableDef {
+            variable: take_node(&mut self.variable),
+            unused_type_name: self.unused_type_name.take(),
+            entity_type: self.entity_type.take(),
+            ineq,
+        })
     }
 }

@@ -1,19 +1,17 @@
 //! Forms that are begun, and what stands before them.
-ghost use Rattle.std.specs.Prelude.{◌≡◌, [], None, IfOk};
+ghost use Rattle.std.specs.Prelude.{◌≡◌, [], Some, None, IfOk, OnOk, IsTrue};
 ghost use Rattle.cedar_lexer.specs.Token.{lexeme_of};
 ghost use Rattle.cedar_syntax.specs.WrittenTokens.{IsWritten};
-ghost use Rattle.cedar_syntax.specs.machines.Door.{ended};
-ghost use Rattle.cedar_text.specs.machines.Sequences.{sequence, item_beginning, many_step, behind_item, listed_step};
-ghost use Rattle.cedar_syntax.specs.machines.Judged.{answer_of};
+ghost use Rattle.cedar_syntax.specs.machines.Door.{option_image};
+ghost use Rattle.cedar_syntax.specs.machines.Judged.{done_as};
+ghost use Rattle.cedar_text.specs.machines.Sequences.{sequence, many_plan, list_plan, sequence_ends, sequence_end, item_begun, item_going, items_ended, sequence_act, IsItemPlan, IsSequencePlan};
 
-use crate::text_to_cst::reader::Reader;
 use cedar_expressions::{Items, Source};
-use cedar_lexer::token::Token;
+use cedar_lexer::token::{Token, TokenKind};
 use cedar_syntax::node::Node;
+use cedar_syntax::reading::driver::Entry;
 use cedar_syntax::reading::extent::{Extent, joined};
-use cedar_syntax::reading::mark::{Mark, as_mark};
-use cedar_syntax::reading::place::{node_at, token_extent};
-use cedar_syntax::reading::taken::Taken;
+use cedar_syntax::reading::place::{loc_at, token_extent};
 use std::alloc::{AllocError, Global};
 use std::mem;
 
@@ -24,33 +22,51 @@ pub struct Spanned<S> {
     pub state: S,
 }
 
-impl<T: Drop, S: Reader<T>> Reader<Node<Option<T>>> for Spanned<S> {
-    ghost use Rattle.cedar_text.specs.machines.Placing.{placing};
+impl<T: Drop, S: Entry<T>> Entry<Node<Option<T>>> for Spanned<S> {
+    ghost use Rattle.cedar_text.specs.machines.Placing.{placing_reader};
 
-    ghost machine = { λ src. placing src (S.machine src) };
+    type Act = S::Act;
 
-    fn begin(alloc: Global) -> Spanned<S> {
+    ghost reader = { placing_reader S.reader };
+
+    fn start(alloc: Global) -> Spanned<S> {
         Spanned {
             extent: None,
-            state: S::begin(alloc),
+            state: S::start(alloc),
         }
     }
 
-    fn step(
+    fn first(kind: TokenKind) -> Option<S::Act> {
+        S::first(kind)
+    }
+
+    fn plan(&self, kind: TokenKind) -> Option<S::Act> {
+        self.state.plan(kind)
+    }
+
+    fn ends(&self) -> bool {
+        self.state.ends()
+    }
+
+    fn act(
         &mut self,
         alloc: Global,
         source: &Source,
-        token: Token<'_>,
-    ) -> Result<Taken<Node<Option<T>>>, AllocError> {
-        match self.state.step(alloc, source, token)? {
-            Taken::Next => {
-                self.extent = joined(self.extent, Some(token_extent(token)));
-                Ok(Taken::Next)
-            }
-            Taken::Ended(tree) => Ok(Taken::Ended(node_at(source, self.extent, tree)?)),
-            Taken::Refused => Ok(Taken::Refused),
-            Taken::TooLarge => Ok(Taken::TooLarge),
-        }
+        act: S::Act,
+        token: &Token<'_>,
+    ) -> Result<bool, AllocError> {
+        self.extent = joined(self.extent, Some(token_extent(token)));
+        self.state.act(alloc, source, act, token)
+    }
+
+    #[inline(always)]
+    fn finish(&mut self, alloc: Global, source: &Source) -> Result<Node<Option<T>>, AllocError> {
+        let loc = loc_at(source, self.extent)?;
+        let tree = self.state.finish(alloc, source)?;
+        Ok(Node {
+            node: Some(tree),
+            loc,
+        })
     }
 }
 
@@ -61,7 +77,20 @@ pub struct Sequence<S, T> {
     pub begun: Option<S>,
 }
 
-impl<T: Drop, S: Reader<T>> Sequence<S, T> {
+/// What is done with a token of a sequence, whose items do `A` with one.
+#[derive(Drop, Clone, Copy)]
+pub enum SequenceAct<A> {
+    /// It is the begun item's.
+    On(A),
+    /// It begins an item, where none is begun.
+    First(A),
+    /// It begins an item behind the begun one, which has ended.
+    Next(A),
+    /// A comma, behind the begun item.
+    Comma,
+}
+
+impl<T: Drop, S: Entry<T>> Sequence<S, T> {
     /// Before the first item.
     pub fn new(alloc: Global) -> Sequence<S, T>
         ensures { result ≡ sequence [] None }
@@ -72,98 +101,159 @@ impl<T: Drop, S: Reader<T>> Sequence<S, T> {
         }
     }
 
-    /// The items, where no more stand.
-    fn end(&mut self, alloc: Global) -> Taken<Items<T>>
-        ensures { (answer_of result self.new) ≡ ended self.old.done }
+    /// What is done with a token of this kind where an item may begin and none is begun.
+    pub fn plan_item(kind: TokenKind) -> Option<SequenceAct<S::Act>>
+        ensures { result ≡ option_image (λ act. SequenceAct.First act)
+            (S.reader.plan S.reader.start kind) }
     {
-        Taken::Ended(mem::replace(&mut self.done, Items::new(alloc)))
-    }
-
-    /// The first token of an item, or the end of the items before it.
-    fn first(
-        &mut self,
-        alloc: Global,
-        source: &Source,
-        token: Token<'_>,
-    ) -> Result<Taken<Items<T>>, AllocError>
-        requires { IsWritten (lexeme_of token) }
-        ensures { IfOk result (λ taken. answer_of taken self.new
-            ≡ item_beginning self.old.done ((S.machine source.now).step
-            (S.machine source.now).start (lexeme_of token.entry))) }
-    {
-        let mut item = S::begin(alloc);
-        match item.step(alloc, source, token)? {
-            Taken::Next => {
-                self.begun = Some(item);
-                Ok(Taken::Next)
-            }
-            Taken::Ended(_) | Taken::Refused => Ok(self.end(alloc)),
-            Taken::TooLarge => Ok(Taken::TooLarge),
+        match S::first(kind) {
+            Some(act) => Some(SequenceAct::First(act)),
+            None => None,
         }
     }
 
-    /// One more token of items that stand one behind the other.
-    pub fn step_many(
+    /// What is done with it where items stand one behind the other.
+    pub fn plan_many(&self, kind: TokenKind) -> Option<SequenceAct<S::Act>>
+        ensures { result ≡ many_plan (λ first. S.reader.plan S.reader.start first)
+            S.reader.plan S.reader.ends self.now.begun kind }
+    {
+        match &self.begun {
+            Some(item) => match item.plan(kind) {
+                Some(act) => Some(SequenceAct::On(act)),
+                None => {
+                    if !item.ends() {
+                        return None;
+                    }
+                    match S::first(kind) {
+                        Some(act) => Some(SequenceAct::Next(act)),
+                        None => None,
+                    }
+                }
+            },
+            None => Sequence::<S, T>::plan_item(kind),
+        }
+    }
+
+    /// What is done with it where items are separated by commas.
+    pub fn plan_listed(&self, kind: TokenKind) -> Option<SequenceAct<S::Act>>
+        ensures { result ≡ list_plan (λ first. S.reader.plan S.reader.start first)
+            S.reader.plan S.reader.ends self.now.begun kind }
+    {
+        match &self.begun {
+            Some(item) => match item.plan(kind) {
+                Some(act) => Some(SequenceAct::On(act)),
+                None => match kind {
+                    TokenKind::Comma => {
+                        if item.ends() {
+                            Some(SequenceAct::Comma)
+                        } else {
+                            None
+                        }
+                    }
+                    _ => None,
+                },
+            },
+            None => Sequence::<S, T>::plan_item(kind),
+        }
+    }
+
+    /// Whether the items can end here.
+    pub fn items_end(&self) -> bool
+        ensures { result ≡ sequence_ends S.reader.ends self.now.begun }
+    {
+        match &self.begun {
+            Some(item) => item.ends(),
+            None => true,
+        }
+    }
+
+    /// The item that has ended is put to the others.
+    #[inline(never)]
+    pub fn end_item(&mut self, alloc: Global, source: &Source) -> Result<(), AllocError>
+        requires { IsTrue (sequence_ends S.reader.ends self.old.begun) }
+        ensures { OnOk result (items_ended (sequence_end (S.reader.finish source.now)
+            self.old.done self.old.begun) ≡ Some self.new) }
+    {
+        if let Some(item) = &mut self.begun {
+            self.done.push(item.finish(alloc, source)?)?;
+        }
+        self.begun = None;
+        Ok(())
+    }
+
+    /// The first token of an item.
+    #[inline(never)]
+    fn begin_item(
         &mut self,
         alloc: Global,
         source: &Source,
-        token: Token<'_>,
-    ) -> Result<Taken<Items<T>>, AllocError>
-        requires { IsWritten (lexeme_of token) }
-        ensures { IfOk result (λ taken. answer_of taken self.new
-            ≡ many_step (S.machine source.now) self.old.done self.old.begun
-            (lexeme_of token.entry)) }
+        act: S::Act,
+        token: &Token<'_>,
+    ) -> Result<bool, AllocError>
+        requires written { IsWritten (lexeme_of token.now) }
+        requires is_planned { S.reader.plan S.reader.start token.now.kind ≡ Some act }
+        ensures { IfOk result (λ fits. done_as fits self.new ≡ item_begun self.old.done
+            (S.reader.act source.now S.reader.start act (lexeme_of token.now))) }
+    {
+        self.begun = Some(S::start(alloc));
+        self.go_on(alloc, source, act, token)
+    }
+
+    /// A token of the begun item.
+    #[inline(always)]
+    fn go_on(
+        &mut self,
+        alloc: Global,
+        source: &Source,
+        act: S::Act,
+        token: &Token<'_>,
+    ) -> Result<bool, AllocError>
+        requires written { IsWritten (lexeme_of token.now) }
+        requires is_planned { IsItemPlan S.reader.plan self.old.begun token.now.kind act }
+        ensures { IfOk result (λ fits. done_as fits self.new ≡ item_going S.reader source.now
+            self.old.done self.old.begun act (lexeme_of token.now)) }
     {
         match &mut self.begun {
-            Some(item) => match item.step(alloc, source, token)? {
-                Taken::Next => Ok(Taken::Next),
-                Taken::Ended(tree) => {
-                    self.done.push(tree)?;
-                    self.first(alloc, source, token)
-                }
-                Taken::Refused => Ok(Taken::Refused),
-                Taken::TooLarge => Ok(Taken::TooLarge),
-            },
-            None => self.first(alloc, source, token),
+            Some(item) => item.act(alloc, source, act, token),
+            None => unreachable!(),
         }
     }
 
-    /// A comma behind an item, or the end of the items.
-    fn part(&mut self, alloc: Global, mark: Mark) -> Taken<Items<T>>
-        ensures { answer_of result self.new ≡ behind_item self.old.done mark }
-    {
-        match mark {
-            Mark::Comma => {
-                self.begun = None;
-                Taken::Next
-            }
-            _ => self.end(alloc),
-        }
-    }
-
-    /// One more token of items that are separated by commas.
-    pub fn step_listed(
+    /// Does with a token what is planned.
+    #[inline(always)]
+    pub fn act_many(
         &mut self,
         alloc: Global,
         source: &Source,
-        token: Token<'_>,
-    ) -> Result<Taken<Items<T>>, AllocError>
-        requires { IsWritten (lexeme_of token) }
-        ensures { IfOk result (λ taken. answer_of taken self.new
-            ≡ listed_step (S.machine source.now) self.old.done self.old.begun
-            (lexeme_of token.entry)) }
+        act: SequenceAct<S::Act>,
+        token: &Token<'_>,
+    ) -> Result<bool, AllocError>
+        requires written { IsWritten (lexeme_of token.now) }
+        requires is_planned { IsSequencePlan S.reader self.old.begun token.now.kind act }
+        ensures { IfOk result (λ fits. done_as fits self.new
+            ≡ sequence_act S.reader source.now self.old act (lexeme_of token.now)) }
     {
-        match &mut self.begun {
-            Some(item) => match item.step(alloc, source, token)? {
-                Taken::Next => Ok(Taken::Next),
-                Taken::Ended(tree) => {
-                    self.done.push(tree)?;
-                    Ok(self.part(alloc, as_mark(token.kind)))
-                }
-                Taken::Refused => Ok(Taken::Refused),
-                Taken::TooLarge => Ok(Taken::TooLarge),
-            },
-            None => self.first(alloc, source, token),
+        match act {
+            SequenceAct::On(act) => self.go_on(alloc, source, act, token),
+            SequenceAct::First(act) => self.begin_item(alloc, source, act, token),
+            SequenceAct::Next(act) => {
+                self.end_item(alloc, source)?;
+                self.begin_item(alloc, source, act, token)
+            }
+            SequenceAct::Comma => {
+                self.end_item(alloc, source)?;
+                Ok(true)
+            }
         }
+    }
+
+    /// The items that have ended, taken out.
+    pub fn take(&mut self, alloc: Global, source: &Source) -> Result<Items<T>, AllocError>
+        requires { IsTrue (sequence_ends S.reader.ends self.old.begun) }
+        ensures { IfOk result (λ items. sequence_end (S.reader.finish source.now)
+            self.old.done self.old.begun ≡ Some items) }
+    {
+        self.end_item(alloc, source)?;
+        Ok(mem::replace(&mut self.done, Items::new(alloc)))
     }
 }

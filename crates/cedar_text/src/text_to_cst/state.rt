@@ -88,3 +88,37 @@ pub enum IdentState {
     Start,
     Have(Word),
 }
+
+/// What is done with a token of a path: an identifier begins it, `::` stands behind one, an
+/// identifier behind `::`.
+#[derive(Drop, Clone, Copy)]
+pub enum PathAct {
+    First,
+    Colons,
+    More,
+}
+
+/// What is done with a token in the braces of an entity literal.
+#[derive(Drop, Clone, Copy)]
+pub enum InitAct {
+    Key,
+    Colon,
+    True,
+    False,
+    Number,
+    String,
+    Comma,
+    /// `}`
+    Close,
+}
+
+/// What is done with a token of a path or an entity literal.
+#[derive(Drop, Clone, Copy)]
+pub enum WordsAct {
+    Path(PathAct),
+    /// A string behind `::`.
+    Eid,
+    /// `{` behind `::`.
+    Open,
+    Init(InitAct),
+}

@@ -1,12 +1,12 @@
-use Rattle.cedar_command.specs.Words.{styles_of}
-use Rattle.cedar_command.specs.declared.words.Command.TheVariants as command
+use Rattle.cedar_conversion.specs.Table.{table_of}
+use Rattle.cedar_command.specs.declared.request.Command.TheVariants as command
 use Rattle.cedar_command.proofs.WrittenAnswers.{faults_written, set_written}
 use Rattle.cedar_command.proofs.policies.policies.Goals as goal
 
 pub returns-in-Ok-clause-written : goal.returns-in-Ok-clause-written
 returns-in-Ok-clause-written g c =
-    set_written (styles_of c.args.words.now) c.print_policies.result c.args.text.now c.in-Ok.set _ _ c.in-Ok.ensures.set c.print_policies.ensures.verdict c.print_policies.ensures.written
+    set_written (table_of c.args.styles.now) c.print_policies.result c.args.text.now c.in-Ok.set _ _ c.in-Ok.ensures.set c.print_policies.ensures.verdict c.print_policies.ensures.written
 
 pub returns-in-Err-clause-written : goal.returns-in-Err-clause-written
 returns-in-Err-clause-written g c =
-    faults_written command.Policies (styles_of c.args.words.now) c.refused.result c.args.text.now c.in-Err.failure _ _ c.in-Err.ensures.refused c.refused.ensures.verdict c.refused.ensures.written
+    faults_written command.Policies (table_of c.args.styles.now) c.print_failure.result c.args.text.now c.in-Err.failure _ _ c.in-Err.ensures.refused c.print_failure.ensures.verdict c.print_failure.ensures.written

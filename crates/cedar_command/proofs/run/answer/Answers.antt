@@ -8,5 +8,5 @@ returns-in_err-text-clause-stops g c =
     (unread _ _ _ _ c.in_err-text.ensures.err)
 
 pub returns-clause-stops : goal.returns-clause-stops
-returns-clause-stops g c = not_answered c.passed_on.result _ _ _ c.in_ok-text.ensures.ok
-    (known_utf8 _ _ _ c.in_ok-text.ensures.text c.as_str.ensures.value c.as_str.utf8) c.passed_on.ensures.stops
+returns-clause-stops g c = not_answered c.answer_text.result _ _ _ c.in_ok-text.ensures.ok
+    (known_utf8 _ _ _ c.in_ok-text.ensures.text c.as_str.ensures.value c.as_str.utf8) c.answer_text.ensures.stops

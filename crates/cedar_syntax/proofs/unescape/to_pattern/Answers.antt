@@ -2,8 +2,8 @@ use Rattle.std.proofs.Common.{rules, ◌≡◌, ◌≤◌, ◌++◌, ◌∷◌, 
 use Rattle.std.specs.Prelude.{Vec, Some}
 use Rattle.std.specs.declared.alloc.Global.{Global}
 use Rattle.std.specs.Str.{IsUtf8, chars}
-use Rattle.cedar_expressions.specs.declared.literal.PatternElem.{PatternElem}
-use Rattle.cedar_expressions.specs.declared.literal.PatternElem.TheVariants.{Char}
+use Rattle.cedar_expressions.specs.declared.atoms.PatternElem.{PatternElem}
+use Rattle.cedar_expressions.specs.declared.atoms.PatternElem.TheVariants.{Char}
 use Rattle.cedar_syntax.specs.declared.err.escape.EscapeError.{EscapeError}
 use Rattle.cedar_syntax.specs.declared.err.escape.UnescapeError.{UnescapeError}
 use Rattle.cedar_syntax.specs.declared.unescape.piece.PieceValue.{PieceValue}

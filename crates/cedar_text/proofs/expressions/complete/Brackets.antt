@@ -1,5 +1,5 @@
 -- Brackets: around an expression, and around lists of expressions and of a record's pairs.
-use Rattle.std.proofs.Common.{◌≡◌, ℕ, List, [], ◌∷◌, ◌++◌, Option, Some, false, refl, ◌∙◌, ap}
+use Rattle.std.proofs.Common.{◌≡◌, ℕ, List, [], ◌∷◌, ◌++◌, Option, Some, false, refl, ◌∙◌, ap, None}
 use Rattle.cedar_lexer.specs.Token.{Lexeme}
 use Rattle.cedar_lexer.specs.declared.token.TokenKind.{TokenKind}
 use Rattle.cedar_lexer.specs.declared.token.TokenKind.TheVariants as kind
@@ -14,7 +14,7 @@ use Rattle.cedar_text.specs.declared.text_to_cst.expression.state.Signs.{Signs}
 use Rattle.cedar_text.specs.declared.text_to_cst.expression.state.Operand.{Operand}
 use Rattle.cedar_text.specs.declared.text_to_cst.expression.state.Call.{Call}
 use Rattle.cedar_text.specs.declared.text_to_cst.expression.state.Record.{Record}
-use Rattle.cedar_text.specs.declared.text_to_cst.expression.state.Value.{Value}
+use Rattle.cedar_text.specs.declared.text_to_cst.expression.state.Key.{Key}
 use Rattle.cedar_text.specs.declared.text_to_cst.expression.state.Frame.{Frame}
 use Rattle.cedar_text.specs.declared.text_to_cst.expression.state.Frame.TheVariants as frame
 use Rattle.cedar_text.specs.declared.text_to_cst.expression.state.Place.{Place}
@@ -31,10 +31,10 @@ use Rattle.cedar_text.specs.machines.Named.{joins_words}
 use Rattle.cedar_text.specs.machines.Closing.{ranged_tree, node_of, whole, fresh, with_access}
 use Rattle.cedar_text.specs.machines.ExpressionStates.{state, opening, has_operand, has_primary}
 use Rattle.cedar_text.specs.machines.Wanting.{set_with, record_with, set_closing, record_closing, call_closing}
-use Rattle.cedar_text.specs.machines.Having.{having, record_more, frame_ending}
-use Rattle.cedar_text.proofs.expressions.complete.Runs.{chain_extent, at, Setting, next_of, run, two, three, token, StandsAt, met}
+use Rattle.cedar_text.specs.machines.Having.{record_more, frame_ending}
+use Rattle.cedar_text.proofs.expressions.complete.Runs.{having, chain_extent, at, Setting, run, two, three, token, StandsAt, met}
 use Rattle.cedar_text.proofs.expressions.complete.Words.{PrimaryAt, had_at}
-use Rattle.cedar_text.proofs.expressions.complete.If.{if_runs, if_key_runs}
+use Rattle.cedar_text.proofs.expressions.complete.If.{if_runs, if_key_runs, no_key, with_key}
 use Rattle.cedar_text.proofs.expressions.complete.Members.{AccessRuns, begins_access, around_is}
 use Rattle.cedar_text.proofs.expressions.complete.Levels.{ExprAt}
 
@@ -49,7 +49,7 @@ paren_runs {src = src} c st lv pl sg ts l m x h =
     let inside = paren_frame lv sg l ∷ st in
     had_at c st lv pl sg (one kind.OpenParen l ++ ts ++ one kind.CloseParen m) (primary.Expr (placed src ts x))
     (three c (Some (state st lv (mode.Want pl sg))) (Some (opening inside [] place.Expr)) _ _ (one kind.OpenParen l) ts (one kind.CloseParen m) refl h.goes
-    (met c inside h.levels h.md h.last kind.CloseParen m h.at_it refl ∙ ap (λ o. next_of (frame_ending src inside o closing.Paren (at m))) h.is)
+    (met c inside h.levels h.md h.last kind.CloseParen m h.at_it refl ∙ ap (λ o. (frame_ending src inside o closing.Paren (at m))) h.is)
     ∙ ap (λ q. Some (has_primary src st lv sg (ranged_tree q (primary.Expr (placed src ts x))))) (around_is ts kind.OpenParen kind.CloseParen l m))
 
 abbrev pub index_frame : Levels → Operand → Spot → Frame
@@ -60,15 +60,15 @@ pub index_runs : {src : List ℕ} (c : Setting src) (ts : List Lexeme) (l m : Sp
 index_runs {src = src} c ts l m x g st lv md u s a =
     let inside = index_frame lv u l ∷ st in
     let h = g (index_frame lv u l) st in
-    three c (Some (state st lv md)) (Some (opening inside [] place.Expr)) _ _ (one kind.OpenBracket l) ts (one kind.CloseBracket m) (met c st lv md u kind.OpenBracket l s refl ∙ begins_access st lv u opens.Bracket (at l) a) h.goes
-    (met c inside h.levels h.md h.last kind.CloseBracket m h.at_it refl ∙ ap (λ o. next_of (frame_ending src inside o closing.Bracket (at m))) h.is)
+    three c (Some (state st lv md)) (Some (opening inside [] place.Expr)) _ _ (one kind.OpenBracket l) ts (one kind.CloseBracket m) (met c st lv md u kind.OpenBracket l s refl ∙ begins_access src st lv u opens.Bracket (at l) a) h.goes
+    (met c inside h.levels h.md h.last kind.CloseBracket m h.at_it refl ∙ ap (λ o. (frame_ending src inside o closing.Bracket (at m))) h.is)
     ∙ ap (λ q. Some (has_operand st lv (with_access src u (ranged_tree q (access.Index (placed src ts x)))))) (around_is ts kind.OpenBracket kind.CloseBracket l m)
 
 -- lists of expressions: what a comma and the closing kind do within this frame
 pub record IsList {src : List ℕ} (c : Setting src) (st : List Frame) (f : List (Cell Expr) → Frame) (k : TokenKind) (done : List (Cell Expr) → Extent → State) : Type 0 where
   pub comma : (xs : List (Cell Expr)) (lv : Levels) (m : Operand) (p : Spot) →
-      next_of (having c.wanted src (f xs ∷ st) lv m (token kind.Comma p)) ≡ Some (opening (f (xs ++ node_of src (whole src lv m) ∷ []) ∷ st) [] place.Item)
-  pub closes : (xs : List (Cell Expr)) (lv : Levels) (m : Operand) (p : Spot) → next_of (having c.wanted src (f xs ∷ st) lv m (token k p)) ≡ Some (done (xs ++ node_of src (whole src lv m) ∷ []) (at p))
+      (having c.wanted src (f xs ∷ st) lv m (token kind.Comma p)) ≡ Some (opening (f (xs ++ node_of src (whole src lv m) ∷ []) ∷ st) [] place.Item)
+  pub closes : (xs : List (Cell Expr)) (lv : Levels) (m : Operand) (p : Spot) → (having c.wanted src (f xs ∷ st) lv m (token k p)) ≡ Some (done (xs ++ node_of src (whole src lv m) ∷ []) (at p))
   pub empty : (xs : List (Cell Expr)) (p : Spot) → run c (Some (opening (f xs ∷ st) [] place.Item)) (one k p) ≡ Some (done xs (at p))
   pub apart : joins_words k ≡ false
 
@@ -150,7 +150,7 @@ call_list c st lv u l = record { comma = λ xs w m p. refl; closes = λ xs w m p
 pub call_runs : {src : List ℕ} (c : Setting src) (ts : List Lexeme) (l m : Spot) (xs : List (Cell Expr)) → ((st : List Frame) (lv : Levels) (u : Operand) → ListRuns c st (call_frame lv u l) kind.CloseParen (call_done c st lv u l) ts xs) →
     AccessRuns c (one kind.OpenParen l ++ ts ++ one kind.CloseParen m) (access.Call xs)
 call_runs {src = src} c ts l m xs g st lv md u s a =
-    three c (Some (state st lv md)) (Some (opening (call_frame lv u l [] ∷ st) [] place.Item)) _ _ (one kind.OpenParen l) ts (one kind.CloseParen m) (met c st lv md u kind.OpenParen l s refl ∙ begins_access st lv u opens.Paren (at l) a) refl
+    three c (Some (state st lv md)) (Some (opening (call_frame lv u l [] ∷ st) [] place.Item)) _ _ (one kind.OpenParen l) ts (one kind.CloseParen m) (met c st lv md u kind.OpenParen l s refl ∙ begins_access src st lv u opens.Paren (at l) a) refl
     (g st lv u m)
     ∙ ap (λ q. Some (has_operand st lv (with_access src u (ranged_tree q (access.Call xs))))) (around_is ts kind.OpenParen kind.CloseParen l m)
 
@@ -158,75 +158,77 @@ call_runs {src = src} c ts l m xs g st lv md u s a =
 
 -- a value is pending, which makes the pair whole
 pub record PairAt {src : List ℕ} (c : Setting src) (st : List Frame) (f : Record) (ts : List Lexeme) (x : RecInit) : Type 0 where
-  pub value : Value
+  pub key : Key
   pub levels : Levels
   pub md : Mode
   pub last : Operand
-  pub is : record_more src value (whole src levels last) ≡ record_with f.outer f.signs f.opened (f.items ++ placed src ts x ∷ [])
-  pub at_it : StandsAt c (frame.Value value ∷ st) levels md last
-  pub goes : run c (Some (opening (frame.Key f ∷ st) [] place.Key)) ts ≡ Some (state (frame.Value value ∷ st) levels md)
+  pub is : record_more src f key (whole src levels last) ≡ record_with f.outer f.signs f.opened (f.items ++ placed src ts x ∷ []) None
+  pub at_it : StandsAt c (frame.Record (with_key f key) ∷ st) levels md last
+  pub goes : run c (Some (opening (frame.Record (no_key f) ∷ st) [] place.Key)) ts ≡ Some (state (frame.Record (with_key f key) ∷ st) levels md)
 
-abbrev pub value_of : {src : List ℕ} → Setting src → Record → List Lexeme → Expr → Spot → Value
-value_of {src = src} c f ts x p = record { pairs = f; key = placed src ts x; extent = joint_extent (extent ts) (Some (at p)) }
+abbrev pub key_of : {src : List ℕ} → Setting src → List Lexeme → Expr → Spot → Key
+key_of {src = src} c ts x p = record { node = placed src ts x; extent = joint_extent (extent ts) (Some (at p)) }
 
 -- with a key that has been read
 keyed : {src : List ℕ} (c : Setting src) (st : List Frame) (f : Record) (ts us : List Lexeme) (x y : Expr) (p : Spot) →
-    run c (Some (opening (frame.Key f ∷ st) [] place.Key)) (ts ++ one kind.Colon p) ≡ Some (opening (frame.Value (value_of c f ts x p) ∷ st) [] place.Expr) → ExprAt c (frame.Value (value_of c f ts x p) ∷ st) [] place.Expr us y →
+    run c (Some (opening (frame.Record (no_key f) ∷ st) [] place.Key)) (ts ++ one kind.Colon p) ≡ Some (opening (frame.Record (with_key f (key_of c ts x p)) ∷ st) [] place.Expr) → ExprAt c (frame.Record (with_key f (key_of c ts x p)) ∷ st) [] place.Expr us y →
     PairAt c st f (ts ++ one kind.Colon p ++ us) (rec_init_of (placed src ts x) (placed src us y))
 keyed {src = src} c st f ts us x y p e h = record {
-  value = value_of c f ts x p;
+  key = key_of c ts x p;
   levels = h.levels;
   md = h.md;
   last = h.last;
-  is = ap (λ z. record_more src (value_of c f ts x p) z) h.is
-      ∙ ap (λ q. record_with f.outer f.signs f.opened (f.items ++ node_at src q (rec_init_of (placed src ts x) (placed src us y)) ∷ [])) (chain_extent ts us kind.Colon p);
+  is = ap (λ z. record_more src f (key_of c ts x p) z) h.is
+      ∙ ap (λ q. record_with f.outer f.signs f.opened (f.items ++ node_at src q (rec_init_of (placed src ts x) (placed src us y)) ∷ []) None) (chain_extent ts us kind.Colon p);
   at_it = h.at_it;
-  goes = two c (Some (opening (frame.Key f ∷ st) [] place.Key)) _ _ (ts ++ one kind.Colon p) us e h.goes;
+  goes = two c (Some (opening (frame.Record (no_key f) ∷ st) [] place.Key)) _ _ (ts ++ one kind.Colon p) us e h.goes;
 }
 
-pub pairs : {src : List ℕ} (c : Setting src) (st : List Frame) (f : Record) (ts us : List Lexeme) (x y : Expr) (p : Spot) → ExprAt c (frame.Key f ∷ st) [] place.Key ts x → ExprAt c (frame.Value (value_of c f ts x p) ∷ st) [] place.Expr us y →
+pub pairs : {src : List ℕ} (c : Setting src) (st : List Frame) (f : Record) (ts us : List Lexeme) (x y : Expr) (p : Spot) → ExprAt c (frame.Record (no_key f) ∷ st) [] place.Key ts x → ExprAt c (frame.Record (with_key f (key_of c ts x p)) ∷ st) [] place.Expr us y →
     PairAt c st f (ts ++ one kind.Colon p ++ us) (rec_init_of (placed src ts x) (placed src us y))
 pairs {src = src} c st f ts us x y p h g =
     keyed c st f ts us x y p
-    (two c (Some (opening (frame.Key f ∷ st) [] place.Key)) _ _ ts (one kind.Colon p) h.goes
-    (met c (frame.Key f ∷ st) h.levels h.md h.last kind.Colon p h.at_it refl ∙ ap (λ o. next_of (frame_ending src (frame.Key f ∷ st) o closing.Colon (at p))) h.is)) g
+    (two c (Some (opening (frame.Record (no_key f) ∷ st) [] place.Key)) _ _ ts (one kind.Colon p) h.goes
+    (met c (frame.Record (no_key f) ∷ st) h.levels h.md h.last kind.Colon p h.at_it refl ∙ ap (λ o. frame_ending src (frame.Record (no_key f) ∷ st) o closing.Colon (at p)) h.is)) g
 
-pub if_pairs : {src : List ℕ} (c : Setting src) (st : List Frame) (f : Record) (ts : List Lexeme) (y : Expr) (p q : Spot) → ((v : Value) → ExprAt c (frame.Value v ∷ st) [] place.Expr ts y) →
+pub if_pairs : {src : List ℕ} (c : Setting src) (st : List Frame) (f : Record) (ts : List Lexeme) (y : Expr) (p q : Spot) → ((k : Key) → ExprAt c (frame.Record (with_key f k) ∷ st) [] place.Expr ts y) →
     PairAt c st f (one kind.If p ++ one kind.Colon q ++ ts) (rec_init_of (placed src (one kind.If p) (lone_expr src (one kind.If p) (member_of (placed src (one kind.If p) (if_name src p)) []))) (placed src ts y))
 if_pairs {src = src} c st f ts y p q g =
     let x : Expr = lone_expr src (one kind.If p) (member_of (placed src (one kind.If p) (if_name src p)) []) in
-    let i = if_runs c (frame.Key f ∷ st) (fresh []) place.Key p in
-    keyed c st f (one kind.If p) ts x y q (two c (Some (opening (frame.Key f ∷ st) [] place.Key)) _ _ (one kind.If p) (one kind.Colon q) i.goes (if_key_runs c st f (fresh []) p q i)) (g (value_of c f (one kind.If p) x q))
+    let i = if_runs c (frame.Record (no_key f) ∷ st) (fresh []) place.Key p in
+    keyed c st f (one kind.If p) ts x y q (two c (Some (opening (frame.Record (no_key f) ∷ st) [] place.Key)) _ _ (one kind.If p) (one kind.Colon q) i.goes (if_key_runs c st f (fresh []) p q i)) (g (key_of c (one kind.If p) x q))
 
 -- the pairs of a record
 
-abbrev pub key_frame : Levels → Signs → Spot → List (Cell RecInit) → Record
-key_frame lv sg l xs = record_with lv sg (at l) xs
+abbrev pub pairs_so_far : Levels → Signs → Spot → List (Cell RecInit) → Record
+pairs_so_far lv sg l xs = record_with lv sg (at l) xs None
 
 abbrev keys_open : List Frame → Levels → Signs → Spot → List (Cell RecInit) → Option State
-keys_open st lv sg l xs = Some (opening (frame.Key (key_frame lv sg l xs) ∷ st) [] place.Key)
+keys_open st lv sg l xs = Some (opening (frame.Record (pairs_so_far lv sg l xs) ∷ st) [] place.Key)
 
 pub record PairsAt {src : List ℕ} (c : Setting src) (st : List Frame) (lv : Levels) (sg : Signs) (l : Spot) (ts : List Lexeme) (xs : List (Cell RecInit)) : Type 0 where
-  pub value : Value
+  pub before : Record
+  pub key : Key
   pub levels : Levels
   pub md : Mode
   pub last : Operand
-  pub is : record_more src value (whole src levels last) ≡ key_frame lv sg l xs
-  pub at_it : StandsAt c (frame.Value value ∷ st) levels md last
-  pub goes : run c (keys_open st lv sg l []) ts ≡ Some (state (frame.Value value ∷ st) levels md)
+  pub is : record_more src before key (whole src levels last) ≡ pairs_so_far lv sg l xs
+  pub at_it : StandsAt c (frame.Record (with_key before key) ∷ st) levels md last
+  pub goes : run c (keys_open st lv sg l []) ts ≡ Some (state (frame.Record (with_key before key) ∷ st) levels md)
 
-pub one_pairs : {src : List ℕ} (c : Setting src) (st : List Frame) (lv : Levels) (sg : Signs) (l : Spot) (ts : List Lexeme) (x : RecInit) → PairAt c st (key_frame lv sg l []) ts x → PairsAt c st lv sg l ts (placed src ts x ∷ [])
-one_pairs c st lv sg l ts x h = record { value = h.value; levels = h.levels; md = h.md; last = h.last; is = h.is; at_it = h.at_it; goes = h.goes }
+pub one_pairs : {src : List ℕ} (c : Setting src) (st : List Frame) (lv : Levels) (sg : Signs) (l : Spot) (ts : List Lexeme) (x : RecInit) → PairAt c st (pairs_so_far lv sg l []) ts x → PairsAt c st lv sg l ts (placed src ts x ∷ [])
+one_pairs c st lv sg l ts x h = record { before = pairs_so_far lv sg l []; key = h.key; levels = h.levels; md = h.md; last = h.last; is = h.is; at_it = h.at_it; goes = h.goes }
 
 pair_comma : {src : List ℕ} (c : Setting src) (st : List Frame) (lv : Levels) (sg : Signs) (l : Spot) (ts : List Lexeme) (xs : List (Cell RecInit)) (p : Spot) → PairsAt c st lv sg l ts xs → run c (keys_open st lv sg l []) (ts ++ one kind.Comma p) ≡ keys_open st lv sg l xs
 pair_comma c st lv sg l ts xs p h =
     two c (keys_open st lv sg l []) _ _ ts (one kind.Comma p) h.goes
-    (met c (frame.Value h.value ∷ st) h.levels h.md h.last kind.Comma p h.at_it refl ∙ ap (λ f. Some (opening (frame.Key f ∷ st) [] place.Key)) h.is)
+    (met c (frame.Record (with_key h.before h.key) ∷ st) h.levels h.md h.last kind.Comma p h.at_it refl ∙ ap (λ f. Some (opening (frame.Record f ∷ st) [] place.Key)) h.is)
 
-pub further_pairs : {src : List ℕ} (c : Setting src) (st : List Frame) (lv : Levels) (sg : Signs) (l : Spot) (ts us : List Lexeme) (xs : List (Cell RecInit)) (y : RecInit) (p : Spot) → PairsAt c st lv sg l ts xs → PairAt c st (key_frame lv sg l xs) us y →
+pub further_pairs : {src : List ℕ} (c : Setting src) (st : List Frame) (lv : Levels) (sg : Signs) (l : Spot) (ts us : List Lexeme) (xs : List (Cell RecInit)) (y : RecInit) (p : Spot) → PairsAt c st lv sg l ts xs → PairAt c st (pairs_so_far lv sg l xs) us y →
     PairsAt c st lv sg l (ts ++ one kind.Comma p ++ us) (xs ++ placed src us y ∷ [])
 further_pairs c st lv sg l ts us xs y p h g = record {
-  value = g.value;
+  before = pairs_so_far lv sg l xs;
+  key = g.key;
   levels = g.levels;
   md = g.md;
   last = g.last;
@@ -236,14 +238,14 @@ further_pairs c st lv sg l ts us xs y p h g = record {
 }
 
 abbrev pub RecordRuns : {src : List ℕ} → Setting src → List Frame → Levels → Signs → Spot → List Lexeme → List (Cell RecInit) → Type 0
-RecordRuns {src = src} c st lv sg l ts xs = (p : Spot) → run c (run c (keys_open st lv sg l []) ts) (one kind.CloseBrace p) ≡ Some (record_closing src st (key_frame lv sg l xs) (at p))
+RecordRuns {src = src} c st lv sg l ts xs = (p : Spot) → run c (run c (keys_open st lv sg l []) ts) (one kind.CloseBrace p) ≡ Some (record_closing src st (pairs_so_far lv sg l xs) (at p))
 
 pub no_pairs_close : {src : List ℕ} (c : Setting src) (st : List Frame) (lv : Levels) (sg : Signs) (l : Spot) → RecordRuns c st lv sg l [] []
 no_pairs_close c st lv sg l p = refl
 
 pub pairs_close : {src : List ℕ} (c : Setting src) (st : List Frame) (lv : Levels) (sg : Signs) (l : Spot) (ts : List Lexeme) (xs : List (Cell RecInit)) → PairsAt c st lv sg l ts xs → RecordRuns c st lv sg l ts xs
 pairs_close {src = src} c st lv sg l ts xs h p =
-    ap (λ s. run c s (one kind.CloseBrace p)) h.goes ∙ met c (frame.Value h.value ∷ st) h.levels h.md h.last kind.CloseBrace p h.at_it refl
+    ap (λ s. run c s (one kind.CloseBrace p)) h.goes ∙ met c (frame.Record (with_key h.before h.key) ∷ st) h.levels h.md h.last kind.CloseBrace p h.at_it refl
     ∙ ap (λ f. Some (record_closing src st f (at p))) h.is
 
 pub pairs_comma_close : {src : List ℕ} (c : Setting src) (st : List Frame) (lv : Levels) (sg : Signs) (l : Spot) (ts : List Lexeme) (xs : List (Cell RecInit)) (q : Spot) → PairsAt c st lv sg l ts xs → RecordRuns c st lv sg l (ts ++ one kind.Comma q) xs

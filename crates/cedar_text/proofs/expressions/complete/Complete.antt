@@ -38,18 +38,23 @@ use Rattle.cedar_syntax.specs.Place.{extent, placed}
 use Rattle.cedar_syntax.specs.Tokens.{Spot, one}
 use Rattle.cedar_syntax.specs.Trees.{Cell, bangs_of, dashes_of}
 use Rattle.cedar_syntax.specs.LooseExpressions.{if_name, ReadsExpr, or_expr, if_expr, ReadsOr, or, ReadsAnds, one_and, more_and, ReadsAnd, and, ReadsRelations, one_relation, more_relation, ReadsRelation, common, has, has_if, like, is, is_in, ReadsAdds, one_add, more_add, ReadsAdd, add, ReadsMults, one_mult, more_mult, ReadsMult, mult, ReadsUnaries, one_unary, more_unary, ReadsUnary, plain, banged, dashed, ReadsMember, member, ReadsAccesses, no_access, more_access, ReadsAccess, field, call, index, ReadsPrimary, literally, referred, named, slotted, paren, set, in_braces, ReadsExprs, no_expr, exprs, exprs_comma, ReadsExprItems, one_expr, more_exprs, ReadsRecInits, no_init, inits, inits_comma, ReadsInitItems, one_init, more_inits, ReadsRecInit, rec_init, if_init}
-use Rattle.cedar_syntax.specs.machines.Door.{Machine, answer_state, steps, RunsTo, Door, option_image}
-use Rattle.cedar_text.specs.machines.Named.{ReadsNamed, IsWords}
+use Rattle.cedar_syntax.specs.machines.Door.{Machine, machine_of, answer_state, steps, RunsTo, option_image}
+use Rattle.cedar_text.specs.machines.Named.{IsWords}
 use Rattle.cedar_text.specs.machines.Closing.{made_mult, made_add, made_and, made_or, whole, add_at, fresh, no_signs, signs_of, operand_with, ranged_tree}
-use Rattle.cedar_text.specs.machines.ExpressionStates.{state, opening, edge}
-use Rattle.cedar_text.specs.machines.Expressions.{step_of, expr_at_end, sum_at_end, primary_at_end, expressions, sums, primaries}
-use Rattle.cedar_text.proofs.expressions.complete.Runs.{at, Setting, next_of, run, StandsAt, Sums, a_sum, a_whole, Accesses, if_accessed, sums_accessed, is_alone, is_first, not_alone, taken_next}
+use Rattle.cedar_text.specs.machines.ExpressionStates.{state, opening}
+use Rattle.cedar_text.specs.machines.ExpressionPlans.{edge}
+use Rattle.cedar_text.specs.machines.Expressions.{expr_at_end, sum_at_end, primary_at_end, expression_reader, sum_reader, primary_reader}
+use Rattle.cedar_text.specs.machines.ExpressionShapes.{WordOutline}
+use Rattle.cedar_text.proofs.expressions.Held.{Held}
+use Rattle.cedar_text.proofs.expressions.Stepping.{Names, takes_so}
+use Rattle.cedar_text.proofs.expressions.complete.If.{no_key, with_key}
+use Rattle.cedar_text.proofs.expressions.complete.Runs.{at, Setting, steps_to, run, StandsAt, Sums, a_sum, a_whole, Accesses, if_accessed, sums_accessed, is_alone, is_first, not_alone}
 use Rattle.cedar_text.proofs.expressions.complete.Words.{closed, PrimaryAt, literal_runs, slot_runs, name_runs, ref_runs}
 use Rattle.cedar_text.proofs.expressions.complete.Members.{AccessesAt, no_accesses, AccessRuns, more_accesses, field_runs, MemberAt, members, bangs_run, dashes_run, UnaryAt, plains, signeds}
 use Rattle.cedar_text.proofs.expressions.complete.Sums.{chain, at_add, MultAt, AddAt, one_unaries, more_unaries, one_mults, more_mults, mult_made, add_made}
 use Rattle.cedar_text.proofs.expressions.complete.Relations.{CommonAt, RelationAt, one_adds, more_adds, commons, sides, has_ifs, is_ins}
 use Rattle.cedar_text.proofs.expressions.complete.Levels.{AndAt, OrAt, ExprAt, one_relations, more_relations, and_made, one_ands, more_ands, or_made, or_exprs, if_exprs}
-use Rattle.cedar_text.proofs.expressions.complete.Brackets.{paren_runs, paren_frame, index_runs, IsList, ItemsAt, one_exprs, further_exprs, ListRuns, items_close, comma_closes, set_list, set_runs, call_list, call_runs, PairAt, pairs, if_pairs, PairsAt, one_pairs, further_pairs, RecordRuns, no_pairs_close, pairs_close, pairs_comma_close, key_frame, braces_run}
+use Rattle.cedar_text.proofs.expressions.complete.Brackets.{paren_runs, paren_frame, index_runs, IsList, ItemsAt, one_exprs, further_exprs, ListRuns, items_close, comma_closes, set_list, set_runs, call_list, call_runs, PairAt, pairs, if_pairs, PairsAt, one_pairs, further_pairs, RecordRuns, no_pairs_close, pairs_close, pairs_comma_close, pairs_so_far, braces_run}
 
 -- within brackets an operand goes on as a whole expression's
 abbrev Whole : {src : List ℕ} → Setting src → List Frame → Type 0
@@ -152,62 +157,59 @@ mutual
   inits_run c (inits_comma {ts = ts} {xs = xs} q r) st lv sg l = pairs_comma_close c st lv sg l ts xs q (pairs_run c r st lv sg l)
 
   pairs_run : {src : List ℕ} (c : Setting src) {ts : List Lexeme} {xs : List (Cell RecInit)} → ReadsInitItems src ts xs → (st : List Frame) (lv : Levels) (sg : Signs) (l : Spot) → PairsAt c st lv sg l ts xs
-  pairs_run c (one_init {ts = ts} {x = x} r) st lv sg l = one_pairs c st lv sg l ts x (pair_runs c r st (key_frame lv sg l []))
-  pairs_run c (more_inits {ts = ts} {us = us} {xs = xs} {y = y} p r s) st lv sg l = further_pairs c st lv sg l ts us xs y p (pairs_run c r st lv sg l) (pair_runs c s st (key_frame lv sg l xs))
+  pairs_run c (one_init {ts = ts} {x = x} r) st lv sg l = one_pairs c st lv sg l ts x (pair_runs c r st (pairs_so_far lv sg l []))
+  pairs_run c (more_inits {ts = ts} {us = us} {xs = xs} {y = y} p r s) st lv sg l = further_pairs c st lv sg l ts us xs y p (pairs_run c r st lv sg l) (pair_runs c s st (pairs_so_far lv sg l xs))
 
   pair_runs : {src : List ℕ} (c : Setting src) {ts : List Lexeme} {x : RecInit} → ReadsRecInit src ts x → (st : List Frame) (f : Record) → PairAt c st f ts x
-  pair_runs c (rec_init {ts = ts} {us = us} {x = x} {y = y} p r s) st f = pairs c st f ts us x y p (expr_runs c r ((frame.Key f) ∷ st) [] place.Key refl refl) (expr_runs c s ((frame.Value _) ∷ st) [] place.Expr refl refl)
-  pair_runs c (if_init {ts = ts} {y = y} p q r) st f = if_pairs c st f ts y p q (λ v. expr_runs c r ((frame.Value v) ∷ st) [] place.Expr refl refl)
+  pair_runs c (rec_init {ts = ts} {us = us} {x = x} {y = y} p r s) st f = pairs c st f ts us x y p (expr_runs c r (frame.Record (no_key f) ∷ st) [] place.Key refl refl) (expr_runs c s (frame.Record (with_key f _) ∷ st) [] place.Expr refl refl)
+  pair_runs c (if_init {ts = ts} {y = y} p q r) st f = if_pairs c st f ts y p q (λ k. expr_runs c r (frame.Record (with_key f k) ∷ st) [] place.Expr refl refl)
 
 -- the three machines
 
-abbrev pub expression_setting : (src : List ℕ) (names : Machine Lexeme WordsState NameOrEntity) → Door names (ReadsNamed src) → IsWords names → Setting src
-expression_setting src names d i = record { wanted = form.Expr; names = names; door = d; words = i }
+abbrev pub expression_setting : {W K : Type 0} (src : List ℕ) (names : Names) (n : WordOutline W K) (f : WordsState → W) (g : NameOrEntity → K) → Held src names n f g → IsWords (machine_of src names) → Setting src
+expression_setting {W = W} {K = K} src names n f g h i = record { W = W; K = K; wanted = form.Expr; names = names; outline = n; shape = f; kind = g; held = h; words = i }
 
-abbrev pub sum_setting : (src : List ℕ) (names : Machine Lexeme WordsState NameOrEntity) → Door names (ReadsNamed src) → IsWords names → Setting src
-sum_setting src names d i = record { wanted = form.Sum; names = names; door = d; words = i }
+abbrev pub sum_setting : {W K : Type 0} (src : List ℕ) (names : Names) (n : WordOutline W K) (f : WordsState → W) (g : NameOrEntity → K) → Held src names n f g → IsWords (machine_of src names) → Setting src
+sum_setting {W = W} {K = K} src names n f g h i = record { W = W; K = K; wanted = form.Sum; names = names; outline = n; shape = f; kind = g; held = h; words = i }
 
-abbrev pub primary_setting : (src : List ℕ) (names : Machine Lexeme WordsState NameOrEntity) → Door names (ReadsNamed src) → IsWords names → Setting src
-primary_setting src names d i = record { wanted = form.Primary; names = names; door = d; words = i }
+abbrev pub primary_setting : {W K : Type 0} (src : List ℕ) (names : Names) (n : WordOutline W K) (f : WordsState → W) (g : NameOrEntity → K) → Held src names n f g → IsWords (machine_of src names) → Setting src
+primary_setting {W = W} {K = K} src names n f g h i = record { W = W; K = K; wanted = form.Primary; names = names; outline = n; shape = f; kind = g; held = h; words = i }
 
 -- each takes a token as the run does
 abbrev pub GoesAs : {T : Type 0} {src : List ℕ} → Setting src → Machine Lexeme State T → Type 0
-GoesAs {src = src} c m = (s : State) (t : Lexeme) → answer_state (m.step s t) ≡ next_of (step_of c.wanted src c.names s t)
+GoesAs c m = (s : State) (t : Lexeme) → answer_state (m.step s t) ≡ steps_to c s t
 
 pub goes_as : {T : Type 0} {src : List ℕ} (c : Setting src) (m : Machine Lexeme State T) → GoesAs c m → (s : Option State) (ts : List Lexeme) → steps m s ts ≡ run c s ts
 goes_as c m g s [] = refl
 goes_as c m g None (t ∷ ts) = goes_as c m g None ts
 goes_as c m g (Some s) (t ∷ ts) = goes_as c m g (answer_state (m.step s t)) ts ∙ ap (λ o. run c o ts) (g s t)
 
-pub expressions_complete : (src : List ℕ) (names : Machine Lexeme WordsState NameOrEntity) → Door names (ReadsNamed src) → IsWords names → (ts : List Lexeme) (x : Expr) → ReadsExpr src ts x →
-    RunsTo (expressions src names) ts (ranged_tree (extent ts) x)
-expressions_complete src names d i ts x r =
-    let c = expression_setting src names d i in
+pub expressions_complete : {W K : Type 0} (src : List ℕ) (names : Names) (n : WordOutline W K) (f : WordsState → W) (g : NameOrEntity → K) → Held src names n f g → IsWords (machine_of src names) → (ts : List Lexeme) (x : Expr) → ReadsExpr src ts x → RunsTo (machine_of src (expression_reader names n f)) ts (ranged_tree (extent ts) x)
+expressions_complete src names n f g d i ts x r =
+    let c = expression_setting src names n f g d i in
     let h = expr_runs c r [] [] place.Expr refl refl in
     record {
       last = state [] h.levels h.md;
-      goes = goes_as c (expressions src names) (λ s t. taken_next (expr_at_end src names s) (step_of form.Expr src names s t)) (Some (opening [] [] place.Expr)) ts ∙ h.goes;
+      goes = goes_as c (machine_of src (expression_reader names n f)) (takes_so form.Expr src names n f (λ src s. expr_at_end src names s)) (Some (opening [] [] place.Expr)) ts ∙ h.goes;
       ends = ap (λ o. option_image (λ m. whole src h.levels m) o) h.at_it.ends ∙ ap (λ y. Some y) h.is;
     }
 
-pub sums_complete : (src : List ℕ) (names : Machine Lexeme WordsState NameOrEntity) → Door names (ReadsNamed src) → IsWords names → (ts : List Lexeme) (x : Add) → ReadsAdd src ts x →
-    RunsTo (sums src names) ts (ranged_tree (extent ts) x)
-sums_complete src names d i ts x r =
-    let c = sum_setting src names d i in
+pub sums_complete : {W K : Type 0} (src : List ℕ) (names : Names) (n : WordOutline W K) (f : WordsState → W) (g : NameOrEntity → K) → Held src names n f g → IsWords (machine_of src names) → (ts : List Lexeme) (x : Add) → ReadsAdd src ts x → RunsTo (machine_of src (sum_reader names n f)) ts (ranged_tree (extent ts) x)
+sums_complete src names n f g d i ts x r =
+    let c = sum_setting src names n f g d i in
     let h = add_runs c r [] (fresh []) place.Operand refl a_sum in
     record {
       last = state [] (at_add (fresh []) h.s h.m) h.md;
-      goes = goes_as c (sums src names) (λ s t. taken_next (sum_at_end src names s) (step_of form.Sum src names s t)) (Some (opening [] [] place.Operand)) ts ∙ h.goes;
+      goes = goes_as c (machine_of src (sum_reader names n f)) (takes_so form.Sum src names n f (λ src s. sum_at_end src names s)) (Some (opening [] [] place.Operand)) ts ∙ h.goes;
       ends = ap (λ o. option_image (λ m. add_at src (at_add (fresh []) h.s h.m) m) o) h.at_it.ends ∙ ap (λ y. Some y) h.is;
     }
 
-pub primaries_complete : (src : List ℕ) (names : Machine Lexeme WordsState NameOrEntity) → Door names (ReadsNamed src) → IsWords names → (ts : List Lexeme) (x : Primary) → ReadsPrimary src ts x →
-    RunsTo (primaries src names) ts (placed src ts x)
-primaries_complete src names d i ts x r =
-    let c = primary_setting src names d i in
+pub primaries_complete : {W K : Type 0} (src : List ℕ) (names : Names) (n : WordOutline W K) (f : WordsState → W) (g : NameOrEntity → K) → Held src names n f g → IsWords (machine_of src names) → (ts : List Lexeme) (x : Primary) → ReadsPrimary src ts x → RunsTo (machine_of src (primary_reader names n f)) ts (placed src ts x)
+primaries_complete src names n f g d i ts x r =
+    let c = primary_setting src names n f g d i in
     let h = primary_runs c r [] (fresh []) place.Primary no_signs in
     record {
       last = state [] (fresh []) h.md;
-      goes = goes_as c (primaries src names) (λ s t. taken_next (primary_at_end src names s) (step_of form.Primary src names s t)) (Some (opening [] [] place.Primary)) ts ∙ h.goes;
+      goes = goes_as c (machine_of src (primary_reader names n f)) (takes_so form.Primary src names n f (λ src s. primary_at_end src names s)) (Some (opening [] [] place.Primary)) ts ∙ h.goes;
       ends = ap (λ o. option_image (λ m. m.item) o) h.at_it.ends;
     }

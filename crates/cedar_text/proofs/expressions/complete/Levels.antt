@@ -27,10 +27,12 @@ use Rattle.cedar_syntax.specs.Place.{joint_extent, extent, placed}
 use Rattle.cedar_syntax.specs.Tokens.{Spot, one}
 use Rattle.cedar_syntax.specs.Trees.{Cell, expr_of, if_of, or_of, and_of}
 use Rattle.cedar_text.specs.machines.Closing.{ranged_tree, Plain, plain_chain, onward, unary_at, made_mult, made_add, made_and, made_or, made_expr, marked_chain, relation_with_sum, with_branches, whole, levels_of, fresh}
-use Rattle.cedar_text.specs.machines.ExpressionStates.{state, opening, reach_of}
-use Rattle.cedar_text.specs.machines.Having.{conjunction_beginning, disjunction_beginning, and_had, or_had, branch_of, frame_ending}
+use Rattle.cedar_text.specs.machines.ExpressionStates.{state, opening}
+use Rattle.cedar_text.specs.machines.Having.{conjunction_beginning, disjunction_beginning, branch_of, frame_ending}
 use Rattle.cedar_syntax.specs.declared.reading.class.Closing.TheVariants as closing
-use Rattle.cedar_text.proofs.expressions.complete.Runs.{extent-append, at, Setting, next_of, run, two, three, StandsAt, met, Joins, an_if, all_joins, is_first}
+use Rattle.cedar_syntax.specs.declared.reading.class.Operator.TheVariants as operator
+use Rattle.cedar_text.proofs.expressions.Stepping.{had}
+use Rattle.cedar_text.proofs.expressions.complete.Runs.{reach_at, extent-append, at, Setting, run, two, three, StandsAt, met, Joins, an_if, all_joins, is_first}
 use Rattle.cedar_text.proofs.expressions.complete.Words.{closed}
 use Rattle.cedar_text.proofs.expressions.complete.If.{if_runs, guard_frame, guard_runs}
 use Rattle.cedar_text.proofs.expressions.complete.Sums.{chain, linked_more, begin_at, Goes}
@@ -50,7 +52,7 @@ pub record AndAt {src : List ℕ} (c : Setting src) (st : List Frame) (lv : Leve
   pub md : Mode
   pub last : Operand
   pub is : P (plain_chain src a (relation_with_sum src r (made_add (marked_chain src s (made_mult (marked_chain src m (unary_at src last)))))))
-  pub joins : Joins (reach_of c.wanted st last)
+  pub joins : Joins (reach_at c.wanted st last)
   pub at_it : StandsAt c st (at_and lv a r s m) md last
   pub goes : Goes c st (at_and lv None None None None) pl ts (at_and lv a r s m) md
 
@@ -63,7 +65,7 @@ pub record OrAt {src : List ℕ} (c : Setting src) (st : List Frame) (lv : Level
   pub md : Mode
   pub last : Operand
   pub is : P (plain_chain src o (made_and (plain_chain src a (relation_with_sum src r (made_add (marked_chain src s (made_mult (marked_chain src m (unary_at src last)))))))))
-  pub joins : Joins (reach_of c.wanted st last)
+  pub joins : Joins (reach_at c.wanted st last)
   pub at_it : StandsAt c st (at_or lv o a r s m) md last
   pub goes : Goes c st (at_or lv None None None None None) pl ts (at_or lv o a r s m) md
 
@@ -77,7 +79,7 @@ pub record ExprAt {src : List ℕ} (c : Setting src) (st : List Frame) (bs : Lis
 
 -- `&&`
 
-conjoins : (src : List ℕ) (st : List Frame) (lv : Levels) (u : Operand) (e : Extent) {r : Reach} → Joins r → next_of (and_had src st lv u r e) ≡ Some (conjunction_beginning src st lv u e)
+conjoins : (src : List ℕ) (st : List Frame) (lv : Levels) (u : Operand) (e : Extent) {r : Reach} → Joins r → had src st lv u r operator.And e ≡ Some (conjunction_beginning src st lv u e)
 conjoins src st lv u e an_if = refl
 conjoins src st lv u e all_joins = refl
 
@@ -109,7 +111,7 @@ more_relations {src = src} c st lv pl ts us p x y xs h g =
 
 -- `||`
 
-disjoins : (src : List ℕ) (st : List Frame) (lv : Levels) (u : Operand) (e : Extent) {r : Reach} → Joins r → next_of (or_had src st lv u r e) ≡ Some (disjunction_beginning src st lv u e)
+disjoins : (src : List ℕ) (st : List Frame) (lv : Levels) (u : Operand) (e : Extent) {r : Reach} → Joins r → had src st lv u r operator.Or e ≡ Some (disjunction_beginning src st lv u e)
 disjoins src st lv u e an_if = refl
 disjoins src st lv u e all_joins = refl
 
@@ -185,8 +187,8 @@ if_exprs {src = src} c st bs pl ts us vs l m n x y z e g h k =
       at_it = w.at_it;
       goes = three c (Some (opening st bs pl)) _ (Some (opening st (b ∷ bs) place.Expr)) _ (one kind.If l ++ ts ++ one kind.Then m ++ us) (one kind.Else n) vs
           (three c (Some (opening st bs pl)) _ (Some (opening in_yes [] place.Expr)) _ (one kind.If l ++ ts) (one kind.Then m) us (guard_at c st bs pl ts l x e i)
-          (met c in_guard i.levels i.md i.last kind.Then m i.at_it refl ∙ ap (λ o. next_of (frame_ending src in_guard o closing.Then (at m))) i.is) j.goes)
-          (met c in_yes j.levels j.md j.last kind.Else n j.at_it refl ∙ ap (λ o. next_of (frame_ending src in_yes o closing.Else (at n))) j.is) w.goes;
+          (met c in_guard i.levels i.md i.last kind.Then m i.at_it refl ∙ ap (λ o. (frame_ending src in_guard o closing.Then (at m))) i.is) j.goes)
+          (met c in_yes j.levels j.md j.last kind.Else n j.at_it refl ∙ ap (λ o. (frame_ending src in_yes o closing.Else (at n))) j.is) w.goes;
     }
 
 -- the tree of a chain

@@ -1,6 +1,6 @@
 -- Accesses, and the signs before an operand.
-use Rattle.std.proofs.Common.{◌≡◌, ℕ, ◌+◌, List, [], ◌∷◌, ◌++◌, Option, Some, None, Bool, false, refl, sym, ◌∙◌, ap, subst}
-use Rattle.std.specs.Prelude.{cond}
+use Rattle.std.proofs.Common.{◌≡◌, ℕ, ◌+◌, List, [], ◌∷◌, ◌++◌, Option, Some, None, Bool, false, refl, sym, ◌∙◌, ap, subst, true}
+use Rattle.std.specs.Prelude.{cond, nat_le}
 use Rattle.cedar_lexer.specs.Token.{Lexeme}
 use Rattle.cedar_lexer.specs.declared.token.TokenKind.{TokenKind}
 use Rattle.cedar_lexer.specs.declared.token.TokenKind.TheVariants as kind
@@ -32,11 +32,26 @@ use Rattle.cedar_syntax.specs.Trees.{Cell, unary_of, member_of, bangs_of, dashes
 use Rattle.cedar_syntax.specs.LooseWords.{ReadsAny, any}
 use Rattle.cedar_syntax.specs.LooseExpressions.{ReadsSigns, one_sign, more_signs}
 use Rattle.cedar_text.specs.machines.Closing.{ranged_tree, unary_at, signs_of, no_signs, operand_with, with_access}
-use Rattle.cedar_text.specs.machines.ExpressionStates.{state, wants, has_operand, around, edge, reach_of}
+use Rattle.cedar_text.specs.machines.ExpressionStates.{state, wants, has_operand, around}
+use Rattle.cedar_text.specs.machines.ExpressionPlans.{edge}
 use Rattle.cedar_syntax.specs.machines.Classes.{with_sign}
-use Rattle.cedar_text.specs.machines.Wanting.{after_signs, sign_reading}
-use Rattle.cedar_text.specs.machines.Having.{access_beginning, access_had, field_reading}
-use Rattle.cedar_text.proofs.expressions.complete.Runs.{join-assoc, join-none, extent-append, at, bang_more, dash_more, Setting, next_of, run, two, StandsAt, stands, met, Accesses, if_accessed, sum_accessed, all_accessed, is_alone}
+use Rattle.cedar_text.specs.machines.Wanting.{after_signs}
+use Rattle.cedar_text.specs.machines.Having.{access_beginning, field_reading}
+use Rattle.cedar_syntax.specs.declared.reading.class.Operator.TheVariants as operator
+use Rattle.cedar_syntax.specs.declared.cst.NegOp.TheVariants as neg
+use Rattle.cedar_text.specs.declared.text_to_cst.expression.state.Act.TheVariants as act
+use Rattle.cedar_text.specs.declared.text_to_cst.expression.state.Begin.TheVariants as begin
+use Rattle.cedar_lexer.specs.Token.{Lexeme}
+use Rattle.cedar_syntax.specs.Signs.{sign_limit}
+use Rattle.cedar_syntax.specs.Tokens.{any_of}
+use Rattle.cedar_syntax.specs.Place.{extent_of}
+use Rattle.cedar_syntax.specs.machines.Door.{is_some, option_image}
+use Rattle.cedar_text.specs.machines.ExpressionShapes.{op_sign}
+use Rattle.cedar_text.specs.machines.ExpressionPlans.{may_sign, sign_may_stand}
+use Rattle.cedar_text.specs.machines.Expressions.{want_act, dot_act}
+use Rattle.cedar_text.proofs.machines.WordPlans.{same_any}
+use Rattle.cedar_text.proofs.expressions.Stepping.{Names, planned, had}
+use Rattle.cedar_text.proofs.expressions.complete.Runs.{reach_at, token, join-assoc, join-none, extent-append, at, bang_more, dash_more, Setting, run, two, StandsAt, stands, met, Accesses, if_accessed, sum_accessed, all_accessed, is_alone}
 use Rattle.cedar_text.proofs.expressions.complete.Words.{closed, PrimaryAt}
 
 -- an operand without accesses, and some accesses behind it
@@ -51,7 +66,7 @@ no_accesses c st lv md sg x e b h = record { after = md; at_it = subst (λ q. St
 
 -- one access, behind any operand that it may stand behind
 abbrev pub AccessRuns : {src : List ℕ} → Setting src → List Lexeme → MemAccess → Type 0
-AccessRuns {src = src} c ts y = (st : List Frame) (lv : Levels) (md : Mode) (m : Operand) → StandsAt c st lv md m → Accesses (reach_of c.wanted st m) →
+AccessRuns {src = src} c ts y = (st : List Frame) (lv : Levels) (md : Mode) (m : Operand) → StandsAt c st lv md m → Accesses (reach_at c.wanted st m) →
     run c (Some (state st lv md)) ts ≡ Some (has_operand st lv (with_access src m (closed ts y)))
 
 pub more_accesses : {src : List ℕ} (c : Setting src) (st : List Frame) (lv : Levels) (md : Mode) (sg : Signs) (x : Cell Primary) (e : Option Extent) (b : Bool) (ts us : List Lexeme) (xs : List (Cell MemAccess)) (y : MemAccess) →
@@ -59,21 +74,29 @@ pub more_accesses : {src : List ℕ} (c : Setting src) (st : List Frame) (lv : L
 more_accesses {src = src} c st lv md sg x e b ts us xs y a h g =
     let m : Operand = operand_with sg x (xs ++ placed src us y ∷ []) (joint_extent e (extent (ts ++ us))) b in
     record {
-      after = mode.Have m;
+      after = mode.Have m None;
       at_it = stands c st lv m;
       goes = two c (Some (state st lv md)) _ _ ts us h.goes (g st lv h.after (operand_with sg x xs (joint_extent e (extent ts)) b) h.at_it a)
           ∙ ap (λ q. Some (has_operand st lv (operand_with sg x (xs ++ placed src us y ∷ []) q b))) (join-assoc e (extent ts) (extent us) ∙ ap (λ q. joint_extent e q) (sym (extent-append ts us)));
     }
 
-pub begins_access : (st : List Frame) (lv : Levels) (m : Operand) (a : Access) (e : Extent) {r : Reach} → Accesses r → next_of (access_had st lv m r a e) ≡ Some (access_beginning st lv m a e)
-begins_access st lv m a e if_accessed = refl
-begins_access st lv m a e sum_accessed = refl
-begins_access st lv m a e all_accessed = refl
+pub begins_access : (src : List ℕ) (st : List Frame) (lv : Levels) (m : Operand) (a : Access) (e : Extent) {r : Reach} → Accesses r → had src st lv m r (operator.Access a) e ≡ Some (access_beginning st lv m a e)
+begins_access src st lv m a e if_accessed = refl
+begins_access src st lv m a e sum_accessed = refl
+begins_access src st lv m a e all_accessed = refl
+
+field_by : (src : List ℕ) (st : List Frame) (lv : Levels) (m : Operand) (d : Extent) (t : Lexeme) (o : Option Ident) → is_some o ≡ true → planned (option_image (λ i. act.Field) o) (λ a. dot_act src st lv m d a t) ≡ field_reading src st lv m d (any_of t.kind t.text) (extent_of t)
+field_by src st lv m d t (Some i) e = refl
+field_by src st lv m d t None e = absurd (cc)
+
+field_step : (src : List ℕ) (st : List Frame) (lv : Levels) (m : Operand) (d : Extent) (t : Lexeme) (i : Ident) → any_of t.kind t.text ≡ Some i →
+    planned (option_image (λ i. act.Field) (any_of t.kind [])) (λ a. dot_act src st lv m d a t) ≡ field_reading src st lv m d (Some i) (extent_of t)
+field_step src st lv m d t i e = field_by src st lv m d t (any_of t.kind []) (same_any t.kind t.text ∙ ap (λ o. is_some o) e) ∙ ap (λ o. field_reading src st lv m d o (extent_of t)) e
 
 pub field_runs : {src : List ℕ} (c : Setting src) {ts : List Lexeme} {i : Ident} (p : Spot) → ReadsAny ts i → AccessRuns c (one kind.Dot p ++ ts) (access.Field (placed src ts i))
 field_runs {src = src} c p (any {k = k} {i = i} q e) st lv md m h a =
-    two c (Some (state st lv md)) (Some (state st lv (mode.Field m (at p)))) _ (one kind.Dot p) (one k q) (met c st lv md m kind.Dot p h refl ∙ begins_access st lv m opens.Dot (at p) a)
-    (ap (λ o. next_of (field_reading src st lv m (at p) o (at q))) e)
+    two c (Some (state st lv md)) (Some (state st lv (mode.Have m (Some (at p))))) _ (one kind.Dot p) (one k q) (met c st lv md m kind.Dot p h refl ∙ begins_access src st lv m opens.Dot (at p) a)
+    (field_step src st lv m (at p) (token k q) i e)
 
 -- from an open bracket to its end
 pub around_is : (ts : List Lexeme) (j k : TokenKind) (l m : Spot) → around (at l) (at m) ≡ extent (one j l ++ ts ++ one k m)
@@ -106,31 +129,56 @@ members {src = src} c st lv pl sg ts us x xs h g = record {
 
 -- signs
 
-sign_taken : (st : List Frame) (lv : Levels) (sg : Signs) (s : Sign) (e : Extent) (pl : Place) → is_alone pl ≡ false → sign_reading st lv pl sg s e ≡ after_signs st lv sg.extent (with_sign sg.op s) e
-sign_taken st lv sg s e place.Expr f = refl
-sign_taken st lv sg s e place.Item f = refl
-sign_taken st lv sg s e place.Key f = refl
-sign_taken st lv sg s e place.Has f = refl
-sign_taken st lv sg s e place.Operand f = refl
-sign_taken st lv sg s e place.Primary f = absurd (cc)
+sign_by : (src : List ℕ) (names : Names) (st : List Frame) (lv : Levels) (sg : Signs) (s : Sign) (t : Lexeme) (pl : Place) (b : Bool) → b ≡ true →
+    planned (option_image (λ b. act.Begin b) (cond b (Some (begin.Sign s)) None)) (λ a. want_act src names st lv pl sg a t) ≡ after_signs st lv sg.extent (with_sign sg.op s) (extent_of t)
+sign_by src names st lv sg s t pl true e = refl
+sign_by src names st lv sg s t pl false e = absurd (cc)
+
+sign_stands : (pl : Place) (q : Option Sign) (s : Sign) → is_alone pl ≡ false → may_sign q s ≡ true → sign_may_stand pl q s ≡ true
+sign_stands place.Expr q s e f = f
+sign_stands place.Item q s e f = f
+sign_stands place.Key q s e f = f
+sign_stands place.Has q s e f = f
+sign_stands place.Operand q s e f = f
+sign_stands place.Primary q s e f = absurd (cc)
+
+sign_taken : (src : List ℕ) (names : Names) (st : List Frame) (lv : Levels) (sg : Signs) (s : Sign) (t : Lexeme) (pl : Place) → is_alone pl ≡ false → may_sign (op_sign sg.op) s ≡ true →
+    planned (option_image (λ b. act.Begin b) (cond (sign_may_stand pl (op_sign sg.op) s) (Some (begin.Sign s)) None)) (λ a. want_act src names st lv pl sg a t) ≡ after_signs st lv sg.extent (with_sign sg.op s) (extent_of t)
+sign_taken src names st lv sg s t pl e f = sign_by src names st lv sg s t pl (sign_may_stand pl (op_sign sg.op) s) (sign_stands pl (op_sign sg.op) s e f)
+
+bangs_may : (n : ℕ) → may_sign (op_sign (Some (bangs_of n))) sign.Bang ≡ true
+bangs_may n = go (nat_le n sign_limit)
+  where
+    go : (a : Bool) → may_sign (op_sign (Some (cond a (neg.Bang n) neg.OverBang))) sign.Bang ≡ true
+    go true = refl
+    go false = refl
+
+dashes_may : (n : ℕ) → may_sign (op_sign (Some (dashes_of n))) sign.Dash ≡ true
+dashes_may n = go (nat_le n sign_limit)
+  where
+    go : (a : Bool) → may_sign (op_sign (Some (cond a (neg.Dash n) neg.OverDash))) sign.Dash ≡ true
+    go true = refl
+    go false = refl
 
 abbrev pub SignsAt : {src : List ℕ} → Setting src → List Frame → Levels → Place → List Lexeme → NegOp → Type 0
 SignsAt c st lv pl ts o = run c (Some (state st lv (wants pl))) ts ≡ Some (state st lv (mode.Want place.Operand (signs_of (Some o) (extent ts))))
 
 after_sign : (st : List Frame) (lv : Levels) (ts : List Lexeme) (k : TokenKind) (p : Spot) (q : Option NegOp) (o : NegOp) → q ≡ Some o →
-    next_of (after_signs st lv (extent ts) q (at p)) ≡ Some (state st lv (mode.Want place.Operand (signs_of (Some o) (extent (ts ++ one k p)))))
+    (after_signs st lv (extent ts) q (at p)) ≡ Some (state st lv (mode.Want place.Operand (signs_of (Some o) (extent (ts ++ one k p)))))
 after_sign st lv ts k p q o e =
-    ap (λ w. next_of (after_signs st lv (extent ts) w (at p))) e ∙ ap (λ w. Some (state st lv (mode.Want place.Operand (signs_of (Some o) w)))) (sym (extent-append ts (one k p)))
+    ap (λ w. (after_signs st lv (extent ts) w (at p))) e ∙ ap (λ w. Some (state st lv (mode.Want place.Operand (signs_of (Some o) w)))) (sym (extent-append ts (one k p)))
 
 pub bangs_run : {src : List ℕ} (c : Setting src) {ts : List Lexeme} {n : ℕ} → ReadsSigns kind.Bang ts n → (st : List Frame) (lv : Levels) (pl : Place) → is_alone pl ≡ false → SignsAt c st lv pl ts (bangs_of n)
-bangs_run c (one_sign p) st lv pl e = ap (λ o. next_of o) (sign_taken st lv no_signs sign.Bang (at p) pl e)
-bangs_run c (more_signs {ts = ts} {n = n} p r) st lv pl e =
-    two c (Some (state st lv (wants pl))) _ _ ts (one kind.Bang p) (bangs_run c r st lv pl e) (after_sign st lv ts kind.Bang p _ (bangs_of (n + 1)) (bang_more n))
+bangs_run {src = src} c (one_sign p) st lv pl e = sign_taken src c.names st lv no_signs sign.Bang (token kind.Bang p) pl e refl
+bangs_run {src = src} c (more_signs {ts = ts} {n = n} p r) st lv pl e =
+    two c (Some (state st lv (wants pl))) _ _ ts (one kind.Bang p) (bangs_run c r st lv pl e)
+    (sign_taken src c.names st lv (signs_of (Some (bangs_of n)) (extent ts)) sign.Bang (token kind.Bang p) place.Operand refl (bangs_may n) ∙ after_sign st lv ts kind.Bang p _ (bangs_of (n + 1)) (bang_more n))
 
 pub dashes_run : {src : List ℕ} (c : Setting src) {ts : List Lexeme} {n : ℕ} → ReadsSigns kind.Minus ts n → (st : List Frame) (lv : Levels) (pl : Place) → is_alone pl ≡ false → SignsAt c st lv pl ts (dashes_of n)
-dashes_run c (one_sign p) st lv pl e = ap (λ o. next_of o) (sign_taken st lv no_signs sign.Dash (at p) pl e)
-dashes_run c (more_signs {ts = ts} {n = n} p r) st lv pl e =
-    two c (Some (state st lv (wants pl))) _ _ ts (one kind.Minus p) (dashes_run c r st lv pl e) (after_sign st lv ts kind.Minus p _ (dashes_of (n + 1)) (dash_more n))
+dashes_run {src = src} c (one_sign p) st lv pl e = sign_taken src c.names st lv no_signs sign.Dash (token kind.Minus p) pl e refl
+dashes_run {src = src} c (more_signs {ts = ts} {n = n} p r) st lv pl e =
+    two c (Some (state st lv (wants pl))) _ _ ts (one kind.Minus p) (dashes_run c r st lv pl e)
+    (sign_taken src c.names st lv (signs_of (Some (dashes_of n)) (extent ts)) sign.Dash (token kind.Minus p) place.Operand refl (dashes_may n) ∙ after_sign st lv ts kind.Minus p _ (dashes_of (n + 1)) (dash_more n))
 
 -- an operand with its signs
 

@@ -1,4 +1,5 @@
 -- Relations: chains of comparisons, and the right sides of `has`, `like` and `is`.
+use Rattle.std.specs.Prelude.{cond}
 use Rattle.std.proofs.Common.{◌≡◌, ℕ, List, [], ◌∷◌, ◌++◌, Option, Some, None, true, false, refl, sym, ◌∙◌, ap, subst}
 use Rattle.cedar_lexer.specs.Token.{Lexeme}
 use Rattle.cedar_lexer.specs.declared.token.TokenKind.{TokenKind}
@@ -33,9 +34,14 @@ use Rattle.cedar_syntax.specs.Tokens.{Spot, one}
 use Rattle.cedar_syntax.specs.Trees.{Cell, common_of, has_of, like_of, is_of, add_of, mult_of, unary_of, member_of}
 use Rattle.cedar_syntax.specs.LooseExpressions.{ReadsRelOp, less, less_eq, greater_eq, greater, not_eq, equal, within, single_eq, if_name, lone_add}
 use Rattle.cedar_text.specs.machines.Closing.{ranged_tree, Marked, marked_chain, pending, unary_at, made_mult, made_add, made_common, relation_with_sum, add_at, levels_of, no_signs, operand_with, if_operand}
-use Rattle.cedar_text.specs.machines.ExpressionStates.{state, edge, reach_of}
-use Rattle.cedar_text.specs.machines.Having.{comparison_beginning, compare_had, left_beginning, before, side_of, side_place, side_beginning, side_had}
-use Rattle.cedar_text.proofs.expressions.complete.Runs.{chain_extent, extent-append, at, Setting, next_of, run, two, three, StandsAt, met, reaches, Joins, an_if, all_joins}
+use Rattle.cedar_text.specs.machines.ExpressionStates.{state}
+use Rattle.cedar_text.specs.machines.ExpressionPlans.{edge}
+use Rattle.cedar_text.specs.machines.Having.{comparison_beginning, left_beginning, before, side_of, side_place, side_beginning}
+use Rattle.cedar_syntax.specs.declared.reading.class.Operator.TheVariants as operator
+use Rattle.cedar_text.proofs.expressions.Stepping.{had}
+use Rattle.cedar_text.specs.machines.ExpressionShapes.{left_shape}
+use Rattle.cedar_text.specs.machines.ExpressionPlans.{may_compare}
+use Rattle.cedar_text.proofs.expressions.complete.Runs.{reach_at, chain_extent, extent-append, at, Setting, run, two, three, StandsAt, met, reaches, Joins, an_if, all_joins}
 use Rattle.cedar_text.proofs.expressions.complete.Words.{closed}
 use Rattle.cedar_text.proofs.expressions.complete.If.{if_runs, if_stands}
 use Rattle.cedar_text.proofs.expressions.complete.Members.{AccessesAt}
@@ -69,22 +75,22 @@ pub record RelationAt {src : List ℕ} (c : Setting src) (st : List Frame) (lv :
   pub md : Mode
   pub last : Operand
   pub is : relation_with_sum src r (made_add (marked_chain src s (made_mult (marked_chain src m (unary_at src last))))) ≡ closed ts x
-  pub joins : Joins (reach_of c.wanted st last)
+  pub joins : Joins (reach_at c.wanted st last)
   pub at_it : StandsAt c st (at_relation lv r s m) md last
   pub goes : Goes c st (at_relation lv None None None) pl ts (at_relation lv r s m) md
 
-pub whole_joins : {src : List ℕ} (c : Setting src) (st : List Frame) (m : Operand) → m.is_if ≡ false → edge c.wanted st ≡ reach.Whole → Joins (reach_of c.wanted st m)
+pub whole_joins : {src : List ℕ} (c : Setting src) (st : List Frame) (m : Operand) → m.is_if ≡ false → edge c.wanted st ≡ reach.Whole → Joins (reach_at c.wanted st m)
 whole_joins c st m f e = subst (λ r. Joins r) (sym (reaches c st m f ∙ e)) all_joins
 
 -- comparisons
 
 compares_so : (src : List ℕ) (st : List Frame) (lv : Levels) (r : Option (Pending Add RelOp)) (x : Ranged Add) (o : RelOp) (e : Extent) →
-    next_of (comparison_beginning src st lv (common_left r) x o e) ≡ Some (left_beginning st lv (left.Common (pending (marked_chain src r x) o e)) place.Operand)
+    (comparison_beginning src st lv (common_left r) x o e) ≡ Some (left_beginning st lv (left.Common (pending (marked_chain src r x) o e)) place.Operand)
 compares_so src st lv None x o e = refl
 compares_so src st lv (Some p) x o e = refl
 
 abbrev ComparesAs : {src : List ℕ} → Setting src → List Frame → Levels → Mode → Operand → TokenKind → RelOp → Spot → Type 0
-ComparesAs {src = src} c st lv md u k o p = run c (Some (state st lv md)) (one k p) ≡ next_of (compare_had src st lv u (reach_of c.wanted st u) o (at p))
+ComparesAs {src = src} c st lv md u k o p = run c (Some (state st lv md)) (one k p) ≡ had src st lv u (reach_at c.wanted st u) (operator.Compare o) (at p)
 
 compare_runs : {src : List ℕ} (c : Setting src) (st : List Frame) (lv : Levels) (md : Mode) (u : Operand) (p : Spot) {k : TokenKind} {o : RelOp} → ReadsRelOp k o → StandsAt c st lv md u → ComparesAs c st lv md u k o p
 compare_runs c st lv md u p less h = met c st lv md u kind.Less p h refl
@@ -96,10 +102,15 @@ compare_runs c st lv md u p equal h = met c st lv md u kind.EqEq p h refl
 compare_runs c st lv md u p within h = met c st lv md u kind.In p h refl
 compare_runs c st lv md u p single_eq h = met c st lv md u kind.Eq p h refl
 
--- of a whole expression
+-- of a whole expression, where the left side lets it
 compares : {src : List ℕ} (c : Setting src) (st : List Frame) (lv : Levels) (md : Mode) (u : Operand) (p : Spot) {k : TokenKind} {o : RelOp} → ReadsRelOp k o → StandsAt c st lv md u → u.is_if ≡ false → edge c.wanted st ≡ reach.Whole →
-    run c (Some (state st lv md)) (one k p) ≡ next_of (comparison_beginning src st lv lv.relation (add_at src lv u) o (at p))
-compares {src = src} c st lv md u p {o = o} r h f e = compare_runs c st lv md u p r h ∙ ap (λ q. next_of (compare_had src st lv u q o (at p))) (reaches c st u f ∙ e)
+    may_compare (left_shape lv.relation) o ≡ true → run c (Some (state st lv md)) (one k p) ≡ comparison_beginning src st lv lv.relation (add_at src lv u) o (at p)
+compares {src = src} c st lv md u p {o = o} r h f e l =
+    compare_runs c st lv md u p r h ∙ ap (λ q. had src st lv u q (operator.Compare o) (at p)) (reaches c st u f ∙ e) ∙ ap (λ b. cond b (comparison_beginning src st lv lv.relation (add_at src lv u) o (at p)) None) l
+
+may_go_on : (r : Option (Pending Add RelOp)) (o : RelOp) → may_compare (left_shape (common_left r)) o ≡ true
+may_go_on None o = refl
+may_go_on (Some p) o = refl
 
 pub one_adds : {src : List ℕ} (c : Setting src) (st : List Frame) (lv : Levels) (pl : Place) (ts : List Lexeme) (x : Add) →
     AddAt c st (at_relation lv None None None) pl ts (λ q. made_add q ≡ closed ts x) → CommonAt c st lv pl ts (λ q. q ≡ chain ts (placed src ts x) [])
@@ -122,7 +133,7 @@ more_adds {src = src} c st lv pl ts us k o p x y xs e h r g =
       free = w.free;
       at_it = w.at_it;
       goes = three c (begin_at st (at_relation lv None None None) pl) _ (begin_at st (at_relation lv (common_left begun) None None) place.Operand) _ ts (one k p) us h.goes
-          (compares c st lv' h.md h.last p r h.at_it h.free e ∙ compares_so src st lv' h.r (add_at src lv' h.last) o (at p)
+          (compares c st lv' h.md h.last p r h.at_it h.free e (may_go_on h.r o) ∙ compares_so src st lv' h.r (add_at src lv' h.last) o (at p)
           ∙ ap (λ q. begin_at st (at_relation lv (Some (left.Common (pending q o (at p)))) None None) place.Operand) h.is) w.goes;
     }
 
@@ -161,7 +172,7 @@ abbrev pub left_with : List ℕ → Side → List Lexeme → Add → Spot → Le
 left_with src s ts x p = side_of s (before src (closed ts x) (at p))
 
 side_runs : {src : List ℕ} (c : Setting src) (st : List Frame) (lv : Levels) (md : Mode) (u : Operand) (p : Spot) (s : Side) → StandsAt c st lv md u →
-    run c (Some (state st lv md)) (one (side_kind s) p) ≡ next_of (side_had src st lv u (reach_of c.wanted st u) s (at p))
+    run c (Some (state st lv md)) (one (side_kind s) p) ≡ had src st lv u (reach_at c.wanted st u) (operator.Side s) (at p)
 side_runs c st lv md u p side.Has h = met c st lv md u kind.Has p h refl
 side_runs c st lv md u p side.Like h = met c st lv md u kind.Like p h refl
 side_runs c st lv md u p side.Is h = met c st lv md u kind.Is p h refl
@@ -173,8 +184,8 @@ pub side_begins : {src : List ℕ} (c : Setting src) (st : List Frame) (lv : Lev
 side_begins {src = src} c st lv pl ts x s p e h =
     let lv' = at_relation lv None h.s h.m in
     two c (begin_at st (at_relation lv None None None) pl) _ _ ts (one (side_kind s) p) h.goes
-    (side_runs c st lv' h.md h.last p s h.at_it ∙ ap (λ q. next_of (side_had src st lv' h.last q s (at p))) (reaches c st h.last h.free ∙ e)
-    ∙ ap (λ y. next_of (side_beginning src st lv' None y s (at p))) h.is)
+    (side_runs c st lv' h.md h.last p s h.at_it ∙ ap (λ q. had src st lv' h.last q (operator.Side s) (at p)) (reaches c st h.last h.free ∙ e)
+    ∙ ap (λ y. (side_beginning src st lv' None y s (at p))) h.is)
 
 side_closed : (src : List ℕ) (ts us : List Lexeme) (x y : Add) (s : Side) (p : Spot) →
     relation_with_sum src (Some (left_with src s ts x p)) (closed us y) ≡ closed (ts ++ one (side_kind s) p ++ us) (side_tree s (placed src ts x) (placed src us y))
@@ -255,5 +266,5 @@ is_ins {src = src} c st lv pl ts us vs x y z p q e h g k =
       at_it = w.at_it;
       goes = three c (begin_at st (at_relation lv None None None) pl) (Some (state st lv' i.md)) (begin_at st (at_relation lv begun None None) place.Operand) _ so_far (one kind.In q) vs
           (two c (begin_at st (at_relation lv None None None) pl) (begin_at st (at_relation lv first None None) place.Operand) _ (ts ++ one kind.Is p) us (side_begins c st lv pl ts x side.Is p e h) i.goes)
-          (compares c st lv' i.md i.last q within i.at_it i.free e ∙ ap (λ o. next_of (comparison_beginning src st lv' first o rel.In (at q))) i.is) w.goes;
+          (compares c st lv' i.md i.last q within i.at_it i.free e refl ∙ ap (λ o. (comparison_beginning src st lv' first o rel.In (at q))) i.is) w.goes;
     }

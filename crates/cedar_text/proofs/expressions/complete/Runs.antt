@@ -19,16 +19,21 @@ use Rattle.cedar_text.specs.declared.text_to_cst.expression.state.State.{State}
 use Rattle.cedar_text.specs.declared.text_to_cst.expression.state.Wanted.{Wanted}
 use Rattle.cedar_text.specs.declared.text_to_cst.expression.state.Reach.{Reach}
 use Rattle.cedar_text.specs.declared.text_to_cst.expression.state.Reach.TheVariants as reach
-use Rattle.cedar_text.specs.machines.Advance.{Advance}
-use Rattle.cedar_text.specs.machines.Advance as advance
 use Rattle.cedar_syntax.specs.declared.reading.extent.Extent.{Extent}
-use Rattle.cedar_syntax.specs.Place.{joint_extent}
+use Rattle.cedar_syntax.specs.Place.{joint_extent, extent_of}
 use Rattle.cedar_syntax.specs.Tokens.{Spot, one}
-use Rattle.cedar_syntax.specs.machines.Door.{Machine, answer_state, Door}
-use Rattle.cedar_text.specs.machines.Named.{ReadsNamed, joins_words, IsWords}
-use Rattle.cedar_text.specs.machines.ExpressionStates.{state, edge, reach_of}
-use Rattle.cedar_text.specs.machines.Having.{having}
-use Rattle.cedar_text.specs.machines.Expressions.{mode_step, step_of, last_operand, advance_answer}
+use Rattle.cedar_syntax.specs.machines.Door.{machine_of, option_image}
+use Rattle.cedar_text.specs.machines.Named.{joins_words, IsWords}
+use Rattle.cedar_text.specs.machines.ExpressionStates.{state}
+use Rattle.cedar_text.specs.machines.ExpressionPlans.{edge, may_follow, if_follows}
+use Rattle.cedar_text.specs.machines.Expressions.{have_act, last_operand}
+use Rattle.cedar_text.specs.machines.ExpressionShapes.{WordOutline, stack_shape, left_shape}
+use Rattle.cedar_text.specs.machines.Having.{follow_act}
+use Rattle.cedar_syntax.specs.machines.Classes.{operator_of}
+use Rattle.cedar_syntax.specs.declared.reading.class.Operator.{Operator}
+use Rattle.cedar_text.specs.declared.text_to_cst.expression.state.Act.TheVariants as act
+use Rattle.cedar_text.proofs.expressions.Held.{Held}
+use Rattle.cedar_text.proofs.expressions.Stepping.{Names, planned, had, edge_shape, step_of}
 
 -- extents
 
@@ -38,22 +43,26 @@ join-none (Some a) = refl
 
 -- the form that is wanted of the whole, and the machine of words
 
-pub record Setting (src : List ℕ) : Type 0 where
+pub record Setting (src : List ℕ) : Type 1 where
+  pub W : Type 0
+  pub K : Type 0
   pub wanted : Wanted
-  pub names : Machine Lexeme WordsState NameOrEntity
-  pub door : Door names (ReadsNamed src)
-  pub words : IsWords names
+  pub names : Names
+  pub outline : WordOutline W K
+  pub shape : WordsState → W
+  pub kind : NameOrEntity → K
+  pub held : Held src names outline shape kind
+  pub words : IsWords (machine_of src names)
 
 -- runs
 
-abbrev pub next_of : Advance → Option State
-next_of (advance.next s) = Some s
-next_of advance.not_taken = None
-next_of advance.too_large = None
+-- what one token more makes of a state
+abbrev pub steps_to : {src : List ℕ} → Setting src → State → Lexeme → Option State
+steps_to {src = src} c s t = step_of c.wanted src c.names c.outline c.shape s t
 
 abbrev pub from : {src : List ℕ} → Setting src → Option State → Lexeme → Option State
 from c None t = None
-from {src = src} c (Some s) t = next_of (step_of c.wanted src c.names s t)
+from c (Some s) t = steps_to c s t
 
 abbrev pub run : {src : List ℕ} → Setting src → Option State → List Lexeme → Option State
 run c s [] = s
@@ -73,12 +82,6 @@ two c s a b ts us f g = run-append c s ts us ∙ ap (λ q. run c q us) f ∙ g
 pub three : {src : List ℕ} (c : Setting src) (s a b d : Option State) (ts us vs : List Lexeme) → run c s ts ≡ a → run c a us ≡ b → run c b vs ≡ d → run c s (ts ++ us ++ vs) ≡ d
 three c s a b d ts us vs f g h = two c s b d (ts ++ us) vs (two c s a b ts us f g) h
 
-pub taken_next : {T : Type 0} (o : Option T) (a : Advance) → answer_state (advance_answer o a) ≡ next_of a
-taken_next o (advance.next s) = refl
-taken_next (Some x) advance.not_taken = refl
-taken_next None advance.not_taken = refl
-taken_next o advance.too_large = refl
-
 -- tokens
 
 abbrev pub token : TokenKind → Spot → Lexeme
@@ -87,17 +90,37 @@ token k p = record { kind = k; start = p.start; end = p.end; text = p.text }
 abbrev pub spot_of : Lexeme → Spot
 spot_of t = record { start = t.start; end = t.end; text = t.text }
 
+-- an operand goes on so far here
+abbrev pub reach_at : Wanted → List Frame → Operand → Reach
+reach_at w st m = cond m.is_if reach.If (edge w st)
+
+-- what a token behind an operand makes of the state
+abbrev pub having : Wanted → List ℕ → List Frame → Levels → Operand → Lexeme → Option State
+having w src st lv m t = had src st lv m (reach_at w st m) (operator_of t.kind) (extent_of t)
+
 -- to stand at an operand: what follows, or the end, reads it as the last one
 pub record StandsAt {src : List ℕ} (c : Setting src) (st : List Frame) (lv : Levels) (md : Mode) (m : Operand) : Type 0 where
-  pub behind : (t : Lexeme) → joins_words t.kind ≡ false → mode_step c.wanted src c.names st lv md t ≡ having c.wanted src st lv m t
+  pub behind : (t : Lexeme) → joins_words t.kind ≡ false → steps_to c (state st lv md) t ≡ having c.wanted src st lv m t
   pub ends : last_operand src c.names [] md ≡ Some m
 
-pub stands : {src : List ℕ} (c : Setting src) (st : List Frame) (lv : Levels) (m : Operand) → StandsAt c st lv (mode.Have m) m
-stands c st lv m = record { behind = λ t e. refl; ends = refl }
+-- how far it goes on is the same of the shapes of the brackets
+pub same_reach : {src : List ℕ} (c : Setting src) (st : List Frame) (lv : Levels) (m : Operand) (t : Lexeme) →
+    had src st lv m (cond m.is_if reach.If (edge c.wanted (stack_shape st))) (operator_of t.kind) (extent_of t) ≡ having c.wanted src st lv m t
+same_reach {src = src} c st lv m t = ap (λ r. had src st lv m (cond m.is_if reach.If r) (operator_of t.kind) (extent_of t)) (sym (edge_shape c.wanted st))
+
+follows : (src : List ℕ) (st : List Frame) (lv : Levels) (m : Operand) (t : Lexeme) (b : Bool) (o : Operator) → planned (option_image (λ o. act.Follow o) (if_follows b o)) (λ a. have_act src st lv m a t) ≡ cond b (follow_act src st lv m o (extent_of t)) None
+follows src st lv m t true o = refl
+follows src st lv m t false o = refl
+
+pub stands : {src : List ℕ} (c : Setting src) (st : List Frame) (lv : Levels) (m : Operand) → StandsAt c st lv (mode.Have m None) m
+stands {src = src} c st lv m = record {
+  behind = λ t e. follows src st lv m t (may_follow (stack_shape st) (left_shape lv.relation) (cond m.is_if reach.If (edge c.wanted (stack_shape st))) (operator_of t.kind)) (operator_of t.kind) ∙ same_reach c st lv m t;
+  ends = refl;
+}
 
 pub met : {src : List ℕ} (c : Setting src) (st : List Frame) (lv : Levels) (md : Mode) (m : Operand) (k : TokenKind) (p : Spot) → StandsAt c st lv md m → joins_words k ≡ false →
-    run c (Some (state st lv md)) (one k p) ≡ next_of (having c.wanted src st lv m (token k p))
-met c st lv md m k p h e = ap (λ o. next_of o) (h.behind (token k p) e)
+    run c (Some (state st lv md)) (one k p) ≡ having c.wanted src st lv m (token k p)
+met c st lv md m k p h e = h.behind (token k p) e
 
 -- how far an operand goes on
 
@@ -121,7 +144,7 @@ pub sums_accessed : {r : Reach} → Sums r → Accesses r
 sums_accessed a_sum = sum_accessed
 sums_accessed a_whole = all_accessed
 
-pub reaches : {src : List ℕ} (c : Setting src) (st : List Frame) (m : Operand) → m.is_if ≡ false → reach_of c.wanted st m ≡ edge c.wanted st
+pub reaches : {src : List ℕ} (c : Setting src) (st : List Frame) (m : Operand) → m.is_if ≡ false → reach_at c.wanted st m ≡ edge c.wanted st
 reaches c st m e = ap (λ b. cond b reach.If (edge c.wanted st)) e
 
 -- places

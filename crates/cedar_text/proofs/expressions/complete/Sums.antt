@@ -25,9 +25,12 @@ use Rattle.cedar_syntax.specs.Tokens.{Spot, one}
 use Rattle.cedar_syntax.specs.Trees.{Cell, add_of, mult_of}
 use Rattle.cedar_syntax.specs.LooseExpressions.{ReadsAddOp, plus, minus, ReadsMultOp, times, divide, modulo}
 use Rattle.cedar_text.specs.machines.Closing.{Marked, plain_chain, marked_chain, onward, pending, unary_at, made_mult, made_add, levels_of}
-use Rattle.cedar_text.specs.machines.ExpressionStates.{state, wants, edge, reach_of}
-use Rattle.cedar_text.specs.machines.Having.{product_beginning, sum_beginning, multiply_had, sum_had}
-use Rattle.cedar_text.proofs.expressions.complete.Runs.{chain_extent, at, Setting, next_of, run, three, StandsAt, met, Sums, a_sum, a_whole, reaches}
+use Rattle.cedar_text.specs.machines.ExpressionStates.{state, wants}
+use Rattle.cedar_text.specs.machines.ExpressionPlans.{edge}
+use Rattle.cedar_text.specs.machines.Having.{product_beginning, sum_beginning}
+use Rattle.cedar_syntax.specs.declared.reading.class.Operator.TheVariants as operator
+use Rattle.cedar_text.proofs.expressions.Stepping.{had}
+use Rattle.cedar_text.proofs.expressions.complete.Runs.{reach_at, chain_extent, at, Setting, run, three, StandsAt, met, Sums, a_sum, a_whole, reaches}
 use Rattle.cedar_text.proofs.expressions.complete.Words.{closed}
 use Rattle.cedar_text.proofs.expressions.complete.Members.{UnaryAt}
 
@@ -74,16 +77,16 @@ pub record AddAt {src : List ℕ} (c : Setting src) (st : List Frame) (lv : Leve
   pub at_it : StandsAt c st (at_add lv s m) md last
   pub goes : Goes c st (at_add lv None None) pl ts (at_add lv s m) md
 
-pub sums_of : {src : List ℕ} (c : Setting src) (st : List Frame) (m : Operand) → m.is_if ≡ false → Sums (edge c.wanted st) → Sums (reach_of c.wanted st m)
+pub sums_of : {src : List ℕ} (c : Setting src) (st : List Frame) (m : Operand) → m.is_if ≡ false → Sums (edge c.wanted st) → Sums (reach_at c.wanted st m)
 sums_of c st m e s = subst (λ r. Sums r) (sym (reaches c st m e)) s
 
 -- products
 
-multiplies : (src : List ℕ) (st : List Frame) (lv : Levels) (u : Operand) (o : MultOp) (e : Extent) {r : Reach} → Sums r → next_of (multiply_had src st lv u r o e) ≡ Some (product_beginning src st lv u o e)
+multiplies : (src : List ℕ) (st : List Frame) (lv : Levels) (u : Operand) (o : MultOp) (e : Extent) {r : Reach} → Sums r → had src st lv u r (operator.Multiply o) e ≡ Some (product_beginning src st lv u o e)
 multiplies src st lv u o e a_sum = refl
 multiplies src st lv u o e a_whole = refl
 
-multiply_runs : {src : List ℕ} (c : Setting src) (st : List Frame) (lv : Levels) (md : Mode) (u : Operand) (p : Spot) {k : TokenKind} {o : MultOp} → ReadsMultOp k o → StandsAt c st lv md u → Sums (reach_of c.wanted st u) →
+multiply_runs : {src : List ℕ} (c : Setting src) (st : List Frame) (lv : Levels) (md : Mode) (u : Operand) (p : Spot) {k : TokenKind} {o : MultOp} → ReadsMultOp k o → StandsAt c st lv md u → Sums (reach_at c.wanted st u) →
     run c (Some (state st lv md)) (one k p) ≡ Some (product_beginning src st lv u o (at p))
 multiply_runs {src = src} c st lv md u p times h s = met c st lv md u kind.Star p h refl ∙ multiplies src st lv u product.Times (at p) s
 multiply_runs {src = src} c st lv md u p divide h s = met c st lv md u kind.Slash p h refl ∙ multiplies src st lv u product.Divide (at p) s
@@ -112,11 +115,11 @@ more_unaries {src = src} c st lv pl ts us k o p x y xs e h r g =
 
 -- sums
 
-sums_up : (src : List ℕ) (st : List Frame) (lv : Levels) (u : Operand) (o : AddOp) (e : Extent) {r : Reach} → Sums r → next_of (sum_had src st lv u r o e) ≡ Some (sum_beginning src st lv u o e)
+sums_up : (src : List ℕ) (st : List Frame) (lv : Levels) (u : Operand) (o : AddOp) (e : Extent) {r : Reach} → Sums r → had src st lv u r (operator.Sum o) e ≡ Some (sum_beginning src st lv u o e)
 sums_up src st lv u o e a_sum = refl
 sums_up src st lv u o e a_whole = refl
 
-sum_runs : {src : List ℕ} (c : Setting src) (st : List Frame) (lv : Levels) (md : Mode) (u : Operand) (p : Spot) {k : TokenKind} {o : AddOp} → ReadsAddOp k o → StandsAt c st lv md u → Sums (reach_of c.wanted st u) →
+sum_runs : {src : List ℕ} (c : Setting src) (st : List Frame) (lv : Levels) (md : Mode) (u : Operand) (p : Spot) {k : TokenKind} {o : AddOp} → ReadsAddOp k o → StandsAt c st lv md u → Sums (reach_at c.wanted st u) →
     run c (Some (state st lv md)) (one k p) ≡ Some (sum_beginning src st lv u o (at p))
 sum_runs {src = src} c st lv md u p plus h s = met c st lv md u kind.Plus p h refl ∙ sums_up src st lv u sum.Plus (at p) s
 sum_runs {src = src} c st lv md u p minus h s = met c st lv md u kind.Minus p h refl ∙ sums_up src st lv u sum.Minus (at p) s

@@ -17,6 +17,7 @@ use Rattle.cedar_syntax.specs.declared.cst.Primary.{Primary}
 use Rattle.cedar_syntax.specs.declared.cst.RecInit.{RecInit}
 use Rattle.cedar_text.specs.machines.Named.{NameOrEntity}
 use Rattle.cedar_text.specs.declared.text_to_cst.state.WordsState.{WordsState}
+use Rattle.cedar_text.specs.declared.text_to_cst.state.WordsAct.{WordsAct}
 use Rattle.cedar_text.specs.declared.text_to_cst.expression.state.Ranged.{Ranged}
 use Rattle.cedar_text.specs.declared.text_to_cst.expression.state.Chain.{Chain}
 use Rattle.cedar_text.specs.declared.text_to_cst.expression.state.Pending.{Pending}
@@ -41,8 +42,9 @@ use Rattle.cedar_syntax.specs.Trees.{Cell, member_of, bangs_of, dashes_of}
 use Rattle.cedar_syntax.specs.LooseExpressions.{ReadsRelOp, ReadsAddOp, ReadsMultOp, ReadsSigns, if_name, lone_expr, ReadsExpr, ReadsAnds, ReadsRelations, ReadsAdds, ReadsAdd, ReadsMults, ReadsUnaries, ReadsAccesses, ReadsPrimary, ReadsExprItems, ReadsInitItems}
 pub use Rattle.cedar_syntax.proofs.machines.Extents.{at}
 use Rattle.cedar_text.specs.machines.Closing.{ranged_tree, Plain, onward, pending, levels_of, fresh, signs_of, no_signs, operand_with, operand_of}
-use Rattle.cedar_syntax.specs.machines.Door.{Machine, Comes}
-use Rattle.cedar_text.specs.machines.ExpressionStates.{state, edge}
+use Rattle.cedar_syntax.specs.machines.Door.{Reader, machine_of, Comes}
+use Rattle.cedar_text.specs.machines.ExpressionStates.{state}
+use Rattle.cedar_text.specs.machines.ExpressionPlans.{alone_reach, edge}
 use Rattle.cedar_text.specs.machines.Wanting.{set_with, record_with}
 use Rattle.cedar_text.specs.machines.Having.{before}
 
@@ -179,10 +181,10 @@ pub data BegunStack (src : List ℕ) (w : Wanted) : List Lexeme → List Frame �
   in_index : {ts us : List Lexeme} {st : List Frame} {lv : Levels} {m : Operand} (l : Spot) → BegunStack src w ts st → Longer src (edge w st) us lv m →
       BegunStack src w (ts ++ (us ++ one kind.OpenBracket l)) (frame.Index record { outer = lv; operand = m; opened = at l } ∷ st)
   in_key : {ts us vs : List Lexeme} {st : List Frame} {lv : Levels} {sg : Signs} {xs : List (Cell RecInit)} (l : Spot) → BegunStack src w ts st → Leads src (edge w st) us lv sg → BegunInits src vs xs →
-      BegunStack src w (ts ++ (us ++ (one kind.OpenBrace l ++ vs))) (frame.Key (record_with lv sg (at l) xs) ∷ st)
+      BegunStack src w (ts ++ (us ++ (one kind.OpenBrace l ++ vs))) (frame.Record (record_with lv sg (at l) xs None) ∷ st)
   in_value : {ts us vs ws : List Lexeme} {st : List Frame} {lv : Levels} {sg : Signs} {xs : List (Cell RecInit)} {x : Cell Expr} (l : Spot) → BegunStack src w ts st → Leads src (edge w st) us lv sg → BegunInits src vs xs →
       BegunKey src ws x →
-      BegunStack src w (ts ++ (us ++ (one kind.OpenBrace l ++ (vs ++ ws)))) (frame.Value record { pairs = record_with lv sg (at l) xs; key = x; extent = extent ws } ∷ st)
+      BegunStack src w (ts ++ (us ++ (one kind.OpenBrace l ++ (vs ++ ws)))) (frame.Record (record_with lv sg (at l) xs (Some record { node = x; extent = extent ws })) ∷ st)
   in_guard : {ts us : List Lexeme} {st : List Frame} {bs : List Branch} (l : Spot) → edge w st ≡ reach.Whole → BegunStack src w ts st → BegunBranches src us bs →
       BegunStack src w (ts ++ (us ++ one kind.If l)) (frame.Guard record { branches = bs; opened = Some (at l) } ∷ st)
   in_yes : {ts us vs : List Lexeme} {st : List Frame} {bs : List Branch} {c : Expr} (l m : Spot) → edge w st ≡ reach.Whole → BegunStack src w ts st → BegunBranches src us bs → ReadsExpr src vs c →
@@ -195,14 +197,14 @@ pub data Wants (src : List ℕ) (w : Wanted) : List Lexeme → List Frame → Le
   at_key : {f : Frame} {st : List Frame} → Wants src w [] (f ∷ st) (fresh []) place.Key no_signs
   at_has : {us : List Lexeme} {st : List Frame} {lv : Levels} → edge w st ≡ reach.Whole → BegunHas src us lv → Wants src w us st lv place.Has no_signs
   at_operand : {us : List Lexeme} {st : List Frame} {lv : Levels} {sg : Signs} → Opens src (edge w st) us lv sg → Wants src w us st lv place.Operand sg
-  at_primary : edge w [] ≡ reach.Primary → Wants src w [] [] (fresh []) place.Primary no_signs
+  at_primary : alone_reach w ≡ reach.Primary → Wants src w [] [] (fresh []) place.Primary no_signs
 
-pub data Begun (src : List ℕ) (names : Machine Lexeme WordsState NameOrEntity) (w : Wanted) : List Lexeme → State → Type 0 where
+pub data Begun (src : List ℕ) (names : Reader WordsState WordsAct NameOrEntity) (w : Wanted) : List Lexeme → State → Type 0 where
   is_wanting : {ts us : List Lexeme} {st : List Frame} {lv : Levels} {p : Place} {sg : Signs} → BegunStack src w ts st → Wants src w us st lv p sg →
       Begun src names w (ts ++ us) (state st lv (mode.Want p sg))
-  is_worded : {ts us : List Lexeme} (vs : List Lexeme) {st : List Frame} {lv : Levels} {p : Place} {sg : Signs} {s : WordsState} → BegunStack src w ts st → Wants src w us st lv p sg → Comes names vs s →
+  is_worded : {ts us : List Lexeme} (vs : List Lexeme) {st : List Frame} {lv : Levels} {p : Place} {sg : Signs} {s : WordsState} → BegunStack src w ts st → Wants src w us st lv p sg → Comes (machine_of src names) vs s →
       Begun src names w (ts ++ (us ++ vs)) (state st lv (mode.Word p sg s))
   is_dotted : {ts us : List Lexeme} {st : List Frame} {lv : Levels} {m : Operand} (d : Spot) → BegunStack src w ts st → Longer src (edge w st) us lv m →
-      Begun src names w (ts ++ (us ++ one kind.Dot d)) (state st lv (mode.Field m (at d)))
+      Begun src names w (ts ++ (us ++ one kind.Dot d)) (state st lv (mode.Have m (Some (at d))))
   is_had : {ts us : List Lexeme} {st : List Frame} {lv : Levels} {m : Operand} → BegunStack src w ts st → Holds src (edge w st) us lv m →
-      Begun src names w (ts ++ us) (state st lv (mode.Have m))
+      Begun src names w (ts ++ us) (state st lv (mode.Have m None))

@@ -1,4 +1,5 @@
 -- What ends an expression in brackets, or a list.
+use Rattle.std.specs.Prelude.{cond}
 use Rattle.std.proofs.Common.{◌≡◌, ℕ, List, [], ◌∷◌, ◌++◌, Option, Some, None, true, false, refl, sym, ◌∙◌, ap, subst, append_assoc}
 use Rattle.cedar_lexer.specs.Token.{Lexeme}
 use Rattle.cedar_lexer.specs.declared.token.TokenKind.{TokenKind}
@@ -8,16 +9,20 @@ use Rattle.cedar_syntax.specs.declared.cst.MemAccess.{MemAccess}
 use Rattle.cedar_syntax.specs.declared.cst.Primary.{Primary}
 use Rattle.cedar_syntax.specs.declared.cst.Primary.TheVariants as primary
 use Rattle.cedar_syntax.specs.declared.cst.RecInit.{RecInit}
+use Rattle.cedar_syntax.specs.declared.reading.class.Closing.{Closing}
 use Rattle.cedar_syntax.specs.declared.reading.class.Closing.TheVariants as closing
 use Rattle.cedar_text.specs.machines.Named.{NameOrEntity}
 use Rattle.cedar_text.specs.declared.text_to_cst.state.WordsState.{WordsState}
+use Rattle.cedar_text.specs.declared.text_to_cst.state.WordsAct.{WordsAct}
 use Rattle.cedar_text.specs.declared.text_to_cst.expression.state.Ranged.{Ranged}
 use Rattle.cedar_text.specs.declared.text_to_cst.expression.state.Levels.{Levels}
 use Rattle.cedar_text.specs.declared.text_to_cst.expression.state.Signs.{Signs}
 use Rattle.cedar_text.specs.declared.text_to_cst.expression.state.Operand.{Operand}
 use Rattle.cedar_text.specs.declared.text_to_cst.expression.state.Frame.{Frame}
 use Rattle.cedar_text.specs.declared.text_to_cst.expression.state.Frame.TheVariants as frame
+use Rattle.cedar_text.specs.declared.text_to_cst.expression.state.Place.{Place}
 use Rattle.cedar_text.specs.declared.text_to_cst.expression.state.Place.TheVariants as place
+use Rattle.cedar_text.specs.declared.text_to_cst.expression.state.State.{State}
 use Rattle.cedar_text.specs.declared.text_to_cst.expression.state.Wanted.{Wanted}
 use Rattle.cedar_text.specs.declared.text_to_cst.expression.state.Reach.{Reach}
 use Rattle.cedar_text.specs.declared.text_to_cst.expression.state.Reach.TheVariants as reach
@@ -27,9 +32,11 @@ use Rattle.cedar_syntax.specs.Tokens.{Spot, one}
 use Rattle.cedar_syntax.specs.Trees.{Cell, rec_init_of}
 use Rattle.cedar_syntax.specs.LooseExpressions.{if_name, ReadsExpr, more_access, ReadsAccess, call, index, ReadsPrimary, paren, set, in_braces, ReadsExprs, no_expr, exprs, exprs_comma, ReadsExprItems, one_expr, more_exprs, ReadsRecInits, no_init, inits, inits_comma, ReadsInitItems, one_init, more_inits, ReadsRecInit, rec_init, if_init}
 use Rattle.cedar_text.specs.machines.Closing.{ranged_tree, whole, no_signs, operand_with, with_access}
-use Rattle.cedar_syntax.specs.machines.Door.{Machine}
-use Rattle.cedar_text.specs.machines.ExpressionStates.{opening, has_operand, has_primary, around, edge}
-use Rattle.cedar_text.specs.machines.Wanting.{record_with, items_ending, keys_ending}
+use Rattle.cedar_syntax.specs.machines.Door.{Reader}
+use Rattle.cedar_text.specs.machines.ExpressionStates.{opening, has_operand, has_primary, around}
+use Rattle.cedar_text.specs.machines.ExpressionPlans.{edge, list_may_end}
+use Rattle.cedar_text.specs.machines.ExpressionShapes.{stack_shape}
+use Rattle.cedar_text.specs.machines.Wanting.{record_with, list_ending}
 use Rattle.cedar_text.specs.machines.Having.{frame_ending}
 use Rattle.cedar_text.proofs.expressions.Basics.{extent-append}
 use Rattle.cedar_text.proofs.expressions.sound.Begun.{at, closed, Reading, reads, no_branch, branch, no_sign, BegunOperand, begun_operand, BegunIf, begun_if, Leads, Longer, whole_longer, sum_longer, if_longer, Holds, holds, holds_primary, BegunExprs, no_expr_yet, exprs_then, BegunInits, no_init_yet, inits_then, BegunKey, expr_key, lone_if_key, BegunStack, bottom, in_paren, in_set, in_call, in_index, in_key, in_value, in_guard, in_yes, Begun, is_had}
@@ -52,7 +59,7 @@ holds_whole (holds (if_longer b c)) = if_close b c
 holds_whole (holds_primary r) = whole_close (fresh_levels no_branch) (begun_alone no_sign r)
 
 -- what is read in brackets is a primary
-primary_ends : {src : List ℕ} {names : Machine Lexeme WordsState NameOrEntity} {w : Wanted} {ts us : List Lexeme} {st : List Frame} {lv : Levels} {sg : Signs} {x : Primary} (vs : List Lexeme) (k j : TokenKind) (l m : Spot) →
+primary_ends : {src : List ℕ} {names : Reader WordsState WordsAct NameOrEntity} {w : Wanted} {ts us : List Lexeme} {st : List Frame} {lv : Levels} {sg : Signs} {x : Primary} (vs : List Lexeme) (k j : TokenKind) (l m : Spot) →
     BegunStack src w ts st → Leads src (edge w st) us lv sg → ReadsPrimary src (one k l ++ vs ++ one j m) x →
     Begun src names w (ts ++ (us ++ (one k l ++ vs ++ one j m))) (has_primary src st lv sg (ranged_tree (around (at l) (at m)) x))
 primary_ends {src = src} {names = names} {w = w} {ts = ts} {us = us} {st = st} {lv = lv} {sg = sg} {x = x} vs k j l m a b r =
@@ -79,7 +86,7 @@ longer_more {src = src} {vs = vs} {lv = lv} {m = m} {x = x} (if_longer {ts = ts}
     subst (λ q. Longer src reach.Whole q lv (with_access src m (closed vs x))) (sym (append_assoc ts us vs)) (if_longer b (if_more c a))
 
 -- an access has ended
-pub access_ends : {src : List ℕ} {names : Machine Lexeme WordsState NameOrEntity} {w : Wanted} {ts us vs : List Lexeme} {st : List Frame} {lv : Levels} {m : Operand} {x : MemAccess} (e : Option Extent) →
+pub access_ends : {src : List ℕ} {names : Reader WordsState WordsAct NameOrEntity} {w : Wanted} {ts us vs : List Lexeme} {st : List Frame} {lv : Levels} {m : Operand} {x : MemAccess} (e : Option Extent) →
     extent vs ≡ e → BegunStack src w ts st → Longer src (edge w st) us lv m → ReadsAccess src vs x → Begun src names w (ts ++ (us ++ vs)) (has_operand st lv (with_access src m (ranged_tree e x)))
 access_ends {src = src} {names = names} {w = w} {ts = ts} {us = us} {vs = vs} {st = st} {lv = lv} {m = m} {x = x} e q a b r =
     subst (λ z. Begun src names w (ts ++ (us ++ vs)) (has_operand st lv (with_access src m (ranged_tree z x)))) q (is_had a (holds (longer_more b r)))
@@ -106,10 +113,13 @@ key_value : {src : List ℕ} {ws us : List Lexeme} {x : Cell Expr} {y : Expr} �
 key_value (expr_key p r) s = rec_init p r s
 key_value (lone_if_key p q) s = if_init p q s
 
--- a list that ends before an item
+-- a list that ends before an item, where its plan has it
 
-pub items_begun : {src : List ℕ} {w : Wanted} {ts : List Lexeme} {st : List Frame} (m : Spot) → BegunStack src w ts st → (n : Machine Lexeme WordsState NameOrEntity) →
-    After src n w (ts ++ one kind.CloseBracket m) (items_ending src st closing.Bracket (at m))
+abbrev pub list_ended : List ℕ → List Frame → Place → Closing → Extent → Option State
+list_ended src st pl c m = cond (list_may_end (stack_shape st) pl c) (list_ending src st m) None
+
+pub items_begun : {src : List ℕ} {w : Wanted} {ts : List Lexeme} {st : List Frame} (m : Spot) → BegunStack src w ts st → (n : Reader WordsState WordsAct NameOrEntity) →
+    After src n w (ts ++ one kind.CloseBracket m) (list_ended src st place.Item closing.Bracket (at m))
 items_begun m (in_set {vs = vs} l a b c) n = moved (simp append_assoc) (primary_ends vs kind.OpenBracket kind.CloseBracket l m a b (set l m (exprs_so_far c)))
 items_begun m bottom n = tt
 items_begun m (in_paren l a b) n = tt
@@ -120,8 +130,8 @@ items_begun m (in_value l a b c d) n = tt
 items_begun m (in_guard l e a b) n = tt
 items_begun m (in_yes l k e a b c) n = tt
 
-pub call_begun : {src : List ℕ} {w : Wanted} {ts : List Lexeme} {st : List Frame} (m : Spot) → BegunStack src w ts st → (n : Machine Lexeme WordsState NameOrEntity) →
-    After src n w (ts ++ one kind.CloseParen m) (items_ending src st closing.Paren (at m))
+pub call_begun : {src : List ℕ} {w : Wanted} {ts : List Lexeme} {st : List Frame} (m : Spot) → BegunStack src w ts st → (n : Reader WordsState WordsAct NameOrEntity) →
+    After src n w (ts ++ one kind.CloseParen m) (list_ended src st place.Item closing.Paren (at m))
 call_begun m (in_call {vs = vs} l a b c) n = moved (simp append_assoc) (access_ends {vs = one kind.OpenParen l ++ vs ++ one kind.CloseParen m} _ (around_extent kind.OpenParen kind.CloseParen vs l m) a b (call l m (exprs_so_far c)))
 call_begun m bottom n = tt
 call_begun m (in_paren l a b) n = tt
@@ -132,8 +142,8 @@ call_begun m (in_value l a b c d) n = tt
 call_begun m (in_guard l e a b) n = tt
 call_begun m (in_yes l k e a b c) n = tt
 
-pub keys_begun : {src : List ℕ} {w : Wanted} {ts : List Lexeme} {st : List Frame} (m : Spot) → BegunStack src w ts st → (n : Machine Lexeme WordsState NameOrEntity) →
-    After src n w (ts ++ one kind.CloseBrace m) (keys_ending src st closing.Brace (at m))
+pub keys_begun : {src : List ℕ} {w : Wanted} {ts : List Lexeme} {st : List Frame} (m : Spot) → BegunStack src w ts st → (n : Reader WordsState WordsAct NameOrEntity) →
+    After src n w (ts ++ one kind.CloseBrace m) (list_ended src st place.Key closing.Brace (at m))
 keys_begun m (in_key {vs = vs} l a b c) n = moved (simp append_assoc) (primary_ends vs kind.OpenBrace kind.CloseBrace l m a b (in_braces l m (inits_so_far c)))
 keys_begun m bottom n = tt
 keys_begun m (in_paren l a b) n = tt
@@ -146,7 +156,7 @@ keys_begun m (in_yes l k e a b c) n = tt
 
 -- what ends an expression in brackets
 
-pub close_paren_begun : {src : List ℕ} {w : Wanted} {ts us : List Lexeme} {st : List Frame} {x : Ranged Expr} (m : Spot) → BegunStack src w ts st → Reading (ReadsExpr src) us x → (n : Machine Lexeme WordsState NameOrEntity) →
+pub close_paren_begun : {src : List ℕ} {w : Wanted} {ts us : List Lexeme} {st : List Frame} {x : Ranged Expr} (m : Spot) → BegunStack src w ts st → Reading (ReadsExpr src) us x → (n : Reader WordsState WordsAct NameOrEntity) →
     After src n w (ts ++ (us ++ one kind.CloseParen m)) (frame_ending src st x closing.Paren (at m))
 close_paren_begun m (in_paren l a b) (reads {ts = us} r) n = moved (simp append_assoc) (primary_ends us kind.OpenParen kind.CloseParen l m a b (paren l m r))
 close_paren_begun m (in_call {vs = vs} l a b c) (reads {ts = us} r) n =
@@ -159,7 +169,7 @@ close_paren_begun m (in_value l a b c d) r n = tt
 close_paren_begun m (in_guard l e a b) r n = tt
 close_paren_begun m (in_yes l k e a b c) r n = tt
 
-pub close_bracket_begun : {src : List ℕ} {w : Wanted} {ts us : List Lexeme} {st : List Frame} {x : Ranged Expr} (m : Spot) → BegunStack src w ts st → Reading (ReadsExpr src) us x → (n : Machine Lexeme WordsState NameOrEntity) →
+pub close_bracket_begun : {src : List ℕ} {w : Wanted} {ts us : List Lexeme} {st : List Frame} {x : Ranged Expr} (m : Spot) → BegunStack src w ts st → Reading (ReadsExpr src) us x → (n : Reader WordsState WordsAct NameOrEntity) →
     After src n w (ts ++ (us ++ one kind.CloseBracket m)) (frame_ending src st x closing.Bracket (at m))
 close_bracket_begun m (in_set {vs = vs} l a b c) (reads {ts = us} r) n = moved (simp append_assoc) (primary_ends (vs ++ us) kind.OpenBracket kind.CloseBracket l m a b (set l m (exprs (exprs_more c r))))
 close_bracket_begun m (in_index l a b) (reads {ts = us} r) n =
@@ -177,7 +187,7 @@ pair_made : (src : List ℕ) (ws us : List Lexeme) (x : Cell Expr) (y : Expr) (x
     xs ++ node_at src (joint_extent (extent ws) (extent us)) (rec_init_of x (placed src us y)) ∷ [] ≡ xs ++ placed src (ws ++ us) (rec_init_of x (placed src us y)) ∷ []
 pair_made src ws us x y xs = ap (λ q. xs ++ node_at src q (rec_init_of x (placed src us y)) ∷ []) (sym (extent-append ws us))
 
-pub close_brace_begun : {src : List ℕ} {w : Wanted} {ts us : List Lexeme} {st : List Frame} {x : Ranged Expr} (m : Spot) → BegunStack src w ts st → Reading (ReadsExpr src) us x → (n : Machine Lexeme WordsState NameOrEntity) →
+pub close_brace_begun : {src : List ℕ} {w : Wanted} {ts us : List Lexeme} {st : List Frame} {x : Ranged Expr} (m : Spot) → BegunStack src w ts st → Reading (ReadsExpr src) us x → (n : Reader WordsState WordsAct NameOrEntity) →
     After src n w (ts ++ (us ++ one kind.CloseBrace m)) (frame_ending src st x closing.Brace (at m))
 close_brace_begun {src = src} {w = w} m (in_value {ts = ts} {us = ps} {vs = vs} {ws = ws} {st = st} {lv = lv} {sg = sg} {xs = xs} {x = x} l a b c d) (reads {ts = us} {x = y} r) n =
     moved (simp append_assoc) (subst (λ q. Begun src n w (ts ++ (ps ++ (one kind.OpenBrace l ++ (vs ++ (ws ++ us)) ++ one kind.CloseBrace m))) (has_primary src st lv sg (ranged_tree (around (at l) (at m)) (primary.RInits q))))
@@ -191,12 +201,12 @@ close_brace_begun m (in_key l a b c) r n = tt
 close_brace_begun m (in_guard l e a b) r n = tt
 close_brace_begun m (in_yes l k e a b c) r n = tt
 
-pub comma_begun : {src : List ℕ} {w : Wanted} {ts us : List Lexeme} {st : List Frame} {x : Ranged Expr} (m : Spot) → BegunStack src w ts st → Reading (ReadsExpr src) us x → (n : Machine Lexeme WordsState NameOrEntity) →
+pub comma_begun : {src : List ℕ} {w : Wanted} {ts us : List Lexeme} {st : List Frame} {x : Ranged Expr} (m : Spot) → BegunStack src w ts st → Reading (ReadsExpr src) us x → (n : Reader WordsState WordsAct NameOrEntity) →
     After src n w (ts ++ (us ++ one kind.Comma m)) (frame_ending src st x closing.Comma (at m))
 comma_begun m (in_set l a b c) (reads r) n = moved (simp append_assoc) (opens_item (in_set l a b (exprs_then m (exprs_more c r))))
 comma_begun m (in_call l a b c) (reads r) n = moved (simp append_assoc) (opens_item (in_call l a b (exprs_then m (exprs_more c r))))
 comma_begun {src = src} {w = w} m (in_value {ts = ts} {us = ps} {vs = vs} {ws = ws} {st = st} {lv = lv} {sg = sg} {xs = xs} {x = x} l a b c d) (reads {ts = us} {x = y} r) n =
-    moved (simp append_assoc) (subst (λ q. Begun src n w (ts ++ (ps ++ (one kind.OpenBrace l ++ ((vs ++ (ws ++ us)) ++ one kind.Comma m)))) (opening (frame.Key (record_with lv sg (at l) q) ∷ st) [] place.Key))
+    moved (simp append_assoc) (subst (λ q. Begun src n w (ts ++ (ps ++ (one kind.OpenBrace l ++ ((vs ++ (ws ++ us)) ++ one kind.Comma m)))) (opening (frame.Record (record_with lv sg (at l) q None) ∷ st) [] place.Key))
     (sym (pair_made src ws us x y xs)) (opens_key (in_key l a b (inits_then m (inits_more c (key_value d r))))))
 comma_begun m bottom r n = tt
 comma_begun m (in_paren l a b) r n = tt
@@ -205,10 +215,10 @@ comma_begun m (in_key l a b c) r n = tt
 comma_begun m (in_guard l e a b) r n = tt
 comma_begun m (in_yes l k e a b c) r n = tt
 
-pub colon_begun : {src : List ℕ} {w : Wanted} {ts us : List Lexeme} {st : List Frame} {x : Ranged Expr} (m : Spot) → BegunStack src w ts st → Reading (ReadsExpr src) us x → (n : Machine Lexeme WordsState NameOrEntity) →
+pub colon_begun : {src : List ℕ} {w : Wanted} {ts us : List Lexeme} {st : List Frame} {x : Ranged Expr} (m : Spot) → BegunStack src w ts st → Reading (ReadsExpr src) us x → (n : Reader WordsState WordsAct NameOrEntity) →
     After src n w (ts ++ (us ++ one kind.Colon m)) (frame_ending src st x closing.Colon (at m))
 colon_begun {src = src} {w = w} m (in_key {ts = ts} {us = ps} {vs = vs} {st = st} {lv = lv} {sg = sg} {xs = xs} l a b c) (reads {ts = us} {x = x} r) n =
-    moved (simp append_assoc) (subst (λ q. Begun src n w (ts ++ (ps ++ (one kind.OpenBrace l ++ (vs ++ (us ++ one kind.Colon m))))) (opening (frame.Value record { pairs = record_with lv sg (at l) xs; key = placed src us x; extent = q } ∷ st) [] place.Expr))
+    moved (simp append_assoc) (subst (λ q. Begun src n w (ts ++ (ps ++ (one kind.OpenBrace l ++ (vs ++ (us ++ one kind.Colon m))))) (opening (frame.Record (record_with lv sg (at l) xs (Some record { node = placed src us x; extent = q })) ∷ st) [] place.Expr))
     (extent-append us (one kind.Colon m)) (opens_in (in_value l a b c (expr_key m r))))
 colon_begun m bottom r n = tt
 colon_begun m (in_paren l a b) r n = tt
@@ -219,7 +229,7 @@ colon_begun m (in_value l a b c d) r n = tt
 colon_begun m (in_guard l e a b) r n = tt
 colon_begun m (in_yes l k e a b c) r n = tt
 
-pub then_begun : {src : List ℕ} {w : Wanted} {ts us : List Lexeme} {st : List Frame} {x : Ranged Expr} (m : Spot) → BegunStack src w ts st → Reading (ReadsExpr src) us x → (n : Machine Lexeme WordsState NameOrEntity) →
+pub then_begun : {src : List ℕ} {w : Wanted} {ts us : List Lexeme} {st : List Frame} {x : Ranged Expr} (m : Spot) → BegunStack src w ts st → Reading (ReadsExpr src) us x → (n : Reader WordsState WordsAct NameOrEntity) →
     After src n w (ts ++ (us ++ one kind.Then m)) (frame_ending src st x closing.Then (at m))
 then_begun {src = src} {w = w} m (in_guard {ts = ts} {us = ps} {st = st} {bs = bs} l e a b) (reads {ts = us} {x = x} r) n =
     moved (simp append_assoc) (subst (λ q. Begun src n w (ts ++ (ps ++ (one kind.If l ++ us ++ one kind.Then m))) (opening (frame.Yes record { branches = bs; guard = placed src us x; extent = q } ∷ st) [] place.Expr))
@@ -233,7 +243,7 @@ then_begun m (in_key l a b c) r n = tt
 then_begun m (in_value l a b c d) r n = tt
 then_begun m (in_yes l k e a b c) r n = tt
 
-pub else_begun : {src : List ℕ} {w : Wanted} {ts us : List Lexeme} {st : List Frame} {x : Ranged Expr} (m : Spot) → BegunStack src w ts st → Reading (ReadsExpr src) us x → (n : Machine Lexeme WordsState NameOrEntity) →
+pub else_begun : {src : List ℕ} {w : Wanted} {ts us : List Lexeme} {st : List Frame} {x : Ranged Expr} (m : Spot) → BegunStack src w ts st → Reading (ReadsExpr src) us x → (n : Reader WordsState WordsAct NameOrEntity) →
     After src n w (ts ++ (us ++ one kind.Else m)) (frame_ending src st x closing.Else (at m))
 else_begun {src = src} {w = w} j (in_yes {ts = ts} {us = ps} {vs = vs} {st = st} {bs = bs} {c = g} l m e a b c) (reads {ts = us} {x = x} r) n =
     moved (simp append_assoc) (subst (λ q. Begun src n w (ts ++ (ps ++ (one kind.If l ++ vs ++ one kind.Then m ++ us ++ one kind.Else j))) (opening st (record { guard = placed src vs g; yes = placed src us x; extent = q } ∷ bs) place.Expr))

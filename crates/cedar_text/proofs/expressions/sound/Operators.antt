@@ -1,6 +1,6 @@
 -- One operator more behind an operand.
 use Rattle.std.specs.Prelude.{cond}
-use Rattle.std.proofs.Common.{◌≡◌, ℕ, List, [], ◌∷◌, ◌++◌, Option, Some, None, false, refl, sym, subst, append_assoc, IfSome}
+use Rattle.std.proofs.Common.{◌≡◌, ℕ, List, [], ◌∷◌, ◌++◌, Option, Some, None, Bool, true, false, refl, sym, subst, append_assoc, IfSome}
 use Rattle.std.proofs.lemmas.List.{append-nil}
 use Rattle.cedar_lexer.specs.Token.{Lexeme}
 use Rattle.cedar_lexer.specs.declared.token.TokenKind.{TokenKind}
@@ -11,8 +11,10 @@ use Rattle.cedar_syntax.specs.declared.cst.Relation.{Relation}
 use Rattle.cedar_syntax.specs.declared.cst.Add.{Add}
 use Rattle.cedar_syntax.specs.declared.cst.MultOp.{MultOp}
 use Rattle.cedar_syntax.specs.declared.cst.Primary.{Primary}
+use Rattle.cedar_syntax.specs.declared.reading.class.Operator.TheVariants as operator
 use Rattle.cedar_text.specs.machines.Named.{NameOrEntity}
 use Rattle.cedar_text.specs.declared.text_to_cst.state.WordsState.{WordsState}
+use Rattle.cedar_text.specs.declared.text_to_cst.state.WordsAct.{WordsAct}
 use Rattle.cedar_text.specs.declared.text_to_cst.expression.state.Branch.{Branch}
 use Rattle.cedar_text.specs.declared.text_to_cst.expression.state.Left.{Left}
 use Rattle.cedar_text.specs.declared.text_to_cst.expression.state.Left.TheVariants as left
@@ -26,32 +28,32 @@ use Rattle.cedar_text.specs.declared.text_to_cst.expression.state.State.{State}
 use Rattle.cedar_text.specs.declared.text_to_cst.expression.state.Wanted.{Wanted}
 use Rattle.cedar_text.specs.declared.text_to_cst.expression.state.Reach.{Reach}
 use Rattle.cedar_text.specs.declared.text_to_cst.expression.state.Reach.TheVariants as reach
-use Rattle.cedar_text.specs.machines.Advance.{Advance}
-use Rattle.cedar_text.specs.machines.Advance as advance
 use Rattle.cedar_syntax.specs.Place.{extent, placed}
 use Rattle.cedar_syntax.specs.Tokens.{Spot, one}
 use Rattle.cedar_syntax.specs.LooseExpressions.{ReadsAddOp, ReadsMultOp, ReadsRelation, has_if, ReadsAdd, no_access, ReadsPrimary}
 use Rattle.cedar_text.specs.machines.Closing.{Plain, plain_chain, marked_chain, onward, pending, unary_at, made_mult, relation_with_sum, add_at, relation_at, and_at, levels_of, fresh, no_signs, operand_with, operand_of}
-use Rattle.cedar_syntax.specs.machines.Door.{Machine}
-use Rattle.cedar_text.specs.machines.ExpressionStates.{opening, going_on, has_primary, edge}
-use Rattle.cedar_text.specs.machines.Having.{product_beginning, sum_beginning, before, conjunction_beginning, disjunction_beginning, multiply_had, sum_had, and_had, or_had}
+use Rattle.cedar_syntax.specs.machines.Door.{Reader}
+use Rattle.cedar_text.specs.machines.ExpressionStates.{opening, going_on, has_primary}
+use Rattle.cedar_text.specs.machines.ExpressionPlans.{edge}
+use Rattle.cedar_text.specs.machines.Having.{product_beginning, sum_beginning, before, conjunction_beginning, disjunction_beginning}
 use Rattle.cedar_text.proofs.expressions.Basics.{chain_extent}
+use Rattle.cedar_text.proofs.expressions.Stepping.{had}
 use Rattle.cedar_text.proofs.expressions.sound.Begun.{at, closed, Reading, no_mult, no_add, BegunLeft, no_left, BegunAnd, no_and, BegunOr, BegunBranches, no_branch, BegunSum, in_sum, BegunLevels, levels, BegunHas, has_begun, BegunSigns, no_sign, BegunOperand, begun_operand, BegunIf, begun_if, Opens, opens_whole, opens_sum, Leads, leads, leads_primary, whole_longer, sum_longer, if_longer, Holds, holds, holds_primary, BegunStack, Wants, at_expr, at_item, at_key, at_has, at_operand, at_primary, Begun, is_wanting, is_had}
 use Rattle.cedar_text.proofs.expressions.sound.Closing.{at_extent, mult_link, mult_close, mult_onward, add_link, add_close, add_onward, relation_close, and_link, and_close, and_onward, or_link, or_onward, operand_close, has_levels, fresh_levels}
 
-abbrev pub kept : Advance → Option State
-kept (advance.next s) = Some s
-kept advance.not_taken = None
-kept advance.too_large = None
+abbrev pub After : List ℕ → Reader WordsState WordsAct NameOrEntity → Wanted → List Lexeme → Option State → Type 0
+After src names w ts o = IfSome o (λ s. Begun src names w ts s)
 
-abbrev pub After : List ℕ → Machine Lexeme WordsState NameOrEntity → Wanted → List Lexeme → Advance → Type 0
-After src names w ts o = IfSome (kept o) (λ s. Begun src names w ts s)
-
-pub moved : {src : List ℕ} {names : Machine Lexeme WordsState NameOrEntity} {w : Wanted} {ts us : List Lexeme} {s : State} → ts ≡ us → Begun src names w ts s → Begun src names w us s
+pub moved : {src : List ℕ} {names : Reader WordsState WordsAct NameOrEntity} {w : Wanted} {ts us : List Lexeme} {s : State} → ts ≡ us → Begun src names w ts s → Begun src names w us s
 moved {src = src} {names = names} {w = w} {s = s} e h = subst (λ q. Begun src names w q s) e h
 
-pub after_moved : (src : List ℕ) (names : Machine Lexeme WordsState NameOrEntity) (w : Wanted) {ts us : List Lexeme} (o : Advance) → ts ≡ us → After src names w ts o → After src names w us o
+pub after_moved : (src : List ℕ) (names : Reader WordsState WordsAct NameOrEntity) (w : Wanted) {ts us : List Lexeme} (o : Option State) → ts ≡ us → After src names w ts o → After src names w us o
 after_moved src names w o e h = subst (λ q. After src names w q o) e h
+
+-- what is done only where it is planned
+pub guarded : (src : List ℕ) (names : Reader WordsState WordsAct NameOrEntity) (w : Wanted) (ts : List Lexeme) (b : Bool) (o : Option State) → After src names w ts o → After src names w ts (cond b o None)
+guarded src names w ts true o h = h
+guarded src names w ts false o h = tt
 
 -- an operand without accesses
 pub begun_alone : {src : List ℕ} {ts us : List Lexeme} {sg : Signs} {x : Primary} → BegunSigns ts sg → ReadsPrimary src us x → BegunOperand src (ts ++ us) (operand_of src sg (closed us x))
@@ -82,24 +84,24 @@ wants_leads {src = src} (at_primary e) = subst (λ r. Leads src r [] (fresh []) 
 
 -- states
 
-pub is_primary_had : {src : List ℕ} {names : Machine Lexeme WordsState NameOrEntity} {w : Wanted} {ts us vs : List Lexeme} {st : List Frame} {lv : Levels} {sg : Signs} {x : Primary} →
+pub is_primary_had : {src : List ℕ} {names : Reader WordsState WordsAct NameOrEntity} {w : Wanted} {ts us vs : List Lexeme} {st : List Frame} {lv : Levels} {sg : Signs} {x : Primary} →
     BegunStack src w ts st → Leads src (edge w st) us lv sg → ReadsPrimary src vs x → Begun src names w (ts ++ (us ++ vs)) (has_primary src st lv sg (closed vs x))
 is_primary_had a b r = is_had a (leads_to b r)
 
-pub opens_expr : {src : List ℕ} {names : Machine Lexeme WordsState NameOrEntity} {w : Wanted} {ts us : List Lexeme} {st : List Frame} {bs : List Branch} → edge w st ≡ reach.Whole → BegunStack src w ts st → BegunBranches src us bs →
+pub opens_expr : {src : List ℕ} {names : Reader WordsState WordsAct NameOrEntity} {w : Wanted} {ts us : List Lexeme} {st : List Frame} {bs : List Branch} → edge w st ≡ reach.Whole → BegunStack src w ts st → BegunBranches src us bs →
     Begun src names w (ts ++ us) (opening st bs place.Expr)
 opens_expr e a b = is_wanting a (at_expr e b)
 
-pub opens_in : {src : List ℕ} {names : Machine Lexeme WordsState NameOrEntity} {w : Wanted} {ts : List Lexeme} {f : Frame} {st : List Frame} → BegunStack src w ts (f ∷ st) → Begun src names w ts (opening (f ∷ st) [] place.Expr)
+pub opens_in : {src : List ℕ} {names : Reader WordsState WordsAct NameOrEntity} {w : Wanted} {ts : List Lexeme} {f : Frame} {st : List Frame} → BegunStack src w ts (f ∷ st) → Begun src names w ts (opening (f ∷ st) [] place.Expr)
 opens_in {ts = ts} a = moved (append-nil ts) (opens_expr refl a no_branch)
 
-pub opens_item : {src : List ℕ} {names : Machine Lexeme WordsState NameOrEntity} {w : Wanted} {ts : List Lexeme} {f : Frame} {st : List Frame} → BegunStack src w ts (f ∷ st) → Begun src names w ts (opening (f ∷ st) [] place.Item)
+pub opens_item : {src : List ℕ} {names : Reader WordsState WordsAct NameOrEntity} {w : Wanted} {ts : List Lexeme} {f : Frame} {st : List Frame} → BegunStack src w ts (f ∷ st) → Begun src names w ts (opening (f ∷ st) [] place.Item)
 opens_item {ts = ts} a = moved (append-nil ts) (is_wanting a at_item)
 
-pub opens_key : {src : List ℕ} {names : Machine Lexeme WordsState NameOrEntity} {w : Wanted} {ts : List Lexeme} {f : Frame} {st : List Frame} → BegunStack src w ts (f ∷ st) → Begun src names w ts (opening (f ∷ st) [] place.Key)
+pub opens_key : {src : List ℕ} {names : Reader WordsState WordsAct NameOrEntity} {w : Wanted} {ts : List Lexeme} {f : Frame} {st : List Frame} → BegunStack src w ts (f ∷ st) → Begun src names w ts (opening (f ∷ st) [] place.Key)
 opens_key {ts = ts} a = moved (append-nil ts) (is_wanting a at_key)
 
-pub goes_on : {src : List ℕ} {names : Machine Lexeme WordsState NameOrEntity} {w : Wanted} {ts us : List Lexeme} {st : List Frame} {lv : Levels} (r : Reach) → edge w st ≡ r → BegunStack src w ts st → Opens src r us lv no_signs →
+pub goes_on : {src : List ℕ} {names : Reader WordsState WordsAct NameOrEntity} {w : Wanted} {ts us : List Lexeme} {st : List Frame} {lv : Levels} (r : Reach) → edge w st ≡ r → BegunStack src w ts st → Opens src r us lv no_signs →
     Begun src names w (ts ++ us) (going_on st lv)
 goes_on {src = src} {us = us} {lv = lv} r e a o = is_wanting a (at_operand (subst (λ q. Opens src q us lv no_signs) (sym e) o))
 
@@ -168,28 +170,28 @@ if_or_levels {src = src} {m = q} p (has_begun {ws = ws} {bs = bs} {o = o} {a = a
 -- one token more: an operator
 
 pub multiply_begun : {src : List ℕ} {w : Wanted} {ts us : List Lexeme} {st : List Frame} {r : Reach} {lv : Levels} {m : Operand} {k : TokenKind} {o : MultOp} (p : Spot) →
-    edge w st ≡ r → BegunStack src w ts st → Holds src r us lv m → ReadsMultOp k o → (names : Machine Lexeme WordsState NameOrEntity) → After src names w (ts ++ (us ++ one k p)) (multiply_had src st lv m (cond m.is_if reach.If r) o (at p))
+    edge w st ≡ r → BegunStack src w ts st → Holds src r us lv m → ReadsMultOp k o → (names : Reader WordsState WordsAct NameOrEntity) → After src names w (ts ++ (us ++ one k p)) (had src st lv m (cond m.is_if reach.If r) (operator.Multiply o) (at p))
 multiply_begun p e a (holds (whole_longer b (begun_operand x y z))) k names = goes_on reach.Whole e a (unsigned_whole (multiply_levels p b (begun_operand x y z) k))
 multiply_begun p e a (holds (sum_longer b (begun_operand x y z))) k names = goes_on reach.Sum e a (unsigned_sum (multiply_sum p b (begun_operand x y z) k))
 multiply_begun p e a (holds (if_longer b (begun_if q c))) k names = tt
 multiply_begun p e a (holds_primary b) k names = tt
 
 pub sum_begun : {src : List ℕ} {w : Wanted} {ts us : List Lexeme} {st : List Frame} {r : Reach} {lv : Levels} {m : Operand} {k : TokenKind} {o : AddOp} (p : Spot) →
-    edge w st ≡ r → BegunStack src w ts st → Holds src r us lv m → ReadsAddOp k o → (names : Machine Lexeme WordsState NameOrEntity) → After src names w (ts ++ (us ++ one k p)) (sum_had src st lv m (cond m.is_if reach.If r) o (at p))
+    edge w st ≡ r → BegunStack src w ts st → Holds src r us lv m → ReadsAddOp k o → (names : Reader WordsState WordsAct NameOrEntity) → After src names w (ts ++ (us ++ one k p)) (had src st lv m (cond m.is_if reach.If r) (operator.Sum o) (at p))
 sum_begun p e a (holds (whole_longer b (begun_operand x y z))) k names = goes_on reach.Whole e a (unsigned_whole (sum_levels_more p b (begun_operand x y z) k))
 sum_begun p e a (holds (sum_longer b (begun_operand x y z))) k names = goes_on reach.Sum e a (unsigned_sum (sum_more p b (begun_operand x y z) k))
 sum_begun p e a (holds (if_longer b (begun_if q c))) k names = tt
 sum_begun p e a (holds_primary b) k names = tt
 
 pub and_begun : {src : List ℕ} {w : Wanted} {ts us : List Lexeme} {st : List Frame} {r : Reach} {lv : Levels} {m : Operand} (p : Spot) →
-    edge w st ≡ r → BegunStack src w ts st → Holds src r us lv m → (names : Machine Lexeme WordsState NameOrEntity) → After src names w (ts ++ (us ++ one kind.AndAnd p)) (and_had src st lv m (cond m.is_if reach.If r) (at p))
+    edge w st ≡ r → BegunStack src w ts st → Holds src r us lv m → (names : Reader WordsState WordsAct NameOrEntity) → After src names w (ts ++ (us ++ one kind.AndAnd p)) (had src st lv m (cond m.is_if reach.If r) operator.And (at p))
 and_begun p e a (holds (whole_longer b (begun_operand x y z))) names = goes_on reach.Whole e a (unsigned_whole (and_levels p b (begun_operand x y z)))
 and_begun p e a (holds (sum_longer b (begun_operand x y z))) names = tt
 and_begun p e a (holds (if_longer b (begun_if q c))) names = goes_on reach.Whole e a (unsigned_whole (if_and_levels p b (begun_if q c)))
 and_begun p e a (holds_primary b) names = tt
 
 pub or_begun : {src : List ℕ} {w : Wanted} {ts us : List Lexeme} {st : List Frame} {r : Reach} {lv : Levels} {m : Operand} (p : Spot) →
-    edge w st ≡ r → BegunStack src w ts st → Holds src r us lv m → (names : Machine Lexeme WordsState NameOrEntity) → After src names w (ts ++ (us ++ one kind.OrOr p)) (or_had src st lv m (cond m.is_if reach.If r) (at p))
+    edge w st ≡ r → BegunStack src w ts st → Holds src r us lv m → (names : Reader WordsState WordsAct NameOrEntity) → After src names w (ts ++ (us ++ one kind.OrOr p)) (had src st lv m (cond m.is_if reach.If r) operator.Or (at p))
 or_begun p e a (holds (whole_longer b (begun_operand x y z))) names = goes_on reach.Whole e a (unsigned_whole (or_levels p b (begun_operand x y z)))
 or_begun p e a (holds (sum_longer b (begun_operand x y z))) names = tt
 or_begun p e a (holds (if_longer b (begun_if q c))) names = goes_on reach.Whole e a (unsigned_whole (if_or_levels p b (begun_if q c)))

@@ -1,8 +1,10 @@
-//! An operand alone: the trees above it, of whose levels none is begun. Their places come first, since memory can be refused to them; behind the
-//! last, each tree is made of the one below it and nothing is dropped, so that the compiler makes them all where they stay.
+//! An operand alone: the trees above it, of whose levels none is begun. Their places come first,
+//! since memory can be refused to them; behind the last, each tree is made of the one below it and
+//! nothing is dropped, so that the compiler makes them all where they stay.
 ghost use Rattle.std.specs.Prelude.{◌≡◌, [], Some, IfOk};
 ghost use Rattle.cedar_syntax.specs.Trees.{unary_of, member_of, mult_of, add_of, common_of, and_of, or_of};
-ghost use Rattle.cedar_text.specs.machines.Closing.{fresh, add_at, relation_at, or_at, made_expr};
+ghost use Rattle.cedar_text.specs.machines.Closing.{fresh, mult_at, add_at, relation_at, or_at, made_expr};
+ghost use Rattle.cedar_text.specs.machines.OperandPlaces.{places_of};
 
 use crate::text_to_cst::expression::state::{Operand, Ranged};
 use crate::text_to_cst::ground::Ground;
@@ -59,7 +61,7 @@ fn add_of(alloc: Global, mult: Mult, loc: Option<Loc>) -> Add
 
 /// The relation that is one sum.
 #[inline(always)]
-fn common_of(alloc: Global, add: Add, loc: Option<Loc>) -> Relation
+pub fn common_of(alloc: Global, add: Add, loc: Option<Loc>) -> Relation
     ensures { result ≡ common_of record { node = Some add; loc = loc } [] }
 {
     let node = Some(add);
@@ -91,6 +93,51 @@ fn or_of(alloc: Global, and: And, loc: Option<Loc>) -> Or
         initial: Node { node, loc },
         extended: Items::new(alloc),
     }
+}
+
+/// The places of the trees above an operand alone, up to its sum.
+#[derive(Drop)]
+pub struct Places {
+    of_member: Option<Loc>,
+    of_unary: Option<Loc>,
+    of_mult: Option<Loc>,
+}
+
+/// Where they stand.
+#[inline(always)]
+pub fn places_of(ground: Ground<'_>, operand: &Operand) -> Result<Places, AllocError>
+    ensures { IfOk result (λ places. places ≡ places_of ground.entry.source.now operand.now) }
+{
+    let extent = joined(operand.signs.extent, operand.extent);
+    let of_member = ground.loc_at(operand.extent)?;
+    let of_unary = ground.loc_at(extent)?;
+    let of_mult = ground.loc_at(extent)?;
+    Ok(Places {
+        of_member,
+        of_unary,
+        of_mult,
+    })
+}
+
+/// The product that is an operand alone, at these places.
+#[inline(always)]
+pub fn mult_at(alloc: Global, operand: Operand, places: Places) -> Mult
+    ensures { (src : _) → places ≡ places_of src operand
+        → result ≡ (mult_at src (fresh []) operand).tree }
+{
+    let unary = unary_of(operand, places.of_member);
+    mult_of(alloc, unary, places.of_unary)
+}
+
+/// The sum that is an operand alone, at these places.
+#[inline(always)]
+pub fn add_alone(alloc: Global, operand: Operand, places: Places) -> Add
+    ensures { (src : _) → places ≡ places_of src operand
+        → result ≡ (add_at src (fresh []) operand).tree }
+{
+    let unary = unary_of(operand, places.of_member);
+    let mult = mult_of(alloc, unary, places.of_unary);
+    add_of(alloc, mult, places.of_mult)
 }
 
 /// The sum that is this operand alone.
@@ -131,7 +178,7 @@ pub fn alone_relation(ground: Ground<'_>, operand: Operand) -> Result<Ranged<Rel
 }
 
 /// The expression that is this operand alone.
-#[inline(never)]
+#[inline(always)]
 pub fn alone_expr(ground: Ground<'_>, operand: Operand) -> Result<Ranged<Expr>, AllocError>
     ensures { IfOk result (λ expr. expr ≡ made_expr ground.entry.source.now
         (or_at ground.entry.source.now (fresh []) operand)) }

@@ -1,19 +1,21 @@
 //! What a state becomes where something begins.
-ghost use Rattle.std.specs.Prelude.{◌≡◌, [], ◌∷◌, IfOk};
-ghost use Rattle.cedar_text.specs.machines.Advance as advance;
+ghost use Rattle.std.specs.Prelude.{◌≡◌, [], None, IfOk, OnOk};
+ghost use Rattle.cedar_text.specs.declared.text_to_cst.expression.state.Mode.TheVariants as mode;
 ghost use Rattle.cedar_text.specs.machines.Closing.{fresh, no_signs, operand_of};
-ghost use Rattle.cedar_text.specs.machines.ExpressionStates.{opening, wants, has_operand, has_primary};
-ghost use Rattle.cedar_text.specs.machines.Stepped.{advance_of};
+ghost use Rattle.cedar_text.specs.machines.ExpressionModes.{HasOperand, WantsOperand};
+ghost use Rattle.cedar_text.specs.machines.ExpressionStates.{state, wants, has_primary};
 
 use crate::text_to_cst::expression::state::{
-    Branch, Frame, Levels, Mode, Operand, Place, Ranged, Signs, State, Taken,
+    Branch, Gap, Levels, Mode, Operand, Place, Ranged, Signs, State,
 };
 use crate::text_to_cst::ground::Ground;
-use crate::text_to_cst::reader::put;
+use crate::text_to_cst::put::put;
 use cedar_expressions::Items;
 use cedar_syntax::cst::Primary;
+use cedar_syntax::node::Node;
 use cedar_syntax::reading::stack::Stack;
 use std::alloc::{AllocError, Global};
+use std::mem;
 
 /// Nothing but these `if`s is begun.
 pub fn fresh_levels(branches: Stack<Branch>) -> Levels
@@ -68,33 +70,65 @@ pub fn operand_of(
     })
 }
 
+/// Behind this operand.
+pub fn have(operand: Operand) -> Mode
+    ensures { result ≡ mode.Have operand None }
+{
+    Mode::Have { operand, dot: None }
+}
+
 impl State {
-    /// An expression begins, inside of these `if`s.
-    pub fn begin(&mut self, branches: Stack<Branch>, place: Place)
-        ensures { self.new ≡ opening self.old.stack branches place }
+    /// The operand that has ended is taken out, and behind what stands there one is wanted at this
+    /// place.
+    #[inline(always)]
+    pub fn take_operand(&mut self, place: Place) -> Operand
+        requires { HasOperand self.old.mode }
+        ensures operand { self.old.mode ≡ mode.Have result None }
+        ensures after { self.new ≡ state self.old.stack self.old.levels (wants place) }
     {
-        put(&mut self.levels, fresh_levels(branches));
-        put(&mut self.mode, want_at(place));
+        match mem::replace(&mut self.mode, want_at(place)) {
+            Mode::Have { operand, dot: _ } => operand,
+            Mode::Want { .. } | Mode::Word { .. } => unreachable!(),
+        }
     }
 
-    /// An expression begins, inside of this bracket.
-    pub fn open(&mut self, alloc: Global, frame: Frame, place: Place) -> Result<Taken, AllocError>
-        ensures { IfOk result (λ taken. advance_of taken self.new
-            ≡ advance.next (opening (frame ∷ self.old.stack) [] place)) }
+    /// Where an operand is wanted, and the signs before it.
+    #[inline(always)]
+    pub fn gap(&self) -> Gap
+        requires { WantsOperand self.now.mode }
+        ensures { self.now.mode ≡ mode.Want result.place result.signs }
     {
-        self.stack.push(frame)?;
-        self.begin(Stack::new(alloc), place);
-        Ok(Taken::Next)
+        match &self.mode {
+            Mode::Want { place, signs } => Gap {
+                place: *place,
+                signs: *signs,
+            },
+            Mode::Word { .. } | Mode::Have { .. } => unreachable!(),
+        }
     }
 
-    /// Behind an operand, which these levels wait for.
-    pub fn go_back(&mut self, levels: Levels, operand: Operand) -> Taken
-        ensures { advance_of result self.new ≡ advance.next
-            (has_operand self.old.stack levels operand) }
+    /// An operand is wanted at this place, where one already was.
+    #[inline(always)]
+    pub fn want_again(&mut self, next: Place)
+        requires { WantsOperand self.old.mode }
+        ensures { self.new ≡ state self.old.stack self.old.levels (wants next) }
     {
-        put(&mut self.levels, levels);
-        put(&mut self.mode, Mode::Have(operand));
-        Taken::Next
+        match &mut self.mode {
+            Mode::Want { place, signs } => {
+                *place = next;
+                *signs = no_signs();
+            }
+            Mode::Word { .. } | Mode::Have { .. } => unreachable!(),
+        }
+    }
+
+    /// The levels that are begun are taken out: nothing is begun inside of the bracket that opens.
+    #[inline(always)]
+    pub fn take_levels(&mut self, alloc: Global) -> Levels
+        ensures levels { result ≡ self.old.levels }
+        ensures after { self.new ≡ state self.old.stack (fresh []) self.old.mode }
+    {
+        mem::replace(&mut self.levels, fresh_levels(Stack::new(alloc)))
     }
 
     /// Behind an operand that has no accesses yet.
@@ -104,13 +138,22 @@ impl State {
         ground: Ground<'_>,
         signs: Signs,
         item: Ranged<Primary>,
-    ) -> Result<Taken, AllocError>
-        ensures { IfOk result (λ taken. advance_of taken self.new
-            ≡ advance.next (has_primary ground.entry.source.now self.old.stack self.old.levels
-            signs item)) }
+    ) -> Result<(), AllocError>
+        ensures { OnOk result (self.new
+            ≡ has_primary ground.entry.source.now self.old.stack self.old.levels signs item) }
     {
-        let operand = operand_of(ground, signs, item)?;
-        put(&mut self.mode, Mode::Have(operand));
-        Ok(Taken::Next)
+        let loc = ground.loc_at(item.extent)?;
+        let operand = Operand {
+            signs,
+            extent: item.extent,
+            item: Node {
+                node: Some(item.tree),
+                loc,
+            },
+            access: Items::new(ground.alloc),
+            is_if: false,
+        };
+        put(&mut self.mode, have(operand));
+        Ok(())
     }
 }

@@ -1,268 +1,167 @@
 //! Accesses behind an operand: a field, a call, an index.
-ghost use Rattle.std.specs.Prelude.{◌≡◌, Some, IfOk};
+ghost use Rattle.std.specs.Prelude.{◌≡◌, Some, OnOk};
 ghost use Rattle.cedar_lexer.specs.Token.{lexeme_of};
-ghost use Rattle.cedar_syntax.specs.Place.{extent_of};
-ghost use Rattle.cedar_syntax.specs.Tokens.{any_of};
 ghost use Rattle.cedar_syntax.specs.declared.reading.class.Access.TheVariants as opens;
 ghost use Rattle.cedar_syntax.specs.declared.reading.class.Closing.TheVariants as closing;
-ghost use Rattle.cedar_text.specs.machines.Advance as advance;
+ghost use Rattle.cedar_syntax.specs.declared.reading.class.Operator.TheVariants as operators;
+ghost use Rattle.cedar_text.specs.declared.text_to_cst.expression.state.Act.TheVariants as acts;
 ghost use Rattle.cedar_text.specs.machines.Closing.{with_access};
+ghost use Rattle.cedar_text.specs.machines.ExpressionModes.{HasOperand, followed};
+ghost use Rattle.cedar_text.specs.machines.Expressions.{expression_act};
+ghost use Rattle.cedar_text.specs.machines.Having.{call_more, index_ending};
+ghost use Rattle.cedar_text.specs.machines.Named.{named_reader};
 ghost use Rattle.cedar_text.specs.machines.Wanting.{call_closing};
-ghost use Rattle.cedar_text.specs.machines.Having.{call_more, call_ending, index_ending, access_beginning, access_had, field_reading};
-ghost use Rattle.cedar_text.specs.machines.Stepped.{advance_of};
+ghost use Rattle.cedar_text.specs.machines.WholeExpressions.{IsPlanned};
 
-use crate::text_to_cst::expression::begin::fresh_levels;
+use crate::text_to_cst::expression::begin::have;
 use crate::text_to_cst::expression::paren::around;
 use crate::text_to_cst::expression::state::{
-    Call, Frame, Index, Mark, Mode, Operand, Place, Ranged, Reach, State, Taken,
+    Call, Frame, Index, Mode, Operand, Place, Ranged, State,
 };
 use crate::text_to_cst::ground::Ground;
-use crate::text_to_cst::reader::put;
+use crate::text_to_cst::put::put;
+use crate::text_to_cst::words::ident_node;
 use cedar_expressions::Items;
 use cedar_lexer::token::Token;
-use cedar_syntax::cst::{Expr, Ident, MemAccess};
-use cedar_syntax::reading::class::{Access, Closing};
+use cedar_syntax::cst::{Expr, MemAccess};
 use cedar_syntax::reading::extent::{Extent, joined};
 use cedar_syntax::reading::place::token_extent;
-use cedar_syntax::reading::stack::Stack;
-use cedar_syntax::reading::words::as_ident;
 use std::alloc::{AllocError, Global};
-use std::mem;
 
 impl Operand {
     /// One access more.
-    fn with(self, ground: Ground<'_>, access: Ranged<MemAccess>) -> Result<Operand, AllocError>
-        ensures { IfOk result (λ longer. longer
-            ≡ with_access ground.entry.source.now self access) }
+    #[inline(always)]
+    pub fn push(&mut self, ground: Ground<'_>, access: Ranged<MemAccess>) -> Result<(), AllocError>
+        ensures { OnOk result (self.new ≡ with_access ground.entry.source.now self.old access) }
     {
-        let mut operand = self;
-        let extent = joined(operand.extent, access.extent);
-        operand.access.push(ground.node_of(access)?)?;
-        operand.extent = extent;
-        Ok(operand)
+        self.extent = joined(self.extent, access.extent);
+        self.access.push(ground.node_of(access)?)
     }
 }
 
 impl Call {
     /// One argument more.
-    fn with(self, ground: Ground<'_>, item: Ranged<Expr>) -> Result<Call, AllocError>
-        ensures { IfOk result (λ longer. longer ≡ call_more ground.entry.source.now self item) }
+    pub fn push(&mut self, ground: Ground<'_>, item: Ranged<Expr>) -> Result<(), AllocError>
+        ensures { OnOk result (self.new ≡ call_more ground.entry.source.now self.old item) }
     {
-        let mut call = self;
-        call.items.push(ground.node_of(item)?)?;
-        Ok(call)
+        self.items.push(ground.node_of(item)?)
     }
 }
 
 impl State {
-    /// `(` behind an operand.
-    fn open_call(
-        &mut self,
-        alloc: Global,
-        operand: Operand,
-        opened: Extent,
-    ) -> Result<Taken, AllocError>
-        ensures { IfOk result (λ taken. advance_of taken self.new
-            ≡ advance.next (access_beginning self.old.stack self.old.levels operand opens.Paren
-            opened)) }
+    /// `.` behind an operand, which stays where it is.
+    pub fn begin_field(&mut self, opened: Extent)
+        requires { HasOperand self.old.mode }
+        ensures { (src : _) → Some self.new
+            ≡ followed src self.old (operators.Access opens.Dot) opened }
     {
-        let outer = mem::replace(&mut self.levels, fresh_levels(Stack::new(alloc)));
-        let frame = Call {
+        match &mut self.mode {
+            Mode::Have { dot, .. } => *dot = Some(opened),
+            Mode::Want { .. } | Mode::Word { .. } => unreachable!(),
+        }
+    }
+
+    /// `(` behind an operand.
+    #[inline(never)]
+    pub fn open_call(&mut self, alloc: Global, opened: Extent) -> Result<(), AllocError>
+        requires { HasOperand self.old.mode }
+        ensures { (src : _) → OnOk result (Some self.new
+            ≡ followed src self.old (operators.Access opens.Paren) opened) }
+    {
+        let operand = self.take_operand(Place::Item);
+        let outer = self.take_levels(alloc);
+        let items = Items::new(alloc);
+        self.stack.push(Frame::Call(Call {
             outer,
             operand,
             opened,
-            items: Items::new(alloc),
-        };
-        self.open(alloc, Frame::Call(frame), Place::Item)
+            items,
+        }))
     }
 
     /// `[` behind an operand.
-    fn open_index(
-        &mut self,
-        alloc: Global,
-        operand: Operand,
-        opened: Extent,
-    ) -> Result<Taken, AllocError>
-        ensures { IfOk result (λ taken. advance_of taken self.new
-            ≡ advance.next (access_beginning self.old.stack self.old.levels operand opens.Bracket
-            opened)) }
+    #[inline(never)]
+    pub fn open_index(&mut self, alloc: Global, opened: Extent) -> Result<(), AllocError>
+        requires { HasOperand self.old.mode }
+        ensures { (src : _) → OnOk result (Some self.new
+            ≡ followed src self.old (operators.Access opens.Bracket) opened) }
     {
-        let outer = mem::replace(&mut self.levels, fresh_levels(Stack::new(alloc)));
-        let frame = Index {
+        let operand = self.take_operand(Place::Expr);
+        let outer = self.take_levels(alloc);
+        self.stack.push(Frame::Index(Index {
             outer,
             operand,
             opened,
-        };
-        self.open(alloc, Frame::Index(frame), Place::Expr)
-    }
-
-    /// What begins an access behind an operand.
-    fn access(
-        &mut self,
-        alloc: Global,
-        operand: Operand,
-        mark: Mark<Access>,
-    ) -> Result<Taken, AllocError>
-        ensures { IfOk result (λ taken. advance_of taken self.new
-            ≡ advance.next (access_beginning self.old.stack self.old.levels operand mark.op
-            mark.extent)) }
-    {
-        match mark.op {
-            Access::Dot => {
-                let dot = mark.extent;
-                put(&mut self.mode, Mode::Field { operand, dot });
-                Ok(Taken::Next)
-            }
-            Access::Paren => self.open_call(alloc, operand, mark.extent),
-            Access::Bracket => self.open_index(alloc, operand, mark.extent),
-        }
-    }
-
-    /// The same, where the operand goes on so far.
-    pub fn access_had(
-        &mut self,
-        alloc: Global,
-        operand: Operand,
-        reach: Reach,
-        mark: Mark<Access>,
-    ) -> Result<Taken, AllocError>
-        ensures { IfOk result (λ taken. advance_of taken self.new
-            ≡ access_had self.old.stack self.old.levels operand reach mark.op mark.extent) }
-    {
-        match reach {
-            Reach::Primary => Ok(Taken::refuse(operand)),
-            Reach::Sum | Reach::If | Reach::Whole => self.access(alloc, operand, mark),
-        }
+        }))
     }
 
     /// `)` behind the arguments.
+    #[inline(never)]
     pub fn close_call(
         &mut self,
         ground: Ground<'_>,
         frame: Call,
         end: Extent,
-    ) -> Result<Taken, AllocError>
-        ensures { IfOk result (λ taken. advance_of taken self.new
-            ≡ advance.next (call_closing ground.entry.source.now self.old.stack frame end)) }
+    ) -> Result<(), AllocError>
+        ensures { OnOk result (self.new
+            ≡ call_closing ground.entry.source.now self.old.stack frame end) }
     {
         let Call {
             outer,
-            operand,
+            mut operand,
             opened,
             items,
         } = frame;
         let tree = MemAccess::Call(items);
         let extent = around(opened, end);
-        let operand = operand.with(ground, Ranged { tree, extent })?;
-        Ok(self.go_back(outer, operand))
-    }
-
-    /// What ends an expression, behind an argument.
-    pub fn end_call(
-        &mut self,
-        ground: Ground<'_>,
-        frame: Call,
-        item: Ranged<Expr>,
-        mark: Mark<Closing>,
-    ) -> Result<Taken, AllocError>
-        ensures { IfOk result (λ taken. advance_of taken self.new
-            ≡ call_ending ground.entry.source.now self.old.stack frame item mark.op mark.extent) }
-    {
-        match mark.op {
-            Closing::Comma => {
-                let frame = frame.with(ground, item)?;
-                self.open(ground.alloc, Frame::Call(frame), Place::Item)
-            }
-            Closing::Paren => {
-                let frame = frame.with(ground, item)?;
-                self.close_call(ground, frame, mark.extent)
-            }
-            Closing::Bracket | Closing::Brace | Closing::Colon | Closing::Then | Closing::Else =>
-                Ok(Taken::refuse((frame, item))),
-        }
+        operand.push(ground, Ranged { tree, extent })?;
+        put(&mut self.levels, outer);
+        put(&mut self.mode, have(operand));
+        Ok(())
     }
 
     /// `]` behind the index.
-    fn close_index(
+    #[inline(never)]
+    pub fn close_index(
         &mut self,
         ground: Ground<'_>,
         frame: Index,
         item: Ranged<Expr>,
         end: Extent,
-    ) -> Result<Taken, AllocError>
-        ensures { IfOk result (λ taken. advance_of taken self.new
+    ) -> Result<(), AllocError>
+        ensures { OnOk result (Some self.new
             ≡ index_ending ground.entry.source.now self.old.stack frame item closing.Bracket end) }
     {
         let Index {
             outer,
-            operand,
+            mut operand,
             opened,
         } = frame;
         let tree = MemAccess::Index(ground.node_of(item)?);
         let extent = around(opened, end);
-        let operand = operand.with(ground, Ranged { tree, extent })?;
-        Ok(self.go_back(outer, operand))
+        operand.push(ground, Ranged { tree, extent })?;
+        put(&mut self.levels, outer);
+        put(&mut self.mode, have(operand));
+        Ok(())
     }
 
-    /// What ends an expression, behind an index.
-    pub fn end_index(
-        &mut self,
-        ground: Ground<'_>,
-        frame: Index,
-        item: Ranged<Expr>,
-        mark: Mark<Closing>,
-    ) -> Result<Taken, AllocError>
-        ensures { IfOk result (λ taken. advance_of taken self.new
-            ≡ index_ending ground.entry.source.now self.old.stack frame item mark.op mark.extent) }
+    /// An identifier behind `.`: the operand takes it where it stays.
+    #[inline(never)]
+    pub fn read_field(&mut self, ground: Ground<'_>, token: &Token<'_>) -> Result<(), AllocError>
+        requires { IsPlanned self.old token.now.kind acts.Field }
+        ensures { OnOk result (Some self.new ≡ expression_act ground.entry.source.now named_reader
+            self.old acts.Field (lexeme_of token.now)) }
     {
-        match mark.op {
-            Closing::Bracket => self.close_index(ground, frame, item, mark.extent),
-            Closing::Paren
-            | Closing::Brace
-            | Closing::Comma
-            | Closing::Colon
-            | Closing::Then
-            | Closing::Else => Ok(Taken::refuse((frame, item))),
-        }
-    }
-
-    /// An identifier behind `.`.
-    fn close_field(
-        &mut self,
-        ground: Ground<'_>,
-        operand: Operand,
-        dot: Extent,
-        field: Mark<Ident>,
-    ) -> Result<Taken, AllocError>
-        ensures { IfOk result (λ taken. advance_of taken self.new
-            ≡ field_reading ground.entry.source.now self.old.stack self.old.levels operand dot
-            (Some field.op) field.extent) }
-    {
-        let extent = around(dot, field.extent);
-        let tree = MemAccess::Field(ground.node_at(Some(field.extent), field.op)?);
-        let operand = operand.with(ground, Ranged { tree, extent })?;
-        put(&mut self.mode, Mode::Have(operand));
-        Ok(Taken::Next)
-    }
-
-    /// A token behind `.`.
-    pub fn read_field(
-        &mut self,
-        ground: Ground<'_>,
-        operand: Operand,
-        dot: Extent,
-        token: Token<'_>,
-    ) -> Result<Taken, AllocError>
-        ensures { IfOk result (λ taken. advance_of taken self.new
-            ≡ field_reading ground.entry.source.now self.old.stack self.old.levels operand dot
-            (any_of token.entry.kind token.entry.text.now) (extent_of (lexeme_of token.entry))) }
-    {
-        match as_ident(ground.alloc, token.kind, token.text)? {
-            Some(op) => {
-                let extent = token_extent(token);
-                self.close_field(ground, operand, dot, Mark { op, extent })
+        match &mut self.mode {
+            Mode::Have { operand, dot } => {
+                let extent = joined(*dot, Some(token_extent(token)));
+                let field = ident_node(ground.alloc, ground.source, token)?;
+                let tree = MemAccess::Field(field);
+                operand.push(ground, Ranged { tree, extent })?;
+                *dot = None;
+                Ok(())
             }
-            None => Ok(Taken::refuse(operand)),
+            Mode::Want { .. } | Mode::Word { .. } => unreachable!(),
         }
     }
 }

@@ -1,44 +1,29 @@
 //! One level of operators: its operands so far, and one more.
 ghost use Rattle.std.specs.Prelude.{◌≡◌, Some, None, IfOk, OnOk};
-ghost use Rattle.cedar_text.specs.machines.Closing.{begun_chain, longer, onward, pending, plain_chain, marked_chain};
+ghost use Rattle.cedar_text.specs.machines.Closing.{begun_at, marked_chain, onward, pending, pending_with, plain_chain, plain_with};
 
 use crate::text_to_cst::expression::state::{Chain, Mark, Pending, Ranged};
 use crate::text_to_cst::ground::Ground;
 use cedar_expressions::{Boxed, Items};
+use cedar_syntax::loc::Loc;
 use cedar_syntax::node::Node;
 use cedar_syntax::reading::extent::{Extent, joined};
 use std::alloc::{AllocError, Global};
 
 impl<T: Drop, I: Drop> Chain<T, I> {
-    /// One operand alone.
+    /// One operand alone, at this place.
     #[inline(always)]
-    fn begin(ground: Ground<'_>, item: Ranged<T>) -> Result<Chain<T, I>, AllocError>
-        ensures { IfOk result (λ chain. chain ≡ begun_chain ground.entry.source.now item) }
+    fn begin(alloc: Global, item: Ranged<T>, loc: Option<Loc>) -> Chain<T, I>
+        ensures { result ≡ begun_at item loc }
     {
-        let extent = item.extent;
-        Ok(Chain {
-            initial: ground.node_of(item)?,
-            extended: Items::new(ground.alloc),
-            extent,
-        })
-    }
-
-    /// One operand more.
-    #[inline(always)]
-    fn extend(&mut self, item: I, extent: Option<Extent>) -> Result<(), AllocError>
-        ensures { OnOk result (self.new ≡ longer self.old item extent) }
-    {
-        self.extended.push(item)?;
-        self.extent = joined(self.extent, extent);
-        Ok(())
-    }
-
-    /// The operator behind the last operand.
-    #[inline(always)]
-    fn go_on(&mut self, operator: Extent)
-        ensures { self.new ≡ onward self.old operator }
-    {
-        self.extent = joined(self.extent, Some(operator));
+        Chain {
+            extent: item.extent,
+            initial: Node {
+                node: Some(item.tree),
+                loc,
+            },
+            extended: Items::new(alloc),
+        }
     }
 }
 
@@ -49,8 +34,13 @@ impl<T: Drop, O: Drop + Copy> Pending<T, O> {
         ensures chain { OnOk result (self.new.chain ≡ marked_chain ground.entry.source.now
             (Some self.old) item) }
     {
-        let extent = item.extent;
-        self.chain.extend((self.op, ground.node_of(item)?), extent)
+        let loc = ground.loc_at(item.extent)?;
+        self.chain.extent = joined(self.chain.extent, item.extent);
+        let node = Node {
+            node: Some(item.tree),
+            loc,
+        };
+        self.chain.extended.push((self.op, node))
     }
 
     /// One more operand, and the operator behind it.
@@ -66,42 +56,33 @@ impl<T: Drop, O: Drop + Copy> Pending<T, O> {
             (Some self.old) item) mark.op mark.extent) }
     {
         self.link(ground, item)?;
-        self.chain.go_on(mark.extent);
+        self.chain.extent = joined(self.chain.extent, Some(mark.extent));
         self.op = mark.op;
         Ok(())
-    }
-
-    /// The chain, with one more operand at its end.
-    #[inline(always)]
-    pub fn close(
-        self,
-        ground: Ground<'_>,
-        item: Ranged<T>,
-    ) -> Result<Chain<T, (O, Node<Option<T>>)>, AllocError>
-        ensures { IfOk result (λ chain. chain ≡ marked_chain ground.entry.source.now (Some self)
-            item) }
-    {
-        let Pending { mut chain, op } = self;
-        let extent = item.extent;
-        chain.extend((op, ground.node_of(item)?), extent)?;
-        Ok(chain)
     }
 }
 
 /// One operand alone, and the operator behind it.
 #[inline(always)]
 pub fn begin_pending<T: Drop, O: Drop + Copy>(
-    ground: Ground<'_>,
+    alloc: Global,
     item: Ranged<T>,
+    loc: Option<Loc>,
     mark: Mark<O>,
-) -> Result<Pending<T, O>, AllocError>
-    ensures { IfOk result (λ begun. begun ≡ pending
-        (marked_chain ground.entry.source.now None item) mark.op mark.extent) }
+) -> Pending<T, O>
+    ensures { result ≡ pending (begun_at item loc) mark.op mark.extent }
 {
-    let mut chain = Chain::begin(ground, item)?;
-    chain.go_on(mark.extent);
-    let op = mark.op;
-    Ok(Pending { chain, op })
+    Pending {
+        op: mark.op,
+        chain: Chain {
+            extent: joined(item.extent, Some(mark.extent)),
+            initial: Node {
+                node: Some(item.tree),
+                loc,
+            },
+            extended: Items::new(alloc),
+        },
+    }
 }
 
 /// One more operand and the operator behind it, at a level that may not be begun.
@@ -119,7 +100,8 @@ pub fn push_pending<T: Drop, O: Drop + Copy>(
     match slot {
         Some(level) => level.as_mut().push(ground, item, mark),
         None => {
-            let begun = begin_pending(ground, item, mark)?;
+            let loc = ground.loc_at(item.extent)?;
+            let begun = begin_pending(ground.alloc, item, loc, mark);
             *slot = Some(Boxed::new(ground.alloc, begun)?);
             Ok(())
         }
@@ -130,14 +112,22 @@ pub fn push_pending<T: Drop, O: Drop + Copy>(
 #[inline(always)]
 pub fn close_pending<T: Drop, O: Drop + Copy>(
     ground: Ground<'_>,
-    begun: Option<Boxed<Pending<T, O>>>,
+    begun: &mut Option<Boxed<Pending<T, O>>>,
     item: Ranged<T>,
 ) -> Result<Chain<T, (O, Node<Option<T>>)>, AllocError>
-    ensures { IfOk result (λ chain. chain ≡ marked_chain ground.entry.source.now begun item) }
+    ensures chain { IfOk result (λ chain. chain ≡ marked_chain ground.entry.source.now begun.old
+        item) }
+    ensures after { OnOk result (begun.new ≡ None) }
 {
-    match begun {
-        Some(level) => level.into_inner().close(ground, item),
-        None => Chain::begin(ground, item),
+    match begun.take() {
+        Some(mut level) => {
+            level.as_mut().link(ground, item)?;
+            Ok(level.into_inner().chain)
+        }
+        None => {
+            let loc = ground.loc_at(item.extent)?;
+            Ok(Chain::begin(ground.alloc, item, loc))
+        }
     }
 }
 
@@ -148,8 +138,12 @@ impl<T: Drop> Chain<T, Node<Option<T>>> {
         ensures { OnOk result (self.new ≡ plain_chain ground.entry.source.now (Some self.old)
             item) }
     {
-        let extent = item.extent;
-        self.extend(ground.node_of(item)?, extent)
+        let loc = ground.loc_at(item.extent)?;
+        self.extent = joined(self.extent, item.extent);
+        self.extended.push(Node {
+            node: Some(item.tree),
+            loc,
+        })
     }
 
     /// One more operand, and the operator behind it.
@@ -165,8 +159,70 @@ impl<T: Drop> Chain<T, Node<Option<T>>> {
             operator) }
     {
         self.link(ground, item)?;
-        self.go_on(operator);
+        self.extent = joined(self.extent, Some(operator));
         Ok(())
+    }
+}
+
+/// One more operand, a node already, and the operator behind it, at a level that may not be begun.
+#[inline(always)]
+pub fn push_plain_node<T: Drop>(
+    alloc: Global,
+    slot: &mut Option<Boxed<Chain<T, Node<Option<T>>>>>,
+    node: Node<Option<T>>,
+    extent: Option<Extent>,
+) -> Result<(), AllocError>
+    ensures { OnOk result (slot.new ≡ Some (plain_with slot.old node extent)) }
+{
+    match slot {
+        Some(level) => {
+            let chain = level.as_mut();
+            chain.extent = joined(chain.extent, extent);
+            chain.extended.push(node)
+        }
+        None => {
+            let chain = Chain {
+                initial: node,
+                extended: Items::new(alloc),
+                extent,
+            };
+            *slot = Some(Boxed::new(alloc, chain)?);
+            Ok(())
+        }
+    }
+}
+
+/// The same at a level of several operators.
+#[inline(always)]
+pub fn push_pending_node<T: Drop, O: Drop + Copy>(
+    alloc: Global,
+    slot: &mut Option<Boxed<Pending<T, O>>>,
+    node: Node<Option<T>>,
+    extent: Option<Extent>,
+    op: O,
+) -> Result<(), AllocError>
+    ensures { OnOk result (slot.new ≡ Some (pending_with slot.old node extent op)) }
+{
+    match slot {
+        Some(level) => {
+            let begun = level.as_mut();
+            begun.chain.extent = joined(begun.chain.extent, extent);
+            let before = begun.op;
+            begun.op = op;
+            begun.chain.extended.push((before, node))
+        }
+        None => {
+            let begun = Pending {
+                chain: Chain {
+                    initial: node,
+                    extended: Items::new(alloc),
+                    extent,
+                },
+                op,
+            };
+            *slot = Some(Boxed::new(alloc, begun)?);
+            Ok(())
+        }
     }
 }
 
@@ -184,8 +240,9 @@ pub fn push_plain<T: Drop>(
     match slot {
         Some(level) => level.as_mut().push(ground, item, operator),
         None => {
-            let mut chain = Chain::begin(ground, item)?;
-            chain.go_on(operator);
+            let loc = ground.loc_at(item.extent)?;
+            let mut chain = Chain::begin(ground.alloc, item, loc);
+            chain.extent = joined(chain.extent, Some(operator));
             *slot = Some(Boxed::new(ground.alloc, chain)?);
             Ok(())
         }
@@ -196,17 +253,21 @@ pub fn push_plain<T: Drop>(
 #[inline(always)]
 pub fn close_plain<T: Drop>(
     ground: Ground<'_>,
-    begun: Option<Boxed<Chain<T, Node<Option<T>>>>>,
+    begun: &mut Option<Boxed<Chain<T, Node<Option<T>>>>>,
     item: Ranged<T>,
 ) -> Result<Chain<T, Node<Option<T>>>, AllocError>
-    ensures { IfOk result (λ chain. chain ≡ plain_chain ground.entry.source.now begun item) }
+    ensures chain { IfOk result (λ chain. chain ≡ plain_chain ground.entry.source.now begun.old
+        item) }
+    ensures after { OnOk result (begun.new ≡ None) }
 {
-    match begun {
-        Some(level) => {
-            let mut chain = level.into_inner();
-            chain.link(ground, item)?;
-            Ok(chain)
+    match begun.take() {
+        Some(mut level) => {
+            level.as_mut().link(ground, item)?;
+            Ok(level.into_inner())
         }
-        None => Chain::begin(ground, item),
+        None => {
+            let loc = ground.loc_at(item.extent)?;
+            Ok(Chain::begin(ground.alloc, item, loc))
+        }
     }
 }

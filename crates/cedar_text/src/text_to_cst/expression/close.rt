@@ -1,21 +1,17 @@
-//! Closes what is begun: a level is taken out of its slot, and becomes a tree with its last operand.
-ghost use Rattle.std.specs.Prelude.{◌≡◌, [], None, Some, IfOk, OnOk, IsTrue};
-ghost use Rattle.cedar_text.specs.machines.Closing.{unary_at, mult_at, add_at, relation_at, and_at, or_at, relation_with_sum, made_expr, with_branches, whole, levels_of};
-ghost use Rattle.cedar_syntax.specs.Trees.{if_of};
+//! Closes what is begun: a level is taken out of its slot, and becomes a tree with its last
+//! operand.
+ghost use Rattle.std.specs.Prelude.{◌≡◌, [], None, IfOk, OnOk, IsTrue};
 ghost use Rattle.cedar_syntax.specs.Place.{joint_extent};
-ghost use Rattle.cedar_text.specs.machines.Closing.{ranged_tree, node_of, made_common};
-ghost use Rattle.cedar_text.specs.declared.text_to_cst.expression.state.Left.TheVariants as left;
+ghost use Rattle.cedar_syntax.specs.Trees.{if_of};
+ghost use Rattle.cedar_text.specs.machines.Closing.{add_at, and_at, fresh, levels_of, made_and, made_expr, made_or, mult_at, node_of, or_at, plain_chain, ranged_tree, relation_at, unary_at, whole, with_branches};
+ghost use Rattle.cedar_text.specs.machines.ExpressionModes.{HasNoRelation, HasNoSum};
 
 use crate::text_to_cst::expression::alone::{alone_add, alone_expr, alone_relation};
 use crate::text_to_cst::expression::chain::{close_pending, close_plain};
-use crate::text_to_cst::expression::state::{
-    Branch, Chain, Left, Levels, Operand, Pending, Ranged,
-};
+use crate::text_to_cst::expression::state::{Branch, Chain, Levels, Operand, Ranged};
 use crate::text_to_cst::ground::Ground;
-use cedar_expressions::Boxed;
-use cedar_syntax::cst::{
-    Add, And, Expr, ExprData, ExprImpl, Member, Mult, Or, RelOp, Relation, Unary,
-};
+use cedar_expressions::{Boxed, Items};
+use cedar_syntax::cst::{Add, And, Expr, ExprData, ExprImpl, Member, Mult, Or, Relation, Unary};
 use cedar_syntax::node::Node;
 use cedar_syntax::reading::extent::joined;
 use cedar_syntax::reading::stack::Stack;
@@ -40,151 +36,72 @@ pub fn close_unary(ground: Ground<'_>, operand: Operand) -> Result<Ranged<Unary>
     })
 }
 
-/// A chain of comparisons, or a sum alone.
-#[inline(always)]
-fn as_common(chain: Chain<Add, (RelOp, Node<Option<Add>>)>) -> Ranged<Relation>
-    ensures { result ≡ made_common chain }
+/// The expression that is this relation alone. Places come first: behind them nothing is refused
+/// but the memory for it.
+#[inline(never)]
+fn expr_of_relation(ground: Ground<'_>, item: Ranged<Relation>) -> Result<Ranged<Expr>, AllocError>
+    ensures { IfOk result (λ expr. expr ≡ made_expr ground.entry.source.now
+        (made_or (plain_chain ground.entry.source.now None
+        (made_and (plain_chain ground.entry.source.now None item))))) }
 {
-    let Chain {
-        initial,
-        extended,
+    let extent = item.extent;
+    let of_relation = ground.loc_at(extent)?;
+    let of_and = ground.loc_at(extent)?;
+    let loc = ground.loc_at(extent)?;
+    let and = And {
+        initial: Node {
+            node: Some(item.tree),
+            loc: of_relation,
+        },
+        extended: Items::new(ground.alloc),
+    };
+    let or = Or {
+        initial: Node {
+            node: Some(and),
+            loc: of_and,
+        },
+        extended: Items::new(ground.alloc),
+    };
+    let data = ExprData::Or(Node {
+        node: Some(or),
+        loc,
+    });
+    let expr = Boxed::new(ground.alloc, data)?;
+    Ok(Ranged {
+        tree: Expr::Expr(ExprImpl { expr }),
         extent,
-    } = chain;
-    Ranged {
-        tree: Relation::Common { initial, extended },
+    })
+}
+
+/// The expression that is this conjunction alone.
+#[inline(never)]
+fn expr_of_and(ground: Ground<'_>, item: Ranged<And>) -> Result<Ranged<Expr>, AllocError>
+    ensures { IfOk result (λ expr. expr ≡ made_expr ground.entry.source.now
+        (made_or (plain_chain ground.entry.source.now None item))) }
+{
+    let extent = item.extent;
+    let of_and = ground.loc_at(extent)?;
+    let loc = ground.loc_at(extent)?;
+    let or = Or {
+        initial: Node {
+            node: Some(item.tree),
+            loc: of_and,
+        },
+        extended: Items::new(ground.alloc),
+    };
+    let data = ExprData::Or(Node {
+        node: Some(or),
+        loc,
+    });
+    let expr = Boxed::new(ground.alloc, data)?;
+    Ok(Ranged {
+        tree: Expr::Expr(ExprImpl { expr }),
         extent,
-    }
-}
-
-impl Left {
-    /// The relation that ends with this sum.
-    fn close(self, ground: Ground<'_>, item: Ranged<Add>) -> Result<Ranged<Relation>, AllocError>
-        ensures { IfOk result (λ relation. relation ≡ relation_with_sum ground.entry.source.now
-            (Some self) item) }
-    {
-        match self {
-            Left::Common(pending) => Ok(as_common(pending.close(ground, item)?)),
-            Left::Has(left) => close_has(ground, left, item),
-            Left::Like(left) => close_like(ground, left, item),
-            Left::Is(left) => close_is(ground, left, item),
-            Left::IsIn {
-                target,
-                entity_type,
-                extent,
-            } => {
-                let left = Ranged {
-                    tree: target,
-                    extent,
-                };
-                close_is_in(ground, left, entity_type, item)
-            }
-        }
-    }
-}
-
-/// A tree as a node in memory of its own. It is of any type, so that the proof doesn't see what is dropped.
-fn boxed_node<T: Drop>(
-    ground: Ground<'_>,
-    item: Ranged<T>,
-) -> Result<Boxed<Node<Option<T>>>, AllocError>
-    ensures { IfOk result (λ boxed. boxed ≡ node_of ground.entry.source.now item) }
-{
-    Boxed::new(ground.alloc, ground.node_of(item)?)
-}
-
-/// `has` and its right side.
-fn close_has(
-    ground: Ground<'_>,
-    behind: Ranged<Node<Option<Add>>>,
-    item: Ranged<Add>,
-) -> Result<Ranged<Relation>, AllocError>
-    ensures { IfOk result (λ relation. relation ≡ relation_with_sum ground.entry.source.now
-        (Some (left.Has behind)) item) }
-{
-    let extent = joined(behind.extent, item.extent);
-    let field = boxed_node(ground, item)?;
-    let tree = Relation::Has {
-        target: behind.tree,
-        field,
-    };
-    Ok(Ranged { tree, extent })
-}
-
-/// `like` and its right side.
-fn close_like(
-    ground: Ground<'_>,
-    behind: Ranged<Node<Option<Add>>>,
-    item: Ranged<Add>,
-) -> Result<Ranged<Relation>, AllocError>
-    ensures { IfOk result (λ relation. relation ≡ relation_with_sum ground.entry.source.now
-        (Some (left.Like behind)) item) }
-{
-    let extent = joined(behind.extent, item.extent);
-    let pattern = boxed_node(ground, item)?;
-    let tree = Relation::Like {
-        target: behind.tree,
-        pattern,
-    };
-    Ok(Ranged { tree, extent })
-}
-
-/// `is` and a type.
-fn close_is(
-    ground: Ground<'_>,
-    behind: Ranged<Node<Option<Add>>>,
-    item: Ranged<Add>,
-) -> Result<Ranged<Relation>, AllocError>
-    ensures { IfOk result (λ relation. relation ≡ relation_with_sum ground.entry.source.now
-        (Some (left.Is behind)) item) }
-{
-    let extent = joined(behind.extent, item.extent);
-    let entity_type = boxed_node(ground, item)?;
-    let tree = Relation::IsIn {
-        target: behind.tree,
-        entity_type,
-        in_entity: None,
-    };
-    Ok(Ranged { tree, extent })
-}
-
-/// A node and a tree behind it, each in memory of its own, of any types too.
-fn boxes<A: Drop, B: Drop>(
-    ground: Ground<'_>,
-    first: Node<Option<A>>,
-    second: Ranged<B>,
-) -> Result<(Boxed<Node<Option<A>>>, Boxed<Node<Option<B>>>), AllocError>
-    ensures { IfOk result (λ both. both ≡ (first, node_of ground.entry.source.now second)) }
-{
-    let second = boxed_node(ground, second)?;
-    let first = Boxed::new(ground.alloc, first)?;
-    Ok((first, second))
-}
-
-/// `is`, a type, and what is behind `in`. The bytes of the left side are those up to `in`.
-fn close_is_in(
-    ground: Ground<'_>,
-    behind: Ranged<Node<Option<Add>>>,
-    entity_type: Node<Option<Add>>,
-    item: Ranged<Add>,
-) -> Result<Ranged<Relation>, AllocError>
-    ensures { IfOk result (λ relation. relation ≡ relation_with_sum ground.entry.source.now
-        (Some (left.IsIn behind.tree entity_type behind.extent)) item) }
-{
-    let Ranged {
-        tree: target,
-        extent,
-    } = behind;
-    let extent = joined(extent, item.extent);
-    let (entity_type, entity) = boxes(ground, entity_type, item)?;
-    let tree = Relation::IsIn {
-        target,
-        entity_type,
-        in_entity: Some(entity),
-    };
-    Ok(Ranged { tree, extent })
+    })
 }
 
 /// An expression without `if`.
+#[inline(never)]
 fn as_expr(ground: Ground<'_>, item: Ranged<Or>) -> Result<Ranged<Expr>, AllocError>
     ensures { IfOk result (λ expr. expr ≡ made_expr ground.entry.source.now item) }
 {
@@ -216,6 +133,7 @@ fn close_branch(
 }
 
 /// The outermost `if` of those that end with the expression. None is begun any more.
+#[inline(never)]
 fn close_branches(
     ground: Ground<'_>,
     branches: &mut Stack<Branch>,
@@ -236,16 +154,15 @@ impl Levels {
     /// Whether no level of a sum is begun.
     #[inline(always)]
     fn has_no_sum(&self) -> bool
-        ensures { IsTrue result → (self.now.mult ≡ None) × (self.now.add ≡ None) }
+        ensures { IsTrue result → HasNoSum self.now }
     {
         self.mult.is_none() && self.add.is_none()
     }
 
     /// Whether no level of a relation is begun.
     #[inline(always)]
-    fn has_no_relation(&self) -> bool
-        ensures sum { IsTrue result → (self.now.mult ≡ None) × (self.now.add ≡ None) }
-        ensures relation { IsTrue result → self.now.relation ≡ None }
+    pub fn has_no_relation(&self) -> bool
+        ensures { IsTrue result → HasNoRelation self.now }
     {
         self.relation.is_none() && self.has_no_sum()
     }
@@ -253,9 +170,7 @@ impl Levels {
     /// Whether no level of an expression is begun, but for the `if`s around it.
     #[inline(always)]
     fn has_no_operator(&self) -> bool
-        ensures sum { IsTrue result → (self.now.mult ≡ None) × (self.now.add ≡ None) }
-        ensures relation { IsTrue result → self.now.relation ≡ None }
-        ensures chain { IsTrue result → (self.now.and ≡ None) × (self.now.or ≡ None) }
+        ensures { IsTrue result → self.now ≡ fresh self.now.branches }
     {
         self.or.is_none() && self.and.is_none() && self.has_no_relation()
     }
@@ -269,16 +184,14 @@ impl Levels {
     ) -> Result<Ranged<Mult>, AllocError>
         ensures closed { IfOk result (λ closed. closed
             ≡ mult_at ground.entry.source.now self.old operand) }
-        ensures after { OnOk result
-            (self.new ≡ levels_of self.old.branches self.old.or self.old.and self.old.relation
-            self.old.add None) }
+        ensures after { OnOk result (self.new ≡ record self.old { mult = None }) }
     {
         let unary = close_unary(ground, operand)?;
         let Chain {
             initial,
             extended,
             extent,
-        } = close_pending(ground, self.mult.take(), unary)?;
+        } = close_pending(ground, &mut self.mult, unary)?;
         Ok(Ranged {
             tree: Mult { initial, extended },
             extent,
@@ -294,42 +207,47 @@ impl Levels {
     ) -> Result<Ranged<Add>, AllocError>
         ensures closed { IfOk result (λ closed. closed
             ≡ add_at ground.entry.source.now self.old operand) }
-        ensures after { OnOk result
-            (self.new ≡ levels_of self.old.branches self.old.or self.old.and self.old.relation
-            None None) }
+        ensures after { OnOk result (self.new ≡ record self.old { add = None; mult = None }) }
     {
         if self.has_no_sum() {
             return alone_add(ground, operand);
         }
+        self.close_sum(ground, operand)
+    }
+
+    /// The same, where a product or a sum is begun.
+    #[inline(never)]
+    fn close_sum(&mut self, ground: Ground<'_>, operand: Operand) -> Result<Ranged<Add>, AllocError>
+        ensures closed { IfOk result (λ closed. closed
+            ≡ add_at ground.entry.source.now self.old operand) }
+        ensures after { OnOk result (self.new ≡ record self.old { add = None; mult = None }) }
+    {
         let mult = self.close_mult(ground, operand)?;
         let Chain {
             initial,
             extended,
             extent,
-        } = close_pending(ground, self.add.take(), mult)?;
+        } = close_pending(ground, &mut self.add, mult)?;
         Ok(Ranged {
             tree: Add { initial, extended },
             extent,
         })
     }
 
-    /// The relation that ends with this sum.
-    #[inline(always)]
-    fn relate(
+    /// The relation that ends with the operand, where one or a level of a sum is begun.
+    #[inline(never)]
+    fn close_related(
         &mut self,
         ground: Ground<'_>,
-        item: Ranged<Add>,
+        operand: Operand,
     ) -> Result<Ranged<Relation>, AllocError>
         ensures closed { IfOk result (λ closed. closed
-            ≡ relation_with_sum ground.entry.source.now self.old.relation item) }
+            ≡ relation_at ground.entry.source.now self.old operand) }
         ensures after { OnOk result
-            (self.new ≡ levels_of self.old.branches self.old.or self.old.and None self.old.add
-            self.old.mult) }
+            (self.new ≡ levels_of self.old.branches self.old.or self.old.and None None None) }
     {
-        match self.relation.take() {
-            Some(left) => left.into_inner().close(ground, item),
-            None => Ok(as_common(close_pending(ground, None, item)?)),
-        }
+        let add = self.close_add(ground, operand)?;
+        self.relate(ground, add)
     }
 
     /// The relation that ends with the operand.
@@ -347,8 +265,29 @@ impl Levels {
         if self.has_no_relation() {
             return alone_relation(ground, operand);
         }
-        let add = self.close_add(ground, operand)?;
-        self.relate(ground, add)
+        self.close_related(ground, operand)
+    }
+
+    /// The `&&` that ends with this relation.
+    #[inline(always)]
+    fn join_and(
+        &mut self,
+        ground: Ground<'_>,
+        relation: Ranged<Relation>,
+    ) -> Result<Ranged<And>, AllocError>
+        ensures closed { IfOk result (λ closed. closed
+            ≡ made_and (plain_chain ground.entry.source.now self.old.and relation)) }
+        ensures after { OnOk result (self.new ≡ record self.old { and = None }) }
+    {
+        let Chain {
+            initial,
+            extended,
+            extent,
+        } = close_plain(ground, &mut self.and, relation)?;
+        Ok(Ranged {
+            tree: And { initial, extended },
+            extent,
+        })
     }
 
     /// The `&&` that ends with the operand.
@@ -364,38 +303,67 @@ impl Levels {
             (self.new ≡ levels_of self.old.branches self.old.or None None None None) }
     {
         let relation = self.close_relation(ground, operand)?;
-        let Chain {
-            initial,
-            extended,
-            extent,
-        } = close_plain(ground, self.and.take(), relation)?;
-        Ok(Ranged {
-            tree: And { initial, extended },
-            extent,
-        })
+        self.join_and(ground, relation)
     }
 
-    /// The `||` that ends with the operand.
-    #[inline(always)]
-    fn close_or(&mut self, ground: Ground<'_>, operand: Operand) -> Result<Ranged<Or>, AllocError>
-        ensures closed { IfOk result (λ closed. closed
-            ≡ or_at ground.entry.source.now self.old operand) }
-        ensures after { OnOk result
-            (self.new ≡ levels_of self.old.branches None None None None None) }
+    /// The `||` that ends with this conjunction, as an expression.
+    #[inline(never)]
+    fn join_or(&mut self, ground: Ground<'_>, and: Ranged<And>) -> Result<Ranged<Expr>, AllocError>
+        ensures closed { IfOk result (λ closed. closed ≡ made_expr ground.entry.source.now
+            (made_or (plain_chain ground.entry.source.now self.old.or and))) }
+        ensures after { OnOk result (self.new ≡ record self.old { or = None }) }
     {
-        let and = self.close_and(ground, operand)?;
         let Chain {
             initial,
             extended,
             extent,
-        } = close_plain(ground, self.or.take(), and)?;
-        Ok(Ranged {
+        } = close_plain(ground, &mut self.or, and)?;
+        let or = Ranged {
             tree: Or { initial, extended },
             extent,
-        })
+        };
+        as_expr(ground, or)
+    }
+
+    /// The expression that ends with this relation, where a chain of `&&` or `||` is begun.
+    #[inline(never)]
+    fn join_chains(
+        &mut self,
+        ground: Ground<'_>,
+        relation: Ranged<Relation>,
+    ) -> Result<Ranged<Expr>, AllocError>
+        ensures closed { IfOk result (λ closed. closed ≡ made_expr ground.entry.source.now
+            (made_or (plain_chain ground.entry.source.now self.old.or
+            (made_and (plain_chain ground.entry.source.now self.old.and relation))))) }
+        ensures after { OnOk result (self.new ≡ record self.old { or = None; and = None }) }
+    {
+        let and = self.join_and(ground, relation)?;
+        if self.or.is_none() {
+            return expr_of_and(ground, and);
+        }
+        self.join_or(ground, and)
+    }
+
+    /// The expression without `if` that ends with the operand, where some level of one is begun.
+    #[inline(never)]
+    fn close_levels(
+        &mut self,
+        ground: Ground<'_>,
+        operand: Operand,
+    ) -> Result<Ranged<Expr>, AllocError>
+        ensures closed { IfOk result (λ closed. closed
+            ≡ made_expr ground.entry.source.now (or_at ground.entry.source.now self.old operand)) }
+        ensures after { OnOk result (self.new ≡ fresh self.old.branches) }
+    {
+        let relation = self.close_relation(ground, operand)?;
+        if self.or.is_none() && self.and.is_none() {
+            return expr_of_relation(ground, relation);
+        }
+        self.join_chains(ground, relation)
     }
 
     /// The expression without `if` that ends with the operand.
+    #[inline(always)]
     fn close_expr(
         &mut self,
         ground: Ground<'_>,
@@ -403,17 +371,16 @@ impl Levels {
     ) -> Result<Ranged<Expr>, AllocError>
         ensures closed { IfOk result (λ closed. closed
             ≡ made_expr ground.entry.source.now (or_at ground.entry.source.now self.old operand)) }
-        ensures after { OnOk result
-            (self.new ≡ levels_of self.old.branches None None None None None) }
+        ensures after { OnOk result (self.new ≡ fresh self.old.branches) }
     {
         if self.has_no_operator() {
             return alone_expr(ground, operand);
         }
-        let or = self.close_or(ground, operand)?;
-        as_expr(ground, or)
+        self.close_levels(ground, operand)
     }
 
     /// The whole expression that ends with the operand.
+    #[inline(always)]
     pub fn close(
         &mut self,
         ground: Ground<'_>,
@@ -421,9 +388,12 @@ impl Levels {
     ) -> Result<Ranged<Expr>, AllocError>
         ensures closed { IfOk result (λ closed. closed
             ≡ whole ground.entry.source.now self.old operand) }
-        ensures after { OnOk result (self.new ≡ levels_of [] None None None None None) }
+        ensures after { OnOk result (self.new ≡ fresh []) }
     {
         let item = self.close_expr(ground, operand)?;
-        close_branches(ground, &mut self.branches, item)
+        match self.branches.top() {
+            None => Ok(item),
+            Some(_) => close_branches(ground, &mut self.branches, item),
+        }
     }
 }

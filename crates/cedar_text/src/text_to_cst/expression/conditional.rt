@@ -1,104 +1,63 @@
 //! `if`, `then` and `else`.
-ghost use Rattle.std.specs.Prelude.{◌≡◌, IfOk};
+ghost use Rattle.std.specs.Prelude.{◌≡◌, Some, OnOk};
 ghost use Rattle.cedar_syntax.specs.declared.reading.class.Closing.TheVariants as closing;
-ghost use Rattle.cedar_text.specs.machines.Having.{guard_ending, yes_ending};
-ghost use Rattle.cedar_text.specs.machines.Stepped.{advance_of};
+ghost use Rattle.cedar_syntax.specs.declared.reading.class.Operator.TheVariants as operators;
+ghost use Rattle.cedar_text.specs.machines.ExpressionModes.{IsFollowed, followed};
 
-use crate::text_to_cst::expression::state::{
-    Branch, Frame, Guard, Mark, Place, Ranged, State, Taken, Yes,
-};
+use crate::text_to_cst::expression::state::{Branch, Frame, Guard, Place, State, Yes};
 use crate::text_to_cst::ground::Ground;
-use cedar_syntax::cst::Expr;
-use cedar_syntax::reading::class::Closing;
+use crate::text_to_cst::put::put;
 use cedar_syntax::reading::extent::{Extent, joined};
 use std::alloc::AllocError;
 
 impl State {
     /// `then` behind the guard.
-    fn close_guard(
-        &mut self,
-        ground: Ground<'_>,
-        frame: Guard,
-        item: Ranged<Expr>,
-        word: Extent,
-    ) -> Result<Taken, AllocError>
-        ensures { IfOk result (λ taken. advance_of taken self.new
-            ≡ guard_ending ground.entry.source.now self.old.stack frame item closing.Then word) }
+    #[inline(never)]
+    pub fn end_guard(&mut self, ground: Ground<'_>, word: Extent) -> Result<(), AllocError>
+        requires { IsFollowed self.old (operators.Ends closing.Then) }
+        ensures { OnOk result (Some self.new ≡ followed ground.entry.source.now self.old
+            (operators.Ends closing.Then) word) }
     {
-        let Guard { branches, opened } = frame;
-        let extent = joined(joined(opened, item.extent), Some(word));
-        let frame = Yes {
-            branches,
-            guard: ground.node_of(item)?,
-            extent,
-        };
-        self.open(ground.alloc, Frame::Yes(frame), Place::Expr)
-    }
-
-    /// What ends an expression, behind a guard.
-    pub fn end_guard(
-        &mut self,
-        ground: Ground<'_>,
-        frame: Guard,
-        item: Ranged<Expr>,
-        mark: Mark<Closing>,
-    ) -> Result<Taken, AllocError>
-        ensures { IfOk result (λ taken. advance_of taken self.new
-            ≡ guard_ending ground.entry.source.now self.old.stack frame item mark.op mark.extent) }
-    {
-        match mark.op {
-            Closing::Then => self.close_guard(ground, frame, item, mark.extent),
-            Closing::Paren
-            | Closing::Bracket
-            | Closing::Brace
-            | Closing::Comma
-            | Closing::Colon
-            | Closing::Else => Ok(Taken::refuse((frame, item))),
+        let item = self.close(ground, Place::Expr)?;
+        match self.stack.pop() {
+            Some(Frame::Guard(Guard { branches, opened })) => {
+                let extent = joined(joined(opened, item.extent), Some(word));
+                let guard = ground.node_of(item)?;
+                self.stack.push(Frame::Yes(Yes {
+                    branches,
+                    guard,
+                    extent,
+                }))
+            }
+            _ => unreachable!(),
         }
     }
 
     /// `else` behind the part for yes.
-    fn close_yes(
-        &mut self,
-        ground: Ground<'_>,
-        frame: Yes,
-        item: Ranged<Expr>,
-        word: Extent,
-    ) -> Result<Taken, AllocError>
-        ensures { IfOk result (λ taken. advance_of taken self.new
-            ≡ yes_ending ground.entry.source.now self.old.stack frame item closing.Else word) }
+    #[inline(never)]
+    pub fn end_yes(&mut self, ground: Ground<'_>, word: Extent) -> Result<(), AllocError>
+        requires { IsFollowed self.old (operators.Ends closing.Else) }
+        ensures { OnOk result (Some self.new ≡ followed ground.entry.source.now self.old
+            (operators.Ends closing.Else) word) }
     {
-        let Yes {
-            mut branches,
-            guard,
-            extent,
-        } = frame;
-        let extent = joined(joined(extent, item.extent), Some(word));
-        let yes = ground.node_of(item)?;
-        branches.push(Branch { guard, yes, extent })?;
-        self.begin(branches, Place::Expr);
-        Ok(Taken::Next)
-    }
-
-    /// What ends an expression, behind the part for yes.
-    pub fn end_yes(
-        &mut self,
-        ground: Ground<'_>,
-        frame: Yes,
-        item: Ranged<Expr>,
-        mark: Mark<Closing>,
-    ) -> Result<Taken, AllocError>
-        ensures { IfOk result (λ taken. advance_of taken self.new
-            ≡ yes_ending ground.entry.source.now self.old.stack frame item mark.op mark.extent) }
-    {
-        match mark.op {
-            Closing::Else => self.close_yes(ground, frame, item, mark.extent),
-            Closing::Paren
-            | Closing::Bracket
-            | Closing::Brace
-            | Closing::Comma
-            | Closing::Colon
-            | Closing::Then => Ok(Taken::refuse((frame, item))),
+        let item = self.close(ground, Place::Expr)?;
+        match self.stack.pop() {
+            Some(
+                Frame::Yes(
+                    Yes {
+                        mut branches,
+                        guard,
+                        extent,
+                    },
+                ),
+            ) => {
+                let extent = joined(joined(extent, item.extent), Some(word));
+                let yes = ground.node_of(item)?;
+                branches.push(Branch { guard, yes, extent })?;
+                put(&mut self.levels.branches, branches);
+                Ok(())
+            }
+            _ => unreachable!(),
         }
     }
 }

@@ -1,13 +1,13 @@
-//! Expressions and primaries as whole texts.
-ghost use Rattle.std.specs.Prelude.{◌≡◌};
+//! Expressions, sums and primaries, as whole texts and in a policy.
 ghost use Rattle.cedar_text.specs.declared.text_to_cst.expression.state.State.{State};
 ghost use Rattle.cedar_text.specs.contracts.text_to_cst.expression.state.State as states;
 
-use crate::text_to_cst::expression::state::{State, Wanted};
+use crate::text_to_cst::expression::plan::{plan_first, plan_first_unsigned};
+use crate::text_to_cst::expression::state::{Act, State, Wanted};
 use crate::text_to_cst::ground::Ground;
 use cedar_expressions::Source;
 use cedar_lexer::token::{Token, TokenKind};
-use cedar_syntax::cst::{Expr, Primary};
+use cedar_syntax::cst::{Add, Expr, Primary};
 use cedar_syntax::node::Node;
 use cedar_syntax::reading::driver::Entry;
 use std::alloc::{AllocError, Global};
@@ -30,7 +30,7 @@ impl Model for PrimaryState {
 /// An expression that is being read.
 #[derive(Drop)]
 pub struct ExprState {
-    pub state: State,
+    state: State,
 }
 
 impl Model for ExprState {
@@ -41,14 +41,26 @@ impl Model for ExprState {
     ghost view = { λ whole. whole.state };
 }
 
-impl Entry for PrimaryState {
-    ghost use Rattle.cedar_text.specs.machines.WholeExpressions.{whole_primaries, primary_allows};
+/// A sum that is being read.
+#[derive(Drop)]
+pub struct SumState {
+    state: State,
+}
 
-    type Tree = Primary;
+impl Model for SumState {
+    ghost Value = { State };
 
-    ghost machine = { λ src. whole_primaries src };
+    ghost coded = { states.the_row.coded };
 
-    ghost allowed = { λ s after. primary_allows s after };
+    ghost view = { λ whole. whole.state };
+}
+
+impl Entry<Node<Option<Primary>>> for PrimaryState {
+    ghost use Rattle.cedar_text.specs.machines.WholeExpressions.{whole_primary_reader};
+
+    type Act = Act;
+
+    ghost reader = { whole_primary_reader };
 
     fn start(alloc: Global) -> PrimaryState {
         PrimaryState {
@@ -56,33 +68,43 @@ impl Entry for PrimaryState {
         }
     }
 
-    fn allows(&self, next: Option<TokenKind>) -> bool {
-        self.state.allows(Wanted::Primary, next)
+    fn first(kind: TokenKind) -> Option<Act> {
+        plan_first_unsigned(kind)
     }
 
-    fn take(
+    fn plan(&self, kind: TokenKind) -> Option<Act> {
+        self.state.plan(Wanted::Primary, kind)
+    }
+
+    fn ends(&self) -> bool {
+        self.state.ends()
+    }
+
+    fn act(
         &mut self,
         alloc: Global,
         source: &Source,
-        token: Token<'_>,
+        act: Act,
+        token: &Token<'_>,
     ) -> Result<bool, AllocError> {
-        self.state
-            .take(Ground { alloc, source }, Wanted::Primary, token)
+        self.state.act(Ground { alloc, source }, act, token)
     }
 
-    fn finish(self, source: &Source) -> Result<Node<Option<Primary>>, AllocError> {
-        self.state.finish_primary(source)
+    fn finish(
+        &mut self,
+        alloc: Global,
+        source: &Source,
+    ) -> Result<Node<Option<Primary>>, AllocError> {
+        self.state.finish_primary(Ground { alloc, source })
     }
 }
 
-impl Entry for ExprState {
-    ghost use Rattle.cedar_text.specs.machines.WholeExpressions.{whole_expressions, expression_allows};
+impl Entry<Node<Option<Expr>>> for ExprState {
+    ghost use Rattle.cedar_text.specs.machines.WholeExpressions.{whole_expression_reader};
 
-    type Tree = Expr;
+    type Act = Act;
 
-    ghost machine = { λ src. whole_expressions src };
-
-    ghost allowed = { λ s after. expression_allows s after };
+    ghost reader = { whole_expression_reader };
 
     fn start(alloc: Global) -> ExprState {
         ExprState {
@@ -90,21 +112,69 @@ impl Entry for ExprState {
         }
     }
 
-    fn allows(&self, next: Option<TokenKind>) -> bool {
-        self.state.allows(Wanted::Expr, next)
+    fn first(kind: TokenKind) -> Option<Act> {
+        plan_first(kind)
     }
 
-    fn take(
+    fn plan(&self, kind: TokenKind) -> Option<Act> {
+        self.state.plan(Wanted::Expr, kind)
+    }
+
+    fn ends(&self) -> bool {
+        self.state.ends()
+    }
+
+    fn act(
         &mut self,
         alloc: Global,
         source: &Source,
-        token: Token<'_>,
+        act: Act,
+        token: &Token<'_>,
     ) -> Result<bool, AllocError> {
-        self.state
-            .take(Ground { alloc, source }, Wanted::Expr, token)
+        self.state.act(Ground { alloc, source }, act, token)
     }
 
-    fn finish(self, source: &Source) -> Result<Node<Option<Expr>>, AllocError> {
-        self.state.finish_expr(source)
+    fn finish(&mut self, alloc: Global, source: &Source) -> Result<Node<Option<Expr>>, AllocError> {
+        self.state.finish_expr(Ground { alloc, source })
+    }
+}
+
+impl Entry<Node<Option<Add>>> for SumState {
+    ghost use Rattle.cedar_text.specs.machines.WholeExpressions.{whole_sum_reader};
+
+    type Act = Act;
+
+    ghost reader = { whole_sum_reader };
+
+    fn start(alloc: Global) -> SumState {
+        SumState {
+            state: State::start(alloc, Wanted::Sum),
+        }
+    }
+
+    fn first(kind: TokenKind) -> Option<Act> {
+        plan_first(kind)
+    }
+
+    fn plan(&self, kind: TokenKind) -> Option<Act> {
+        self.state.plan(Wanted::Sum, kind)
+    }
+
+    fn ends(&self) -> bool {
+        self.state.ends()
+    }
+
+    fn act(
+        &mut self,
+        alloc: Global,
+        source: &Source,
+        act: Act,
+        token: &Token<'_>,
+    ) -> Result<bool, AllocError> {
+        self.state.act(Ground { alloc, source }, act, token)
+    }
+
+    fn finish(&mut self, alloc: Global, source: &Source) -> Result<Node<Option<Add>>, AllocError> {
+        self.state.finish_sum(Ground { alloc, source })
     }
 }

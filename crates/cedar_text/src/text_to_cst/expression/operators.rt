@@ -1,157 +1,115 @@
-//! An operator behind an operand: it closes the levels that bind tighter, and goes on the level that is its own.
-ghost use Rattle.std.specs.Prelude.{◌≡◌, IfOk};
-ghost use Rattle.cedar_text.specs.machines.Advance as advance;
-ghost use Rattle.cedar_text.specs.machines.Having.{product_beginning, sum_beginning, conjunction_beginning, disjunction_beginning, multiply_had, sum_had, and_had, or_had};
-ghost use Rattle.cedar_text.specs.machines.Stepped.{advance_of};
+//! An operator behind an operand: it closes the levels that bind tighter, and goes on the level
+//! that is its own.
+ghost use Rattle.std.specs.Prelude.{◌≡◌, Some, None, OnOk};
+ghost use Rattle.cedar_syntax.specs.declared.reading.class.Operator.TheVariants as operators;
+ghost use Rattle.cedar_text.specs.machines.ExpressionModes.{HasNoRelation, HasOperand, followed};
 
-use crate::text_to_cst::expression::begin::want_at;
-use crate::text_to_cst::expression::chain::{push_pending, push_plain};
+use crate::text_to_cst::expression::alone::{add_alone, common_of, mult_at, places_of};
+use crate::text_to_cst::expression::chain::{
+    push_pending, push_pending_node, push_plain, push_plain_node,
+};
 use crate::text_to_cst::expression::close::close_unary;
-use crate::text_to_cst::expression::state::{Mark, Operand, Place, Reach, State, Taken};
+use crate::text_to_cst::expression::state::{Mark, Place, State};
 use crate::text_to_cst::ground::Ground;
-use crate::text_to_cst::reader::put;
 use cedar_syntax::cst::{AddOp, MultOp};
-use cedar_syntax::reading::extent::Extent;
+use cedar_syntax::node::Node;
+use cedar_syntax::reading::extent::{Extent, joined};
 use std::alloc::AllocError;
 
 impl State {
     /// `*`, `/` or `%`.
-    fn multiply(
-        &mut self,
-        ground: Ground<'_>,
-        operand: Operand,
-        mark: Mark<MultOp>,
-    ) -> Result<Taken, AllocError>
-        ensures { IfOk result (λ taken. advance_of taken self.new
-            ≡ advance.next (product_beginning ground.entry.source.now self.old.stack
-            self.old.levels operand mark.op mark.extent)) }
+    #[inline(never)]
+    pub fn multiply(&mut self, ground: Ground<'_>, mark: Mark<MultOp>) -> Result<(), AllocError>
+        requires { HasOperand self.old.mode }
+        ensures { OnOk result (Some self.new
+            ≡ followed ground.entry.source.now self.old (operators.Multiply mark.op) mark.extent) }
     {
-        let unary = close_unary(ground, operand)?;
-        push_pending(ground, &mut self.levels.mult, unary, mark)?;
-        put(&mut self.mode, want_at(Place::Operand));
-        Ok(Taken::Next)
+        let operand = self.take_operand(Place::Operand);
+        let item = close_unary(ground, operand)?;
+        push_pending(ground, &mut self.levels.mult, item, mark)
     }
 
     /// `+` or `-`.
-    fn sum(
-        &mut self,
-        ground: Ground<'_>,
-        operand: Operand,
-        mark: Mark<AddOp>,
-    ) -> Result<Taken, AllocError>
-        ensures { IfOk result (λ taken. advance_of taken self.new
-            ≡ advance.next (sum_beginning ground.entry.source.now self.old.stack self.old.levels
-            operand mark.op mark.extent)) }
+    #[inline(never)]
+    pub fn sum(&mut self, ground: Ground<'_>, mark: Mark<AddOp>) -> Result<(), AllocError>
+        requires { HasOperand self.old.mode }
+        ensures { OnOk result (Some self.new
+            ≡ followed ground.entry.source.now self.old (operators.Sum mark.op) mark.extent) }
     {
-        let mult = self.levels.close_mult(ground, operand)?;
-        push_pending(ground, &mut self.levels.add, mult, mark)?;
-        put(&mut self.mode, want_at(Place::Operand));
-        Ok(Taken::Next)
+        if self.levels.mult.is_none() {
+            return self.sum_alone(ground, mark);
+        }
+        let operand = self.take_operand(Place::Operand);
+        let item = self.levels.close_mult(ground, operand)?;
+        push_pending(ground, &mut self.levels.add, item, mark)
+    }
+
+    /// `+` or `-` behind an operand alone.
+    #[inline(never)]
+    fn sum_alone(&mut self, ground: Ground<'_>, mark: Mark<AddOp>) -> Result<(), AllocError>
+        requires operand { HasOperand self.old.mode }
+        requires level { self.old.levels.mult ≡ None }
+        ensures { OnOk result (Some self.new
+            ≡ followed ground.entry.source.now self.old (operators.Sum mark.op) mark.extent) }
+    {
+        let operand = self.take_operand(Place::Operand);
+        let extent = joined(operand.signs.extent, operand.extent);
+        let places = places_of(ground, &operand)?;
+        let loc = ground.loc_at(extent)?;
+        let node = Node {
+            node: Some(mult_at(ground.alloc, operand, places)),
+            loc,
+        };
+        let extent = joined(extent, Some(mark.extent));
+        push_pending_node(ground.alloc, &mut self.levels.add, node, extent, mark.op)
     }
 
     /// `&&`.
-    fn and_then(
-        &mut self,
-        ground: Ground<'_>,
-        operand: Operand,
-        operator: Extent,
-    ) -> Result<Taken, AllocError>
-        ensures { IfOk result (λ taken. advance_of taken self.new
-            ≡ advance.next (conjunction_beginning ground.entry.source.now self.old.stack
-            self.old.levels operand operator)) }
+    #[inline(never)]
+    pub fn and_then(&mut self, ground: Ground<'_>, mark: Extent) -> Result<(), AllocError>
+        requires { HasOperand self.old.mode }
+        ensures { OnOk result (Some self.new
+            ≡ followed ground.entry.source.now self.old operators.And mark) }
     {
-        let relation = self.levels.close_relation(ground, operand)?;
-        push_plain(ground, &mut self.levels.and, relation, operator)?;
-        put(&mut self.mode, want_at(Place::Operand));
-        Ok(Taken::Next)
+        if self.levels.has_no_relation() {
+            return self.and_alone(ground, mark);
+        }
+        let operand = self.take_operand(Place::Operand);
+        let item = self.levels.close_relation(ground, operand)?;
+        push_plain(ground, &mut self.levels.and, item, mark)
+    }
+
+    /// `&&` behind an operand alone.
+    #[inline(never)]
+    fn and_alone(&mut self, ground: Ground<'_>, mark: Extent) -> Result<(), AllocError>
+        requires operand { HasOperand self.old.mode }
+        requires levels { HasNoRelation self.old.levels }
+        ensures { OnOk result (Some self.new
+            ≡ followed ground.entry.source.now self.old operators.And mark) }
+    {
+        let operand = self.take_operand(Place::Operand);
+        let extent = joined(operand.signs.extent, operand.extent);
+        let places = places_of(ground, &operand)?;
+        let of_add = ground.loc_at(extent)?;
+        let loc = ground.loc_at(extent)?;
+        let add = add_alone(ground.alloc, operand, places);
+        let node = Node {
+            node: Some(common_of(ground.alloc, add, of_add)),
+            loc,
+        };
+        let extent = joined(extent, Some(mark));
+        push_plain_node(ground.alloc, &mut self.levels.and, node, extent)
     }
 
     /// `||`.
-    fn or_else(
-        &mut self,
-        ground: Ground<'_>,
-        operand: Operand,
-        operator: Extent,
-    ) -> Result<Taken, AllocError>
-        ensures { IfOk result (λ taken. advance_of taken self.new
-            ≡ advance.next (disjunction_beginning ground.entry.source.now self.old.stack
-            self.old.levels operand operator)) }
+    #[inline(never)]
+    pub fn or_else(&mut self, ground: Ground<'_>, mark: Extent) -> Result<(), AllocError>
+        requires { HasOperand self.old.mode }
+        ensures { OnOk result (Some self.new
+            ≡ followed ground.entry.source.now self.old operators.Or mark) }
     {
-        let and = self.levels.close_and(ground, operand)?;
-        push_plain(ground, &mut self.levels.or, and, operator)?;
-        put(&mut self.mode, want_at(Place::Operand));
-        Ok(Taken::Next)
-    }
-
-    /// An operator of products, where the operand goes on so far.
-    pub fn multiply_had(
-        &mut self,
-        ground: Ground<'_>,
-        operand: Operand,
-        reach: Reach,
-        mark: Mark<MultOp>,
-    ) -> Result<Taken, AllocError>
-        ensures { IfOk result (λ taken. advance_of taken self.new
-            ≡ multiply_had ground.entry.source.now self.old.stack self.old.levels operand reach
-            mark.op mark.extent) }
-    {
-        match reach {
-            Reach::Primary | Reach::If => Ok(Taken::refuse(operand)),
-            Reach::Sum | Reach::Whole => self.multiply(ground, operand, mark),
-        }
-    }
-
-    /// An operator of sums.
-    pub fn sum_had(
-        &mut self,
-        ground: Ground<'_>,
-        operand: Operand,
-        reach: Reach,
-        mark: Mark<AddOp>,
-    ) -> Result<Taken, AllocError>
-        ensures { IfOk result (λ taken. advance_of taken self.new
-            ≡ sum_had ground.entry.source.now self.old.stack self.old.levels operand reach mark.op
-            mark.extent) }
-    {
-        match reach {
-            Reach::Primary | Reach::If => Ok(Taken::refuse(operand)),
-            Reach::Sum | Reach::Whole => self.sum(ground, operand, mark),
-        }
-    }
-
-    /// `&&`.
-    pub fn and_had(
-        &mut self,
-        ground: Ground<'_>,
-        operand: Operand,
-        reach: Reach,
-        operator: Extent,
-    ) -> Result<Taken, AllocError>
-        ensures { IfOk result (λ taken. advance_of taken self.new
-            ≡ and_had ground.entry.source.now self.old.stack self.old.levels operand reach
-            operator) }
-    {
-        match reach {
-            Reach::Primary | Reach::Sum => Ok(Taken::refuse(operand)),
-            Reach::If | Reach::Whole => self.and_then(ground, operand, operator),
-        }
-    }
-
-    /// `||`.
-    pub fn or_had(
-        &mut self,
-        ground: Ground<'_>,
-        operand: Operand,
-        reach: Reach,
-        operator: Extent,
-    ) -> Result<Taken, AllocError>
-        ensures { IfOk result (λ taken. advance_of taken self.new
-            ≡ or_had ground.entry.source.now self.old.stack self.old.levels operand reach
-            operator) }
-    {
-        match reach {
-            Reach::Primary | Reach::Sum => Ok(Taken::refuse(operand)),
-            Reach::If | Reach::Whole => self.or_else(ground, operand, operator),
-        }
+        let operand = self.take_operand(Place::Operand);
+        let item = self.levels.close_and(ground, operand)?;
+        push_plain(ground, &mut self.levels.or, item, mark)
     }
 }

@@ -1,80 +1,80 @@
 //! A record in braces: keys and values.
-ghost use Rattle.std.specs.Prelude.{◌≡◌, IfOk};
+ghost use Rattle.std.specs.Prelude.{◌≡◌, [], ◌∷◌, Some, IsSome, OnOk};
 ghost use Rattle.cedar_syntax.specs.declared.reading.class.Closing.TheVariants as closing;
-ghost use Rattle.cedar_text.specs.machines.Advance as advance;
+ghost use Rattle.cedar_syntax.specs.declared.reading.class.Operator.TheVariants as operators;
+ghost use Rattle.cedar_text.specs.declared.text_to_cst.expression.state.Frame.TheVariants as frame;
+ghost use Rattle.cedar_text.specs.declared.text_to_cst.expression.state.Place.TheVariants as place;
+ghost use Rattle.cedar_text.specs.machines.ExpressionModes.{HasRecord, IsFollowed, WantsOperand, followed, mode_signs};
+ghost use Rattle.cedar_text.specs.machines.ExpressionStates.{opening};
+ghost use Rattle.cedar_text.specs.machines.Having.{record_more, value_beginning};
 ghost use Rattle.cedar_text.specs.machines.Wanting.{record_opening, record_closing};
-ghost use Rattle.cedar_text.specs.machines.Having.{value_beginning, key_ending, record_more, value_ending};
-ghost use Rattle.cedar_text.specs.machines.Stepped.{advance_of};
 
-use crate::text_to_cst::expression::begin::fresh_levels;
 use crate::text_to_cst::expression::paren::around;
-use crate::text_to_cst::expression::state::{
-    Frame, Mark, Place, Ranged, Record, Signs, State, Taken, Value,
-};
+use crate::text_to_cst::expression::state::{Frame, Key, Place, Ranged, Record, State};
 use crate::text_to_cst::ground::Ground;
-use crate::text_to_cst::reader::put;
+use crate::text_to_cst::put::put;
 use cedar_expressions::Items;
 use cedar_syntax::cst::{Expr, Primary, RecInit};
 use cedar_syntax::node::Node;
-use cedar_syntax::reading::class::Closing;
 use cedar_syntax::reading::extent::{Extent, joined};
-use cedar_syntax::reading::stack::Stack;
 use std::alloc::{AllocError, Global};
-use std::mem;
 
-impl Value {
-    /// The record with this pair.
-    fn with(self, ground: Ground<'_>, item: Ranged<Expr>) -> Result<Record, AllocError>
-        ensures { IfOk result (λ longer. longer ≡ record_more ground.entry.source.now self item) }
+impl Record {
+    /// The value of the pair that is begun: one pair more.
+    pub fn push(&mut self, ground: Ground<'_>, item: Ranged<Expr>) -> Result<(), AllocError>
+        requires { IsSome self.old.key }
+        ensures { (k : _) → self.old.key ≡ Some k
+            → OnOk result (self.new ≡ record_more ground.entry.source.now self.old k item) }
     {
-        let Value {
-            mut pairs,
-            key,
-            extent,
-        } = self;
-        let extent = joined(extent, item.extent);
-        let pair = RecInit(key, ground.node_of(item)?);
-        pairs.items.push(ground.node_at(extent, pair)?)?;
-        Ok(pairs)
+        match self.key.take() {
+            Some(Key { node, extent }) => {
+                let extent = joined(extent, item.extent);
+                let pair = RecInit(node, ground.node_of(item)?);
+                self.items.push(ground.node_at(extent, pair)?)
+            }
+            None => unreachable!(),
+        }
     }
 }
 
 impl State {
     /// `{` where an operand is wanted.
-    pub fn open_record(
-        &mut self,
-        alloc: Global,
-        signs: Signs,
-        opened: Extent,
-    ) -> Result<Taken, AllocError>
-        ensures { IfOk result (λ taken. advance_of taken self.new
-            ≡ advance.next (record_opening self.old.stack self.old.levels signs opened)) }
+    #[inline(never)]
+    pub fn open_record(&mut self, alloc: Global, opened: Extent) -> Result<(), AllocError>
+        requires { WantsOperand self.old.mode }
+        ensures { OnOk result (self.new ≡ record_opening self.old.stack self.old.levels
+            (mode_signs self.old.mode) opened) }
     {
-        let outer = mem::replace(&mut self.levels, fresh_levels(Stack::new(alloc)));
-        let frame = Record {
+        let signs = self.gap().signs;
+        self.want_again(Place::Key);
+        let outer = self.take_levels(alloc);
+        let items = Items::new(alloc);
+        self.stack.push(Frame::Record(Record {
             outer,
             signs,
             opened,
-            items: Items::new(alloc),
-        };
-        self.open(alloc, Frame::Key(frame), Place::Key)
+            items,
+            key: None,
+        }))
     }
 
     /// `}` behind the pairs.
+    #[inline(never)]
     pub fn close_record(
         &mut self,
         ground: Ground<'_>,
         frame: Record,
         end: Extent,
-    ) -> Result<Taken, AllocError>
-        ensures { IfOk result (λ taken. advance_of taken self.new
-            ≡ advance.next (record_closing ground.entry.source.now self.old.stack frame end)) }
+    ) -> Result<(), AllocError>
+        ensures { OnOk result (self.new
+            ≡ record_closing ground.entry.source.now self.old.stack frame end) }
     {
         let Record {
             outer,
             signs,
             opened,
             items,
+            key: _,
         } = frame;
         let tree = Primary::RInits(items);
         let extent = around(opened, end);
@@ -82,86 +82,54 @@ impl State {
         self.have_primary(ground, signs, Ranged { tree, extent })
     }
 
-    /// A key and its colon: the value begins.
-    pub fn begin_value(
-        &mut self,
-        alloc: Global,
-        pairs: Record,
-        key: Ranged<Node<Option<Expr>>>,
-        colon: Extent,
-    ) -> Result<Taken, AllocError>
-        ensures { IfOk result (λ taken. advance_of taken self.new
-            ≡ advance.next (value_beginning self.old.stack pairs key.tree key.extent colon)) }
+    /// A key and its colon are put into the record: the value begins.
+    pub fn begin_value(&mut self, key: Ranged<Node<Option<Expr>>>, colon: Extent)
+        requires record { HasRecord self.old.stack }
+        requires begun { self.old ≡ opening self.old.stack [] place.Expr }
+        ensures { (f : _) (st : _) → self.old.stack ≡ frame.Record f ∷ st
+            → self.new ≡ value_beginning st f key.tree key.extent colon }
     {
         let extent = joined(key.extent, Some(colon));
-        let frame = Value {
-            pairs,
-            key: key.tree,
-            extent,
-        };
-        self.open(alloc, Frame::Value(frame), Place::Expr)
-    }
-
-    /// `:` behind the key.
-    fn close_key(
-        &mut self,
-        ground: Ground<'_>,
-        frame: Record,
-        item: Ranged<Expr>,
-        colon: Extent,
-    ) -> Result<Taken, AllocError>
-        ensures { IfOk result (λ taken. advance_of taken self.new
-            ≡ key_ending ground.entry.source.now self.old.stack frame item closing.Colon colon) }
-    {
-        let extent = item.extent;
-        let tree = ground.node_of(item)?;
-        self.begin_value(ground.alloc, frame, Ranged { tree, extent }, colon)
-    }
-
-    /// What ends an expression, behind a key.
-    pub fn end_key(
-        &mut self,
-        ground: Ground<'_>,
-        frame: Record,
-        item: Ranged<Expr>,
-        mark: Mark<Closing>,
-    ) -> Result<Taken, AllocError>
-        ensures { IfOk result (λ taken. advance_of taken self.new
-            ≡ key_ending ground.entry.source.now self.old.stack frame item mark.op mark.extent) }
-    {
-        match mark.op {
-            Closing::Colon => self.close_key(ground, frame, item, mark.extent),
-            Closing::Paren
-            | Closing::Bracket
-            | Closing::Brace
-            | Closing::Comma
-            | Closing::Then
-            | Closing::Else => Ok(Taken::refuse((frame, item))),
+        match self.stack.top_mut() {
+            Some(frame) => match frame {
+                Frame::Record(record) => {
+                    let node = key.tree;
+                    put(&mut record.key, Some(Key { node, extent }));
+                }
+                _ => unreachable!(),
+            },
+            None => unreachable!(),
         }
     }
 
-    /// What ends an expression, behind a value.
-    pub fn end_value(
-        &mut self,
-        ground: Ground<'_>,
-        frame: Value,
-        item: Ranged<Expr>,
-        mark: Mark<Closing>,
-    ) -> Result<Taken, AllocError>
-        ensures { IfOk result (λ taken. advance_of taken self.new
-            ≡ value_ending ground.entry.source.now self.old.stack frame item mark.op mark.extent) }
+    /// `:` behind a key.
+    #[inline(never)]
+    pub fn end_key(&mut self, ground: Ground<'_>, colon: Extent) -> Result<(), AllocError>
+        requires { IsFollowed self.old (operators.Ends closing.Colon) }
+        ensures { OnOk result (Some self.new ≡ followed ground.entry.source.now self.old
+            (operators.Ends closing.Colon) colon) }
     {
-        match mark.op {
-            Closing::Comma => {
-                let pairs = frame.with(ground, item)?;
-                self.open(ground.alloc, Frame::Key(pairs), Place::Key)
+        let item = self.close(ground, Place::Expr)?;
+        let extent = item.extent;
+        let tree = ground.node_of(item)?;
+        self.begin_value(Ranged { tree, extent }, colon);
+        Ok(())
+    }
+
+    /// `}` behind a value.
+    #[inline(never)]
+    pub fn end_value(&mut self, ground: Ground<'_>, end: Extent) -> Result<(), AllocError>
+        requires { IsFollowed self.old (operators.Ends closing.Brace) }
+        ensures { OnOk result (Some self.new ≡ followed ground.entry.source.now self.old
+            (operators.Ends closing.Brace) end) }
+    {
+        let item = self.close(ground, Place::Operand)?;
+        match self.stack.pop() {
+            Some(Frame::Record(mut frame)) => {
+                frame.push(ground, item)?;
+                self.close_record(ground, frame, end)
             }
-            Closing::Brace => {
-                let pairs = frame.with(ground, item)?;
-                self.close_record(ground, pairs, mark.extent)
-            }
-            Closing::Paren | Closing::Bracket | Closing::Colon | Closing::Then | Closing::Else =>
-                Ok(Taken::refuse((frame, item))),
+            _ => unreachable!(),
         }
     }
 }

@@ -1,19 +1,16 @@
 //! Comparisons, and the words `has`, `like` and `is` behind a left side.
-ghost use Rattle.std.specs.Prelude.{◌≡◌, Some, None, IfOk};
-ghost use Rattle.cedar_syntax.specs.declared.cst.RelOp.TheVariants as rel;
+ghost use Rattle.std.specs.Prelude.{◌≡◌, Some, None, IfOk, OnOk};
+ghost use Rattle.cedar_syntax.specs.Place.{joint_extent};
+ghost use Rattle.cedar_syntax.specs.declared.reading.class.Operator.TheVariants as operators;
 ghost use Rattle.cedar_text.specs.declared.text_to_cst.expression.state.Left.TheVariants as left;
-ghost use Rattle.cedar_text.specs.machines.Advance as advance;
-ghost use Rattle.cedar_text.specs.machines.Closing.{add_at};
-ghost use Rattle.cedar_text.specs.machines.Having.{left_beginning, before, is_within, comparison_beginning, side_of, side_place, side_beginning, compare_had, side_had};
-ghost use Rattle.cedar_text.specs.machines.Stepped.{advance_of};
+ghost use Rattle.cedar_text.specs.machines.Closing.{marked_chain, node_of, pending};
+ghost use Rattle.cedar_text.specs.machines.ExpressionModes.{IsFollowed, IsTyped, followed};
+ghost use Rattle.cedar_text.specs.machines.Having.{before, side_of, side_place};
 
-use crate::text_to_cst::expression::begin::want_at;
 use crate::text_to_cst::expression::chain::begin_pending;
-use crate::text_to_cst::expression::state::{
-    Left, Mark, Operand, Pending, Place, Ranged, Reach, State, Taken,
-};
+use crate::text_to_cst::expression::state::{Left, Mark, Place, Ranged, State};
 use crate::text_to_cst::ground::Ground;
-use crate::text_to_cst::reader::put;
+use crate::text_to_cst::put::put;
 use cedar_expressions::Boxed;
 use cedar_syntax::cst::{Add, RelOp};
 use cedar_syntax::node::Node;
@@ -59,206 +56,105 @@ fn side_place(side: Side) -> Place
 }
 
 impl State {
-    /// The right side begins.
-    fn begin_right(&mut self, alloc: Global, left: Left, place: Place) -> Result<Taken, AllocError>
-        ensures { IfOk result (λ taken. advance_of taken self.new
-            ≡ advance.next (left_beginning self.old.stack self.old.levels left place)) }
+    /// The right side begins behind this left side.
+    fn begin_right(&mut self, alloc: Global, left: Left) -> Result<(), AllocError>
+        ensures { OnOk result (self.new ≡ record self.old {
+          levels = record self.old.levels { relation = Some left };
+        }) }
     {
         let left = Boxed::new(alloc, left)?;
         put(&mut self.levels.relation, Some(left));
-        put(&mut self.levels.add, None);
-        put(&mut self.levels.mult, None);
-        put(&mut self.mode, want_at(place));
-        Ok(Taken::Next)
-    }
-
-    /// A comparison behind a chain of them.
-    fn compare_on(
-        &mut self,
-        ground: Ground<'_>,
-        begun: Pending<Add, RelOp>,
-        item: Ranged<Add>,
-        mark: Mark<RelOp>,
-    ) -> Result<Taken, AllocError>
-        ensures { IfOk result (λ taken. advance_of taken self.new
-            ≡ comparison_beginning ground.entry.source.now self.old.stack self.old.levels
-            (Some (left.Common begun)) item mark.op mark.extent) }
-    {
-        let mut begun = begun;
-        begun.push(ground, item, mark)?;
-        self.begin_right(ground.alloc, Left::Common(begun), Place::Operand)
+        Ok(())
     }
 
     /// A comparison behind a sum alone.
+    #[inline(never)]
     fn compare_first(
         &mut self,
         ground: Ground<'_>,
         item: Ranged<Add>,
         mark: Mark<RelOp>,
-    ) -> Result<Taken, AllocError>
-        ensures { IfOk result (λ taken. advance_of taken self.new
-            ≡ comparison_beginning ground.entry.source.now self.old.stack self.old.levels None item
-            mark.op mark.extent) }
+    ) -> Result<(), AllocError>
+        ensures { OnOk result (self.new ≡ record self.old {
+          levels = record self.old.levels {
+            relation = Some (left.Common (pending
+                (marked_chain ground.entry.source.now None item) mark.op mark.extent));
+          };
+        }) }
     {
-        let begun = begin_pending(ground, item, mark)?;
-        self.begin_right(ground.alloc, Left::Common(begun), Place::Operand)
+        let loc = ground.loc_at(item.extent)?;
+        let begun = begin_pending(ground.alloc, item, loc, mark);
+        self.begin_right(ground.alloc, Left::Common(begun))
     }
 
     /// `in` behind `is` and its type.
+    #[inline(never)]
     fn within(
         &mut self,
         ground: Ground<'_>,
-        left: Ranged<Node<Option<Add>>>,
         item: Ranged<Add>,
         word: Extent,
-    ) -> Result<Taken, AllocError>
-        ensures { IfOk result (λ taken. advance_of taken self.new
-            ≡ is_within ground.entry.source.now self.old.stack self.old.levels left item rel.In
-            word) }
+    ) -> Result<(), AllocError>
+        requires { IsTyped self.old.levels.relation }
+        ensures { (y : _) → self.old.levels.relation ≡ Some (left.Is y)
+            → OnOk result (self.new ≡ record self.old {
+              levels = record self.old.levels {
+                relation = Some (left.IsIn y.tree
+                    (node_of ground.entry.source.now item)
+                    (joint_extent (joint_extent y.extent item.extent) (Some word)));
+              };
+            }) }
     {
-        let Ranged {
-            tree: target,
-            extent,
-        } = left;
-        let extent = joined(joined(extent, item.extent), Some(word));
-        let entity_type = ground.node_of(item)?;
-        let left = Left::IsIn {
-            target,
-            entity_type,
-            extent,
-        };
-        self.begin_right(ground.alloc, left, Place::Operand)
-    }
-
-    /// A comparison behind `is` and its type: `in` alone may stand there.
-    fn compare_type(
-        &mut self,
-        ground: Ground<'_>,
-        left: Ranged<Node<Option<Add>>>,
-        item: Ranged<Add>,
-        mark: Mark<RelOp>,
-    ) -> Result<Taken, AllocError>
-        ensures { IfOk result (λ taken. advance_of taken self.new
-            ≡ is_within ground.entry.source.now self.old.stack self.old.levels left item mark.op
-            mark.extent) }
-    {
-        match mark.op {
-            RelOp::In => self.within(ground, left, item, mark.extent),
-            RelOp::Less
-            | RelOp::LessEq
-            | RelOp::GreaterEq
-            | RelOp::Greater
-            | RelOp::NotEq
-            | RelOp::Eq
-            | RelOp::InvalidSingleEq => Ok(Taken::refuse((left, item))),
-        }
-    }
-
-    /// A comparison behind a left side and a sum.
-    fn compare_behind(
-        &mut self,
-        ground: Ground<'_>,
-        begun: Left,
-        item: Ranged<Add>,
-        mark: Mark<RelOp>,
-    ) -> Result<Taken, AllocError>
-        ensures { IfOk result (λ taken. advance_of taken self.new
-            ≡ comparison_beginning ground.entry.source.now self.old.stack self.old.levels
-            (Some begun) item mark.op mark.extent) }
-    {
-        match begun {
-            Left::Common(begun) => self.compare_on(ground, begun, item, mark),
-            Left::Is(left) => self.compare_type(ground, left, item, mark),
-            Left::Has(_) | Left::Like(_) | Left::IsIn { .. } => Ok(Taken::refuse((begun, item))),
+        match self.levels.relation.take() {
+            Some(begun) => match begun.into_inner() {
+                Left::Is(left) => {
+                    let extent = joined(joined(left.extent, item.extent), Some(word));
+                    let target = left.tree;
+                    let entity_type = ground.node_of(item)?;
+                    let left = Left::IsIn {
+                        target,
+                        entity_type,
+                        extent,
+                    };
+                    self.begin_right(ground.alloc, left)
+                }
+                Left::Common(_) | Left::Has(_) | Left::Like(_) | Left::IsIn { .. } => {
+                    unreachable!()
+                }
+            },
+            None => unreachable!(),
         }
     }
 
     /// A comparison.
-    fn compare(
-        &mut self,
-        ground: Ground<'_>,
-        operand: Operand,
-        mark: Mark<RelOp>,
-    ) -> Result<Taken, AllocError>
-        ensures { IfOk result (λ taken. advance_of taken self.new
-            ≡ comparison_beginning ground.entry.source.now self.old.stack self.old.levels
-            self.old.levels.relation
-            (add_at ground.entry.source.now self.old.levels operand) mark.op mark.extent) }
+    #[inline(never)]
+    pub fn compare(&mut self, ground: Ground<'_>, mark: Mark<RelOp>) -> Result<(), AllocError>
+        requires { IsFollowed self.old (operators.Compare mark.op) }
+        ensures { OnOk result (Some self.new ≡ followed ground.entry.source.now self.old
+            (operators.Compare mark.op) mark.extent) }
     {
+        let operand = self.take_operand(Place::Operand);
         let item = self.levels.close_add(ground, operand)?;
-        match self.levels.relation.take() {
+        match &mut self.levels.relation {
             None => self.compare_first(ground, item, mark),
-            Some(begun) => self.compare_behind(ground, begun.into_inner(), item, mark),
+            Some(begun) => match begun.as_mut() {
+                Left::Common(begun) => begun.push(ground, item, mark),
+                Left::Is(_) => self.within(ground, item, mark.extent),
+                Left::Has(_) | Left::Like(_) | Left::IsIn { .. } => unreachable!(),
+            },
         }
     }
 
-    /// One of the words: no relation may be begun before it.
-    fn side(
-        &mut self,
-        ground: Ground<'_>,
-        operand: Operand,
-        mark: Mark<Side>,
-    ) -> Result<Taken, AllocError>
-        ensures { IfOk result (λ taken. advance_of taken self.new
-            ≡ side_beginning ground.entry.source.now self.old.stack self.old.levels
-            self.old.levels.relation
-            (add_at ground.entry.source.now self.old.levels operand) mark.op mark.extent) }
+    /// One of the words: no relation is begun before it.
+    #[inline(never)]
+    pub fn side(&mut self, ground: Ground<'_>, mark: Mark<Side>) -> Result<(), AllocError>
+        requires { IsFollowed self.old (operators.Side mark.op) }
+        ensures { OnOk result (Some self.new ≡ followed ground.entry.source.now self.old
+            (operators.Side mark.op) mark.extent) }
     {
-        match &self.levels.relation {
-            None => self.side_first(ground, operand, mark),
-            Some(_) => Ok(Taken::refuse(operand)),
-        }
-    }
-
-    /// One of the words behind a sum alone.
-    fn side_first(
-        &mut self,
-        ground: Ground<'_>,
-        operand: Operand,
-        mark: Mark<Side>,
-    ) -> Result<Taken, AllocError>
-        ensures { IfOk result (λ taken. advance_of taken self.new
-            ≡ side_beginning ground.entry.source.now self.old.stack self.old.levels None
-            (add_at ground.entry.source.now self.old.levels operand) mark.op mark.extent) }
-    {
+        let operand = self.take_operand(side_place(mark.op));
         let item = self.levels.close_add(ground, operand)?;
         let left = side_of(mark.op, before(ground, item, mark.extent)?);
-        self.begin_right(ground.alloc, left, side_place(mark.op))
-    }
-
-    /// A comparison, where the operand goes on so far.
-    pub fn compare_had(
-        &mut self,
-        ground: Ground<'_>,
-        operand: Operand,
-        reach: Reach,
-        mark: Mark<RelOp>,
-    ) -> Result<Taken, AllocError>
-        ensures { IfOk result (λ taken. advance_of taken self.new
-            ≡ compare_had ground.entry.source.now self.old.stack self.old.levels operand reach
-            mark.op mark.extent) }
-    {
-        match reach {
-            Reach::Primary | Reach::Sum | Reach::If => Ok(Taken::refuse(operand)),
-            Reach::Whole => self.compare(ground, operand, mark),
-        }
-    }
-
-    /// One of the words.
-    pub fn side_had(
-        &mut self,
-        ground: Ground<'_>,
-        operand: Operand,
-        reach: Reach,
-        mark: Mark<Side>,
-    ) -> Result<Taken, AllocError>
-        ensures { IfOk result (λ taken. advance_of taken self.new
-            ≡ side_had ground.entry.source.now self.old.stack self.old.levels operand reach
-            mark.op mark.extent) }
-    {
-        match reach {
-            Reach::Primary | Reach::Sum | Reach::If => Ok(Taken::refuse(operand)),
-            Reach::Whole => self.side(ground, operand, mark),
-        }
+        self.begin_right(ground.alloc, left)
     }
 }

@@ -1,14 +1,13 @@
-//! What the parser of expressions has begun to read. Places are extents here: a `Loc` is made only where a node is closed.
+//! What the parser of expressions has begun to read. Places are extents here: a `Loc` is made only
+//! where a node is closed.
 
-ghost use Rattle.std.specs.Prelude.{◌≡◌};
-ghost use Rattle.cedar_text.specs.declared.text_to_cst.expression.state.Taken.TheVariants as taken;
-
-use crate::text_to_cst::state::WordsState;
+use crate::text_to_cst::state::{WordsAct, WordsState};
 use cedar_expressions::{Boxed, Items};
 use cedar_syntax::cst::{
     Add, AddOp, And, Expr, MemAccess, Mult, MultOp, NegOp, Primary, RecInit, RelOp, Relation, Unary,
 };
 use cedar_syntax::node::Node;
+use cedar_syntax::reading::class::{Closing, Operator, Sign, SlotToken};
 use cedar_syntax::reading::extent::Extent;
 use cedar_syntax::reading::stack::Stack;
 
@@ -49,7 +48,8 @@ pub struct Branch {
     pub extent: Option<Extent>,
 }
 
-/// A left side and the word behind it, whose right side is begun. The bytes are those of all that stands before the right side.
+/// A left side and the word behind it, whose right side is begun. The bytes are those of all that
+/// stands before the right side.
 #[derive(Drop)]
 pub enum Left {
     /// A chain of comparisons.
@@ -65,8 +65,8 @@ pub enum Left {
     },
 }
 
-/// What is begun before an operand, each level with the operator at its end. A level that is begun has memory of its own,
-/// so that a state that moves is small.
+/// What is begun before an operand, each level with the operator at its end. A level that is begun
+/// has memory of its own, so that a state that moves is small.
 #[derive(Drop)]
 pub struct Levels {
     pub branches: Stack<Branch>,
@@ -92,7 +92,8 @@ pub struct Operand {
     pub access: Items<Node<Option<MemAccess>>>,
     /// The bytes of the item and its accesses.
     pub extent: Option<Extent>,
-    /// The word `if` right of `has`, with its accesses: nothing of a sum or a relation goes on behind it.
+    /// The word `if` right of `has`, with its accesses: nothing of a sum or a relation goes on
+    /// behind it.
     pub is_if: bool,
 }
 
@@ -130,22 +131,22 @@ pub struct Index {
     pub opened: Extent,
 }
 
-/// An open brace, and the pairs before the one that is begun.
+/// A key and its colon, and their bytes.
+#[derive(Drop)]
+pub struct Key {
+    pub node: Node<Option<Expr>>,
+    pub extent: Option<Extent>,
+}
+
+/// An open brace, the pairs before the one that is begun, and this one's key once its colon is
+/// read.
 #[derive(Drop)]
 pub struct Record {
     pub outer: Levels,
     pub signs: Signs,
     pub opened: Extent,
     pub items: Items<Node<Option<RecInit>>>,
-}
-
-/// A record, and a key with its colon.
-#[derive(Drop)]
-pub struct Value {
-    pub pairs: Record,
-    pub key: Node<Option<Expr>>,
-    /// The bytes of the key and the colon.
-    pub extent: Option<Extent>,
+    pub key: Option<Key>,
 }
 
 /// The word `if`.
@@ -163,20 +164,21 @@ pub struct Yes {
     pub extent: Option<Extent>,
 }
 
-/// An open bracket, and what is begun outside of it. `if`, `then` and a record's colon are brackets too.
+/// An open bracket, and what is begun outside of it. `if`, `then` and a record's colon are
+/// brackets too.
 #[derive(Drop)]
 pub enum Frame {
     Paren(Paren),
     Set(Set),
     Call(Call),
     Index(Index),
-    Key(Record),
-    Value(Value),
+    Record(Record),
     Guard(Guard),
     Yes(Yes),
 }
 
-/// Where an operand is wanted: this says what the word `if` alone is there, and what else may stand there.
+/// Where an operand is wanted: this says what the word `if` alone is there, and what else may
+/// stand there.
 #[derive(Drop, Clone, Copy)]
 pub enum Place {
     /// First in an expression: `if` begins a conditional.
@@ -213,12 +215,11 @@ pub enum Mode {
         signs: Signs,
         words: WordsState,
     },
-    /// Behind `.`.
-    Field {
+    /// Behind an operand, or behind the `.` that stands there.
+    Have {
         operand: Operand,
-        dot: Extent,
+        dot: Option<Extent>,
     },
-    Have(Operand),
 }
 
 /// The open brackets, the newest first, and what is begun inside of the newest.
@@ -258,22 +259,40 @@ pub enum Reach {
     Whole,
 }
 
-/// Whether a token was taken.
+/// What is done with a token where an operand is wanted.
 #[derive(Drop, Clone, Copy)]
-pub enum Taken {
-    Next,
-    /// The token goes on with nothing that is begun. Nothing is said of the state then.
-    NotTaken,
-    /// A number stands where one may, and is past `u64`.
-    TooLarge,
+pub enum Begin {
+    /// Words begin.
+    Word,
+    Number,
+    String,
+    Slot(SlotToken),
+    Sign(Sign),
+    /// `(`
+    Paren,
+    /// `[`
+    Bracket,
+    /// `{`
+    Brace,
+    /// The list ends in which an item may stand.
+    Ends(Closing),
 }
 
-impl Taken {
-    /// The token isn't taken, and what was held before it is let go here: what that takes is so proved of no caller.
-    pub fn refuse<T: Drop>(held: T) -> Taken
-        ensures { result ≡ taken.NotTaken }
-    {
-        drop(held);
-        Taken::NotTaken
-    }
+/// What is done with a token that is taken.
+#[derive(Drop, Clone, Copy)]
+pub enum Act {
+    /// It begins an operand, or stands before one.
+    Begin(Begin),
+    /// The words that are begun go on.
+    Words(WordsAct),
+    /// They have ended: they are the operand behind which it stands.
+    Settle(Operator),
+    /// They are `if`: it begins the guard of a conditional.
+    Guard(Begin),
+    /// They are `if` as a key, and it is the key's colon.
+    Key,
+    /// It is the identifier behind `.`.
+    Field,
+    /// It stands behind an operand.
+    Follow(Operator),
 }

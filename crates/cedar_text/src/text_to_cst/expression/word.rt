@@ -1,51 +1,39 @@
 //! What words are read as, once the token behind them is there.
-ghost use Rattle.std.specs.Prelude.{◌≡◌, [], Some, IfOk};
+ghost use Rattle.std.specs.Prelude.{◌≡◌, [], ◌∷◌, Some, IfOk, OnOk};
 ghost use Rattle.cedar_lexer.specs.Token.{lexeme_of};
-ghost use Rattle.cedar_syntax.specs.declared.cst.Primary.TheVariants as primary;
+ghost use Rattle.cedar_syntax.specs.Trees.{name_of};
 ghost use Rattle.cedar_syntax.specs.WrittenTokens.{IsWritten};
-ghost use Rattle.cedar_text.specs.machines.Closing.{ranged_tree, node_of, no_signs, operand_of, if_primary, if_operand, if_key};
+ghost use Rattle.cedar_syntax.specs.declared.cst.Primary.TheVariants as primary;
+ghost use Rattle.cedar_syntax.specs.machines.Judged.{done_as};
+ghost use Rattle.cedar_text.specs.declared.text_to_cst.expression.state.Act.TheVariants as acts;
+ghost use Rattle.cedar_text.specs.declared.text_to_cst.expression.state.Frame.TheVariants as frame;
+ghost use Rattle.cedar_text.specs.declared.text_to_cst.expression.state.Place.TheVariants as place;
+ghost use Rattle.cedar_text.specs.machines.Closing.{if_key, if_operand, if_primary, ranged_tree};
+ghost use Rattle.cedar_text.specs.machines.ExpressionModes.{HasEndedWords, settled, words_extent};
+ghost use Rattle.cedar_text.specs.machines.ExpressionStates.{has_operand, has_primary, opening};
+ghost use Rattle.cedar_text.specs.machines.Expressions.{expression_act, name_at, named_operand};
+ghost use Rattle.cedar_text.specs.machines.Named.{named_reader, words_tree};
 ghost use Rattle.cedar_text.specs.machines.Wanting.{literal_at};
-ghost use Rattle.cedar_text.specs.machines.Having.{having};
-ghost use Rattle.cedar_text.specs.machines.Expressions.{name_at, alone_of, guard_beginning, if_key_reading, key_or_guard, if_alone, alone_reading, name_reading, word_reading};
-ghost use Rattle.cedar_text.specs.machines.Named.{words_tree, named_words};
-ghost use Rattle.cedar_text.specs.machines.Stepped.{advance_of};
+ghost use Rattle.cedar_text.specs.machines.WholeExpressions.{IsPlanned};
+ghost use Rattle.cedar_text.specs.machines.Words.{path_extent, word_node};
 
-use crate::text_to_cst::expression::begin::{fresh_levels, no_signs, operand_of};
-use crate::text_to_cst::expression::literal::literal_at;
+use crate::text_to_cst::expression::begin::{fresh_levels, have, no_signs, operand_of, want_at};
 use crate::text_to_cst::expression::state::{
-    Alone, Frame, Gap, Guard, Mode, Operand, Place, Ranged, Signs, State, Taken, Wanted,
+    Alone, Frame, Guard, Mode, Operand, Place, Ranged, Signs, State,
 };
-use crate::text_to_cst::expression::words::{self, alone_of, path_name};
+use crate::text_to_cst::expression::words::{self, alone_of, path_extent};
 use crate::text_to_cst::ground::Ground;
-use crate::text_to_cst::reader::put;
-use crate::text_to_cst::state::{Entity, Words, WordsState};
+use crate::text_to_cst::put::put;
+use crate::text_to_cst::state::{Entity, Path, PathState, Words, WordsAct, WordsState};
 use cedar_expressions::Items;
 use cedar_lexer::token::Token;
 use cedar_syntax::cst::{Expr, Ident, Literal, Name, Primary};
 use cedar_syntax::node::Node;
-use cedar_syntax::reading::class::{Closing, Operator, as_operator};
 use cedar_syntax::reading::extent::Extent;
 use cedar_syntax::reading::place::token_extent;
 use cedar_syntax::reading::stack::Stack;
-use cedar_syntax::reading::taken::Taken as Given;
 use std::alloc::{AllocError, Global};
 use std::mem;
-
-/// The next token, and as what the whole is wanted.
-#[derive(Drop, Clone, Copy)]
-pub struct Ahead<'a> {
-    pub wanted: Wanted,
-    pub token: Token<'a>,
-}
-
-/// A path as an operand.
-pub fn name_at(ground: Ground<'_>, name: Ranged<Name>) -> Result<Ranged<Primary>, AllocError>
-    ensures { IfOk result (λ item. item ≡ name_at ground.entry.source.now name) }
-{
-    let extent = name.extent;
-    let tree = Primary::Name(ground.node_of(name)?);
-    Ok(Ranged { tree, extent })
-}
 
 /// An entity as an operand.
 pub fn ref_at(entity: Entity) -> Ranged<Primary>
@@ -93,278 +81,174 @@ fn if_key(ground: Ground<'_>, extent: Option<Extent>) -> Result<Node<Option<Expr
 }
 
 impl State {
-    /// What goes on behind this operand.
-    #[inline(always)]
-    fn have_item(
+    /// Words go on.
+    pub fn read_words(
+        &mut self,
+        ground: Ground<'_>,
+        act: WordsAct,
+        token: &Token<'_>,
+    ) -> Result<bool, AllocError>
+        requires written { IsWritten (lexeme_of token.now) }
+        requires is_planned { IsPlanned self.old token.now.kind (acts.Words act) }
+        ensures { IfOk result (λ fits. done_as fits self.new ≡ expression_act
+            ground.entry.source.now named_reader self.old (acts.Words act) (lexeme_of token.now)) }
+    {
+        match &mut self.mode {
+            Mode::Word { words, .. } => { words.act_words(ground.alloc, ground.source, act, token) }
+            Mode::Want { .. } | Mode::Have { .. } => unreachable!(),
+        }
+    }
+
+    /// `true` or `false`.
+    fn settle_bool(
         &mut self,
         ground: Ground<'_>,
         signs: Signs,
-        item: Ranged<Primary>,
-        ahead: Ahead<'_>,
-    ) -> Result<Taken, AllocError>
-        ensures { IfOk result (λ taken. advance_of taken self.new
-            ≡ having ahead.entry.wanted ground.entry.source.now self.old.stack self.old.levels
-            (operand_of ground.entry.source.now signs item) (lexeme_of ahead.entry.token)) }
+        extent: Option<Extent>,
+        literal: Literal,
+    ) -> Result<(), AllocError>
+        ensures { OnOk result (self.new ≡ has_primary ground.entry.source.now self.old.stack
+            self.old.levels signs (literal_at ground.entry.source.now extent literal)) }
     {
-        let operand = operand_of(ground, signs, item)?;
-        self.have(ground, ahead.wanted, operand, ahead.token)
+        let loc = ground.loc_at(extent)?;
+        let tree = Primary::Literal(Node {
+            node: Some(literal),
+            loc,
+        });
+        self.have_primary(ground, signs, Ranged { tree, extent })
     }
 
-    /// The guard of a conditional begins with this token.
-    fn begin_guard(
+    /// A name.
+    fn settle_name(
         &mut self,
         ground: Ground<'_>,
-        opened: Option<Extent>,
-        token: Token<'_>,
-    ) -> Result<Taken, AllocError>
-        requires { IsWritten (lexeme_of token) }
-        ensures { IfOk result (λ taken. advance_of taken self.new
-            ≡ guard_beginning ground.entry.source.now
-            (named_words ground.entry.source.now) self.old.stack self.old.levels opened
-            (lexeme_of token.entry)) }
+        signs: Signs,
+        path: Path,
+    ) -> Result<(), AllocError>
+        ensures { OnOk result (self.new ≡ has_primary ground.entry.source.now self.old.stack
+            self.old.levels signs (name_at ground.entry.source.now
+            (ranged_tree (Some (path_extent path))
+            (name_of path.before (word_node ground.entry.source.now path.last))))) }
     {
-        let branches = mem::replace(&mut self.levels.branches, Stack::new(ground.alloc));
-        self.stack.push(Frame::Guard(Guard { branches, opened }))?;
-        put(&mut self.levels, fresh_levels(Stack::new(ground.alloc)));
-        let gap = Gap {
-            place: Place::Expr,
-            signs: no_signs(),
+        let extent = Some(path_extent(&path));
+        let of_last = ground.loc_at(Some(path.last.extent))?;
+        let loc = ground.loc_at(extent)?;
+        let name = Name {
+            path: path.before,
+            name: Node {
+                node: Some(path.last.ident),
+                loc: of_last,
+            },
         };
-        self.want(ground, gap, token)
+        let tree = Primary::Name(Node {
+            node: Some(name),
+            loc,
+        });
+        self.have_primary(ground, signs, Ranged { tree, extent })
     }
 
-    /// `if` and a colon where a key is wanted.
-    fn read_if_key(
-        &mut self,
-        ground: Ground<'_>,
-        extent: Option<Extent>,
-        colon: Extent,
-    ) -> Result<Taken, AllocError>
-        ensures { IfOk result (λ taken. advance_of taken self.new
-            ≡ if_key_reading ground.entry.source.now self.old.stack extent colon) }
-    {
-        match self.stack.pop() {
-            Some(Frame::Key(pairs)) => {
-                let tree = if_key(ground, extent)?;
-                self.begin_value(ground.alloc, pairs, Ranged { tree, extent }, colon)
-            }
-            other => Ok(Taken::refuse(other)),
-        }
-    }
-
-    /// `if` where a key is wanted, by the class of the next token.
-    fn key_or_guard(
-        &mut self,
-        ground: Ground<'_>,
-        extent: Option<Extent>,
-        operator: Operator,
-        token: Token<'_>,
-    ) -> Result<Taken, AllocError>
-        requires { IsWritten (lexeme_of token) }
-        ensures { IfOk result (λ taken. advance_of taken self.new
-            ≡ key_or_guard ground.entry.source.now
-            (named_words ground.entry.source.now) self.old.stack self.old.levels extent
-            (lexeme_of token.entry) operator) }
-    {
-        match operator {
-            Operator::Ends(Closing::Colon) => {
-                self.read_if_key(ground, extent, token_extent(token))
-            }
-            Operator::Access(_)
-            | Operator::Multiply(_)
-            | Operator::Sum(_)
-            | Operator::Compare(_)
-            | Operator::Side(_)
-            | Operator::And
-            | Operator::Or
-            | Operator::Ends(
-                Closing::Paren
-                | Closing::Bracket
-                | Closing::Brace
-                | Closing::Comma
-                | Closing::Then
-                | Closing::Else,
-            )
-            | Operator::Other => self.begin_guard(ground, extent, token),
-        }
-    }
-
-    /// The word `if` right of `has`, and the token behind it.
-    fn have_if(
-        &mut self,
-        ground: Ground<'_>,
-        extent: Option<Extent>,
-        ahead: Ahead<'_>,
-    ) -> Result<Taken, AllocError>
-        ensures { IfOk result (λ taken. advance_of taken self.new
-            ≡ having ahead.entry.wanted ground.entry.source.now self.old.stack self.old.levels
-            (if_operand ground.entry.source.now extent) (lexeme_of ahead.entry.token)) }
-    {
-        let operand = if_operand(ground, extent)?;
-        self.have(ground, ahead.wanted, operand, ahead.token)
-    }
-
-    /// The word `if` alone, and the token behind it.
-    fn read_if(
-        &mut self,
-        ground: Ground<'_>,
-        place: Place,
-        extent: Option<Extent>,
-        ahead: Ahead<'_>,
-    ) -> Result<Taken, AllocError>
-        requires { IsWritten (lexeme_of ahead.token) }
-        ensures { IfOk result (λ taken. advance_of taken self.new
-            ≡ if_alone ahead.entry.wanted ground.entry.source.now
-            (named_words ground.entry.source.now) self.old.stack self.old.levels place extent
-            (lexeme_of ahead.entry.token)) }
-    {
-        let token = ahead.token;
-        match place {
-            Place::Expr | Place::Item => self.begin_guard(ground, extent, token),
-            Place::Key => self.key_or_guard(ground, extent, as_operator(token.kind), token),
-            Place::Has => self.have_if(ground, extent, ahead),
-            Place::Operand | Place::Primary => Ok(Taken::NotTaken),
-        }
-    }
-
-    /// `true` or `false`, and the token behind it.
-    #[inline(always)]
-    fn read_bool(
-        &mut self,
-        ground: Ground<'_>,
-        signs: Signs,
-        word: Ranged<Literal>,
-        ahead: Ahead<'_>,
-    ) -> Result<Taken, AllocError>
-        ensures { IfOk result (λ taken. advance_of taken self.new
-            ≡ having ahead.entry.wanted ground.entry.source.now self.old.stack self.old.levels
-            (operand_of ground.entry.source.now signs
-            (literal_at ground.entry.source.now word.extent word.tree))
-            (lexeme_of ahead.entry.token)) }
-    {
-        let item = literal_at(ground, word.extent, word.tree)?;
-        self.have_item(ground, signs, item, ahead)
-    }
-
-    /// A name, and the token behind it.
-    fn read_name(
-        &mut self,
-        ground: Ground<'_>,
-        signs: Signs,
-        name: Ranged<Name>,
-        ahead: Ahead<'_>,
-    ) -> Result<Taken, AllocError>
-        ensures { IfOk result (λ taken. advance_of taken self.new
-            ≡ having ahead.entry.wanted ground.entry.source.now self.old.stack self.old.levels
-            (operand_of ground.entry.source.now signs (name_at ground.entry.source.now name))
-            (lexeme_of ahead.entry.token)) }
-    {
-        let item = name_at(ground, name)?;
-        self.have_item(ground, signs, item, ahead)
-    }
-
-    /// An entity, and the token behind it.
-    fn read_ref(
+    /// An entity.
+    fn settle_ref(
         &mut self,
         ground: Ground<'_>,
         signs: Signs,
         entity: Entity,
-        ahead: Ahead<'_>,
-    ) -> Result<Taken, AllocError>
-        ensures { IfOk result (λ taken. advance_of taken self.new
-            ≡ having ahead.entry.wanted ground.entry.source.now self.old.stack self.old.levels
-            (operand_of ground.entry.source.now signs (ranged_tree (Some entity.extent)
-            (primary.Ref entity.node))) (lexeme_of ahead.entry.token)) }
+    ) -> Result<(), AllocError>
+        ensures { OnOk result (self.new ≡ has_primary ground.entry.source.now self.old.stack
+            self.old.levels signs (ranged_tree (Some entity.extent) (primary.Ref entity.node))) }
     {
-        self.have_item(ground, signs, ref_at(entity), ahead)
+        self.have_primary(ground, signs, ref_at(entity))
     }
 
-    /// A path, and the token behind it.
-    fn read_path(
+    /// The word `if` right of `has`.
+    fn settle_if(&mut self, ground: Ground<'_>, extent: Option<Extent>) -> Result<(), AllocError>
+        ensures { OnOk result (self.new ≡ has_operand self.old.stack self.old.levels
+            (if_operand ground.entry.source.now extent)) }
+    {
+        let operand = if_operand(ground, extent)?;
+        put(&mut self.mode, have(operand));
+        Ok(())
+    }
+
+    /// A path: what its one word is, or a name.
+    fn settle_path(
         &mut self,
         ground: Ground<'_>,
-        gap: Gap,
-        name: Ranged<Name>,
-        ahead: Ahead<'_>,
-    ) -> Result<Taken, AllocError>
-        requires { IsWritten (lexeme_of ahead.token) }
-        ensures { IfOk result (λ taken. advance_of taken self.new
-            ≡ alone_reading ahead.entry.wanted ground.entry.source.now
-            (named_words ground.entry.source.now) self.old.stack self.old.levels gap.place
-            gap.signs name (alone_of name.tree.path name.tree.name)
-            (lexeme_of ahead.entry.token)) }
+        signs: Signs,
+        path: Path,
+    ) -> Result<(), AllocError>
+        ensures { OnOk result (self.new ≡ has_operand self.old.stack self.old.levels
+            (named_operand ground.entry.source.now signs
+            (words_tree ground.entry.source.now (Words.Path path)))) }
     {
-        let extent = name.extent;
-        match alone_of(&name.tree) {
-            Alone::True => {
-                let tree = Literal::True;
-                self.read_bool(ground, gap.signs, Ranged { tree, extent }, ahead)
-            }
-            Alone::False => {
-                let tree = Literal::False;
-                self.read_bool(ground, gap.signs, Ranged { tree, extent }, ahead)
-            }
-            Alone::If => self.read_if(ground, gap.place, extent, ahead),
-            Alone::Name => self.read_name(ground, gap.signs, name, ahead),
+        let extent = Some(path_extent(&path));
+        match alone_of(&path) {
+            Alone::True => self.settle_bool(ground, signs, extent, Literal::True),
+            Alone::False => self.settle_bool(ground, signs, extent, Literal::False),
+            Alone::If => self.settle_if(ground, extent),
+            Alone::Name => self.settle_name(ground, signs, path),
         }
     }
 
-    /// Words that have ended, and the token behind them.
-    fn read_named(
-        &mut self,
-        ground: Ground<'_>,
-        gap: Gap,
-        words: Words,
-        ahead: Ahead<'_>,
-    ) -> Result<Taken, AllocError>
-        requires { IsWritten (lexeme_of ahead.token) }
-        ensures { IfOk result (λ taken. advance_of taken self.new
-            ≡ name_reading ahead.entry.wanted ground.entry.source.now
-            (named_words ground.entry.source.now) self.old.stack self.old.levels gap.place
-            gap.signs (words_tree ground.entry.source.now words) (lexeme_of ahead.entry.token)) }
+    /// Words that have ended become the operand that they are.
+    #[inline(never)]
+    pub fn settle(&mut self, ground: Ground<'_>) -> Result<(), AllocError>
+        requires { HasEndedWords self.old.mode }
+        ensures { OnOk result (Some self.new ≡ settled ground.entry.source.now self.old) }
     {
-        match words {
-            Words::Path(path) => self.read_path(ground, gap, path_name(ground, path)?, ahead),
-            Words::Entity(entity) => self.read_ref(ground, gap.signs, entity, ahead),
+        match &mut self.mode {
+            Mode::Word { signs, words, .. } => {
+                let signs = *signs;
+                match words::take(words) {
+                    Words::Path(path) => self.settle_path(ground, signs, path),
+                    Words::Entity(entity) => self.settle_ref(ground, signs, entity),
+                }
+            }
+            Mode::Want { .. } | Mode::Have { .. } => unreachable!(),
         }
     }
 
-    /// A token behind words that may go on.
-    pub fn word(
-        &mut self,
-        ground: Ground<'_>,
-        gap: Gap,
-        words: WordsState,
-        ahead: Ahead<'_>,
-    ) -> Result<Taken, AllocError>
-        requires { IsWritten (lexeme_of ahead.token) }
-        ensures { IfOk result (λ taken. advance_of taken self.new
-            ≡ word_reading ahead.entry.wanted ground.entry.source.now
-            (named_words ground.entry.source.now) self.old.stack self.old.levels gap.place
-            gap.signs ((named_words ground.entry.source.now).step words
-            (lexeme_of ahead.entry.token)) (lexeme_of ahead.entry.token)) }
+    /// Words that have ended are the word `if`: a conditional begins, and its guard is wanted.
+    #[inline(never)]
+    pub fn open_guard(&mut self, alloc: Global) -> Result<(), AllocError>
+        ensures { OnOk result (self.new ≡ opening (frame.Guard record {
+          branches = self.old.levels.branches;
+          opened = words_extent self.old.mode;
+        } ∷ self.old.stack) [] place.Expr) }
     {
-        let mut words = words;
-        match words::step(ground, &mut words, ahead.token)? {
-            Given::Next => {
-                let Gap { place, signs } = gap;
-                let mode = Mode::Word {
-                    place,
-                    signs,
-                    words,
-                };
-                put(&mut self.mode, mode);
-                Ok(Taken::Next)
-            }
-            Given::Ended(named) => {
-                drop(words);
-                self.read_named(ground, gap, named, ahead)
-            }
-            Given::Refused => Ok(Taken::refuse(words)),
-            Given::TooLarge => {
-                drop(words);
-                Ok(Taken::TooLarge)
-            }
+        let opened = self.words_extent();
+        let branches = mem::replace(&mut self.levels.branches, Stack::new(alloc));
+        self.stack.push(Frame::Guard(Guard { branches, opened }))?;
+        put(&mut self.levels, fresh_levels(Stack::new(alloc)));
+        put(&mut self.mode, want_at(Place::Expr));
+        Ok(())
+    }
+
+    /// The bytes of a path that has ended.
+    fn words_extent(&self) -> Option<Extent>
+        ensures { result ≡ words_extent self.now.mode }
+    {
+        match &self.mode {
+            Mode::Word {
+                words: WordsState::Path(PathState::Have(path)),
+                ..
+            } => { Some(path_extent(path)) }
+            _ => None,
         }
+    }
+
+    /// `if` and a colon where a key is wanted.
+    #[inline(never)]
+    pub fn close_if_key(&mut self, ground: Ground<'_>, token: &Token<'_>) -> Result<(), AllocError>
+        requires { IsPlanned self.old token.now.kind acts.Key }
+        ensures { OnOk result (Some self.new ≡ expression_act ground.entry.source.now named_reader
+            self.old acts.Key (lexeme_of token.now)) }
+    {
+        let extent = self.words_extent();
+        let tree = if_key(ground, extent)?;
+        put(&mut self.levels, fresh_levels(Stack::new(ground.alloc)));
+        put(&mut self.mode, want_at(Place::Expr));
+        self.begin_value(Ranged { tree, extent }, token_extent(token));
+        Ok(())
     }
 }

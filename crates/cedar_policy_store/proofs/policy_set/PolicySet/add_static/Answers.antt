@@ -1,7 +1,7 @@
 use Rattle.std.proofs.Common.{◌≡◌, refl, sym, ap, ◌∙◌, subst}
 use Rattle.std.specs.BTreeMap.{insert_entry}
 use Rattle.std.specs.FinMap as map
-use Rattle.cedar_policy_store.specs.PolicyMaps.{IsNamed}
+use Rattle.cedar_policy_store.specs.PolicyMaps.{StandByName}
 use Rattle.cedar_policy_store.specs.TextMap.{text_order}
 use Rattle.cedar_policy_store.proofs.MapsByText.{map_in-insert}
 use Rattle.cedar_policy_store.proofs.NamedPolicies.{named-insert, with_copy}
@@ -12,7 +12,7 @@ invariant_of-self-2 c =
     let old = c.self.inside.policies.entries in
     let added = with_copy (λ id. c.keep.new.map.entries ≡ insert_entry text_order old id c.args.policy) c.try_clone.result c.id-2.result.now c.in_ok-keep.ensures.ok c.try_clone.ensures in
     let entries = added ∙ ap (λ id. insert_entry text_order old id c.args.policy) c.id-2.ensures in
-    let named = subst IsNamed (sym entries) (named-insert old c.args.policy.id c.args.policy refl c.self.invariant.2) in
+    let named = subst StandByName (sym entries) (named-insert old c.args.policy.id c.args.policy refl c.self.invariant.2) in
     (c.in_ok-keep.ensures.ordered, c.self.invariant.1, named, c.self.invariant.3)
 
 pub returns-clause-added : goal.returns-clause-added

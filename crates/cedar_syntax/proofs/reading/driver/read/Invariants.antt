@@ -1,9 +1,10 @@
-use Rattle.cedar_syntax.specs.machines.Judged.{Progress, remaining_length}
+use Rattle.cedar_syntax.specs.machines.Door.{machine_of}
+use Rattle.cedar_syntax.proofs.machines.Driving.{Progress, bytes_left}
 use Rattle.cedar_syntax.proofs.reading.driver.read.Given as goal
 
--- the tokens before the one ahead are read
-abbrev pub invariant-loop-ahead : goal.invariant-loop-ahead
-invariant-loop-ahead g l = Progress (g.E.Entry.machine l.source) l.source l.state l.end l.ahead l.lexer
+-- some tokens are read, and the lexer stands behind them
+abbrev pub invariant-loop-state : goal.invariant-loop-state
+invariant-loop-state g l = Progress (machine_of l.source g.E.Entry.reader) l.source l.state l.end l.lexer
 
-abbrev pub decreases-loop-ahead : goal.decreases-loop-ahead
-decreases-loop-ahead g l = remaining_length l.ahead l.lexer
+abbrev pub decreases-loop-state : goal.decreases-loop-state
+decreases-loop-state g l = bytes_left l.lexer

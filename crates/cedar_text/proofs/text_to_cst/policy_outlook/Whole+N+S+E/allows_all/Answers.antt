@@ -1,9 +1,0 @@
-use Rattle.cedar_text.specs.machines.Policies.{all_policies_shapes, all_policies_shape}
-use Rattle.cedar_text.proofs.machines.Outlooks.{takes, takes_not}
-use Rattle.cedar_text.proofs.text_to_cst.policy_outlook.Whole+N+S+E.allows_all.Goals as goal
-
-pub returns-in-Takes : goal.returns-in-Takes
-returns-in-Takes g c = takes (all_policies_shapes record { name = g.N.Foresees.shapes; sum = g.S.Foresees.shapes; expression = g.E.Foresees.shapes }) (all_policies_shape g.N.Foresees.shape g.S.Foresees.shape g.E.Foresees.shape c.args.self.now) c.args.next c.in-Some.kind c.foresees_many.result c.in-Some.is c.in-Takes.is c.foresees_many.ensures
-
-pub returns-in-Ends : goal.returns-in-Ends
-returns-in-Ends g c = takes_not (all_policies_shapes record { name = g.N.Foresees.shapes; sum = g.S.Foresees.shapes; expression = g.E.Foresees.shapes }) (all_policies_shape g.N.Foresees.shape g.S.Foresees.shape g.E.Foresees.shape c.args.self.now) c.args.next c.in-Some.kind c.foresees_many.result c.in-Some.is c.in-Ends.is c.foresees_many.ensures
