@@ -52,7 +52,7 @@ add_op _ = adding.Plus
 abbrev pub sum_terms : List Part → List (AddOp × Value)
 sum_terms ps = map (λ p. (add_op p.0, p.1)) ps
 
--- a single `=` is refused last
+-- a single `=` is refused, but only where both its sides are given without a fault
 abbrev pub comparison_outcome : Option Loc → RelOp → Value → Value → Outcome Held
 comparison_outcome place rel.Less a b = expression_at place (v.less a b)
 comparison_outcome place rel.LessEq a b = expression_at place (v.lesseq a b)
@@ -130,8 +130,8 @@ dashes_outcome place zero bare x = x
 dashes_outcome place (suc n) (Some k) x = negative place n k
 dashes_outcome place (suc n) None x = application_outcome place (suc n) v.neg x
 
--- signs above the limit are refused, whatever stands behind them; a bare number counts behind `-`
--- alone
+-- signs above the limit are the only fault, even where the operand has faults too; a number alone
+-- is one literal with its sign behind `-`, never behind `!`
 abbrev pub signs_outcome : Option Loc → Option NegOp → Option ℕ → Outcome Held → Outcome Held
 signs_outcome place None bare x = x
 signs_outcome place (Some (sign.Bang n)) bare x = application_outcome place n v.not x
@@ -196,11 +196,12 @@ unfoldable mutual
       (next (outcome e c) as_expression)) (conditional_outcome place)
   form_outcome e place (f.chain level first others) =
       chain_outcome level place others (outcome e first) (operands e place others)
-  -- the right side ends the work
+  -- a fault of the right side of `has` is told alone, without the faults of the left side
   form_outcome e place (f.has target right) =
       next (right_side (tree_place right) right)
       (λ r. next (next (outcome e target) as_expression) (with_attributes place r))
-  -- so does a fault of converting the pattern, or the type; that it is one is joined
+  -- a fault inside the pattern or the type is told alone too; that it is no pattern or no type is
+  -- told behind the faults of the left side
   form_outcome e place (f.like target pattern) =
       next (outcome e pattern)
       (λ h. next (both (next (outcome e target) as_expression) (as_pattern h))
@@ -266,7 +267,7 @@ unfoldable mutual
   pair_outcome e (f.missing place) = fault_outcome empty_node place
   pair_outcome e (f.at place form) = pair_form_outcome e place form
 
-  -- the key's own conversion ends the pair; that it is a key is joined with the value
+  -- a fault inside the key is told alone; that it is no key is told before the faults of the value
   pub pair_form_outcome : Extensions → Option Loc → Form → Outcome (List ℕ × Value)
   pair_form_outcome e place (f.init key value) =
       next (outcome e key) (λ h. both (as_attribute h) (next (outcome e value) as_expression))

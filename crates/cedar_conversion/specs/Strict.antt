@@ -2,8 +2,9 @@
 -- levels, from the loosest operator to the tightest, and what each form means are those of the
 -- grammar and of the operators' pages in Cedar's reference: a relation has one operator at most,
 -- `/` and `%` mean nothing, so many signs at most as `limit` says stand before an operand, a
--- literal number fits 64 bits with its sign, the keys of a record are all different. What may be
--- called beside the methods of every text is what `table` has.
+-- literal number fits 64 bits with its sign, the keys of a record are all different. Six methods,
+-- as `contains`, can be called in every policy; what else can be, `table` has. A `Value` is what
+-- an expression means as syntax, before it is evaluated.
 use Rattle.std.specs.Prelude.{◌≡◌, ◌≤◌, ◌<◌, ◌^◌, ◌+◌, ◌-◌, ℕ, zero, suc, true, false, List, [], ◌∷◌, ◌++◌, length, Some, pos, neg_ℤ}
 use Rattle.std.specs.Map.{keys_of}
 use Rattle.cedar_lexer.specs.Token.{Lexeme}
@@ -40,8 +41,8 @@ abbrev pub slot_there : SlotId → Spot → Value
 slot_there id p =
     v.slot (record { id = id; place = Some record { offset = p.start; length = p.end - p.start } })
 
--- What tokens are read as, from the loosest to the tightest. A sort's tokens are also those of the
--- sort before it.
+-- What tokens are read as, from the loosest to the tightest. Tokens that mean something as one
+-- sort mean the same as the sort before it.
 pub data Sort : Type 0 where
   expression : Sort
   disjunction : Sort
@@ -130,9 +131,8 @@ mutual
     -- signs `!` up to the limit apply `not` as often
     negated : {ts us : List Lexeme} {a : Value} {n : ℕ} → ReadsSigns kind.Bang ts n → n ≤ limit
         → Means table limit member us a → Means table limit signed (ts ++ us) (iteration n v.not a)
-    -- of the signs `-` up to the limit before a NUMBER that is the whole operand the last one and
-    -- the number are
-    -- one literal, each other applies `neg`
+    -- behind one or more `-`, up to the limit, a NUMBER that is the whole operand is one literal
+    -- with the last of them; each `-` before that one applies `neg`
     negative : {ts : List Lexeme} (n : ℕ) (p : Spot) → ReadsSigns kind.Minus ts (n + 1)
         → n < limit → number_of p.text ≤ largest
         → Means table limit signed (ts ++ one kind.Number p)

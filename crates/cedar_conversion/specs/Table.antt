@@ -1,4 +1,4 @@
--- What a table of the program's own holds.
+-- The table that an `ExtStyles` holds, whoever made it: which functions and methods it has.
 use Rattle.std.specs.BTreeSet.{contains}
 use Rattle.cedar_expressions.specs.contracts.ids.UnreservedIdOrd.TheImpl as id_order
 use Rattle.cedar_expressions.specs.contracts.names.NameOrd.TheImpl as name_order

@@ -74,8 +74,8 @@ CutsFrom source offset ts = Layout source offset ts (length source)
 abbrev pub Cuts : List ℕ → List Lexeme → Type 0
 Cuts source ts = CutsFrom source 0 ts
 
--- the longest beginning that can be cut so has these tokens and stops at `place`, where something
--- stands and nothing starts
+-- from `offset`, or from the start, the source is cut into these tokens up to `place`, where it
+-- hasn't ended, but neither a skip nor a spelling starts
 abbrev pub StopsFrom : List ℕ → ℕ → List Lexeme → ℕ → Type 0
 StopsFrom source offset ts place =
     Layout source offset ts place × (place < length source) × NothingStarts (drop place source)

@@ -101,7 +101,8 @@ one_text Bang = Some (codes "!")
 abbrev pub HasOwnKind : List ℕ → Type 0
 HasOwnKind text = (kind : TokenKind) × (one_text kind ≡ Some text)
 
--- the spellings of a kind: a word is no identifier, and the two named slots are no other slots
+-- the spellings of a kind: a word of the language is no Identifier, and neither `?principal` nor
+-- `?resource` is an OtherSlot
 abbrev pub Spells : TokenKind → List ℕ → Type 0
 Spells Identifier text = IsIdentifierText text × ¬ (HasOwnKind text)
 Spells OtherSlot text = IsSlot text × ¬ (HasOwnKind text)

@@ -1,5 +1,5 @@
--- The conditions of a policy: `when` and `unless` with an expression without slots, folded to the
--- right. The rules are those of Cedar's `Cond::to_expr` and `construct_template_policy`.
+-- The conditions of a policy: what `when` and `unless` give, an expression's value without slots,
+-- or faults. The rules are those of Cedar's `Cond::to_expr`. How they are joined: PolicyMeaning.
 use Rattle.std.specs.Prelude.{List, map, Option, Some, None, Ok, Bool, true, false}
 use Rattle.cedar_expressions.specs.declared.place.Slot.{Slot}
 use Rattle.cedar_expressions.specs.Slots.{slots_of}

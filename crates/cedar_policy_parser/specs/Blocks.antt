@@ -1,4 +1,5 @@
--- The faults of a policy and of a set as blocks, one for each part, in the parts' order.
+-- The faults of a policy and of a set as blocks, one for each part: of a policy its effect, its
+-- annotations, its scope and its conditions, in this order, of a set its policies.
 use Rattle.std.specs.Prelude.{ℕ, List, [], ◌∷◌, ◌++◌, Option, Ok, Err}
 use Rattle.std.specs.List.{All, flat_map}
 use Rattle.cedar_syntax.specs.declared.cst.Annotation.{Annotation}

@@ -25,7 +25,7 @@ by_name =
     kind.Resource ∷ kind.ResourceSlot ∷ kind.StringLit ∷ kind.Then ∷ kind.True ∷ kind.Unless ∷
     kind.When ∷ []
 
--- what closes something that is open
+-- what ends an expression that stands within something begun: `then else ) ] } , :`
 abbrev pub is_closer : TokenKind → Bool
 is_closer kind.Then = true
 is_closer kind.Else = true
@@ -62,7 +62,9 @@ goes_behind kind.AndAnd = true
 goes_behind kind.OrOr = true
 goes_behind k = is_closer k
 
--- whether a list of expected kinds may be narrowed where this is refused, a kind or the end
+-- whether a list of expected kinds may be narrowed where this is refused, a kind or the end:
+-- `Never` never, `Tokens` where the kind can stand behind an operand, `TokensAndEnd` there and at
+-- the end
 abbrev pub can_narrow : Narrowing → Option TokenKind → Bool
 can_narrow narrowing.Never after = false
 can_narrow narrowing.Tokens None = false
@@ -70,7 +72,8 @@ can_narrow narrowing.Tokens (Some k) = goes_behind k
 can_narrow narrowing.TokensAndEnd None = true
 can_narrow narrowing.TokensAndEnd (Some k) = goes_behind k
 
--- it is narrowed where an operand has ended in something that is open
+-- it is narrowed where it may be, where an operand is complete, so that `*` or `&&` may follow,
+-- and where what ends an expression within something begun may follow too
 pub record IsNarrowed {T : Type 0} (R : List Lexeme → T → Type 0) (n : Narrowing)
     (ks : List TokenKind) (after : Option TokenKind) : Type 0 where
   pub may : IsTrue (can_narrow n after)
@@ -99,16 +102,18 @@ pub data IsIn (k : TokenKind) : List TokenKind → Type 0 where
   here : {ks : List TokenKind} → IsIn k (k ∷ ks)
   there : {j : TokenKind} {ks : List TokenKind} → IsIn k ks → IsIn k (j ∷ ks)
 
--- the name of one kind stands before that of another, and in a list each before the next
+-- whether a comparison says that the first is less
 abbrev pub is_less : Ordering → Bool
 is_less Less = true
 is_less Equal = false
 is_less Greater = false
 
+-- the name of this kind stands before that of the list's first one, if there is one
 abbrev pub is_before : TokenKind → List TokenKind → Bool
 is_before j [] = true
 is_before j (k ∷ ks) = is_less (slice_cmp nat_cmp (kind_name j) (kind_name k))
 
+-- in the list each name stands before the next
 abbrev pub stand_by_name : List TokenKind → Bool
 stand_by_name [] = true
 stand_by_name (k ∷ ks) = is_before k ks && stand_by_name ks

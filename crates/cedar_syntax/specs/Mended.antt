@@ -28,16 +28,16 @@ pub data OpenPolicy (src : List ℕ) : List Lexeme → Type 0 where
       ReadsList src (ReadsVariableDef src) vs ys → ReadsMany src (ReadsCond src) ws zs →
       OpenPolicy src (ts ++ us ++ one kind.OpenParen l ++ vs ++ one kind.CloseParen m ++ ws)
 
--- tokens that end in a condition's braces, parted behind the `{`. The first group is tokens of
--- `W`, all of a policy but its semicolon, and the word and `{` of one more condition. The second
--- begins an expression, or is empty
+-- tokens that stop inside a condition's open braces, parted behind the `{`. The first group is
+-- tokens of `W`, all of a policy but its semicolon, and the word and `{` of one more condition.
+-- The second begins an expression, or is empty
 pub data InBraces (src : List ℕ) (W : List Lexeme → Type 0) : List Lexeme → List Lexeme →
     Type 0 where
   in_braces : (ts us : List Lexeme) {ws vs : List Lexeme} {i : Ident} (l : Spot) → W ts →
       OpenPolicy src us → ReadsAny ws i → Starts (ReadsBody src) vs →
       InBraces src W (ts ++ us ++ ws ++ one kind.OpenBrace l) vs
 
--- these tokens end in a condition's braces
+-- these tokens stop inside a condition's open braces
 pub record EndsInBraces (src : List ℕ) (W : List Lexeme → Type 0)
     (ts : List Lexeme) : Type 0 where
   pub opened : List Lexeme
@@ -85,8 +85,8 @@ head [] = None
 head (t ∷ ts) = Some t
 
 -- the faults of tokens that are read by the rule `R`: the list of those that are mended, in order,
--- and the one at which the parse stops, if it does. `U` says which fault a token has, or the end,
--- that no sentence allows behind some tokens; `L` says which a number has that doesn't fit
+-- and the one at which the parse stops, if it does. `U` gives the fault of a token, or of the end,
+-- that is refused behind the tokens before it; `L` that of a number that doesn't fit
 pub data Faults {T F : Type 0} (src : List ℕ) (R : List Lexeme → T → Type 0)
     (W : List Lexeme → Type 0) (U : List Lexeme → Option Lexeme → F → Type 0)
     (L : Lexeme → F → Type 0) : List Lexeme → List F → Option F → Type 0 where

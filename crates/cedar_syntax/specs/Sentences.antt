@@ -15,7 +15,7 @@ HasTree {T = T} R ts = (x : T) × R ts x
 abbrev pub Starts : {T : Type 0} → (List Lexeme → T → Type 0) → List Lexeme → Type 0
 Starts R ts = (more : List Lexeme) × HasTree R (ts ++ more)
 
--- some tokens of these kinds have a tree, so that the numbers among them fit
+-- there are tokens of these kinds that have a tree; their texts are free, but numbers fit
 pub record Sentence {T : Type 0} (R : List Lexeme → T → Type 0)
     (ks : List TokenKind) : Type 0 where
   pub tokens : List Lexeme

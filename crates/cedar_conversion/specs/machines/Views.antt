@@ -1,4 +1,4 @@
--- How private functions' contracts see what the program holds: as what the outcomes speak of.
+-- How contracts inside both conversions see what the program holds: as what the outcomes speak of.
 use Rattle.std.specs.Prelude.{◌≡◌, List, [], ◌∷◌, ◌++◌, map, Option, Some, None, Result, Ok, Err}
 use Rattle.std.specs.Option.{option_copied, option_map}
 use denote.Ref.{Bor}
