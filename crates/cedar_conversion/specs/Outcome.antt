@@ -1,7 +1,7 @@
 -- What a conversion gives, want of memory aside: what is wanted, or all faults that hinder it, in
 -- their order. The outcomes of parts are joined by `both`, the faults of each one after another,
--- or by `next`, what comes next only where all before it is given. (Where a static policy is wanted,
--- `only_static` of cedar_policy_conversion tells faults behind those of a template.)
+-- or by `next`, what comes next only where all before it is given. (Where a static policy is
+-- wanted, `only_static` of cedar_policy_conversion tells faults behind those of a template.)
 use Rattle.std.specs.Prelude.{List, [], ◌∷◌, ◌++◌, Option, Some, None, Result, Ok, Err}
 use Rattle.cedar_syntax.specs.declared.loc.Loc.{Loc}
 
