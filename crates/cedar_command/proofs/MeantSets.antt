@@ -5,7 +5,7 @@ use Rattle.cedar_lexer.specs.Token.{Lexeme}
 use Rattle.cedar_policy_store.specs.PlaceFree.{Policies}
 use Rattle.cedar_syntax.specs.Signs.{sign_limit}
 use Rattle.cedar_syntax.specs.declared.err.faults.Failure.{Failure}
-use Rattle.cedar_syntax.specs.FirstFault.{IsMemory}
+use Rattle.cedar_syntax.specs.ParseErrors.{IsMemory}
 use Rattle.cedar_conversion.specs.Extensions.{Extensions}
 use Rattle.cedar_policy_parser.specs.Formatted.{Formats, MeanTheSame}
 use Rattle.cedar_policy_parser.specs.StrictPolicy.{IsPolicySet}

@@ -9,13 +9,13 @@ use Rattle.cedar_syntax.specs.declared.err.faults.Failure.{Failure}
 use Rattle.cedar_syntax.specs.declared.err.faults.Failure.TheVariants.{Memory, Errors}
 use Rattle.cedar_syntax.specs.Located.{Located}
 use Rattle.cedar_syntax.specs.Forms.{located, expr_form}
-use Rattle.cedar_syntax.specs.FirstFault.{IsMemory}
-use Rattle.cedar_syntax.specs.Grammar.{IsTreeOf}
-use Rattle.cedar_syntax.specs.LooseExpressions.{ReadsExpr}
-use Rattle.cedar_syntax.specs.Place.{placed}
+use Rattle.cedar_syntax.specs.ParseErrors.{IsMemory}
+use Rattle.cedar_grammar.specs.Grammar.{IsTreeOf}
+use Rattle.cedar_grammar.specs.LooseExpressions.{ReadsExpr}
+use Rattle.cedar_grammar.specs.Place.{placed}
 use Rattle.cedar_syntax.specs.Trees.{Cell}
-use Rattle.cedar_syntax.proofs.ExpressionTokens.{expr_some}
-use Rattle.cedar_syntax.proofs.WordPlaces.{start_is}
+use Rattle.cedar_grammar.proofs.ExpressionTokens.{expr_some}
+use Rattle.cedar_grammar.proofs.WordPlaces.{start_is}
 use Rattle.cedar_conversion.specs.Conversion.{Converts, value_outcome}
 use Rattle.cedar_conversion.specs.Extensions.{Extensions}
 use Rattle.cedar_policy_parser.specs.Refused.{TellsTree}

@@ -7,10 +7,9 @@ use Rattle.cedar_syntax.specs.declared.cst.Expr.{Expr}
 use Rattle.cedar_syntax.specs.declared.err.faults.Failure.{Failure}
 use Rattle.cedar_syntax.specs.declared.err.faults.Failure.TheVariants.{Memory, Errors}
 use Rattle.cedar_syntax.specs.declared.err.faults.ParseError.{ParseError}
-use Rattle.cedar_syntax.specs.FirstFault.{IsMemory}
-use Rattle.cedar_syntax.specs.Grammar.{IsTreeOf}
-use Rattle.cedar_syntax.specs.LooseExpressions.{ReadsExpr}
-use Rattle.cedar_syntax.specs.ParseErrors.{faults_of}
+use Rattle.cedar_syntax.specs.ParseErrors.{IsMemory, faults_of}
+use Rattle.cedar_grammar.specs.Grammar.{IsTreeOf}
+use Rattle.cedar_grammar.specs.LooseExpressions.{ReadsExpr}
 use Rattle.cedar_syntax.specs.Trees.{Cell}
 use Rattle.cedar_conversion.proofs.Loops.{take_next, take_whole}
 use Rattle.cedar_conversion.specs.Extensions.{Extensions}

@@ -6,7 +6,7 @@ ghost use Rattle.cedar_command.specs.Ends.{IsMeant, IsVerdict, IsAnswerWritten, 
 ghost use Rattle.cedar_command.specs.Streams.{writer_state, writing, AreBytesWritten};
 ghost use Rattle.cedar_command.specs.declared.run.Verdict.TheVariants as verdict;
 ghost use Rattle.cedar_command.specs.declared.request.Command.TheVariants as command;
-ghost use Rattle.cedar_syntax.specs.FirstFault.{IsMemory};
+ghost use Rattle.cedar_syntax.specs.ParseErrors.{IsMemory};
 
 use crate::run::{Verdict, print_failure};
 use crate::streams::{Output, Stop, WriterState};

@@ -3,9 +3,9 @@ ghost use Rattle.std.specs.Prelude.{◌≡◌, ◌≢◌, None, OnOk, IfOk, IfEr
 ghost use Rattle.std.specs.IoError.{error_kind};
 ghost use Rattle.cedar_expressions.specs.Value.{Value};
 ghost use Rattle.cedar_syntax.specs.Forms.{located, expr_form};
-ghost use Rattle.cedar_syntax.specs.Grammar.{IsTreeOf};
-ghost use Rattle.cedar_syntax.specs.LooseExpressions.{ReadsExpr};
-ghost use Rattle.cedar_syntax.specs.ParseErrors.{faults_of};
+ghost use Rattle.cedar_grammar.specs.Grammar.{IsTreeOf};
+ghost use Rattle.cedar_grammar.specs.LooseExpressions.{ReadsExpr};
+ghost use Rattle.cedar_syntax.specs.ParseErrors.{faults_of, IsMemory};
 ghost use Rattle.cedar_conversion.specs.Conversion.{Converts};
 ghost use Rattle.cedar_conversion.specs.Table.{table_of};
 ghost use Rattle.cedar_policy_parser.specs.Refused.{TellsTree};
@@ -17,7 +17,6 @@ ghost use Rattle.cedar_command.specs.declared.run.Ending.{Ending as How};
 ghost use Rattle.cedar_command.specs.declared.run.Ending.TheVariants.{Stopped, Usage};
 ghost use Rattle.cedar_command.specs.declared.run.Verdict.TheVariants as verdict;
 ghost use Rattle.cedar_command.specs.declared.request.Command.TheVariants as command;
-ghost use Rattle.cedar_syntax.specs.FirstFault.{IsMemory};
 
 use crate::format::format;
 use crate::policies::policies;

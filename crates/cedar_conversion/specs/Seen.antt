@@ -1,5 +1,5 @@
 -- What the program holds and answers, seen without what only messages show.
-use Rattle.std.specs.Prelude.{◌≡◌, List, map, Result, Ok, Err}
+use Rattle.std.specs.Prelude.{◌≡◌, List, map, Result, Ok, Err, None}
 use Rattle.cedar_syntax.specs.ParseErrors.{faults_of}
 use Rattle.cedar_syntax.specs.declared.err.faults.Failure.{Failure}
 use Rattle.cedar_syntax.specs.declared.err.faults.Failure.TheVariants.{Memory, Errors}
@@ -9,7 +9,6 @@ use Rattle.cedar_syntax.specs.declared.err.to_ast.ToASTErrorKind.{ToASTErrorKind
 use Rattle.cedar_syntax.specs.declared.err.to_ast.ToASTErrorKind.TheVariants as kinds
 use Rattle.cedar_conversion.specs.Outcome as k
 use Rattle.cedar_conversion.specs.Outcome.{Kind, NamedFault, Outcome}
-use Rattle.std.specs.Prelude.{None}
 
 -- each kind without what a message shows of it
 abbrev pub kind_of : ToASTErrorKind → Kind

@@ -4,7 +4,7 @@ ghost use Rattle.cedar_conversion.specs.Places.{bytes_within as within, place_wi
 ghost use Rattle.cedar_syntax.specs.declared.err.faults.ParseError.TheVariants.{ToAST};
 ghost use Rattle.cedar_conversion.specs.Outcome.{NamedFault, Outcome, both, next, faults_outcome};
 ghost use Rattle.cedar_conversion.specs.Seen.{Gives, Refuses, named_fault};
-ghost use Rattle.cedar_syntax.specs.FirstFault.{IsMemory};
+ghost use Rattle.cedar_syntax.specs.ParseErrors.{IsMemory};
 ghost use Rattle.cedar_syntax.specs.Joined.{WantsMemory};
 ghost use Rattle.cedar_conversion.specs.machines.Views.{empty_view};
 

@@ -1,5 +1,5 @@
 -- White space or a comment straight before a token, and parentheses around tokens: the other tokens keep their words.
-use Rattle.std.proofs.Common.{◌≡◌, ℕ, ◌+◌, true, List, [], ◌∷◌, ◌++◌, map, length, drop, refl, sym, ap, ap₂, ◌∙◌, subst, arith, append_assoc, Some}
+use Rattle.std.proofs.Common.{◌≡◌, ℕ, ◌+◌, true, List, [], ◌∷◌, ◌++◌, map, length, drop, refl, sym, ap, ap₂, ◌∙◌, subst, arith, append_assoc, Some, inl, inr, ◌<◌, ◌≤◌}
 use Rattle.std.specs.Str.{IsUtf8}
 use Rattle.std.specs.Prelude.{IsTrue}
 use Rattle.std.proofs.lemmas.List.{length-append, drop_at}
@@ -14,7 +14,6 @@ use Rattle.cedar_lexer.specs.Words.{TokenText, written, words_of, open_word, clo
 use Rattle.cedar_lexer.proofs.Ends.{Breaks, EndsToken, broken, slashed, scan_ends, scanned}
 use Rattle.std.specs.Char.{encode_utf8, is_whitespace}
 use Rattle.std.specs.List.{All}
-use Rattle.std.proofs.Common.{inl, inr, ◌<◌, ◌≤◌}
 use Rattle.std.proofs.lemmas.Bool.{cases_lt}
 use Rattle.std.proofs.lemmas.Bool.Decides.{nat_tests}
 use Rattle.std.proofs.lemmas.List.Elements.{All-head}

@@ -11,13 +11,12 @@ use denote.Param.Members.{Shared}
 use Rattle.std.specs.declared.alloc.Global.{Global}
 use Rattle.std.specs.declared.string.String.{String}
 use Rattle.cedar_policy_store.specs.TextMap.{text_order}
-use Rattle.cedar_syntax.specs.ParseErrors.{faults_of}
+use Rattle.cedar_syntax.specs.ParseErrors.{faults_of, IsMemory}
 use Rattle.cedar_syntax.specs.declared.cst.Annotation.{Annotation}
 use Rattle.cedar_syntax.specs.declared.err.faults.Failure.{Failure}
 use Rattle.cedar_syntax.specs.declared.err.faults.Failure.TheVariants.{Memory, Errors}
 use Rattle.cedar_syntax.specs.declared.loc.Loc.{Loc}
 use Rattle.cedar_syntax.specs.declared.node.Node.{Node}
-use Rattle.cedar_syntax.specs.FirstFault.{IsMemory}
 use Rattle.cedar_syntax.specs.Joined.{WantsMemory}
 use Rattle.cedar_policy_conversion.specs.AnnotationKeys.{AnnotationContent, Answers, AnswersEach, Gathering, annotation_at, annotation_outcome, gathering_with, gathering_with_node, gathering, has_key, with_pair, empty_gathering, key_value_outcome, paired_keys, with_new_key}
 use Rattle.cedar_conversion.specs.Names.{content_outcome}

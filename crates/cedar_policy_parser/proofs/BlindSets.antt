@@ -14,7 +14,7 @@ use Rattle.cedar_syntax.specs.declared.cst.Policy.{Policy}
 use Rattle.cedar_syntax.specs.declared.cst.Policy.TheVariants as trees
 use Rattle.cedar_syntax.specs.declared.cst.PolicyImpl.{PolicyImpl}
 use Rattle.cedar_syntax.specs.declared.loc.Loc.{Loc}
-use Rattle.cedar_syntax.specs.PrintLaw.{SameUpToPlaces}
+use Rattle.cedar_grammar.specs.PrintLaw.{SameUpToPlaces}
 use Rattle.cedar_syntax.specs.Trees.{Cell}
 use Rattle.cedar_syntax.specs.UnlocatedTrees.{bare_cell, bare_cells, unlocated_annotation, BarePolicy, unlocated_policy, unlocated_policies}
 use Rattle.cedar_policy_parser.proofs.Alike.{Alike}

@@ -5,10 +5,10 @@ use Rattle.cedar_lexer.specs.Token.{Lexeme}
 use Rattle.cedar_lexer.specs.declared.token.TokenKind.{TokenKind}
 use Rattle.cedar_lexer.specs.Cut.{Layout, nothing, skip, token}
 use Rattle.cedar_lexer.specs.Spelling.{Spells}
-use Rattle.cedar_syntax.specs.declared.reading.extent.Extent.{Extent}
-use Rattle.cedar_syntax.specs.Place.{joint_extent, extent_of, extent, loc_at}
+use Rattle.cedar_grammar.specs.declared.reading.extent.Extent.{Extent}
+use Rattle.cedar_grammar.specs.Place.{joint_extent, extent_of, extent, loc_at}
 use Rattle.cedar_syntax.specs.Tokens.{Spot, one}
-use Rattle.cedar_syntax.proofs.Lying.{Some_of}
+use Rattle.cedar_grammar.proofs.Lying.{Some_of}
 use Rattle.cedar_policy_parser.proofs.Standing.{Origin, parsed, LiesIn}
 
 -- each token is spelled as its kind is

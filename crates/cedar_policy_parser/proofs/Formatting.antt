@@ -1,15 +1,15 @@
 -- Policies in lines: what they mean, and that they stay as they are.
 use Rattle.std.proofs.Common.{◌≡◌, if◌then◌else◌, is_ok, OnOk, option_map, ◌<◌, ℕ, ◌+◌, List, ◌++◌, codes, length, get_or, take, Option, None, IsErrAnd, Result, Ok, Err, MatchResult, String, string_bytes, sym, ap, subst, ◌∙◌}
 use Rattle.cedar_policy_store.specs.PlaceFree as free
-use Rattle.cedar_syntax.proofs.again.Lines.{lines_snoc}
+use Rattle.cedar_grammar.proofs.again.Lines.{lines_snoc}
 use Rattle.cedar_syntax.specs.declared.cst.Policies.{Policies}
 use Rattle.cedar_syntax.specs.declared.cst.Policy.{Policy}
 use Rattle.cedar_syntax.specs.declared.err.faults.Failure.{Failure}
-use Rattle.cedar_syntax.specs.FirstFault.{IsMemory}
-use Rattle.cedar_syntax.specs.Formatted.{formatted, lines_text}
-use Rattle.cedar_syntax.specs.Grammar.{IsTreeOf}
-use Rattle.cedar_syntax.specs.LoosePolicies.{ReadsPolicies}
-use Rattle.cedar_syntax.specs.PrintLaw.{HasSameTree, SameUpToPlaces, node_text}
+use Rattle.cedar_syntax.specs.ParseErrors.{IsMemory}
+use Rattle.cedar_grammar.specs.Formatted.{formatted, lines_text}
+use Rattle.cedar_grammar.specs.Grammar.{IsTreeOf}
+use Rattle.cedar_grammar.specs.LoosePolicies.{ReadsPolicies}
+use Rattle.cedar_grammar.specs.PrintLaw.{HasSameTree, SameUpToPlaces, node_text}
 use Rattle.cedar_syntax.specs.Trees.{Cell}
 use Rattle.cedar_syntax.specs.UnlocatedTrees.{BarePolicy, unlocated_policies}
 use Rattle.cedar_syntax.specs.Printed.{tokens_text, printed}

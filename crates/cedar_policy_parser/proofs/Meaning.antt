@@ -5,8 +5,8 @@ use Rattle.cedar_expressions.specs.Value.{Value}
 use Rattle.cedar_syntax.specs.declared.cst.Expr.{Expr}
 use Rattle.cedar_syntax.specs.Signs.{sign_limit}
 use Rattle.cedar_syntax.specs.Forms.{located, expr_form}
-use Rattle.cedar_syntax.specs.LooseExpressions.{ReadsExpr}
-use Rattle.cedar_syntax.specs.Place.{placed}
+use Rattle.cedar_grammar.specs.LooseExpressions.{ReadsExpr}
+use Rattle.cedar_grammar.specs.Place.{placed}
 use Rattle.cedar_conversion.specs.Conversion.{Converts, value_outcome}
 use Rattle.cedar_conversion.specs.Extensions.{Extensions}
 use Rattle.cedar_conversion.specs.Strict.{Means, expression}

@@ -14,11 +14,11 @@ use Rattle.cedar_syntax.specs.declared.cst.Policy.{Policy}
 use Rattle.cedar_syntax.specs.declared.cst.Policy.TheVariants as trees
 use Rattle.cedar_syntax.specs.declared.cst.PolicyImpl.{PolicyImpl}
 use Rattle.cedar_syntax.specs.Forms.{located, expr_form}
-use Rattle.cedar_syntax.specs.Grammar.{IsTreeOf}
+use Rattle.cedar_grammar.specs.Grammar.{IsTreeOf}
 use Rattle.cedar_syntax.specs.Tokens.{one}
 use Rattle.cedar_syntax.specs.Trees.{Cell}
-use Rattle.cedar_syntax.specs.LoosePolicies.{ReadsBody, no_body, body, ReadsCond, cond, ReadsPolicy, policy, ReadsPolicies, policies}
-use Rattle.cedar_syntax.proofs.ExpressionTokens.{expr_some}
+use Rattle.cedar_grammar.specs.LoosePolicies.{ReadsBody, no_body, body, ReadsCond, cond, ReadsPolicy, policy, ReadsPolicies, policies}
+use Rattle.cedar_grammar.proofs.ExpressionTokens.{expr_some}
 use Rattle.cedar_policy_conversion.specs.Conditions.{condition_outcome}
 use Rattle.cedar_conversion.specs.Conversion.{value_outcome}
 use Rattle.cedar_policy_parser.specs.Due.{HoldsCondition, IsWhenOrUnless, OfParts, HasDueFaults, HaveDueFaults}

@@ -3,9 +3,9 @@ use Rattle.std.proofs.Common.{◌≡◌, ℕ, List, [], sym, ap, ◌∙◌}
 use Rattle.cedar_lexer.specs.Token.{Lexeme}
 use Rattle.cedar_policy_store.specs.PlaceFree as free
 use Rattle.cedar_syntax.specs.Signs.{sign_limit}
-use Rattle.cedar_syntax.specs.FirstFault.{HasOneTree}
-use Rattle.cedar_syntax.specs.LoosePolicies.{ReadsPolicies, ReadsPolicy}
-use Rattle.cedar_syntax.specs.Place.{placed}
+use Rattle.cedar_grammar.specs.FirstFault.{HasOneTree}
+use Rattle.cedar_grammar.specs.LoosePolicies.{ReadsPolicies, ReadsPolicy}
+use Rattle.cedar_grammar.specs.Place.{placed}
 use Rattle.cedar_conversion.specs.Extensions.{Extensions}
 use Rattle.cedar_policy_conversion.specs.Policies.{meaning_of, policies_outcome, template_outcome}
 use Rattle.cedar_policy_parser.specs.StrictPolicy.{IsPolicy, IsPolicySet}

@@ -17,17 +17,17 @@ use Rattle.cedar_syntax.specs.declared.cst.NegOp.{NegOp}
 use Rattle.cedar_syntax.specs.declared.cst.Member.{Member}
 use Rattle.cedar_syntax.specs.declared.cst.Primary.{Primary}
 use Rattle.cedar_syntax.specs.Forms.{located, parts_of, expr_form, or_form, and_form, relation_form, add_form, mult_form, unary_form, member_form, primary_form, or_operand, and_operand, relation_operand, add_operand, mult_operand, listed_access}
-use Rattle.cedar_syntax.specs.Grammar.{IsTreeOf}
+use Rattle.cedar_grammar.specs.Grammar.{IsTreeOf}
 use Rattle.cedar_syntax.specs.Located as f
 use Rattle.cedar_syntax.specs.Located.{Located, Form, at}
-use Rattle.cedar_syntax.specs.LooseExpressions as l
-use Rattle.cedar_syntax.specs.LooseExpressions.{if_name, lone_add, ReadsExpr, ReadsOr, ReadsAnds, ReadsAnd, ReadsRelations, ReadsRelation, ReadsAdds, ReadsAdd, ReadsMults, ReadsMult, ReadsUnaries, ReadsUnary, ReadsMember, ReadsPrimary}
-use Rattle.cedar_syntax.specs.Place.{placed, extent, loc_at}
+use Rattle.cedar_grammar.specs.LooseExpressions as l
+use Rattle.cedar_grammar.specs.LooseExpressions.{if_name, lone_add, ReadsExpr, ReadsOr, ReadsAnds, ReadsAnd, ReadsRelations, ReadsRelation, ReadsAdds, ReadsAdd, ReadsMults, ReadsMult, ReadsUnaries, ReadsUnary, ReadsMember, ReadsPrimary}
+use Rattle.cedar_grammar.specs.Place.{placed, extent, loc_at}
 use Rattle.cedar_syntax.specs.Tokens.{one}
 use Rattle.cedar_syntax.specs.Trees.{Cell, and_of, member_of, bangs_of, dashes_of}
-use Rattle.cedar_syntax.proofs.ExpressionTokens.{expr_some}
+use Rattle.cedar_grammar.proofs.ExpressionTokens.{expr_some}
 use Rattle.cedar_syntax.proofs.FormLevels.{and_out, member_out, relation_common, relation_has, relation_like, relation_is, relation_is_in, primary_literal, primary_ref, primary_name, primary_slot, primary_expr, primary_list, primary_inits}
-use Rattle.cedar_syntax.proofs.WordPlaces.{start_is}
+use Rattle.cedar_grammar.proofs.WordPlaces.{start_is}
 use Rattle.cedar_policy_parser.specs.Alone as way
 use Rattle.cedar_policy_parser.specs.Alone.{ComesTo}
 use Rattle.cedar_conversion.specs.HasSide.{no_sign}

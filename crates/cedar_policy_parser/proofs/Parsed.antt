@@ -9,10 +9,10 @@ use Rattle.cedar_syntax.specs.declared.err.faults.Failure.{Failure}
 use Rattle.cedar_syntax.specs.declared.err.faults.Failure.TheVariants.{Memory, Errors}
 use Rattle.cedar_syntax.specs.Forms.{located, expr_form}
 use Rattle.cedar_syntax.specs.Located.{at}
-use Rattle.cedar_syntax.specs.FirstFault.{IsMemory}
-use Rattle.cedar_syntax.specs.Grammar.{IsTreeOf}
-use Rattle.cedar_syntax.specs.LooseExpressions.{ReadsExpr}
-use Rattle.cedar_syntax.specs.Place.{placed_or_start}
+use Rattle.cedar_syntax.specs.ParseErrors.{IsMemory}
+use Rattle.cedar_grammar.specs.Grammar.{IsTreeOf}
+use Rattle.cedar_grammar.specs.LooseExpressions.{ReadsExpr}
+use Rattle.cedar_grammar.specs.Place.{placed_or_start}
 use Rattle.cedar_syntax.specs.Trees.{Cell}
 use Rattle.cedar_conversion.specs.Conversion.{Converts, value_outcome}
 use Rattle.cedar_conversion.specs.Extensions.{Extensions}

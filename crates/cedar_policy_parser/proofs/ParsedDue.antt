@@ -3,12 +3,12 @@ use Rattle.std.proofs.Common.{ℕ, List, sym, ◌∙◌, subst}
 use Rattle.cedar_lexer.specs.Token.{Lexeme}
 use Rattle.cedar_syntax.specs.declared.cst.Expr.{Expr}
 use Rattle.cedar_syntax.specs.Forms.{located, expr_form}
-use Rattle.cedar_syntax.specs.Grammar.{IsTreeOf}
-use Rattle.cedar_syntax.specs.LooseExpressions.{ReadsExpr}
-use Rattle.cedar_syntax.specs.Place.{placed}
+use Rattle.cedar_grammar.specs.Grammar.{IsTreeOf}
+use Rattle.cedar_grammar.specs.LooseExpressions.{ReadsExpr}
+use Rattle.cedar_grammar.specs.Place.{placed}
 use Rattle.cedar_syntax.specs.Trees.{Cell}
-use Rattle.cedar_syntax.proofs.ExpressionTokens.{expr_some}
-use Rattle.cedar_syntax.proofs.WordPlaces.{start_is}
+use Rattle.cedar_grammar.proofs.ExpressionTokens.{expr_some}
+use Rattle.cedar_grammar.proofs.WordPlaces.{start_is}
 use Rattle.cedar_conversion.specs.Conversion.{value_outcome}
 use Rattle.cedar_policy_parser.specs.DueKinds.{AreDueIn}
 use Rattle.cedar_conversion.specs.Extensions.{Extensions}

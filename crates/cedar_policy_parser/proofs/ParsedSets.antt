@@ -7,11 +7,11 @@ use Rattle.cedar_syntax.specs.declared.cst.Policies.{Policies}
 use Rattle.cedar_syntax.specs.Signs.{sign_limit}
 use Rattle.cedar_syntax.specs.declared.err.faults.Failure.{Failure}
 use Rattle.cedar_syntax.specs.declared.err.faults.Failure.TheVariants.{Memory, Errors}
-use Rattle.cedar_syntax.specs.FirstFault.{IsMemory}
-use Rattle.cedar_syntax.specs.Grammar.{IsTreeOf}
-use Rattle.cedar_syntax.specs.LoosePolicies.{ReadsPolicies}
-use Rattle.cedar_syntax.specs.Place.{placed, placed_or_start}
-use Rattle.cedar_syntax.specs.Sentences.{HasTree}
+use Rattle.cedar_syntax.specs.ParseErrors.{IsMemory}
+use Rattle.cedar_grammar.specs.Grammar.{IsTreeOf}
+use Rattle.cedar_grammar.specs.LoosePolicies.{ReadsPolicies}
+use Rattle.cedar_grammar.specs.Place.{placed, placed_or_start}
+use Rattle.cedar_grammar.specs.Sentences.{HasTree}
 use Rattle.cedar_syntax.specs.Trees.{Cell}
 use Rattle.cedar_conversion.specs.Extensions.{Extensions}
 use Rattle.cedar_conversion.specs.Outcome.{Outcome}

@@ -17,8 +17,8 @@ use Rattle.cedar_syntax.specs.declared.cst.VariableDef.{VariableDef}
 use Rattle.cedar_syntax.specs.declared.loc.Loc.{Loc}
 use Rattle.cedar_syntax.specs.declared.node.Node.{Node}
 use Rattle.cedar_syntax.specs.Forms.{located, expr_form}
-use Rattle.cedar_syntax.specs.Grammar.{IsTreeOf}
-use Rattle.cedar_syntax.specs.LoosePolicies.{ReadsPolicies, ReadsPolicy}
+use Rattle.cedar_grammar.specs.Grammar.{IsTreeOf}
+use Rattle.cedar_grammar.specs.LoosePolicies.{ReadsPolicies, ReadsPolicy}
 use Rattle.cedar_syntax.specs.Trees.{Cell}
 use Rattle.cedar_policy_conversion.specs.AnnotationKeys.{annotation_outcome, with_new_key}
 use Rattle.cedar_policy_parser.specs.Blocks.{faults_from}

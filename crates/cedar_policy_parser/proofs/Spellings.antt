@@ -15,9 +15,9 @@ use Rattle.cedar_lexer.specs.declared.token.TokenKind.TheVariants as kind
 use Rattle.cedar_expressions.specs.Path.{begins_identifier, continues_identifier, is_identifier, is_reserved_word, is_valid_identifier, reserved_words}
 use Rattle.cedar_syntax.specs.declared.cst.Ident.{Ident}
 use Rattle.cedar_syntax.specs.declared.loc.Loc.{Loc}
-use Rattle.cedar_syntax.specs.Grammar.{IsTreeOf}
-use Rattle.cedar_syntax.specs.LooseWords.{ReadsAny, any, ReadsIdent}
-use Rattle.cedar_syntax.specs.Place.{placed, placed_or_start}
+use Rattle.cedar_grammar.specs.Grammar.{IsTreeOf}
+use Rattle.cedar_grammar.specs.LooseWords.{ReadsAny, any, ReadsIdent}
+use Rattle.cedar_grammar.specs.Place.{placed, placed_or_start}
 use Rattle.cedar_syntax.specs.Tokens.{one, any_of}
 use Rattle.cedar_syntax.specs.Trees.{Cell}
 use Rattle.cedar_conversion.specs.Names.{spelling_outcome as spelled_text, any_ident_of, any_ident}

@@ -6,15 +6,15 @@ use Rattle.cedar_syntax.specs.declared.cst.Primary.{Primary}
 use Rattle.cedar_syntax.specs.declared.cst.Ref.{Ref}
 use Rattle.cedar_syntax.specs.declared.loc.Loc.{Loc}
 use Rattle.cedar_syntax.specs.Forms.{located, primary_form}
-use Rattle.cedar_syntax.specs.Grammar.{IsTreeOf}
+use Rattle.cedar_grammar.specs.Grammar.{IsTreeOf}
 use Rattle.cedar_syntax.specs.Located as f
 use Rattle.cedar_syntax.specs.Located.{Located, Form}
-use Rattle.cedar_syntax.specs.LooseExpressions.{ReadsPrimary}
-use Rattle.cedar_syntax.specs.LooseWords.{ReadsIdent, ReadsRef}
-use Rattle.cedar_syntax.specs.Place.{placed}
+use Rattle.cedar_grammar.specs.LooseExpressions.{ReadsPrimary}
+use Rattle.cedar_grammar.specs.LooseWords.{ReadsIdent, ReadsRef}
+use Rattle.cedar_grammar.specs.Place.{placed}
 use Rattle.cedar_syntax.specs.Trees.{Cell}
-use Rattle.cedar_syntax.proofs.ExpressionTokens.{primary_some}
-use Rattle.cedar_syntax.proofs.WordPlaces.{any_some, ref_some, start_is}
+use Rattle.cedar_grammar.proofs.ExpressionTokens.{primary_some}
+use Rattle.cedar_grammar.proofs.WordPlaces.{any_some, ref_some, start_is}
 use Rattle.cedar_conversion.specs.Entities.{entity_outcome}
 use Rattle.cedar_conversion.specs.Held.{as_string}
 use Rattle.cedar_conversion.specs.Literals.{literal_outcome, string_outcome}

@@ -11,13 +11,13 @@ use Rattle.cedar_syntax.specs.declared.cst.Policy.TheVariants as trees
 use Rattle.cedar_syntax.specs.declared.cst.PolicyImpl.{PolicyImpl}
 use Rattle.cedar_syntax.specs.declared.loc.Loc.{Loc}
 use Rattle.cedar_syntax.specs.Forms.{located, expr_form}
-use Rattle.cedar_syntax.specs.Grammar.{IsTreeOf}
-use Rattle.cedar_syntax.specs.LooseExpressions.{ReadsExpr}
-use Rattle.cedar_syntax.specs.LoosePolicies.{ReadsPolicies, ReadsPolicy}
-use Rattle.cedar_syntax.specs.Place.{placed, placed_or_start, extent, loc_at}
+use Rattle.cedar_grammar.specs.Grammar.{IsTreeOf}
+use Rattle.cedar_grammar.specs.LooseExpressions.{ReadsExpr}
+use Rattle.cedar_grammar.specs.LoosePolicies.{ReadsPolicies, ReadsPolicy}
+use Rattle.cedar_grammar.specs.Place.{placed, placed_or_start, extent, loc_at}
 use Rattle.cedar_syntax.specs.Trees.{Cell}
-use Rattle.cedar_syntax.proofs.ExpressionTokens.{expr_some}
-use Rattle.cedar_syntax.proofs.WordPlaces.{start_is}
+use Rattle.cedar_grammar.proofs.ExpressionTokens.{expr_some}
+use Rattle.cedar_grammar.proofs.WordPlaces.{start_is}
 use Rattle.cedar_policy_conversion.specs.AnnotationKeys.{annotation_outcome, with_new_key}
 use Rattle.cedar_policy_parser.specs.Blocks.{PartsStandWithin}
 use Rattle.cedar_policy_conversion.specs.Conditions.{condition_outcome}

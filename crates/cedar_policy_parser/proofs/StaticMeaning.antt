@@ -8,8 +8,8 @@ use Rattle.cedar_policy_store.specs.PlaceFree.{has_slot_in_scope}
 use Rattle.cedar_syntax.specs.declared.cst.Policy.{Policy}
 use Rattle.cedar_syntax.specs.Signs.{sign_limit}
 use Rattle.cedar_syntax.specs.declared.loc.Loc.{Loc}
-use Rattle.cedar_syntax.specs.LoosePolicies.{ReadsPolicy}
-use Rattle.cedar_syntax.specs.Place.{placed}
+use Rattle.cedar_grammar.specs.LoosePolicies.{ReadsPolicy}
+use Rattle.cedar_grammar.specs.Place.{placed}
 use Rattle.cedar_conversion.specs.Extensions.{Extensions}
 use Rattle.cedar_conversion.specs.Outcome.{Outcome}
 use Rattle.cedar_policy_conversion.specs.Policies.{TemplateParts, either_outcome, meaning_of, only_static, scope_slots, side_outcome, policy_side, static_outcome, template_outcome, unless_slots}

@@ -14,14 +14,14 @@ use Rattle.cedar_syntax.specs.declared.cst.Policy.TheVariants as trees
 use Rattle.cedar_syntax.specs.declared.cst.RelOp.{RelOp}
 use Rattle.cedar_syntax.specs.declared.cst.VariableDef.{VariableDef}
 use Rattle.cedar_syntax.specs.Forms.{located, add_form, expr_form}
-use Rattle.cedar_syntax.specs.Place.{placed}
+use Rattle.cedar_grammar.specs.Place.{placed}
 use Rattle.cedar_syntax.specs.Tokens.{one}
 use Rattle.cedar_syntax.specs.Trees.{Cell}
-use Rattle.cedar_syntax.specs.LooseWords.{ReadsItems, one_item, more_items, ReadsList, no_item, items, items_comma}
-use Rattle.cedar_syntax.specs.LoosePolicies.{ReadsMany, none, more, ReadsAnnotation, key_alone, with_value, ReadsTypeName, no_type_name, type_name, ReadsEntityType, no_entity_type, entity_type, ReadsConstraint, no_constraint, constraint, ReadsVariableDef, variable_def, ReadsBody, no_body, body, ReadsCond, cond, ReadsPolicy, policy, ReadsPolicies, policies}
-use Rattle.cedar_syntax.proofs.ExpressionTokens.{expr_some, add_some}
-use Rattle.cedar_syntax.proofs.Lying.{Some_of, some_append}
-use Rattle.cedar_syntax.proofs.WordPlaces.{any_some}
+use Rattle.cedar_grammar.specs.LooseWords.{ReadsItems, one_item, more_items, ReadsList, no_item, items, items_comma}
+use Rattle.cedar_grammar.specs.LoosePolicies.{ReadsMany, none, more, ReadsAnnotation, key_alone, with_value, ReadsTypeName, no_type_name, type_name, ReadsEntityType, no_entity_type, entity_type, ReadsConstraint, no_constraint, constraint, ReadsVariableDef, variable_def, ReadsBody, no_body, body, ReadsCond, cond, ReadsPolicy, policy, ReadsPolicies, policies}
+use Rattle.cedar_grammar.proofs.ExpressionTokens.{expr_some, add_some}
+use Rattle.cedar_grammar.proofs.Lying.{Some_of, some_append}
+use Rattle.cedar_grammar.proofs.WordPlaces.{any_some}
 use Rattle.cedar_policy_parser.proofs.Standing.{Origin, parsed, Anything}
 use Rattle.cedar_policy_parser.proofs.Fitting.{Fits, parts, around, within, own_fit}
 use Rattle.cedar_policy_parser.proofs.Tidy.{NodeTidy, Each, IdentTidy, NameTidy, Tidy}

@@ -9,12 +9,12 @@ use Rattle.cedar_syntax.specs.declared.cst.Ident.{Ident}
 use Rattle.cedar_syntax.specs.declared.cst.Name.{Name}
 use Rattle.cedar_syntax.specs.declared.cst.Ref.{Ref}
 use Rattle.cedar_syntax.specs.declared.cst.Literal.{Literal}
-use Rattle.cedar_syntax.specs.Place.{extent, loc_at, placed}
+use Rattle.cedar_grammar.specs.Place.{extent, loc_at, placed}
 use Rattle.cedar_syntax.specs.Tokens.{one, any_of}
 use Rattle.cedar_syntax.specs.Trees.{Cell, name_of}
-use Rattle.cedar_syntax.specs.LooseWords.{ReadsLiteral, truth, falsity, number, string, ReadsAny, any, ReadsPath, one_word, more_words, ReadsName, ReadsRef, uid, with_inits}
-use Rattle.cedar_syntax.proofs.Lying.{Some_of}
-use Rattle.cedar_syntax.proofs.WordPlaces.{any_some, path_some, name_path, literal_some, ref_some}
+use Rattle.cedar_grammar.specs.LooseWords.{ReadsLiteral, truth, falsity, number, string, ReadsAny, any, ReadsPath, one_word, more_words, ReadsName, ReadsRef, uid, with_inits}
+use Rattle.cedar_grammar.proofs.Lying.{Some_of}
+use Rattle.cedar_grammar.proofs.WordPlaces.{any_some, path_some, name_path, literal_some, ref_some}
 use Rattle.cedar_policy_parser.proofs.Standing.{Origin, parsed, LiesIn}
 use Rattle.cedar_policy_parser.proofs.Fitting.{Spelled, Fits, around, within}
 use Rattle.cedar_policy_parser.proofs.Spellings.{valid_word}

@@ -6,8 +6,8 @@ use Rattle.cedar_lexer.specs.Cut.{Cuts}
 use Rattle.cedar_lexer.specs.Token.{Lexeme}
 use Rattle.cedar_lexer.specs.declared.token.TokenKind.TheVariants as kind
 use Rattle.cedar_policy_store.specs.PlaceFree.{Policies}
-use Rattle.cedar_syntax.specs.declared.reading.extent.Extent.{Extent}
-use Rattle.cedar_syntax.specs.Place.{extent, extent_of, joint_extent, placed}
+use Rattle.cedar_grammar.specs.declared.reading.extent.Extent.{Extent}
+use Rattle.cedar_grammar.specs.Place.{extent, extent_of, joint_extent, placed}
 use Rattle.cedar_syntax.specs.Signs.{sign_limit}
 use Rattle.cedar_syntax.specs.Tokens.{Spot, one}
 use Rattle.cedar_syntax.specs.Trees.{Cell}
@@ -16,7 +16,7 @@ use Rattle.cedar_lexer.specs.Varied as varied
 use Rattle.cedar_lexer.specs.Varied.{IsPadding, BeginsAt, NoSlashBefore, FitsBefore, last_end}
 use Rattle.cedar_lexer.specs.Words.{words_of}
 use Rattle.cedar_lexer.proofs.Padded.{padded_cut, enclosed_cut, words_join}
-use Rattle.cedar_syntax.proofs.again.SamePolicies.{policies_same}
+use Rattle.cedar_grammar.proofs.again.SamePolicies.{policies_same}
 use Rattle.cedar_conversion.specs.Extensions.{Extensions}
 use Rattle.cedar_policy_parser.specs.StrictPolicy.{IsPolicySet}
 use Rattle.cedar_policy_parser.specs.VariedTexts.{SpacesKeep, ParenthesesKeep}

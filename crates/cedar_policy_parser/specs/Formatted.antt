@@ -5,10 +5,10 @@ use Rattle.cedar_lexer.specs.Token.{Lexeme}
 use Rattle.cedar_policy_store.specs.PlaceFree as free
 use Rattle.cedar_syntax.specs.declared.cst.Policies.{Policies}
 use Rattle.cedar_syntax.specs.declared.err.faults.Failure.{Failure}
-use Rattle.cedar_syntax.specs.FirstFault.{IsMemory}
-use Rattle.cedar_syntax.specs.Formatted.{formatted}
-use Rattle.cedar_syntax.specs.Grammar.{IsTreeOf}
-use Rattle.cedar_syntax.specs.LoosePolicies.{ReadsPolicies}
+use Rattle.cedar_syntax.specs.ParseErrors.{IsMemory}
+use Rattle.cedar_grammar.specs.Formatted.{formatted}
+use Rattle.cedar_grammar.specs.Grammar.{IsTreeOf}
+use Rattle.cedar_grammar.specs.LoosePolicies.{ReadsPolicies}
 use Rattle.cedar_syntax.specs.Signs.{sign_limit}
 use Rattle.cedar_syntax.specs.Trees.{Cell}
 use Rattle.cedar_conversion.specs.Extensions.{Extensions}

@@ -4,12 +4,12 @@ use Rattle.cedar_syntax.specs.declared.cst.Expr.{Expr}
 use Rattle.cedar_syntax.specs.declared.cst.Policies.{Policies}
 use Rattle.cedar_syntax.specs.declared.err.faults.Failure.{Failure}
 use Rattle.cedar_syntax.specs.Forms.{located, expr_form}
-use Rattle.cedar_syntax.specs.declared.reading.expected.Narrowing.TheVariants as narrowing
-use Rattle.cedar_syntax.specs.FirstFault.{IsRefusal}
-use Rattle.cedar_syntax.specs.Grammar.{IsTreeOf}
-use Rattle.cedar_syntax.specs.LooseExpressions.{ReadsExpr}
-use Rattle.cedar_syntax.specs.LoosePolicies.{ReadsPolicies}
-use Rattle.cedar_syntax.specs.MendedFaults.{IsMendedRefusal, PoliciesBefore}
+use Rattle.cedar_grammar.specs.declared.reading.expected.Narrowing.TheVariants as narrowing
+use Rattle.cedar_grammar.specs.FirstFault.{IsRefusal}
+use Rattle.cedar_grammar.specs.Grammar.{IsTreeOf}
+use Rattle.cedar_grammar.specs.LooseExpressions.{ReadsExpr}
+use Rattle.cedar_grammar.specs.LoosePolicies.{ReadsPolicies}
+use Rattle.cedar_grammar.specs.MendedFaults.{IsMendedRefusal, PoliciesBefore}
 use Rattle.cedar_syntax.specs.Trees.{Cell}
 use Rattle.cedar_conversion.specs.Conversion.{value_outcome}
 use Rattle.cedar_conversion.specs.Extensions.{Extensions}

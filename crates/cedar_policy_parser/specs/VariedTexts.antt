@@ -5,7 +5,7 @@ use Rattle.std.specs.Prelude.{◌≡◌, ℕ, ◌+◌, List, ◌++◌, length, c
 use Rattle.cedar_lexer.specs.Cut.{Cuts}
 use Rattle.cedar_lexer.specs.Token.{Lexeme}
 use Rattle.cedar_policy_store.specs.PlaceFree.{Policies}
-use Rattle.cedar_syntax.specs.Place.{extent}
+use Rattle.cedar_grammar.specs.Place.{extent}
 use Rattle.cedar_lexer.specs.Varied.{IsPadding, BeginsAt}
 use Rattle.cedar_conversion.specs.Extensions.{Extensions}
 use Rattle.cedar_policy_parser.specs.StandsWhole.{StandsWhole}

@@ -2,21 +2,21 @@
 ghost use Rattle.std.specs.Prelude.{◌≡◌, ◌++◌, List, codes, IfOk, OnOk, IfErr, string_bytes};
 ghost use Rattle.cedar_lexer.specs.Cut.{Cuts};
 ghost use Rattle.cedar_lexer.specs.Token.{Lexeme};
-ghost use Rattle.cedar_syntax.specs.Formatted.{formatted, lines_text};
-ghost use Rattle.cedar_syntax.specs.Leftmost.{HasLeftmost, NumbersFit};
-ghost use Rattle.cedar_syntax.specs.LoosePolicies.{ReadsPolicies};
-ghost use Rattle.cedar_syntax.specs.PrintLaw.{node_text};
-ghost use Rattle.cedar_syntax.specs.Sentences.{HasTree};
+ghost use Rattle.cedar_grammar.specs.Formatted.{formatted, lines_text};
+ghost use Rattle.cedar_grammar.specs.Leftmost.{HasLeftmost, NumbersFit};
+ghost use Rattle.cedar_grammar.specs.LoosePolicies.{ReadsPolicies};
+ghost use Rattle.cedar_grammar.specs.PrintLaw.{node_text};
+ghost use Rattle.cedar_grammar.specs.Sentences.{HasTree};
 ghost use Rattle.cedar_syntax.specs.Unplaced.{policy_tree};
 ghost use Rattle.cedar_conversion.specs.Table.{table_of};
 ghost use Rattle.cedar_policy_parser.specs.Formatted.{Formats, MeanTheSame, IsInLines, IsAnsweredAgain};
 ghost use Rattle.cedar_policy_parser.specs.Refused.{RefusesSet};
 
 use crate::parse::parse_policyset;
+use cedar_grammar::laws::formatted_policies;
 use cedar_policy_conversion::cst_to_ast::ExtStyles;
 use cedar_syntax::cst::{Policies, Policy};
 use cedar_syntax::err::Failure;
-use cedar_syntax::laws::formatted_policies;
 use cedar_syntax::node::Node;
 use cedar_text::text_to_cst::laws::printed_texts;
 use cedar_text::text_to_cst::parse_policies;

@@ -1,11 +1,10 @@
 -- Results joined: all values, or the failing parts' faults one after another.
 use Rattle.std.specs.Prelude.{List, [], ◌∷◌, ◌++◌, ◌≡◌, Option, Some, None, Result, Ok, Err}
 use Rattle.std.specs.Option.{option_map}
-use Rattle.cedar_syntax.specs.ParseErrors.{faults_of}
+use Rattle.cedar_syntax.specs.ParseErrors.{faults_of, IsMemory}
 use Rattle.cedar_syntax.specs.declared.err.faults.Failure.{Failure}
 use Rattle.cedar_syntax.specs.declared.err.faults.Failure.TheVariants.{Memory, Errors}
 use Rattle.cedar_syntax.specs.declared.err.faults.ParseError.{ParseError}
-use Rattle.cedar_syntax.specs.FirstFault.{IsMemory}
 
 abbrev pub failure_faults : Failure → List ParseError
 failure_faults (Memory error) = []

@@ -16,7 +16,6 @@ pub mod node;
 pub mod position;
 mod print;
 mod print_policies;
-pub mod reading;
 mod slots;
 mod tokens;
 pub mod unescape;

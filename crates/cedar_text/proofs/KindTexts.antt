@@ -15,7 +15,7 @@ use Rattle.cedar_lexer.specs.Token.{Lexeme}
 use Rattle.cedar_lexer.specs.declared.token.TokenKind.{TokenKind}
 use Rattle.cedar_lexer.specs.declared.token.TokenKind.TheVariants as kind
 use Rattle.cedar_lexer.proofs.Cuts.{token_found}
-use Rattle.cedar_syntax.specs.Sentences.{kinds}
+use Rattle.cedar_grammar.specs.Sentences.{kinds}
 use Rattle.cedar_syntax.specs.Tokens.{fits}
 
 -- ---- one kind

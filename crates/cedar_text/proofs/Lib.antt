@@ -3,5 +3,4 @@ pub mod KindTexts
 pub mod Spanned
 pub mod SpannedPolicies
 pub mod Spanning
-pub mod expressions
 pub mod machines

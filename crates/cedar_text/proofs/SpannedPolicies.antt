@@ -15,11 +15,11 @@ use Rattle.cedar_syntax.specs.declared.cst.Policy.{Policy}
 use Rattle.cedar_syntax.specs.declared.cst.Primary.{Primary}
 use Rattle.cedar_syntax.specs.declared.cst.RelOp.{RelOp}
 use Rattle.cedar_syntax.specs.declared.cst.VariableDef.{VariableDef}
-use Rattle.cedar_syntax.specs.Grammar.{Rule, IsTreeOf}
-use Rattle.cedar_syntax.specs.LooseExpressions.{ReadsExpr, ReadsPrimary}
-use Rattle.cedar_syntax.specs.LoosePolicies.{ReadsMany, none, more, ReadsAnnotation, key_alone, with_value, ReadsTypeName, no_type_name, type_name, no_entity_type, entity_type, ReadsConstraint, no_constraint, constraint, ReadsVariableDef, variable_def, no_body, body, ReadsCond, cond, ReadsPolicy, policy, ReadsPolicies, policies}
-use Rattle.cedar_syntax.specs.LooseWords.{ReadsItems, one_item, more_items, ReadsList, no_item, items, items_comma}
-use Rattle.cedar_syntax.specs.Place.{placed, placed_or_start}
+use Rattle.cedar_grammar.specs.Grammar.{Rule, IsTreeOf}
+use Rattle.cedar_grammar.specs.LooseExpressions.{ReadsExpr, ReadsPrimary}
+use Rattle.cedar_grammar.specs.LoosePolicies.{ReadsMany, none, more, ReadsAnnotation, key_alone, with_value, ReadsTypeName, no_type_name, type_name, no_entity_type, entity_type, ReadsConstraint, no_constraint, constraint, ReadsVariableDef, variable_def, no_body, body, ReadsCond, cond, ReadsPolicy, policy, ReadsPolicies, policies}
+use Rattle.cedar_grammar.specs.LooseWords.{ReadsItems, one_item, more_items, ReadsList, no_item, items, items_comma}
+use Rattle.cedar_grammar.specs.Place.{placed, placed_or_start}
 use Rattle.cedar_syntax.specs.Tokens.{one}
 use Rattle.cedar_syntax.specs.Tree.{Tree, beside as next_to}
 use Rattle.cedar_syntax.specs.Trees.{Cell}

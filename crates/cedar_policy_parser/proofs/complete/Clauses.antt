@@ -10,10 +10,10 @@ use Rattle.cedar_syntax.specs.declared.cst.Cond.{Cond}
 use Rattle.cedar_syntax.specs.declared.cst.Ident.TheVariants as ident
 use Rattle.cedar_syntax.specs.Signs.{sign_limit}
 use Rattle.cedar_syntax.specs.Forms.{located, expr_form}
-use Rattle.cedar_syntax.specs.LoosePolicies as l
-use Rattle.cedar_syntax.specs.LoosePolicies.{ReadsCond, ReadsMany}
-use Rattle.cedar_syntax.specs.LooseWords as lw
-use Rattle.cedar_syntax.specs.Place.{placed}
+use Rattle.cedar_grammar.specs.LoosePolicies as l
+use Rattle.cedar_grammar.specs.LoosePolicies.{ReadsCond, ReadsMany}
+use Rattle.cedar_grammar.specs.LooseWords as lw
+use Rattle.cedar_grammar.specs.Place.{placed}
 use Rattle.cedar_syntax.specs.Tokens.{one}
 use Rattle.cedar_syntax.specs.Trees.{Cell, cond_of}
 use Rattle.cedar_policy_conversion.specs.Conditions.{condition_of, condition_outcome, conditions_outcome, condition_slot_fault, without_slots}

@@ -23,11 +23,11 @@ use Rattle.cedar_syntax.specs.declared.cst.Ident.TheVariants as ident
 use Rattle.cedar_syntax.specs.declared.cst.RelOp.{RelOp}
 use Rattle.cedar_syntax.specs.declared.cst.RelOp.TheVariants as rel
 use Rattle.cedar_syntax.specs.declared.cst.VariableDef.{VariableDef}
-use Rattle.cedar_syntax.specs.LooseExpressions as lx
-use Rattle.cedar_syntax.specs.LoosePolicies as l
-use Rattle.cedar_syntax.specs.LoosePolicies.{ReadsConstraint, ReadsEntityType, ReadsVariableDef}
-use Rattle.cedar_syntax.specs.LooseWords as lw
-use Rattle.cedar_syntax.specs.Place.{placed}
+use Rattle.cedar_grammar.specs.LooseExpressions as lx
+use Rattle.cedar_grammar.specs.LoosePolicies as l
+use Rattle.cedar_grammar.specs.LoosePolicies.{ReadsConstraint, ReadsEntityType, ReadsVariableDef}
+use Rattle.cedar_grammar.specs.LooseWords as lw
+use Rattle.cedar_grammar.specs.Place.{placed}
 use Rattle.cedar_syntax.specs.Tokens.{Spot, one}
 use Rattle.cedar_syntax.specs.Trees.{Cell, variable_def_of}
 use Rattle.cedar_policy_conversion.specs.declared.to_ref_or_refs.OneOrMultipleRefs.{OneOrMultipleRefs}

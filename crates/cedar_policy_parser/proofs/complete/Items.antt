@@ -11,8 +11,8 @@ use Rattle.cedar_syntax.specs.declared.cst.Primary.TheVariants as primary
 use Rattle.cedar_syntax.specs.Forms.{parts_of, listed_init}
 use Rattle.cedar_syntax.specs.Located.{Located}
 use Rattle.cedar_syntax.specs.Tree.{Operator, beside}
-use Rattle.cedar_syntax.specs.LooseExpressions as l
-use Rattle.cedar_syntax.specs.Place.{placed}
+use Rattle.cedar_grammar.specs.LooseExpressions as l
+use Rattle.cedar_grammar.specs.Place.{placed}
 use Rattle.cedar_syntax.specs.Tokens.{Spot, one}
 use Rattle.cedar_syntax.specs.Trees.{rec_init_of}
 use Rattle.cedar_conversion.specs.Conversion.{Part, operands, pairs_outcome, pair_outcome, set_value_outcome, record_outcome, expression_at}

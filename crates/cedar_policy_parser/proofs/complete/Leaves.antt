@@ -19,11 +19,11 @@ use Rattle.cedar_syntax.specs.declared.cst.Literal.TheVariants as literal
 use Rattle.cedar_syntax.specs.declared.cst.Primary.TheVariants as primary
 use Rattle.cedar_syntax.specs.declared.cst.Slot.{Slot}
 use Rattle.cedar_syntax.specs.declared.cst.Slot.TheVariants as slot
-use Rattle.cedar_syntax.specs.LooseExpressions as l
-use Rattle.cedar_syntax.specs.LooseExpressions.{ReadsSlot}
-use Rattle.cedar_syntax.specs.LooseWords as lw
-use Rattle.cedar_syntax.specs.LooseWords.{ReadsLiteral, is_common}
-use Rattle.cedar_syntax.specs.Place.{placed}
+use Rattle.cedar_grammar.specs.LooseExpressions as l
+use Rattle.cedar_grammar.specs.LooseExpressions.{ReadsSlot}
+use Rattle.cedar_grammar.specs.LooseWords as lw
+use Rattle.cedar_grammar.specs.LooseWords.{ReadsLiteral, is_common}
+use Rattle.cedar_grammar.specs.Place.{placed}
 use Rattle.cedar_syntax.specs.Tokens.{Spot, one, number_of, any_of}
 use Rattle.cedar_syntax.specs.Trees.{name_of as tree_name}
 use Rattle.cedar_conversion.specs.Entities.{slot_id}

@@ -16,9 +16,9 @@ use Rattle.cedar_syntax.specs.declared.cst.Unary.{Unary}
 use Rattle.cedar_syntax.specs.Forms.{located, parts_of, and_form, relation_form, mult_form, unary_form, or_operand, and_operand, add_operand, mult_operand, listed_expr}
 use Rattle.cedar_syntax.specs.Located.{Located, Parts}
 use Rattle.cedar_syntax.specs.Tree.{Level, Operator, or_or, and_and, add, multiply, beside, disjunction, conjunction, sum, product}
-use Rattle.cedar_syntax.specs.LooseExpressions as l
-use Rattle.cedar_syntax.specs.LooseExpressions.{ReadsAnds, ReadsRelations, ReadsMults, ReadsUnaries, ReadsAddOp}
-use Rattle.cedar_syntax.specs.Place.{placed}
+use Rattle.cedar_grammar.specs.LooseExpressions as l
+use Rattle.cedar_grammar.specs.LooseExpressions.{ReadsAnds, ReadsRelations, ReadsMults, ReadsUnaries, ReadsAddOp}
+use Rattle.cedar_grammar.specs.Place.{placed}
 use Rattle.cedar_syntax.specs.Tokens.{Spot, one}
 use Rattle.cedar_syntax.specs.Trees.{Cell, expr_of, or_of, and_of, add_of, mult_of}
 use Rattle.cedar_conversion.specs.Conversion.{Part, Converts, outcome, operands, chain_outcome, level_outcome, operator_limit, expression_at}

@@ -15,11 +15,11 @@ use Rattle.cedar_syntax.specs.Located as f
 use Rattle.cedar_syntax.specs.Located.{Located, Form, Parts, at}
 use Rattle.cedar_syntax.specs.Tree.{Operator}
 use Rattle.cedar_syntax.proofs.FormLevels.{primary_name, primary_literal, access_field}
-use Rattle.cedar_syntax.specs.LooseExpressions as l
-use Rattle.cedar_syntax.specs.LooseExpressions.{ReadsAdd, ReadsExpr, ReadsMember, ReadsPrimary, ReadsAccesses, lone_add, lone_expr}
-use Rattle.cedar_syntax.specs.LooseWords as lw
+use Rattle.cedar_grammar.specs.LooseExpressions as l
+use Rattle.cedar_grammar.specs.LooseExpressions.{ReadsAdd, ReadsExpr, ReadsMember, ReadsPrimary, ReadsAccesses, lone_add, lone_expr}
+use Rattle.cedar_grammar.specs.LooseWords as lw
 use Rattle.cedar_syntax.specs.Pattern.{IsPattern}
-use Rattle.cedar_syntax.specs.Place.{placed}
+use Rattle.cedar_grammar.specs.Place.{placed}
 use Rattle.cedar_syntax.specs.Tokens.{Spot, one, between_quotes}
 use Rattle.cedar_syntax.specs.Trees.{Cell, member_of}
 use Rattle.cedar_conversion.specs.Conversion.{outcome, accesses_outcome}

@@ -9,9 +9,9 @@ use Rattle.cedar_syntax.specs.declared.cst.Primary.{Primary}
 use Rattle.cedar_syntax.specs.declared.cst.Primary as P
 use Rattle.cedar_syntax.specs.Forms.{located, expr_form, primary_form}
 use Rattle.cedar_syntax.specs.Located.{Located, at}
-use Rattle.cedar_syntax.specs.LooseExpressions as l
-use Rattle.cedar_syntax.specs.LooseExpressions.{ReadsExpr, ReadsMember, ReadsPrimary, lone_expr}
-use Rattle.cedar_syntax.specs.Place.{placed}
+use Rattle.cedar_grammar.specs.LooseExpressions as l
+use Rattle.cedar_grammar.specs.LooseExpressions.{ReadsExpr, ReadsMember, ReadsPrimary, lone_expr}
+use Rattle.cedar_grammar.specs.Place.{placed}
 use Rattle.cedar_syntax.specs.Tokens.{Spot, one}
 use Rattle.cedar_syntax.specs.Trees.{add_of, and_of, common_of, member_of, mult_of, or_of, unary_of}
 use Rattle.cedar_conversion.specs.Conversion.{expression_at, outcome, tree_place, value_outcome}

@@ -12,9 +12,9 @@ use Rattle.cedar_syntax.specs.declared.cst.Primary.TheVariants as primary
 use Rattle.cedar_syntax.specs.Forms.{located, parts_of, access_form, primary_form, member_form, listed_access, listed_expr}
 use Rattle.cedar_syntax.specs.Located.{at}
 use Rattle.cedar_syntax.specs.Tree.{beside}
-use Rattle.cedar_syntax.specs.LooseExpressions as l
-use Rattle.cedar_syntax.specs.LooseExpressions.{ReadsMember, ReadsAccess}
-use Rattle.cedar_syntax.specs.Place.{placed}
+use Rattle.cedar_grammar.specs.LooseExpressions as l
+use Rattle.cedar_grammar.specs.LooseExpressions.{ReadsMember, ReadsAccess}
+use Rattle.cedar_grammar.specs.Place.{placed}
 use Rattle.cedar_syntax.specs.Tokens.{Spot, one}
 use Rattle.cedar_syntax.specs.Trees.{Cell, member_of}
 use Rattle.cedar_conversion.specs.Conversion.{Converts, Part, outcome, operands, accesses_outcome, access_outcome, bodies}

@@ -17,7 +17,7 @@ use Rattle.cedar_syntax.specs.declared.cst.RecInit.{RecInit}
 use Rattle.cedar_syntax.specs.Forms.{parts_of, expr_form, or_form, and_form, relation_form, add_form, mult_form, unary_form, primary_form, init_form, listed_access, listed_expr, listed_init}
 use Rattle.cedar_syntax.specs.Located.{at}
 use Rattle.cedar_syntax.specs.Tree.{Operator, add, beside}
-use Rattle.cedar_syntax.specs.LooseExpressions.{ReadsExpr, ReadsOr, ReadsAnd, ReadsRelation, ReadsAdd, ReadsMult, ReadsUnary, ReadsAccesses, ReadsPrimary, ReadsExprItems, ReadsExprs, ReadsRecInit, ReadsInitItems, ReadsRecInits}
+use Rattle.cedar_grammar.specs.LooseExpressions.{ReadsExpr, ReadsOr, ReadsAnd, ReadsRelation, ReadsAdd, ReadsMult, ReadsUnary, ReadsAccesses, ReadsPrimary, ReadsExprItems, ReadsExprs, ReadsRecInit, ReadsInitItems, ReadsRecInits}
 use Rattle.cedar_syntax.specs.Trees.{Cell}
 use Rattle.cedar_conversion.specs.Conversion.{Part, Converts, outcome, operands, accesses_outcome, pair_outcome, pairs_outcome, bodies, sum_terms}
 use Rattle.cedar_conversion.specs.Extensions.{Extensions}

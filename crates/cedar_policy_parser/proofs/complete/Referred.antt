@@ -22,9 +22,9 @@ use Rattle.cedar_syntax.specs.declared.cst.Slot.TheVariants as slot
 use Rattle.cedar_syntax.specs.Forms.{located, parts_of, expr_form, primary_form, listed_expr}
 use Rattle.cedar_syntax.specs.Located.{Form, at}
 use Rattle.cedar_syntax.proofs.FormLevels.{primary_ref, primary_slot, primary_list}
-use Rattle.cedar_syntax.specs.LooseExpressions as l
-use Rattle.cedar_syntax.specs.LooseExpressions.{ReadsExprs, ReadsExprItems, ReadsPrimary}
-use Rattle.cedar_syntax.specs.Place.{placed}
+use Rattle.cedar_grammar.specs.LooseExpressions as l
+use Rattle.cedar_grammar.specs.LooseExpressions.{ReadsExprs, ReadsExprItems, ReadsPrimary}
+use Rattle.cedar_grammar.specs.Place.{placed}
 use Rattle.cedar_syntax.specs.Tokens.{Spot, one}
 use Rattle.cedar_syntax.specs.Trees.{Cell}
 use Rattle.cedar_policy_conversion.specs.declared.to_ref_or_refs.OneOrMultipleRefs.{OneOrMultipleRefs}

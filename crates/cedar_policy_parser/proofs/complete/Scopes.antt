@@ -8,10 +8,10 @@ use Rattle.cedar_policy_store.specs.declared.constraints.PrincipalOrResourceCons
 use Rattle.cedar_policy_store.specs.PlaceFree.{Constraint, constraint_meaning}
 use Rattle.cedar_syntax.specs.declared.loc.Loc.{Loc}
 use Rattle.cedar_syntax.specs.declared.cst.VariableDef.{VariableDef}
-use Rattle.cedar_syntax.specs.LoosePolicies.{ReadsVariableDef}
-use Rattle.cedar_syntax.specs.LooseWords as lw
-use Rattle.cedar_syntax.specs.LooseWords.{ReadsItems, ReadsList}
-use Rattle.cedar_syntax.specs.Place.{placed}
+use Rattle.cedar_grammar.specs.LoosePolicies.{ReadsVariableDef}
+use Rattle.cedar_grammar.specs.LooseWords as lw
+use Rattle.cedar_grammar.specs.LooseWords.{ReadsItems, ReadsList}
+use Rattle.cedar_grammar.specs.Place.{placed}
 use Rattle.cedar_syntax.specs.Tokens.{one}
 use Rattle.cedar_syntax.specs.Trees.{Cell}
 use Rattle.cedar_conversion.specs.Extensions.{Extensions}

@@ -13,11 +13,11 @@ use Rattle.cedar_syntax.specs.declared.cst.Ident.TheVariants as ident
 use Rattle.cedar_syntax.specs.declared.cst.Policies.{Policies}
 use Rattle.cedar_syntax.specs.declared.cst.Policy.{Policy}
 use Rattle.cedar_syntax.specs.Signs.{sign_limit}
-use Rattle.cedar_syntax.specs.LoosePolicies as l
-use Rattle.cedar_syntax.specs.LoosePolicies.{ReadsMany, ReadsPolicies, ReadsPolicy}
-use Rattle.cedar_syntax.specs.LooseWords as lw
-use Rattle.cedar_syntax.specs.LooseWords.{ReadsAny}
-use Rattle.cedar_syntax.specs.Place.{placed}
+use Rattle.cedar_grammar.specs.LoosePolicies as l
+use Rattle.cedar_grammar.specs.LoosePolicies.{ReadsMany, ReadsPolicies, ReadsPolicy}
+use Rattle.cedar_grammar.specs.LooseWords as lw
+use Rattle.cedar_grammar.specs.LooseWords.{ReadsAny}
+use Rattle.cedar_grammar.specs.Place.{placed}
 use Rattle.cedar_syntax.specs.Tokens.{Spot, one}
 use Rattle.cedar_syntax.specs.Trees.{Cell, policies_of, policy_of}
 use Rattle.cedar_policy_conversion.specs.AnnotationKeys.{AnnotationContent, annotation_map, annotations_outcome}

@@ -13,9 +13,9 @@ use Rattle.cedar_syntax.specs.declared.cst.RelOp.TheVariants as rel
 use Rattle.cedar_syntax.specs.Forms.{located, parts_of, add_form, relation_operand}
 use Rattle.cedar_syntax.specs.Located.{Located, none}
 use Rattle.cedar_syntax.specs.Tree.{Operator, compare, relation}
-use Rattle.cedar_syntax.specs.LooseExpressions as l
-use Rattle.cedar_syntax.specs.LooseExpressions.{ReadsRelOp}
-use Rattle.cedar_syntax.specs.Place.{placed}
+use Rattle.cedar_grammar.specs.LooseExpressions as l
+use Rattle.cedar_grammar.specs.LooseExpressions.{ReadsRelOp}
+use Rattle.cedar_grammar.specs.Place.{placed}
 use Rattle.cedar_syntax.specs.Tokens.{Spot, one}
 use Rattle.cedar_syntax.specs.Trees.{if_of, common_of, has_of, like_of, is_of}
 use Rattle.cedar_conversion.specs.Conversion.{outcome, operands, comparison_outcome, expression_at, conditional_outcome, with_attributes, match_outcome, beside_type, type_test_outcome, type_within_outcome}

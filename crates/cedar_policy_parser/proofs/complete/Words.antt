@@ -18,9 +18,9 @@ use Rattle.cedar_syntax.specs.declared.cst.Ref.{Ref}
 use Rattle.cedar_syntax.specs.declared.cst.Ref.TheVariants as ref
 use Rattle.cedar_syntax.specs.declared.cst.Str.TheVariants as str
 use Rattle.cedar_syntax.specs.Piece.{IsUnescaped}
-use Rattle.cedar_syntax.specs.Place.{placed}
-use Rattle.cedar_syntax.specs.LooseWords as l
-use Rattle.cedar_syntax.specs.LooseWords.{ReadsAny, ReadsLiteral, ReadsName, ReadsPath, ReadsRef, is_common}
+use Rattle.cedar_grammar.specs.Place.{placed}
+use Rattle.cedar_grammar.specs.LooseWords as l
+use Rattle.cedar_grammar.specs.LooseWords.{ReadsAny, ReadsLiteral, ReadsName, ReadsPath, ReadsRef, is_common}
 use Rattle.cedar_syntax.specs.Tokens.{Spot, one, between_quotes}
 use Rattle.cedar_syntax.specs.Trees.{Cell, name_of as tree_name}
 use Rattle.cedar_conversion.specs.Entities.{entity_of, reference_outcome}

@@ -15,11 +15,11 @@ use Rattle.cedar_syntax.specs.declared.loc.Loc.{Loc}
 use Rattle.cedar_syntax.specs.declared.cst.Annotation.{Annotation}
 use Rattle.cedar_syntax.specs.declared.cst.Ident.{Ident}
 use Rattle.cedar_syntax.specs.declared.cst.Str.TheVariants as str
-use Rattle.cedar_syntax.specs.LoosePolicies as l
-use Rattle.cedar_syntax.specs.LoosePolicies.{ReadsAnnotation, ReadsMany}
-use Rattle.cedar_syntax.specs.LooseWords as lw
-use Rattle.cedar_syntax.specs.LooseWords.{ReadsAny}
-use Rattle.cedar_syntax.specs.Place.{placed}
+use Rattle.cedar_grammar.specs.LoosePolicies as l
+use Rattle.cedar_grammar.specs.LoosePolicies.{ReadsAnnotation, ReadsMany}
+use Rattle.cedar_grammar.specs.LooseWords as lw
+use Rattle.cedar_grammar.specs.LooseWords.{ReadsAny}
+use Rattle.cedar_grammar.specs.Place.{placed}
 use Rattle.cedar_syntax.specs.Tokens.{Spot, one, any_of, between_quotes}
 use Rattle.cedar_syntax.specs.Trees.{Cell}
 use Rattle.cedar_policy_conversion.specs.AnnotationKeys.{AnnotationContent, annotation_at, annotation_map, annotation_outcome, gathering_with_node, gathering, has_key, with_annotation, kept_annotation, converted_key, empty_gathering, key_value_outcome, value_text_outcome, with_new_key}

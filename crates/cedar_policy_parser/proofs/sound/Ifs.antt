@@ -15,8 +15,8 @@ use Rattle.cedar_syntax.specs.Located as f
 use Rattle.cedar_syntax.specs.Located.{Located, at}
 use Rattle.cedar_syntax.specs.Tree.{Level, disjunction, conjunction, relation, sum, product}
 use Rattle.cedar_syntax.proofs.FormLevels.{primary_name}
-use Rattle.cedar_syntax.specs.LooseExpressions.{if_name, lone_add, lone_expr}
-use Rattle.cedar_syntax.specs.Place.{placed}
+use Rattle.cedar_grammar.specs.LooseExpressions.{if_name, lone_add, lone_expr}
+use Rattle.cedar_grammar.specs.Place.{placed}
 use Rattle.cedar_syntax.specs.Tokens.{Spot, one}
 use Rattle.cedar_syntax.specs.Trees.{Cell, or_of, and_of, common_of, mult_of, unary_of, member_of, name_of}
 use Rattle.cedar_conversion.specs.Conversion.{outcome, operands, accesses_outcome}

@@ -13,11 +13,11 @@ use Rattle.cedar_syntax.specs.declared.cst.Name.{Name}
 use Rattle.cedar_syntax.specs.declared.cst.Ref.{Ref}
 use Rattle.cedar_syntax.specs.declared.cst.Slot.{Slot}
 use Rattle.cedar_syntax.specs.declared.cst.Literal.{Literal}
-use Rattle.cedar_syntax.specs.Place.{placed}
-use Rattle.cedar_syntax.specs.LooseExpressions as l
-use Rattle.cedar_syntax.specs.LooseExpressions.{ReadsSlot}
-use Rattle.cedar_syntax.specs.LooseWords as lw
-use Rattle.cedar_syntax.specs.LooseWords.{ReadsLiteral, ReadsAny, ReadsPath, ReadsName, ReadsRef}
+use Rattle.cedar_grammar.specs.Place.{placed}
+use Rattle.cedar_grammar.specs.LooseExpressions as l
+use Rattle.cedar_grammar.specs.LooseExpressions.{ReadsSlot}
+use Rattle.cedar_grammar.specs.LooseWords as lw
+use Rattle.cedar_grammar.specs.LooseWords.{ReadsLiteral, ReadsAny, ReadsPath, ReadsName, ReadsRef}
 use Rattle.cedar_syntax.specs.Tokens.{Spot, one, number_of, any_of}
 use Rattle.cedar_syntax.specs.Trees.{Cell, name_of}
 use Rattle.cedar_conversion.specs.Extensions.{Extensions}

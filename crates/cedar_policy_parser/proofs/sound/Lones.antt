@@ -28,10 +28,10 @@ use Rattle.cedar_syntax.specs.Located as f
 use Rattle.cedar_syntax.specs.Located.{Located, Form, Parts, at}
 use Rattle.cedar_syntax.specs.Tree.{Level, Operator, disjunction, conjunction, relation, sum, product}
 use Rattle.cedar_syntax.proofs.FormLevels.{primary_literal, primary_ref, primary_name, primary_slot, primary_list, primary_inits}
-use Rattle.cedar_syntax.specs.Place.{placed}
-use Rattle.cedar_syntax.specs.LooseExpressions as l
-use Rattle.cedar_syntax.specs.LooseExpressions.{ReadsExpr, ReadsOr, ReadsAnds, ReadsAnd, ReadsRelations, ReadsRelation, ReadsAdds, ReadsAdd, ReadsMults, ReadsMult, ReadsUnaries, ReadsUnary, ReadsMember, ReadsAccesses, ReadsPrimary, ReadsExprs, ReadsRecInits, ReadsSlot, ReadsSigns}
-use Rattle.cedar_syntax.specs.LooseWords.{ReadsLiteral, ReadsName, ReadsRef}
+use Rattle.cedar_grammar.specs.Place.{placed}
+use Rattle.cedar_grammar.specs.LooseExpressions as l
+use Rattle.cedar_grammar.specs.LooseExpressions.{ReadsExpr, ReadsOr, ReadsAnds, ReadsAnd, ReadsRelations, ReadsRelation, ReadsAdds, ReadsAdd, ReadsMults, ReadsMult, ReadsUnaries, ReadsUnary, ReadsMember, ReadsAccesses, ReadsPrimary, ReadsExprs, ReadsRecInits, ReadsSlot, ReadsSigns}
+use Rattle.cedar_grammar.specs.LooseWords.{ReadsLiteral, ReadsName, ReadsRef}
 use Rattle.cedar_syntax.specs.Tokens.{Spot, one}
 use Rattle.cedar_syntax.specs.Trees.{Cell, bangs_of, dashes_of}
 use Rattle.cedar_syntax.specs.Signs.{sign_limit}

@@ -14,11 +14,11 @@ use Rattle.cedar_syntax.specs.declared.cst.Ref.{Ref}
 use Rattle.cedar_syntax.specs.declared.cst.Slot.{Slot}
 use Rattle.cedar_syntax.specs.Forms.{member_form, primary_form}
 use Rattle.cedar_syntax.specs.Located.{at}
-use Rattle.cedar_syntax.specs.Place.{placed}
-use Rattle.cedar_syntax.specs.LooseExpressions as l
-use Rattle.cedar_syntax.specs.LooseExpressions.{ReadsSlot, ReadsMember, ReadsPrimary, ReadsAccesses, ReadsAccess}
-use Rattle.cedar_syntax.specs.LooseWords as lw
-use Rattle.cedar_syntax.specs.LooseWords.{ReadsAny, ReadsLiteral, ReadsName, ReadsRef}
+use Rattle.cedar_grammar.specs.Place.{placed}
+use Rattle.cedar_grammar.specs.LooseExpressions as l
+use Rattle.cedar_grammar.specs.LooseExpressions.{ReadsSlot, ReadsMember, ReadsPrimary, ReadsAccesses, ReadsAccess}
+use Rattle.cedar_grammar.specs.LooseWords as lw
+use Rattle.cedar_grammar.specs.LooseWords.{ReadsAny, ReadsLiteral, ReadsName, ReadsRef}
 use Rattle.cedar_syntax.specs.Tokens.{Spot, one, number_of, any_of}
 use Rattle.cedar_syntax.specs.Trees.{Cell, member_of}
 use Rattle.cedar_conversion.specs.Conversion.{number_in, lone_literal, literal_alone}

@@ -12,8 +12,8 @@ use Rattle.cedar_syntax.specs.declared.cst.MultOp.{MultOp}
 use Rattle.cedar_syntax.specs.Forms.{parts_of}
 use Rattle.cedar_syntax.specs.Located.{Located, Parts}
 use Rattle.cedar_syntax.specs.Tree.{Operator, compare, add, multiply, relation, sum}
-use Rattle.cedar_syntax.specs.LooseExpressions as l
-use Rattle.cedar_syntax.specs.LooseExpressions.{ReadsRelOp, ReadsAddOp, ReadsMultOp}
+use Rattle.cedar_grammar.specs.LooseExpressions as l
+use Rattle.cedar_grammar.specs.LooseExpressions.{ReadsRelOp, ReadsAddOp, ReadsMultOp}
 use Rattle.cedar_syntax.specs.Tokens.{Spot, one}
 use Rattle.cedar_conversion.specs.Conversion.{Part, value_outcome, operands, chain_outcome, comparison_outcome, relation_outcome, factor, sum_terms}
 use Rattle.cedar_conversion.specs.Extensions.{Extensions}

@@ -10,9 +10,9 @@ use Rattle.cedar_syntax.specs.declared.loc.Loc.{Loc}
 use Rattle.cedar_syntax.specs.declared.cst.Ident.{Ident}
 use Rattle.cedar_syntax.specs.declared.cst.Name.{Name}
 use Rattle.cedar_syntax.specs.declared.cst.Ref.{Ref}
-use Rattle.cedar_syntax.specs.Place.{placed}
-use Rattle.cedar_syntax.specs.LooseWords as l
-use Rattle.cedar_syntax.specs.LooseWords.{ReadsAny, ReadsPath, ReadsName, ReadsRef}
+use Rattle.cedar_grammar.specs.Place.{placed}
+use Rattle.cedar_grammar.specs.LooseWords as l
+use Rattle.cedar_grammar.specs.LooseWords.{ReadsAny, ReadsPath, ReadsName, ReadsRef}
 use Rattle.cedar_syntax.specs.Tokens.{Spot, one, any_of, between_quotes}
 use Rattle.cedar_syntax.specs.Trees.{Cell, name_of}
 use Rattle.cedar_conversion.specs.Entities.{entity_of, reference_outcome}

@@ -9,12 +9,12 @@ use Rattle.cedar_lexer.specs.Token.{Lexeme}
 use Rattle.cedar_lexer.specs.declared.token.TokenKind.{TokenKind}
 use Rattle.cedar_lexer.proofs.Cuts.{laid_on}
 use Rattle.cedar_lexer.proofs.Runs.{stand_in_order}
-use Rattle.cedar_syntax.specs.Grammar.{Rule, IsNodeOf}
-use Rattle.cedar_syntax.specs.Place.{placed_or_start}
-use Rattle.cedar_syntax.specs.Sentences.{kinds, Starts}
+use Rattle.cedar_grammar.specs.Grammar.{Rule, IsNodeOf}
+use Rattle.cedar_grammar.specs.Place.{placed_or_start}
+use Rattle.cedar_grammar.specs.Sentences.{kinds, Starts}
 use Rattle.cedar_syntax.specs.Trees.{Cell}
-use Rattle.cedar_syntax.specs.machines.Door.{Answer, next, ended, refused, too_large, Machine, answer_state, steps, AnswersRightly, Door, Shapes}
-use Rattle.cedar_syntax.proofs.machines.Laws.{none_some, steps-none, kinds-append, comes}
+use Rattle.cedar_grammar.specs.machines.Door.{Answer, next, ended, refused, too_large, Machine, answer_state, steps, AnswersRightly, Door, Shapes}
+use Rattle.cedar_grammar.proofs.machines.Laws.{none_some, steps-none, kinds-append, comes}
 use Rattle.cedar_text.specs.GoesOn.{GoesOnInText}
 use Rattle.cedar_lexer.proofs.Joints.{laid_bytes, laid_end, laid_stands, laid_stays}
 use Rattle.cedar_text.proofs.KindTexts.{NumbersFit, ascii_text, text_of, text_utf8, tokens_from, text_laid, kinds_are, all_fit}

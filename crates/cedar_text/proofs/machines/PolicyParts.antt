@@ -1,21 +1,21 @@
 -- Policies over the readers of names, sums and expressions, and how they recover.
 use Rattle.std.proofs.Common.{ℕ, List, refl}
 use Rattle.cedar_syntax.specs.declared.err.faults.ParseError.{ParseError}
-use Rattle.cedar_syntax.specs.Grammar.{IsNodeOf}
-use Rattle.cedar_syntax.specs.LoosePolicies.{ReadsPolicies, ReadsPolicy}
-use Rattle.cedar_syntax.specs.MendedFaults.{NothingBefore, PoliciesBefore}
-use Rattle.cedar_syntax.specs.machines.Door.{outline_machine}
-use Rattle.cedar_syntax.specs.machines.Judged.{ReadsBy}
-use Rattle.cedar_syntax.specs.machines.Recovery.{Recovers}
+use Rattle.cedar_grammar.specs.Grammar.{IsNodeOf}
+use Rattle.cedar_grammar.specs.LoosePolicies.{ReadsPolicies, ReadsPolicy}
+use Rattle.cedar_grammar.specs.MendedFaults.{NothingBefore, PoliciesBefore}
+use Rattle.cedar_grammar.specs.machines.Door.{outline_machine}
+use Rattle.cedar_grammar.specs.machines.Judged.{ReadsBy}
+use Rattle.cedar_grammar.specs.machines.Recovery.{Recovers}
 use Rattle.cedar_text.specs.declared.text_to_cst.policy_entries.AllState.{AllState}
-use Rattle.cedar_text.specs.machines.Policies.{one_policy_outline, one_policy_shape, all_policies_outline, all_policies_shape}
+use Rattle.cedar_policy_machine.specs.machines.Policies.{one_policy_outline, one_policy_shape, all_policies_outline, all_policies_shape}
 use Rattle.cedar_text.specs.machines.PolicyParts.{policy_parts, policy_part_outlines, OneState, text_of, of_text, whole_policy_reader, whole_policies_reader}
-use Rattle.cedar_text.specs.machines.WholeExpressions.{state_shape}
-use Rattle.cedar_text.specs.machines.WordShapes.{path_shape}
-use Rattle.cedar_text.proofs.machines.Mapped.{IsWrapped}
-use Rattle.cedar_text.proofs.machines.MendedClauses.{Mends}
-use Rattle.cedar_text.proofs.machines.Policies.{Grounds}
-use Rattle.cedar_text.proofs.machines.PolicyEntries.{whole_recovers, whole_mends, policies_read, one_recovering, one_mends, policy_is_read}
+use Rattle.cedar_expression_machine.specs.machines.WholeExpressions.{state_shape}
+use Rattle.cedar_expression_machine.specs.machines.WordShapes.{path_shape}
+use Rattle.cedar_policy_machine.proofs.machines.Mapped.{IsWrapped}
+use Rattle.cedar_policy_machine.proofs.machines.MendedClauses.{Mends}
+use Rattle.cedar_policy_machine.proofs.machines.Policies.{Grounds}
+use Rattle.cedar_policy_machine.proofs.machines.PolicyEntries.{whole_recovers, whole_mends, policies_read, one_recovering, one_mends, policy_is_read}
 use Rattle.cedar_text.proofs.machines.WholeParts.{part_doors, body_outside, parts_outlined}
 
 grounds : (src : List ℕ) → Grounds src policy_parts

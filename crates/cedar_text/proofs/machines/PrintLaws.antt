@@ -1,22 +1,22 @@
 -- The print law of each rule, of which tokens have at most one tree.
 use Rattle.std.specs.Prelude.{IfOk}
 use Rattle.std.proofs.Common.{ℕ, List, Result, Ok, Err}
-use Rattle.cedar_syntax.specs.FirstFault.{HasOneTree}
-use Rattle.cedar_syntax.specs.Grammar.{Rule, IsTreeOf}
-use Rattle.cedar_syntax.specs.LooseExpressions.{ReadsExpr, ReadsPrimary}
-use Rattle.cedar_syntax.specs.LoosePolicies.{ReadsPolicies, ReadsPolicy}
-use Rattle.cedar_syntax.specs.LooseWords.{ReadsIdent, ReadsName, ReadsRef}
-use Rattle.cedar_syntax.specs.PrintLaw.{PrintLaw, HasSameTree, node_text}
+use Rattle.cedar_grammar.specs.FirstFault.{HasOneTree}
+use Rattle.cedar_grammar.specs.Grammar.{Rule, IsTreeOf}
+use Rattle.cedar_grammar.specs.LooseExpressions.{ReadsExpr, ReadsPrimary}
+use Rattle.cedar_grammar.specs.LoosePolicies.{ReadsPolicies, ReadsPolicy}
+use Rattle.cedar_grammar.specs.LooseWords.{ReadsIdent, ReadsName, ReadsRef}
+use Rattle.cedar_grammar.specs.PrintLaw.{PrintLaw, HasSameTree, node_text}
 use Rattle.cedar_syntax.specs.Tree.{Tree}
 use Rattle.cedar_syntax.specs.Trees.{Cell}
 use Rattle.cedar_syntax.specs.Unlocated.{unlocated_name, unlocated_ref}
 use Rattle.cedar_syntax.specs.UnlocatedTrees.{unlocated_expr, unlocated_ident, unlocated_primary, unlocated_policy, unlocated_policies}
 use Rattle.cedar_syntax.specs.Unplaced.{expr_tree, primary_tree, name_tree, ref_tree, ident_tree, policy_tree, policies_tree}
-use Rattle.cedar_syntax.proofs.again.Law as again
-use Rattle.cedar_syntax.proofs.machines.Told.{follows, one_tree}
-use Rattle.cedar_text.proofs.machines.Entries.{names_read, refs_read, idents_read}
+use Rattle.cedar_grammar.proofs.again.Law as again
+use Rattle.cedar_grammar.proofs.machines.Told.{follows, one_tree}
+use Rattle.cedar_expression_machine.proofs.machines.Entries.{names_read, refs_read, idents_read}
 use Rattle.cedar_text.proofs.machines.PolicyParts.{all_policies_read, one_policy_read}
-use Rattle.cedar_text.proofs.machines.WholeExpressions.{expressions_read, primaries_read}
+use Rattle.cedar_expression_machine.proofs.machines.WholeExpressions.{expressions_read, primaries_read}
 
 -- of a call's answer
 pub printed_clause : {T F E : Type 0} (R : Rule T) (bare : T → F) (tree : T → Tree) → PrintLaw R bare tree → (text : List ℕ) (r : Result (Cell T) E) → IfOk r (λ x. IsTreeOf R text x) → IfOk r (λ x. HasSameTree R bare x (node_text tree x))

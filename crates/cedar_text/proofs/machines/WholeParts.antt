@@ -6,42 +6,41 @@ use Rattle.cedar_lexer.specs.declared.token.TokenKind.TheVariants as kind
 use Rattle.cedar_syntax.specs.declared.cst.RelOp.{RelOp}
 use Rattle.cedar_syntax.specs.declared.cst.Add.{Add}
 use Rattle.cedar_syntax.specs.declared.cst.Name.{Name}
-use Rattle.cedar_text.specs.declared.text_to_cst.expression.state.Act.TheVariants as act
-use Rattle.cedar_text.specs.declared.text_to_cst.expression.state.Place.{Place}
-use Rattle.cedar_text.specs.declared.text_to_cst.expression.state.Place.TheVariants as place
-use Rattle.cedar_text.specs.declared.text_to_cst.expression.state.Wanted.{Wanted}
-use Rattle.cedar_text.specs.declared.text_to_cst.expression.state.Wanted.TheVariants as form
-use Rattle.cedar_syntax.specs.Grammar.{IsNodeOf, Rule}
-use Rattle.cedar_syntax.specs.LooseWords.{ReadsName}
-use Rattle.cedar_syntax.specs.LooseExpressions.{ReadsRelOp, less, less_eq, greater_eq, greater, not_eq, equal, within, single_eq, ReadsExpr, ReadsAdd}
+use Rattle.cedar_expression_machine.specs.declared.expression.state.Act.TheVariants as act
+use Rattle.cedar_expression_machine.specs.declared.expression.state.Place.{Place}
+use Rattle.cedar_expression_machine.specs.declared.expression.state.Place.TheVariants as place
+use Rattle.cedar_expression_machine.specs.declared.expression.state.Wanted.{Wanted}
+use Rattle.cedar_expression_machine.specs.declared.expression.state.Wanted.TheVariants as form
+use Rattle.cedar_grammar.specs.Grammar.{IsNodeOf, Rule}
+use Rattle.cedar_grammar.specs.LooseWords.{ReadsName}
+use Rattle.cedar_grammar.specs.LooseExpressions.{ReadsRelOp, less, less_eq, greater_eq, greater, not_eq, equal, within, single_eq, ReadsExpr, ReadsAdd}
 use Rattle.cedar_syntax.specs.Trees.{Cell}
-use Rattle.cedar_syntax.specs.machines.Door.{refused, Door, IsOutside, machine_of, is_some, option_image}
-use Rattle.cedar_syntax.specs.machines.Following.{IsParting, comma, close_paren, FollowsSum, operator, parting, FollowsName, is_word, as_sum}
-use Rattle.cedar_text.specs.machines.Closing.{node_of}
-use Rattle.cedar_text.specs.machines.ExpressionOutline.{ends_with}
-use Rattle.cedar_text.specs.machines.ExpressionPlans.{behind_plan, settle_plan, or_else, ended_words_plan, if_ends, words_can_end, ends, mode_plan, shape_plan}
-use Rattle.cedar_text.specs.machines.ExpressionShapes.{LeftShape, free, comparing, sided_once, typed, FrameShape, ModeShape}
-use Rattle.cedar_text.specs.machines.ExpressionShapes as shaped
-use Rattle.cedar_text.specs.machines.NamedShapes.{named_outline, is_if_alone}
-use Rattle.cedar_text.specs.machines.Placing.{AsNode, as_node}
+use Rattle.cedar_grammar.specs.machines.Door.{refused, Door, IsOutside, machine_of, is_some, option_image, ends_with}
+use Rattle.cedar_policy_machine.specs.machines.Following.{IsParting, comma, close_paren, FollowsSum, operator, parting, FollowsName, is_word, as_sum}
+use Rattle.cedar_expression_machine.specs.machines.Closing.{node_of}
+use Rattle.cedar_expression_machine.specs.machines.ExpressionPlans.{behind_plan, settle_plan, or_else, ended_words_plan, if_ends, words_can_end, ends, mode_plan, shape_plan}
+use Rattle.cedar_expression_machine.specs.machines.ExpressionShapes.{LeftShape, free, comparing, sided_once, typed, FrameShape, ModeShape}
+use Rattle.cedar_expression_machine.specs.machines.ExpressionShapes as shaped
+use Rattle.cedar_expression_machine.specs.machines.NamedShapes.{named_outline, is_if_alone}
+use Rattle.cedar_policy_machine.specs.machines.Placing.{AsNode, as_node}
 use Rattle.cedar_text.specs.machines.PolicyParts.{policy_parts, policy_part_outlines}
-use Rattle.cedar_text.specs.machines.WholeExpressions.{StateShape, state_shape, whole_outline, whole_expression_reader, whole_sum_reader, whole_expressions, whole_sums}
-use Rattle.cedar_text.specs.machines.Words.{names}
-use Rattle.cedar_text.specs.machines.WordShapes.{WordsShape, WordsKind, path_shape}
-use Rattle.cedar_syntax.proofs.ExpressionTokens.{expr_some}
-use Rattle.cedar_syntax.proofs.Lying.{Some_of}
-use Rattle.cedar_syntax.proofs.WordPlaces.{start_is, name_path, path_some}
-use Rattle.cedar_syntax.proofs.machines.Laws.{some_is}
-use Rattle.cedar_syntax.proofs.machines.Readers.{leaves_none}
-use Rattle.cedar_text.proofs.expressions.sound.Begun.{Reading, reads}
-use Rattle.cedar_text.proofs.machines.Keeping.{Kept, door_as}
-use Rattle.cedar_text.proofs.machines.Names.{names_door}
-use Rattle.cedar_text.proofs.machines.PartOutlines.{PartsOutlined}
-use Rattle.cedar_text.proofs.machines.Rightly.{ends_by, ends_at_kind}
-use Rattle.cedar_text.proofs.machines.Scope.{PartDoors}
-use Rattle.cedar_text.proofs.machines.WholeExpressions.{whole_expressions_door, whole_expressions_outlined, sum_images_door, whole_sums_outlined}
-use Rattle.cedar_text.proofs.machines.WordShapes.{names_outlined}
-use Rattle.cedar_text.proofs.machines.WordsDoor.{unplanned_shape, unplanned_name}
+use Rattle.cedar_expression_machine.specs.machines.WholeExpressions.{StateShape, state_shape, whole_outline, whole_expression_reader, whole_sum_reader, whole_expressions, whole_sums}
+use Rattle.cedar_expression_machine.specs.machines.Words.{names}
+use Rattle.cedar_expression_machine.specs.machines.WordShapes.{WordsShape, WordsKind, path_shape}
+use Rattle.cedar_grammar.proofs.ExpressionTokens.{expr_some}
+use Rattle.cedar_grammar.proofs.Lying.{Some_of}
+use Rattle.cedar_grammar.proofs.WordPlaces.{start_is, name_path, path_some}
+use Rattle.cedar_grammar.proofs.machines.Laws.{some_is}
+use Rattle.cedar_grammar.proofs.machines.Readers.{leaves_none}
+use Rattle.cedar_expression_machine.proofs.expressions.sound.Begun.{Reading, reads}
+use Rattle.cedar_expression_machine.proofs.machines.Keeping.{Kept, door_as}
+use Rattle.cedar_expression_machine.proofs.machines.Names.{names_door}
+use Rattle.cedar_policy_machine.proofs.machines.PartOutlines.{PartsOutlined}
+use Rattle.cedar_grammar.proofs.machines.Rightly.{ends_by, ends_at_kind}
+use Rattle.cedar_policy_machine.proofs.machines.Scope.{PartDoors}
+use Rattle.cedar_expression_machine.proofs.machines.WholeExpressions.{whole_expressions_door, whole_expressions_outlined, sum_images_door, whole_sums_outlined}
+use Rattle.cedar_expression_machine.proofs.machines.WordShapes.{names_outlined}
+use Rattle.cedar_expression_machine.proofs.machines.WordsDoor.{unplanned_shape, unplanned_name}
 
 -- ---- trees as nodes
 

@@ -4,24 +4,23 @@ use Rattle.std.specs.Prelude.{ℕ, List}
 use Rattle.cedar_lexer.specs.Token.{Lexeme}
 use Rattle.cedar_syntax.specs.declared.cst.Policy.{Policy}
 use Rattle.cedar_syntax.specs.declared.cst.Policies.{Policies}
-use Rattle.cedar_text.specs.declared.text_to_cst.expression.state.Act.{Act}
-use Rattle.cedar_text.specs.declared.text_to_cst.expression.state.State.{State}
-use Rattle.cedar_text.specs.declared.text_to_cst.expression.state.Wanted.TheVariants as form
+use Rattle.cedar_expression_machine.specs.declared.expression.state.Act.{Act}
+use Rattle.cedar_expression_machine.specs.declared.expression.state.State.{State}
+use Rattle.cedar_expression_machine.specs.declared.expression.state.Wanted.TheVariants as form
 use Rattle.cedar_text.specs.declared.text_to_cst.policy_entries.AllState.{AllState}
-use Rattle.cedar_text.specs.declared.text_to_cst.sequence.SequenceAct.{SequenceAct}
-use Rattle.cedar_text.specs.declared.text_to_cst.sequence.Spanned.{Spanned}
-use Rattle.cedar_text.specs.declared.text_to_cst.state.PathAct.{PathAct}
-use Rattle.cedar_text.specs.declared.text_to_cst.state.PathState.{PathState}
+use Rattle.cedar_policy_machine.specs.declared.sequence.SequenceAct.{SequenceAct}
+use Rattle.cedar_policy_machine.specs.declared.sequence.Spanned.{Spanned}
+use Rattle.cedar_expression_machine.specs.declared.words.state.PathAct.{PathAct}
+use Rattle.cedar_expression_machine.specs.declared.words.state.PathState.{PathState}
 use Rattle.cedar_syntax.specs.Trees.{Cell}
-use Rattle.cedar_syntax.specs.machines.Door.{Machine, Reader, machine_of}
-use Rattle.cedar_syntax.specs.machines.Mapping.{policies_node}
-use Rattle.cedar_text.specs.machines.PartOutlines.{PartOutlines}
-use Rattle.cedar_text.specs.machines.Placing.{placing_reader, mapped_reader}
-use Rattle.cedar_text.specs.machines.Policies.{SpannedPolicy, PoliciesState, OneAct, one_policy_reader, all_policies_reader}
-use Rattle.cedar_text.specs.machines.Scope.{PartReaders, readers_of}
-use Rattle.cedar_text.specs.machines.WholeExpressions.{StateShape, whole_expression_reader, whole_sum_reader, whole_outline}
-use Rattle.cedar_text.specs.machines.Words.{name_reader}
-use Rattle.cedar_text.specs.machines.WordShapes.{PathShape, name_outline}
+use Rattle.cedar_grammar.specs.machines.Door.{Machine, Reader, machine_of}
+use Rattle.cedar_policy_machine.specs.machines.Placing.{policies_node, placing_reader, mapped_reader}
+use Rattle.cedar_policy_machine.specs.machines.PartOutlines.{PartOutlines}
+use Rattle.cedar_policy_machine.specs.machines.Policies.{SpannedPolicy, PoliciesState, OneAct, one_policy_reader, all_policies_reader}
+use Rattle.cedar_policy_machine.specs.machines.Scope.{PartReaders, readers_of}
+use Rattle.cedar_expression_machine.specs.machines.WholeExpressions.{StateShape, whole_expression_reader, whole_sum_reader, whole_outline}
+use Rattle.cedar_expression_machine.specs.machines.Words.{name_reader}
+use Rattle.cedar_expression_machine.specs.machines.WordShapes.{PathShape, name_outline}
 
 -- the parts, and their outlines
 

@@ -1,6 +1,6 @@
 //! Laws of the rules by which a whole text is read. Each is a function that does nothing: its
 //! contract is the law.
-ghost use Rattle.std.specs.Prelude.{◌≡◌, ◌≢◌, ℕ, List, None, IsTrue};
+ghost use Rattle.std.specs.Prelude.{◌≡◌, ℕ, List, IsTrue};
 ghost use Rattle.std.specs.List.{All};
 ghost use Rattle.std.specs.Str.{IsUtf8};
 ghost use Rattle.cedar_lexer.specs.declared.token.TokenKind.{TokenKind};
@@ -10,31 +10,26 @@ ghost use Rattle.cedar_syntax.specs.declared.cst.Policies.{Policies};
 ghost use Rattle.cedar_syntax.specs.declared.cst.Policy.{Policy};
 ghost use Rattle.cedar_syntax.specs.declared.cst.Primary.{Primary};
 ghost use Rattle.cedar_syntax.specs.declared.err.faults.ParseError.{ParseError};
-ghost use Rattle.cedar_syntax.specs.Expected.{by_name, IsIn, stand_by_name};
-ghost use Rattle.cedar_syntax.specs.FirstFault.{HasOneTree, HasTreeOrFault, HasOneFault, HasNotBoth};
-ghost use Rattle.cedar_syntax.specs.Formatted.{formatted};
-ghost use Rattle.cedar_syntax.specs.Grammar.{IsTreeOf};
-ghost use Rattle.cedar_syntax.specs.Leftmost.{StandsLeftmost};
-ghost use Rattle.cedar_syntax.specs.LooseExpressions.{ReadsExpr, ReadsPrimary};
-ghost use Rattle.cedar_syntax.specs.LoosePolicies.{ReadsPolicies, ReadsPolicy};
-ghost use Rattle.cedar_syntax.specs.LooseWords.{ReadsIdent, ReadsName, ReadsRef};
-ghost use Rattle.cedar_syntax.specs.MendedFaults.{HasFaultList, HasOneFaultList, NothingBefore, PoliciesBefore};
-ghost use Rattle.cedar_syntax.specs.PrintLaw.{PrintLaw, HasSameTree};
-ghost use Rattle.cedar_syntax.specs.Tokens.{any_of};
+ghost use Rattle.cedar_grammar.specs.Expected.{by_name, IsIn, stand_by_name};
+ghost use Rattle.cedar_grammar.specs.FirstFault.{HasOneTree, HasTreeOrFault, HasOneFault, HasNotBoth};
+ghost use Rattle.cedar_grammar.specs.Formatted.{formatted};
+ghost use Rattle.cedar_grammar.specs.Grammar.{IsTreeOf};
+ghost use Rattle.cedar_grammar.specs.Leftmost.{StandsLeftmost};
+ghost use Rattle.cedar_grammar.specs.LooseExpressions.{ReadsExpr, ReadsPrimary};
+ghost use Rattle.cedar_grammar.specs.LoosePolicies.{ReadsPolicies, ReadsPolicy};
+ghost use Rattle.cedar_grammar.specs.LooseWords.{ReadsIdent, ReadsName, ReadsRef};
+ghost use Rattle.cedar_grammar.specs.MendedFaults.{HasFaultList, HasOneFaultList, NothingBefore, PoliciesBefore};
+ghost use Rattle.cedar_grammar.specs.PrintLaw.{PrintLaw, HasSameTree};
 ghost use Rattle.cedar_syntax.specs.TreePlaces.{IsPlace, node_places, expr_places, policies_places, policy_places, primary_places};
 ghost use Rattle.cedar_syntax.specs.Trees.{Cell};
 ghost use Rattle.cedar_syntax.specs.Unlocated.{unlocated_name, unlocated_ref};
 ghost use Rattle.cedar_syntax.specs.UnlocatedTrees.{unlocated_expr, unlocated_ident, unlocated_primary, unlocated_policy, unlocated_policies};
 ghost use Rattle.cedar_syntax.specs.Unplaced.{expr_tree, primary_tree, name_tree, ref_tree, ident_tree, policy_tree, policies_tree};
-ghost use Rattle.cedar_syntax.specs.machines.Door.{Door, IsOutside, Shapes};
 ghost use Rattle.cedar_text.specs.GoesOn.{GoesOnInText};
 ghost use Rattle.cedar_text.specs.StandsInText.{StandsInText};
 ghost use Rattle.cedar_text.specs.TreeDepth.{NestsAsTold};
-ghost use Rattle.cedar_text.specs.machines.Words.{paths, words_machine};
-ghost use Rattle.cedar_text.specs.machines.WordsRead.{ReadsWholePath, ReadsWords};
-ghost use Rattle.cedar_text.specs.machines.WordShapes.{path_shapes, path_shape, path_kind, words_shapes, words_shape, words_kind};
 
-use cedar_syntax::reading::expected::Narrowing;
+use cedar_grammar::reading::expected::Narrowing;
 
 /// Tokens have at most one entity literal. They have one, or a first fault and then just one,
 /// never both. And each sentence stands in a text: the tokens of some text are of its kinds, and
@@ -152,18 +147,6 @@ pub fn policies_stand_in_texts()
 pub fn kinds_by_name()
     ensures sorted { IsTrue (stand_by_name by_name) }
     ensures each { (k : TokenKind) → IsIn k by_name }
-{}
-
-/// What the machines of paths and of entity literals show of themselves to one that holds them.
-pub(crate) fn words_have_doors()
-    ensures paths { (src : List ℕ) → Door (paths src) (ReadsWholePath src) }
-    ensures shapes_of_paths { (src : List ℕ) → Shapes
-        (paths src) path_shapes path_shape path_kind }
-    ensures words { (src : List ℕ) → Door (words_machine src) (ReadsWords src) }
-    ensures shapes_of_words { (src : List ℕ) → Shapes
-        (words_machine src) words_shapes words_shape words_kind }
-    ensures outside { (src : List ℕ) (k : TokenKind) → ((text : List ℕ) → any_of k text ≡ None)
-        → k ≢ kind.ColonColon → IsOutside (words_machine src) k }
 {}
 
 /// The tree of a text nests no deeper than `nesting` tells of the text: an expression of it stands

@@ -1,17 +1,17 @@
 //! One policy and policies as whole texts.
-use crate::text_to_cst::expression::entries::{ExprState, SumState};
-use crate::text_to_cst::policies::{Text, Whole};
-use crate::text_to_cst::policy::Begun;
-use crate::text_to_cst::sequence::Spanned;
-use crate::text_to_cst::state::PathState;
+use cedar_expression_machine::expression::entries::{ExprState, SumState};
+use cedar_expression_machine::words::state::PathState;
 use cedar_expressions::{Items, Source};
+use cedar_grammar::reading::driver::Entry;
+use cedar_grammar::reading::extent::Extent;
+use cedar_grammar::reading::place::node_at;
+use cedar_grammar::reading::recovery::{Recovering, Way};
 use cedar_lexer::token::{Token, TokenKind};
+use cedar_policy_machine::policies::{Text, Whole};
+use cedar_policy_machine::policy::Begun;
+use cedar_policy_machine::sequence::Spanned;
 use cedar_syntax::cst::{Policies, Policy};
 use cedar_syntax::node::Node;
-use cedar_syntax::reading::driver::Entry;
-use cedar_syntax::reading::extent::Extent;
-use cedar_syntax::reading::place::node_at;
-use cedar_syntax::reading::recovery::{Recovering, Way};
 use std::alloc::{AllocError, Global};
 
 /// One policy that is read as a whole text.
@@ -83,7 +83,7 @@ impl Entry<Node<Option<Policies>>> for AllState {
 }
 
 impl Recovering for AllState {
-    ghost use Rattle.cedar_text.specs.machines.Policies.{begun_policy_way, text_closing, text_ending};
+    ghost use Rattle.cedar_policy_machine.specs.machines.Policies.{begun_policy_way, text_closing, text_ending};
     ghost use Rattle.cedar_text.specs.machines.PolicyParts.{of_text};
 
     ghost left = { λ s. begun_policy_way s.text.state.begun };

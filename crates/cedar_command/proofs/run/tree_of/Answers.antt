@@ -1,5 +1,5 @@
 use Rattle.std.proofs.Common.{inl, inr}
-use Rattle.cedar_syntax.specs.FirstFault.{IsMemory}
+use Rattle.cedar_syntax.specs.ParseErrors.{IsMemory}
 use Rattle.cedar_policy_parser.specs.Refused.{RefusesText}
 use Rattle.cedar_conversion.specs.Table.{table_of}
 use Rattle.cedar_command.proofs.Verdicts.{meant_by, read_only, refused_for_memory, err_on}

@@ -1,8 +1,8 @@
 use Rattle.std.proofs.Common.{inl}
 use Rattle.cedar_policy_store.specs.PlaceFree.{set_meaning}
-use Rattle.cedar_syntax.specs.Leftmost.{HasLeftmost}
-use Rattle.cedar_syntax.specs.LoosePolicies.{ReadsPolicies}
-use Rattle.cedar_syntax.proofs.machines.Driving.{passed_on}
+use Rattle.cedar_grammar.specs.Leftmost.{HasLeftmost}
+use Rattle.cedar_grammar.specs.LoosePolicies.{ReadsPolicies}
+use Rattle.cedar_grammar.proofs.machines.Driving.{passed_on}
 use Rattle.cedar_policy_parser.specs.Refused.{RefusesSet}
 use Rattle.cedar_conversion.specs.Table.{table_of}
 use Rattle.cedar_policy_parser.proofs.Parsed.{err_on}

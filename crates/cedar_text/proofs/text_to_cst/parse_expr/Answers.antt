@@ -1,9 +1,9 @@
-use Rattle.cedar_syntax.specs.LooseExpressions.{ReadsExpr}
+use Rattle.cedar_grammar.specs.LooseExpressions.{ReadsExpr}
 use Rattle.cedar_syntax.specs.UnlocatedTrees.{unlocated_expr}
 use Rattle.cedar_syntax.specs.Unplaced.{expr_tree}
-use Rattle.cedar_text.proofs.machines.WholeExpressions.{expressions_read}
-use Rattle.cedar_syntax.proofs.machines.Told.{follows, found_clause, only_clause, refused_clause, places_clause}
-use Rattle.cedar_syntax.proofs.ExpressionPlaces.{expr_places_lie}
+use Rattle.cedar_expression_machine.proofs.machines.WholeExpressions.{expressions_read}
+use Rattle.cedar_grammar.proofs.machines.Told.{follows, found_clause, only_clause, refused_clause, places_clause}
+use Rattle.cedar_grammar.proofs.ExpressionPlaces.{expr_places_lie}
 use Rattle.cedar_text.proofs.machines.PrintLaws.{printed_clause, expressions_printed}
 use Rattle.cedar_text.proofs.text_to_cst.parse_expr.Goals as goal
 

@@ -1,9 +1,9 @@
-use Rattle.cedar_syntax.specs.LooseWords.{ReadsIdent}
+use Rattle.cedar_grammar.specs.LooseWords.{ReadsIdent}
 use Rattle.cedar_syntax.specs.UnlocatedTrees.{unlocated_ident}
 use Rattle.cedar_syntax.specs.Unplaced.{ident_tree}
-use Rattle.cedar_text.proofs.machines.Entries.{idents_read}
-use Rattle.cedar_syntax.proofs.machines.Told.{follows, found_clause, only_clause, refused_clause, places_clause}
-use Rattle.cedar_syntax.proofs.WordPlaces.{ident_places_lie}
+use Rattle.cedar_expression_machine.proofs.machines.Entries.{idents_read}
+use Rattle.cedar_grammar.proofs.machines.Told.{follows, found_clause, only_clause, refused_clause, places_clause}
+use Rattle.cedar_grammar.proofs.WordPlaces.{ident_places_lie}
 use Rattle.cedar_text.proofs.machines.PrintLaws.{printed_clause, identifiers_printed}
 use Rattle.cedar_text.proofs.text_to_cst.parse_ident.Goals as goal
 

@@ -1,9 +1,9 @@
-use Rattle.cedar_syntax.specs.LooseWords.{ReadsName}
+use Rattle.cedar_grammar.specs.LooseWords.{ReadsName}
 use Rattle.cedar_syntax.specs.Unlocated.{unlocated_name}
 use Rattle.cedar_syntax.specs.Unplaced.{name_tree}
-use Rattle.cedar_text.proofs.machines.Entries.{names_read}
-use Rattle.cedar_syntax.proofs.machines.Told.{follows, found_clause, only_clause, refused_clause, places_clause}
-use Rattle.cedar_syntax.proofs.WordPlaces.{name_places_lie}
+use Rattle.cedar_expression_machine.proofs.machines.Entries.{names_read}
+use Rattle.cedar_grammar.proofs.machines.Told.{follows, found_clause, only_clause, refused_clause, places_clause}
+use Rattle.cedar_grammar.proofs.WordPlaces.{name_places_lie}
 use Rattle.cedar_text.proofs.machines.PrintLaws.{printed_clause, names_printed}
 use Rattle.cedar_text.proofs.text_to_cst.parse_name.Goals as goal
 

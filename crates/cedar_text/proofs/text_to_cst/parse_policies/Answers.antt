@@ -1,11 +1,11 @@
-use Rattle.cedar_syntax.specs.LoosePolicies.{ReadsPolicies}
+use Rattle.cedar_grammar.specs.LoosePolicies.{ReadsPolicies}
 use Rattle.cedar_syntax.specs.UnlocatedTrees.{unlocated_policies}
 use Rattle.cedar_syntax.specs.Unplaced.{policies_tree}
-use Rattle.cedar_syntax.specs.MendedFaults.{PoliciesBefore}
-use Rattle.cedar_text.proofs.machines.MendedClauses.{found_clause, only_clause, refused_clause, leftmost_clause}
+use Rattle.cedar_grammar.specs.MendedFaults.{PoliciesBefore}
+use Rattle.cedar_policy_machine.proofs.machines.MendedClauses.{found_clause, only_clause, refused_clause, leftmost_clause}
 use Rattle.cedar_text.proofs.machines.PolicyParts.{policies_mend}
-use Rattle.cedar_syntax.proofs.machines.Told.{places_clause}
-use Rattle.cedar_syntax.proofs.PolicyPlaces.{policies_places_lie}
+use Rattle.cedar_grammar.proofs.machines.Told.{places_clause}
+use Rattle.cedar_grammar.proofs.PolicyPlaces.{policies_places_lie}
 use Rattle.cedar_text.proofs.machines.PrintLaws.{printed_clause, policies_printed}
 use Rattle.cedar_text.proofs.text_to_cst.parse_policies.Goals as goal
 

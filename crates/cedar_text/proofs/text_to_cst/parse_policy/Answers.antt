@@ -1,11 +1,11 @@
-use Rattle.cedar_syntax.specs.LoosePolicies.{ReadsPolicy}
+use Rattle.cedar_grammar.specs.LoosePolicies.{ReadsPolicy}
 use Rattle.cedar_syntax.specs.UnlocatedTrees.{unlocated_policy}
 use Rattle.cedar_syntax.specs.Unplaced.{policy_tree}
-use Rattle.cedar_syntax.specs.MendedFaults.{NothingBefore}
-use Rattle.cedar_text.proofs.machines.MendedClauses.{found_clause, only_clause, refused_clause, leftmost_clause}
+use Rattle.cedar_grammar.specs.MendedFaults.{NothingBefore}
+use Rattle.cedar_policy_machine.proofs.machines.MendedClauses.{found_clause, only_clause, refused_clause, leftmost_clause}
 use Rattle.cedar_text.proofs.machines.PolicyParts.{policy_mends}
-use Rattle.cedar_syntax.proofs.machines.Told.{places_clause}
-use Rattle.cedar_syntax.proofs.PolicyPlaces.{policy_places_lie}
+use Rattle.cedar_grammar.proofs.machines.Told.{places_clause}
+use Rattle.cedar_grammar.proofs.PolicyPlaces.{policy_places_lie}
 use Rattle.cedar_text.proofs.machines.PrintLaws.{printed_clause, single_policies_printed}
 use Rattle.cedar_text.proofs.text_to_cst.parse_policy.Goals as goal
 

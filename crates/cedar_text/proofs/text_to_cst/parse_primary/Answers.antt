@@ -1,9 +1,9 @@
-use Rattle.cedar_syntax.specs.LooseExpressions.{ReadsPrimary}
+use Rattle.cedar_grammar.specs.LooseExpressions.{ReadsPrimary}
 use Rattle.cedar_syntax.specs.UnlocatedTrees.{unlocated_primary}
 use Rattle.cedar_syntax.specs.Unplaced.{primary_tree}
-use Rattle.cedar_text.proofs.machines.WholeExpressions.{primaries_read}
-use Rattle.cedar_syntax.proofs.machines.Told.{follows, found_clause, only_clause, refused_clause, places_clause}
-use Rattle.cedar_syntax.proofs.ExpressionPlaces.{primary_places_lie}
+use Rattle.cedar_expression_machine.proofs.machines.WholeExpressions.{primaries_read}
+use Rattle.cedar_grammar.proofs.machines.Told.{follows, found_clause, only_clause, refused_clause, places_clause}
+use Rattle.cedar_grammar.proofs.ExpressionPlaces.{primary_places_lie}
 use Rattle.cedar_text.proofs.machines.PrintLaws.{printed_clause, primaries_printed}
 use Rattle.cedar_text.proofs.text_to_cst.parse_primary.Goals as goal
 

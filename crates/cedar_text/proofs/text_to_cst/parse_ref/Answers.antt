@@ -1,9 +1,9 @@
-use Rattle.cedar_syntax.specs.LooseWords.{ReadsRef}
+use Rattle.cedar_grammar.specs.LooseWords.{ReadsRef}
 use Rattle.cedar_syntax.specs.Unlocated.{unlocated_ref}
 use Rattle.cedar_syntax.specs.Unplaced.{ref_tree}
-use Rattle.cedar_text.proofs.machines.Entries.{refs_read}
-use Rattle.cedar_syntax.proofs.machines.Told.{follows, found_clause, only_clause, refused_clause, places_clause}
-use Rattle.cedar_syntax.proofs.WordPlaces.{ref_places_lie}
+use Rattle.cedar_expression_machine.proofs.machines.Entries.{refs_read}
+use Rattle.cedar_grammar.proofs.machines.Told.{follows, found_clause, only_clause, refused_clause, places_clause}
+use Rattle.cedar_grammar.proofs.WordPlaces.{ref_places_lie}
 use Rattle.cedar_text.proofs.machines.PrintLaws.{printed_clause, entity_literals_printed}
 use Rattle.cedar_text.proofs.text_to_cst.parse_ref.Goals as goal
 

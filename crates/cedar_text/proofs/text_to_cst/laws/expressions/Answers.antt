@@ -1,9 +1,8 @@
-use Rattle.cedar_syntax.specs.machines.Door.{outline_machine}
-use Rattle.cedar_text.specs.declared.text_to_cst.expression.state.Wanted.TheVariants as form
-use Rattle.cedar_text.specs.machines.WholeExpressions.{state_shape, whole_outline, whole_expressions}
-use Rattle.cedar_text.specs.machines.WordShapes.{no_tree}
-use Rattle.cedar_text.proofs.machines.WholeExpressions.{expressions_read, whole_expressions_door, whole_expressions_shaped}
-use Rattle.cedar_syntax.proofs.machines.Told.{follows, one_tree, tree_or_fault, one_fault, not_both_of}
+use Rattle.cedar_grammar.specs.machines.Door.{outline_machine, no_tree}
+use Rattle.cedar_expression_machine.specs.declared.expression.state.Wanted.TheVariants as form
+use Rattle.cedar_expression_machine.specs.machines.WholeExpressions.{state_shape, whole_outline, whole_expressions}
+use Rattle.cedar_expression_machine.proofs.machines.WholeExpressions.{expressions_read, whole_expressions_door, whole_expressions_shaped}
+use Rattle.cedar_grammar.proofs.machines.Told.{follows, one_tree, tree_or_fault, one_fault, not_both_of}
 use Rattle.cedar_text.proofs.machines.GoesOn.{goes_on}
 use Rattle.cedar_text.proofs.machines.StandsInText.{stands}
 use Rattle.cedar_text.proofs.text_to_cst.laws.expressions.Goals as goal

@@ -1,4 +1,4 @@
-use Rattle.cedar_syntax.proofs.ExpressionPlaces.{expr_places_lie, primary_places_lie}
+use Rattle.cedar_grammar.proofs.ExpressionPlaces.{expr_places_lie, primary_places_lie}
 use Rattle.cedar_text.proofs.text_to_cst.laws.expressions_stand_in_texts.Goals as goal
 
 pub returns-clause-expressions : goal.returns-clause-expressions

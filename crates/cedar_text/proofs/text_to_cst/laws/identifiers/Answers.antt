@@ -1,11 +1,12 @@
-use Rattle.cedar_text.specs.machines.WordShapes.{no_tree, ident_shapes, ident_shape}
-use Rattle.cedar_text.specs.machines.Words.{idents}
-use Rattle.cedar_text.proofs.machines.Entries.{idents_read}
-use Rattle.cedar_syntax.proofs.machines.Told.{follows, one_tree, tree_or_fault, one_fault, not_both_of}
-use Rattle.cedar_text.proofs.machines.Names.{idents_door}
+use Rattle.cedar_grammar.specs.machines.Door.{no_tree}
+use Rattle.cedar_expression_machine.specs.machines.WordShapes.{ident_shapes, ident_shape}
+use Rattle.cedar_expression_machine.specs.machines.Words.{idents}
+use Rattle.cedar_expression_machine.proofs.machines.Entries.{idents_read}
+use Rattle.cedar_grammar.proofs.machines.Told.{follows, one_tree, tree_or_fault, one_fault, not_both_of}
+use Rattle.cedar_expression_machine.proofs.machines.Names.{idents_door}
 use Rattle.cedar_text.proofs.machines.GoesOn.{goes_on}
 use Rattle.cedar_text.proofs.machines.StandsInText.{stands}
-use Rattle.cedar_text.proofs.machines.WordShapes.{idents_shaped}
+use Rattle.cedar_expression_machine.proofs.machines.WordShapes.{idents_shaped}
 use Rattle.cedar_text.proofs.text_to_cst.laws.identifiers.Goals as goal
 
 pub returns-clause-one_tree : goal.returns-clause-one_tree

@@ -1,4 +1,4 @@
-use Rattle.cedar_text.proofs.machines.Leftmost.{one_leftmost}
+use Rattle.cedar_policy_machine.proofs.machines.Leftmost.{one_leftmost}
 use Rattle.cedar_text.proofs.text_to_cst.laws.leftmost_faults.Goals as goal
 
 pub returns : goal.returns

@@ -1,11 +1,12 @@
-use Rattle.cedar_text.specs.machines.WordShapes.{no_tree, name_shapes, path_shape}
-use Rattle.cedar_text.specs.machines.Words as words
-use Rattle.cedar_text.proofs.machines.Entries.{names_read}
-use Rattle.cedar_syntax.proofs.machines.Told.{follows, one_tree, tree_or_fault, one_fault, not_both_of}
-use Rattle.cedar_text.proofs.machines.Names.{names_door}
+use Rattle.cedar_grammar.specs.machines.Door.{no_tree}
+use Rattle.cedar_expression_machine.specs.machines.WordShapes.{name_shapes, path_shape}
+use Rattle.cedar_expression_machine.specs.machines.Words as words
+use Rattle.cedar_expression_machine.proofs.machines.Entries.{names_read}
+use Rattle.cedar_grammar.proofs.machines.Told.{follows, one_tree, tree_or_fault, one_fault, not_both_of}
+use Rattle.cedar_expression_machine.proofs.machines.Names.{names_door}
 use Rattle.cedar_text.proofs.machines.GoesOn.{goes_on}
 use Rattle.cedar_text.proofs.machines.StandsInText.{stands}
-use Rattle.cedar_text.proofs.machines.WordShapes.{names_shaped}
+use Rattle.cedar_expression_machine.proofs.machines.WordShapes.{names_shaped}
 use Rattle.cedar_text.proofs.text_to_cst.laws.names.Goals as goal
 
 pub returns-clause-one_tree : goal.returns-clause-one_tree

@@ -1,4 +1,4 @@
-use Rattle.cedar_syntax.proofs.PolicyPlaces.{policies_places_lie, policy_places_lie}
+use Rattle.cedar_grammar.proofs.PolicyPlaces.{policies_places_lie, policy_places_lie}
 use Rattle.cedar_text.proofs.text_to_cst.laws.policies_stand_in_texts.Goals as goal
 
 pub returns-clause-policies : goal.returns-clause-policies

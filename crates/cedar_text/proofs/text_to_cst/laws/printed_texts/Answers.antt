@@ -1,4 +1,4 @@
-use Rattle.cedar_syntax.proofs.again.Lines.{formatted_again}
+use Rattle.cedar_grammar.proofs.again.Lines.{formatted_again}
 use Rattle.cedar_text.proofs.machines.PrintLaws.{one_policies_tree, policies_printed, single_policies_printed, expressions_printed, primaries_printed, entity_literals_printed, names_printed, identifiers_printed}
 use Rattle.cedar_text.proofs.text_to_cst.laws.printed_texts.Goals as goal
 

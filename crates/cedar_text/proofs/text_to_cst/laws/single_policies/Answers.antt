@@ -1,12 +1,12 @@
-use Rattle.cedar_syntax.specs.MendedFaults.{NothingBefore}
-use Rattle.cedar_syntax.specs.machines.Door.{outline_machine}
-use Rattle.cedar_text.specs.machines.Policies.{one_policy_outline, one_policy_shape}
+use Rattle.cedar_grammar.specs.MendedFaults.{NothingBefore}
+use Rattle.cedar_grammar.specs.machines.Door.{outline_machine, no_tree}
+use Rattle.cedar_policy_machine.specs.machines.Policies.{one_policy_outline, one_policy_shape}
 use Rattle.cedar_text.specs.machines.PolicyParts.{policy_part_outlines, whole_policy}
-use Rattle.cedar_text.specs.machines.WholeExpressions.{state_shape}
-use Rattle.cedar_text.specs.machines.WordShapes.{no_tree, path_shape}
-use Rattle.cedar_text.proofs.machines.MendedClauses.{has_list, one_fault_list}
+use Rattle.cedar_expression_machine.specs.machines.WholeExpressions.{state_shape}
+use Rattle.cedar_expression_machine.specs.machines.WordShapes.{path_shape}
+use Rattle.cedar_policy_machine.proofs.machines.MendedClauses.{has_list, one_fault_list}
 use Rattle.cedar_text.proofs.machines.PolicyParts.{one_policy_read, policy_mends}
-use Rattle.cedar_syntax.proofs.machines.Told.{follows, one_tree, tree_or_fault, one_fault, not_both_of}
+use Rattle.cedar_grammar.proofs.machines.Told.{follows, one_tree, tree_or_fault, one_fault, not_both_of}
 use Rattle.cedar_text.proofs.machines.GoesOn.{goes_on}
 use Rattle.cedar_text.proofs.machines.StandsInText.{stands}
 use Rattle.cedar_text.proofs.text_to_cst.laws.single_policies.Goals as goal

@@ -1,5 +1,5 @@
-use Rattle.cedar_syntax.specs.LooseExpressions.{ReadsExpr, ReadsPrimary}
-use Rattle.cedar_syntax.specs.LoosePolicies.{ReadsPolicies, ReadsPolicy}
+use Rattle.cedar_grammar.specs.LooseExpressions.{ReadsExpr, ReadsPrimary}
+use Rattle.cedar_grammar.specs.LoosePolicies.{ReadsPolicies, ReadsPolicy}
 use Rattle.cedar_syntax.specs.Unplaced.{expr_tree, primary_tree, policy_tree, policies_tree}
 use Rattle.cedar_text.proofs.SpannedPolicies.{within, expr_within, primary_within, policy_within, policies_within}
 use Rattle.cedar_text.proofs.text_to_cst.laws.trees_nest_as_told.Goals as goal

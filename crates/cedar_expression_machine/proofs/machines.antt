@@ -1,0 +1,11 @@
+pub mod Entries
+pub mod Images
+pub mod Keeping
+pub mod Named
+pub mod Names
+pub mod WholeExpressions
+pub mod WordPlans
+pub mod WordShapes
+pub mod Words
+pub mod WordsDoor
+pub mod WordsSound

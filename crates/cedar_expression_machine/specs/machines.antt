@@ -1,0 +1,17 @@
+pub mod Closing
+pub mod ExpressionModes
+pub mod ExpressionOutline
+pub mod ExpressionPlans
+pub mod ExpressionShapes
+pub mod ExpressionStates
+pub mod Expressions
+pub mod Having
+pub mod Keeping
+pub mod Named
+pub mod NamedShapes
+pub mod OperandPlaces
+pub mod Wanting
+pub mod WholeExpressions
+pub mod WordShapes
+pub mod Words
+pub mod WordsRead

@@ -1,0 +1,43 @@
+-- The states of the machine of expressions.
+use Rattle.std.specs.Prelude.{ℕ, List, Option, Some, None}
+use Rattle.cedar_syntax.specs.declared.cst.Primary.{Primary}
+use Rattle.cedar_expression_machine.specs.declared.expression.state.Ranged.{Ranged}
+use Rattle.cedar_expression_machine.specs.declared.expression.state.Branch.{Branch}
+use Rattle.cedar_expression_machine.specs.declared.expression.state.Levels.{Levels}
+use Rattle.cedar_expression_machine.specs.declared.expression.state.Signs.{Signs}
+use Rattle.cedar_expression_machine.specs.declared.expression.state.Operand.{Operand}
+use Rattle.cedar_expression_machine.specs.declared.expression.state.Frame.{Frame}
+use Rattle.cedar_expression_machine.specs.declared.expression.state.Place.{Place}
+use Rattle.cedar_expression_machine.specs.declared.expression.state.Place.TheVariants as place
+use Rattle.cedar_expression_machine.specs.declared.expression.state.Mode.{Mode}
+use Rattle.cedar_expression_machine.specs.declared.expression.state.Mode.TheVariants as mode
+use Rattle.cedar_expression_machine.specs.declared.expression.state.State.{State}
+use Rattle.cedar_grammar.specs.declared.reading.extent.Extent.{Extent}
+use Rattle.cedar_grammar.specs.Place.{joint_extent}
+use Rattle.cedar_expression_machine.specs.machines.Closing.{fresh, no_signs, operand_of}
+
+-- states
+
+abbrev pub state : List Frame → Levels → Mode → State
+state st lv m = record { stack = st; levels = lv; mode = m }
+
+-- an operand is wanted, and nothing stands before it
+abbrev pub wants : Place → Mode
+wants p = mode.Want p no_signs
+
+-- an expression begins within these brackets and `if`s
+abbrev pub opening : List Frame → List Branch → Place → State
+opening st bs p = state st (fresh bs) (wants p)
+
+abbrev pub going_on : List Frame → Levels → State
+going_on st lv = state st lv (wants place.Operand)
+
+abbrev pub has_operand : List Frame → Levels → Operand → State
+has_operand st lv m = state st lv (mode.Have m None)
+
+abbrev pub has_primary : List ℕ → List Frame → Levels → Signs → Ranged Primary → State
+has_primary src st lv sg x = has_operand st lv (operand_of src sg x)
+
+-- from an open bracket to its end
+abbrev pub around : Extent → Extent → Option Extent
+around l m = joint_extent (Some l) (Some m)

@@ -1,0 +1,165 @@
+//! Accesses behind an operand: a field, a call, an index.
+ghost use Rattle.std.specs.Prelude.{◌≡◌, Some, OnOk};
+ghost use Rattle.cedar_lexer.specs.Token.{lexeme_of};
+ghost use Rattle.cedar_grammar.specs.declared.reading.class.Access.TheVariants as opens;
+ghost use Rattle.cedar_grammar.specs.declared.reading.class.Closing.TheVariants as closing;
+ghost use Rattle.cedar_grammar.specs.declared.reading.class.Operator.TheVariants as operators;
+ghost use Rattle.cedar_expression_machine.specs.declared.expression.state.Act.TheVariants as acts;
+ghost use Rattle.cedar_expression_machine.specs.machines.Closing.{with_access};
+ghost use Rattle.cedar_expression_machine.specs.machines.ExpressionModes.{HasOperand, followed};
+ghost use Rattle.cedar_expression_machine.specs.machines.Expressions.{expression_act};
+ghost use Rattle.cedar_expression_machine.specs.machines.Having.{call_more, index_ending};
+ghost use Rattle.cedar_expression_machine.specs.machines.Named.{named_reader};
+ghost use Rattle.cedar_expression_machine.specs.machines.Wanting.{call_closing};
+ghost use Rattle.cedar_expression_machine.specs.machines.WholeExpressions.{IsPlanned};
+
+use crate::expression::brackets::paren::around;
+use crate::expression::levels::begin::have;
+use crate::expression::state::{Call, Frame, Index, Mode, Operand, Place, Ranged, State};
+use crate::ground::Ground;
+use cedar_expressions::Items;
+use cedar_grammar::reading::extent::{Extent, joined};
+use cedar_grammar::reading::place::token_extent;
+use cedar_grammar::reading::put::put;
+use cedar_grammar::reading::tokens::ident_node;
+use cedar_lexer::token::Token;
+use cedar_syntax::cst::{Expr, MemAccess};
+use std::alloc::{AllocError, Global};
+
+impl Operand {
+    /// One access more.
+    #[inline(always)]
+    pub fn push(&mut self, ground: Ground<'_>, access: Ranged<MemAccess>) -> Result<(), AllocError>
+        ensures { OnOk result (self.new ≡ with_access ground.entry.source.now self.old access) }
+    {
+        self.extent = joined(self.extent, access.extent);
+        self.access.push(ground.node_of(access)?)
+    }
+}
+
+impl Call {
+    /// One argument more.
+    pub fn push(&mut self, ground: Ground<'_>, item: Ranged<Expr>) -> Result<(), AllocError>
+        ensures { OnOk result (self.new ≡ call_more ground.entry.source.now self.old item) }
+    {
+        self.items.push(ground.node_of(item)?)
+    }
+}
+
+impl State {
+    /// `.` behind an operand, which stays where it is.
+    pub fn begin_field(&mut self, opened: Extent)
+        requires { HasOperand self.old.mode }
+        ensures { (src : _) → Some self.new
+            ≡ followed src self.old (operators.Access opens.Dot) opened }
+    {
+        match &mut self.mode {
+            Mode::Have { dot, .. } => *dot = Some(opened),
+            Mode::Want { .. } | Mode::Word { .. } => unreachable!(),
+        }
+    }
+
+    /// `(` behind an operand.
+    #[inline(never)]
+    pub fn open_call(&mut self, alloc: Global, opened: Extent) -> Result<(), AllocError>
+        requires { HasOperand self.old.mode }
+        ensures { (src : _) → OnOk result (Some self.new
+            ≡ followed src self.old (operators.Access opens.Paren) opened) }
+    {
+        let operand = self.take_operand(Place::Item);
+        let outer = self.take_levels(alloc);
+        let items = Items::new(alloc);
+        self.stack.push(Frame::Call(Call {
+            outer,
+            operand,
+            opened,
+            items,
+        }))
+    }
+
+    /// `[` behind an operand.
+    #[inline(never)]
+    pub fn open_index(&mut self, alloc: Global, opened: Extent) -> Result<(), AllocError>
+        requires { HasOperand self.old.mode }
+        ensures { (src : _) → OnOk result (Some self.new
+            ≡ followed src self.old (operators.Access opens.Bracket) opened) }
+    {
+        let operand = self.take_operand(Place::Expr);
+        let outer = self.take_levels(alloc);
+        self.stack.push(Frame::Index(Index {
+            outer,
+            operand,
+            opened,
+        }))
+    }
+
+    /// `)` behind the arguments.
+    #[inline(never)]
+    pub fn close_call(
+        &mut self,
+        ground: Ground<'_>,
+        frame: Call,
+        end: Extent,
+    ) -> Result<(), AllocError>
+        ensures { OnOk result (self.new
+            ≡ call_closing ground.entry.source.now self.old.stack frame end) }
+    {
+        let Call {
+            outer,
+            mut operand,
+            opened,
+            items,
+        } = frame;
+        let tree = MemAccess::Call(items);
+        let extent = around(opened, end);
+        operand.push(ground, Ranged { tree, extent })?;
+        put(&mut self.levels, outer);
+        put(&mut self.mode, have(operand));
+        Ok(())
+    }
+
+    /// `]` behind the index.
+    #[inline(never)]
+    pub fn close_index(
+        &mut self,
+        ground: Ground<'_>,
+        frame: Index,
+        item: Ranged<Expr>,
+        end: Extent,
+    ) -> Result<(), AllocError>
+        ensures { OnOk result (Some self.new
+            ≡ index_ending ground.entry.source.now self.old.stack frame item closing.Bracket end) }
+    {
+        let Index {
+            outer,
+            mut operand,
+            opened,
+        } = frame;
+        let tree = MemAccess::Index(ground.node_of(item)?);
+        let extent = around(opened, end);
+        operand.push(ground, Ranged { tree, extent })?;
+        put(&mut self.levels, outer);
+        put(&mut self.mode, have(operand));
+        Ok(())
+    }
+
+    /// An identifier behind `.`: the operand takes it where it stays.
+    #[inline(never)]
+    pub fn read_field(&mut self, ground: Ground<'_>, token: &Token<'_>) -> Result<(), AllocError>
+        requires { IsPlanned self.old token.now.kind acts.Field }
+        ensures { OnOk result (Some self.new ≡ expression_act ground.entry.source.now named_reader
+            self.old acts.Field (lexeme_of token.now)) }
+    {
+        match &mut self.mode {
+            Mode::Have { operand, dot } => {
+                let extent = joined(*dot, Some(token_extent(token)));
+                let field = ident_node(ground.alloc, ground.source, token)?;
+                let tree = MemAccess::Field(field);
+                operand.push(ground, Ranged { tree, extent })?;
+                *dot = None;
+                Ok(())
+            }
+            Mode::Want { .. } | Mode::Word { .. } => unreachable!(),
+        }
+    }
+}

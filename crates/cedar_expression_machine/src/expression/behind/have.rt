@@ -1,0 +1,174 @@
+//! A token behind an operand. What a large part of the tree is made in is a function of its own:
+//! what happens at each token clears no room.
+ghost use Rattle.std.specs.Prelude.{◌≡◌, [], Some, None, IfOk, OnOk};
+ghost use Rattle.cedar_lexer.specs.Token.{lexeme_of};
+ghost use Rattle.cedar_grammar.specs.Place.{extent_of};
+ghost use Rattle.cedar_grammar.specs.declared.reading.class.Closing.TheVariants as closing;
+ghost use Rattle.cedar_grammar.specs.declared.reading.class.Operator.TheVariants as operators;
+ghost use Rattle.cedar_expression_machine.specs.declared.expression.state.Mode.TheVariants as mode;
+ghost use Rattle.cedar_expression_machine.specs.machines.Closing.{whole, node_of, fresh};
+ghost use Rattle.cedar_expression_machine.specs.machines.ExpressionModes.{HasOperand, IsFollowed, followed};
+ghost use Rattle.cedar_expression_machine.specs.machines.ExpressionStates.{state, wants};
+
+use crate::expression::state::{Frame, Mark, Place, Ranged, State};
+use crate::ground::Ground;
+use cedar_grammar::reading::class::{Access, Closing, Operator};
+use cedar_grammar::reading::extent::Extent;
+use cedar_grammar::reading::place::token_extent;
+use cedar_lexer::token::Token;
+use cedar_syntax::cst::Expr;
+use cedar_syntax::node::Node;
+use std::alloc::AllocError;
+
+impl State {
+    /// The expression that ends with the operand; behind what ends it, an operand may be wanted at
+    /// this place.
+    #[inline(never)]
+    pub fn close(&mut self, ground: Ground<'_>, place: Place) -> Result<Ranged<Expr>, AllocError>
+        requires { HasOperand self.old.mode }
+        ensures closed { IfOk result (λ item. (m : _) → self.old.mode ≡ mode.Have m None
+            → item ≡ whole ground.entry.source.now self.old.levels m) }
+        ensures after { OnOk result (self.new ≡ state self.old.stack (fresh []) (wants place)) }
+    {
+        let operand = self.take_operand(place);
+        self.levels.close(ground, operand)
+    }
+
+    /// The same as a node.
+    pub fn close_node(
+        &mut self,
+        ground: Ground<'_>,
+        place: Place,
+    ) -> Result<Node<Option<Expr>>, AllocError>
+        requires { HasOperand self.old.mode }
+        ensures closed { IfOk result (λ node. (m : _) → self.old.mode ≡ mode.Have m None
+            → node ≡ node_of ground.entry.source.now
+            (whole ground.entry.source.now self.old.levels m)) }
+        ensures after { OnOk result (self.new ≡ state self.old.stack (fresh []) (wants place)) }
+    {
+        let item = self.close(ground, place)?;
+        ground.node_of(item)
+    }
+
+    /// `,` behind an item: it is put where it stays, and the next is wanted.
+    #[inline(never)]
+    fn end_item(&mut self, ground: Ground<'_>) -> Result<(), AllocError>
+        requires { IsFollowed self.old (operators.Ends closing.Comma) }
+        ensures { (end : _) → OnOk result (Some self.new ≡ followed ground.entry.source.now
+            self.old (operators.Ends closing.Comma) end) }
+    {
+        let item = self.close(ground, Place::Item)?;
+        match self.stack.top_mut() {
+            Some(frame) => match frame {
+                Frame::Set(set) => set.push(ground, item),
+                Frame::Call(call) => call.push(ground, item),
+                Frame::Record(record) => {
+                    record.push(ground, item)?;
+                    self.want_again(Place::Key);
+                    Ok(())
+                }
+                Frame::Paren(_) | Frame::Index(_) | Frame::Guard(_) | Frame::Yes(_) => {
+                    unreachable!()
+                }
+            },
+            None => unreachable!(),
+        }
+    }
+
+    /// `)` behind an expression: it ends the parentheses, or the arguments of a call.
+    #[inline(never)]
+    fn end_by_paren(&mut self, ground: Ground<'_>, end: Extent) -> Result<(), AllocError>
+        requires { IsFollowed self.old (operators.Ends closing.Paren) }
+        ensures { OnOk result (Some self.new ≡ followed ground.entry.source.now self.old
+            (operators.Ends closing.Paren) end) }
+    {
+        let item = self.close(ground, Place::Operand)?;
+        match self.stack.pop() {
+            Some(Frame::Paren(frame)) => self.close_paren(ground, frame, item, end),
+            Some(Frame::Call(mut frame)) => {
+                frame.push(ground, item)?;
+                self.close_call(ground, frame, end)
+            }
+            Some(
+                Frame::Set(_)
+                | Frame::Index(_)
+                | Frame::Record(_)
+                | Frame::Guard(_)
+                | Frame::Yes(_),
+            )
+            | None => unreachable!(),
+        }
+    }
+
+    /// `]` behind an expression: it ends a set, or an index.
+    #[inline(never)]
+    fn end_by_bracket(&mut self, ground: Ground<'_>, end: Extent) -> Result<(), AllocError>
+        requires { IsFollowed self.old (operators.Ends closing.Bracket) }
+        ensures { OnOk result (Some self.new ≡ followed ground.entry.source.now self.old
+            (operators.Ends closing.Bracket) end) }
+    {
+        let item = self.close(ground, Place::Operand)?;
+        match self.stack.pop() {
+            Some(Frame::Set(mut frame)) => {
+                frame.push(ground, item)?;
+                self.close_set(ground, frame, end)
+            }
+            Some(Frame::Index(frame)) => self.close_index(ground, frame, item, end),
+            Some(
+                Frame::Paren(_)
+                | Frame::Call(_)
+                | Frame::Record(_)
+                | Frame::Guard(_)
+                | Frame::Yes(_),
+            )
+            | None => unreachable!(),
+        }
+    }
+
+    /// What ends an expression, behind its last operand.
+    fn end(&mut self, ground: Ground<'_>, mark: Mark<Closing>) -> Result<(), AllocError>
+        requires { IsFollowed self.old (operators.Ends mark.op) }
+        ensures { OnOk result (Some self.new ≡ followed ground.entry.source.now self.old
+            (operators.Ends mark.op) mark.extent) }
+    {
+        match mark.op {
+            Closing::Comma => self.end_item(ground),
+            Closing::Paren => self.end_by_paren(ground, mark.extent),
+            Closing::Bracket => self.end_by_bracket(ground, mark.extent),
+            Closing::Brace => self.end_value(ground, mark.extent),
+            Closing::Colon => self.end_key(ground, mark.extent),
+            Closing::Then => self.end_guard(ground, mark.extent),
+            Closing::Else => self.end_yes(ground, mark.extent),
+        }
+    }
+
+    /// A token of this class behind an operand.
+    pub fn follow(
+        &mut self,
+        ground: Ground<'_>,
+        operator: Operator,
+        token: &Token<'_>,
+    ) -> Result<(), AllocError>
+        requires { IsFollowed self.old operator }
+        ensures { OnOk result (Some self.new ≡ followed ground.entry.source.now self.old operator
+            (extent_of (lexeme_of token.now))) }
+    {
+        let extent = token_extent(token);
+        match operator {
+            Operator::Access(Access::Dot) => {
+                self.begin_field(extent);
+                Ok(())
+            }
+            Operator::Access(Access::Paren) => self.open_call(ground.alloc, extent),
+            Operator::Access(Access::Bracket) => self.open_index(ground.alloc, extent),
+            Operator::Multiply(op) => self.multiply(ground, Mark { op, extent }),
+            Operator::Sum(op) => self.sum(ground, Mark { op, extent }),
+            Operator::Compare(op) => self.compare(ground, Mark { op, extent }),
+            Operator::Side(op) => self.side(ground, Mark { op, extent }),
+            Operator::And => self.and_then(ground, extent),
+            Operator::Or => self.or_else(ground, extent),
+            Operator::Ends(op) => self.end(ground, Mark { op, extent }),
+            Operator::Other => unreachable!(),
+        }
+    }
+}

@@ -1,0 +1,203 @@
+//! Closes a relation with its last sum: the left side is taken out of its slot.
+ghost use Rattle.std.specs.Prelude.{◌≡◌, None, Some, IfOk, OnOk, IsSome};
+ghost use Rattle.cedar_expression_machine.specs.machines.Closing.{node_of, relation_with_sum};
+ghost use Rattle.cedar_expression_machine.specs.machines.ExpressionModes.{IsCommon, IsSided, IsWithin};
+
+use crate::expression::state::{Chain, Left, Levels, Pending, Ranged};
+use crate::ground::Ground;
+use cedar_expressions::{Boxed, Items};
+use cedar_grammar::reading::extent::joined;
+use cedar_syntax::cst::{Add, Relation};
+use cedar_syntax::node::Node;
+use std::alloc::AllocError;
+
+/// A tree as a node in memory of its own. It is of any type, so that the proof doesn't see what is
+/// dropped.
+fn boxed_node<T: Drop>(
+    ground: Ground<'_>,
+    item: Ranged<T>,
+) -> Result<Boxed<Node<Option<T>>>, AllocError>
+    ensures { IfOk result (λ boxed. boxed ≡ node_of ground.entry.source.now item) }
+{
+    Boxed::new(ground.alloc, ground.node_of(item)?)
+}
+
+/// A node and a tree behind it, each in memory of its own, of any types too.
+fn boxes<A: Drop, B: Drop>(
+    ground: Ground<'_>,
+    first: Node<Option<A>>,
+    second: Ranged<B>,
+) -> Result<(Boxed<Node<Option<A>>>, Boxed<Node<Option<B>>>), AllocError>
+    ensures { IfOk result (λ both. both ≡ (first, node_of ground.entry.source.now second)) }
+{
+    let second = boxed_node(ground, second)?;
+    let first = Boxed::new(ground.alloc, first)?;
+    Ok((first, second))
+}
+
+impl Levels {
+    /// The left side that is begun, taken out.
+    #[inline(always)]
+    fn take_left(&mut self) -> Left
+        requires { IsSome self.old.relation }
+        ensures left { self.old.relation ≡ Some result }
+        ensures after { self.new ≡ record self.old { relation = None } }
+    {
+        match self.relation.take() {
+            Some(left) => left.into_inner(),
+            None => unreachable!(),
+        }
+    }
+
+    /// Comparisons and their last sum.
+    #[inline(never)]
+    fn close_common(
+        &mut self,
+        ground: Ground<'_>,
+        item: Ranged<Add>,
+    ) -> Result<Ranged<Relation>, AllocError>
+        requires { IsCommon self.old.relation }
+        ensures closed { IfOk result (λ relation. relation
+            ≡ relation_with_sum ground.entry.source.now self.old.relation item) }
+        ensures after { OnOk result (self.new ≡ record self.old { relation = None }) }
+    {
+        let loc = ground.loc_at(item.extent)?;
+        match self.take_left() {
+            Left::Common(begun) => {
+                let Pending { chain, op } = begun;
+                let Chain {
+                    initial,
+                    mut extended,
+                    extent,
+                } = chain;
+                let node = Node {
+                    node: Some(item.tree),
+                    loc,
+                };
+                extended.push((op, node))?;
+                let extent = joined(extent, item.extent);
+                Ok(Ranged {
+                    tree: Relation::Common { initial, extended },
+                    extent,
+                })
+            }
+            _ => unreachable!(),
+        }
+    }
+
+    /// `has`, `like` or `is` and its right side.
+    #[inline(never)]
+    fn close_side(
+        &mut self,
+        ground: Ground<'_>,
+        item: Ranged<Add>,
+    ) -> Result<Ranged<Relation>, AllocError>
+        requires { IsSided self.old.relation }
+        ensures closed { IfOk result (λ relation. relation
+            ≡ relation_with_sum ground.entry.source.now self.old.relation item) }
+        ensures after { OnOk result (self.new ≡ record self.old { relation = None }) }
+    {
+        let item_extent = item.extent;
+        let right = boxed_node(ground, item)?;
+        let (tree, before) = match self.take_left() {
+            Left::Has(left) => (
+                Relation::Has {
+                    target: left.tree,
+                    field: right,
+                },
+                left.extent,
+            ),
+            Left::Like(left) => (
+                Relation::Like {
+                    target: left.tree,
+                    pattern: right,
+                },
+                left.extent,
+            ),
+            Left::Is(left) => (
+                Relation::IsIn {
+                    target: left.tree,
+                    entity_type: right,
+                    in_entity: None,
+                },
+                left.extent,
+            ),
+            Left::Common(_) | Left::IsIn { .. } => unreachable!(),
+        };
+        Ok(Ranged {
+            tree,
+            extent: joined(before, item_extent),
+        })
+    }
+
+    /// `is`, a type, and what is behind `in`.
+    #[inline(never)]
+    fn close_is_in(
+        &mut self,
+        ground: Ground<'_>,
+        item: Ranged<Add>,
+    ) -> Result<Ranged<Relation>, AllocError>
+        requires { IsWithin self.old.relation }
+        ensures closed { IfOk result (λ relation. relation
+            ≡ relation_with_sum ground.entry.source.now self.old.relation item) }
+        ensures after { OnOk result (self.new ≡ record self.old { relation = None }) }
+    {
+        match self.take_left() {
+            Left::IsIn {
+                target,
+                entity_type,
+                extent,
+            } => {
+                let extent = joined(extent, item.extent);
+                let (entity_type, entity) = boxes(ground, entity_type, item)?;
+                let tree = Relation::IsIn {
+                    target,
+                    entity_type,
+                    in_entity: Some(entity),
+                };
+                Ok(Ranged { tree, extent })
+            }
+            _ => unreachable!(),
+        }
+    }
+
+    /// A sum alone as a relation.
+    #[inline(never)]
+    fn close_first(ground: Ground<'_>, item: Ranged<Add>) -> Result<Ranged<Relation>, AllocError>
+        ensures { IfOk result (λ relation. relation ≡ relation_with_sum ground.entry.source.now
+            None item) }
+    {
+        let loc = ground.loc_at(item.extent)?;
+        let extent = item.extent;
+        let initial = Node {
+            node: Some(item.tree),
+            loc,
+        };
+        let extended = Items::new(ground.alloc);
+        Ok(Ranged {
+            tree: Relation::Common { initial, extended },
+            extent,
+        })
+    }
+
+    /// The relation that ends with this sum.
+    #[inline(always)]
+    pub fn relate(
+        &mut self,
+        ground: Ground<'_>,
+        item: Ranged<Add>,
+    ) -> Result<Ranged<Relation>, AllocError>
+        ensures closed { IfOk result (λ closed. closed
+            ≡ relation_with_sum ground.entry.source.now self.old.relation item) }
+        ensures after { OnOk result (self.new ≡ record self.old { relation = None }) }
+    {
+        match &self.relation {
+            None => Levels::close_first(ground, item),
+            Some(left) => match left.as_ref() {
+                Left::Common(_) => self.close_common(ground, item),
+                Left::Has(_) | Left::Like(_) | Left::Is(_) => self.close_side(ground, item),
+                Left::IsIn { .. } => self.close_is_in(ground, item),
+            },
+        }
+    }
+}

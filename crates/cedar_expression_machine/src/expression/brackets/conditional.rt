@@ -1,0 +1,63 @@
+//! `if`, `then` and `else`.
+ghost use Rattle.std.specs.Prelude.{◌≡◌, Some, OnOk};
+ghost use Rattle.cedar_grammar.specs.declared.reading.class.Closing.TheVariants as closing;
+ghost use Rattle.cedar_grammar.specs.declared.reading.class.Operator.TheVariants as operators;
+ghost use Rattle.cedar_expression_machine.specs.machines.ExpressionModes.{IsFollowed, followed};
+
+use crate::expression::state::{Branch, Frame, Guard, Place, State, Yes};
+use crate::ground::Ground;
+use cedar_grammar::reading::extent::{Extent, joined};
+use cedar_grammar::reading::put::put;
+use std::alloc::AllocError;
+
+impl State {
+    /// `then` behind the guard.
+    #[inline(never)]
+    pub fn end_guard(&mut self, ground: Ground<'_>, word: Extent) -> Result<(), AllocError>
+        requires { IsFollowed self.old (operators.Ends closing.Then) }
+        ensures { OnOk result (Some self.new ≡ followed ground.entry.source.now self.old
+            (operators.Ends closing.Then) word) }
+    {
+        let item = self.close(ground, Place::Expr)?;
+        match self.stack.pop() {
+            Some(Frame::Guard(Guard { branches, opened })) => {
+                let extent = joined(joined(opened, item.extent), Some(word));
+                let guard = ground.node_of(item)?;
+                self.stack.push(Frame::Yes(Yes {
+                    branches,
+                    guard,
+                    extent,
+                }))
+            }
+            _ => unreachable!(),
+        }
+    }
+
+    /// `else` behind the part for yes.
+    #[inline(never)]
+    pub fn end_yes(&mut self, ground: Ground<'_>, word: Extent) -> Result<(), AllocError>
+        requires { IsFollowed self.old (operators.Ends closing.Else) }
+        ensures { OnOk result (Some self.new ≡ followed ground.entry.source.now self.old
+            (operators.Ends closing.Else) word) }
+    {
+        let item = self.close(ground, Place::Expr)?;
+        match self.stack.pop() {
+            Some(
+                Frame::Yes(
+                    Yes {
+                        mut branches,
+                        guard,
+                        extent,
+                    },
+                ),
+            ) => {
+                let extent = joined(joined(extent, item.extent), Some(word));
+                let yes = ground.node_of(item)?;
+                branches.push(Branch { guard, yes, extent })?;
+                put(&mut self.levels.branches, branches);
+                Ok(())
+            }
+            _ => unreachable!(),
+        }
+    }
+}

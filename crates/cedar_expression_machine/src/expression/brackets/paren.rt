@@ -1,0 +1,63 @@
+//! An expression in parentheses.
+ghost use Rattle.std.specs.Prelude.{◌≡◌, Some, OnOk};
+ghost use Rattle.cedar_grammar.specs.declared.reading.class.Closing.TheVariants as closing;
+ghost use Rattle.cedar_expression_machine.specs.machines.ExpressionModes.{WantsOperand, mode_signs};
+ghost use Rattle.cedar_expression_machine.specs.machines.ExpressionStates.{around};
+ghost use Rattle.cedar_expression_machine.specs.machines.Having.{paren_ending};
+ghost use Rattle.cedar_expression_machine.specs.machines.Wanting.{paren_opening};
+
+use crate::expression::state::{Frame, Paren, Place, Ranged, State};
+use crate::ground::Ground;
+use cedar_grammar::reading::extent::{Extent, joined};
+use cedar_grammar::reading::put::put;
+use cedar_syntax::cst::{Expr, Primary};
+use std::alloc::{AllocError, Global};
+
+/// From an open bracket to its end.
+pub fn around(opened: Extent, end: Extent) -> Option<Extent>
+    ensures { result ≡ around opened end }
+{
+    joined(Some(opened), Some(end))
+}
+
+impl State {
+    /// `(` where an operand is wanted.
+    #[inline(never)]
+    pub fn open_paren(&mut self, alloc: Global, opened: Extent) -> Result<(), AllocError>
+        requires { WantsOperand self.old.mode }
+        ensures { OnOk result (self.new ≡ paren_opening self.old.stack self.old.levels
+            (mode_signs self.old.mode) opened) }
+    {
+        let signs = self.gap().signs;
+        self.want_again(Place::Expr);
+        let outer = self.take_levels(alloc);
+        self.stack.push(Frame::Paren(Paren {
+            outer,
+            signs,
+            opened,
+        }))
+    }
+
+    /// `)` behind the expression.
+    #[inline(never)]
+    pub fn close_paren(
+        &mut self,
+        ground: Ground<'_>,
+        frame: Paren,
+        item: Ranged<Expr>,
+        end: Extent,
+    ) -> Result<(), AllocError>
+        ensures { OnOk result (Some self.new
+            ≡ paren_ending ground.entry.source.now self.old.stack frame item closing.Paren end) }
+    {
+        let Paren {
+            outer,
+            signs,
+            opened,
+        } = frame;
+        let tree = Primary::Expr(ground.node_of(item)?);
+        let extent = around(opened, end);
+        put(&mut self.levels, outer);
+        self.have_primary(ground, signs, Ranged { tree, extent })
+    }
+}

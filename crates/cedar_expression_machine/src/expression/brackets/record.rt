@@ -1,0 +1,135 @@
+//! A record in braces: keys and values.
+ghost use Rattle.std.specs.Prelude.{◌≡◌, [], ◌∷◌, Some, IsSome, OnOk};
+ghost use Rattle.cedar_grammar.specs.declared.reading.class.Closing.TheVariants as closing;
+ghost use Rattle.cedar_grammar.specs.declared.reading.class.Operator.TheVariants as operators;
+ghost use Rattle.cedar_expression_machine.specs.declared.expression.state.Frame.TheVariants as frame;
+ghost use Rattle.cedar_expression_machine.specs.declared.expression.state.Place.TheVariants as place;
+ghost use Rattle.cedar_expression_machine.specs.machines.ExpressionModes.{HasRecord, IsFollowed, WantsOperand, followed, mode_signs};
+ghost use Rattle.cedar_expression_machine.specs.machines.ExpressionStates.{opening};
+ghost use Rattle.cedar_expression_machine.specs.machines.Having.{record_more, value_beginning};
+ghost use Rattle.cedar_expression_machine.specs.machines.Wanting.{record_opening, record_closing};
+
+use crate::expression::brackets::paren::around;
+use crate::expression::state::{Frame, Key, Place, Ranged, Record, State};
+use crate::ground::Ground;
+use cedar_expressions::Items;
+use cedar_grammar::reading::extent::{Extent, joined};
+use cedar_grammar::reading::put::put;
+use cedar_syntax::cst::{Expr, Primary, RecInit};
+use cedar_syntax::node::Node;
+use std::alloc::{AllocError, Global};
+
+impl Record {
+    /// The value of the pair that is begun: one pair more.
+    pub fn push(&mut self, ground: Ground<'_>, item: Ranged<Expr>) -> Result<(), AllocError>
+        requires { IsSome self.old.key }
+        ensures { (k : _) → self.old.key ≡ Some k
+            → OnOk result (self.new ≡ record_more ground.entry.source.now self.old k item) }
+    {
+        match self.key.take() {
+            Some(Key { node, extent }) => {
+                let extent = joined(extent, item.extent);
+                let pair = RecInit(node, ground.node_of(item)?);
+                self.items.push(ground.node_at(extent, pair)?)
+            }
+            None => unreachable!(),
+        }
+    }
+}
+
+impl State {
+    /// `{` where an operand is wanted.
+    #[inline(never)]
+    pub fn open_record(&mut self, alloc: Global, opened: Extent) -> Result<(), AllocError>
+        requires { WantsOperand self.old.mode }
+        ensures { OnOk result (self.new ≡ record_opening self.old.stack self.old.levels
+            (mode_signs self.old.mode) opened) }
+    {
+        let signs = self.gap().signs;
+        self.want_again(Place::Key);
+        let outer = self.take_levels(alloc);
+        let items = Items::new(alloc);
+        self.stack.push(Frame::Record(Record {
+            outer,
+            signs,
+            opened,
+            items,
+            key: None,
+        }))
+    }
+
+    /// `}` behind the pairs.
+    #[inline(never)]
+    pub fn close_record(
+        &mut self,
+        ground: Ground<'_>,
+        frame: Record,
+        end: Extent,
+    ) -> Result<(), AllocError>
+        ensures { OnOk result (self.new
+            ≡ record_closing ground.entry.source.now self.old.stack frame end) }
+    {
+        let Record {
+            outer,
+            signs,
+            opened,
+            items,
+            key: _,
+        } = frame;
+        let tree = Primary::RInits(items);
+        let extent = around(opened, end);
+        put(&mut self.levels, outer);
+        self.have_primary(ground, signs, Ranged { tree, extent })
+    }
+
+    /// A key and its colon are put into the record: the value begins.
+    pub fn begin_value(&mut self, key: Ranged<Node<Option<Expr>>>, colon: Extent)
+        requires record { HasRecord self.old.stack }
+        requires begun { self.old ≡ opening self.old.stack [] place.Expr }
+        ensures { (f : _) (st : _) → self.old.stack ≡ frame.Record f ∷ st
+            → self.new ≡ value_beginning st f key.tree key.extent colon }
+    {
+        let extent = joined(key.extent, Some(colon));
+        match self.stack.top_mut() {
+            Some(frame) => match frame {
+                Frame::Record(record) => {
+                    let node = key.tree;
+                    put(&mut record.key, Some(Key { node, extent }));
+                }
+                _ => unreachable!(),
+            },
+            None => unreachable!(),
+        }
+    }
+
+    /// `:` behind a key.
+    #[inline(never)]
+    pub fn end_key(&mut self, ground: Ground<'_>, colon: Extent) -> Result<(), AllocError>
+        requires { IsFollowed self.old (operators.Ends closing.Colon) }
+        ensures { OnOk result (Some self.new ≡ followed ground.entry.source.now self.old
+            (operators.Ends closing.Colon) colon) }
+    {
+        let item = self.close(ground, Place::Expr)?;
+        let extent = item.extent;
+        let tree = ground.node_of(item)?;
+        self.begin_value(Ranged { tree, extent }, colon);
+        Ok(())
+    }
+
+    /// `}` behind a value.
+    #[inline(never)]
+    pub fn end_value(&mut self, ground: Ground<'_>, end: Extent) -> Result<(), AllocError>
+        requires { IsFollowed self.old (operators.Ends closing.Brace) }
+        ensures { OnOk result (Some self.new ≡ followed ground.entry.source.now self.old
+            (operators.Ends closing.Brace) end) }
+    {
+        let item = self.close(ground, Place::Operand)?;
+        match self.stack.pop() {
+            Some(Frame::Record(mut frame)) => {
+                frame.push(ground, item)?;
+                self.close_record(ground, frame, end)
+            }
+            _ => unreachable!(),
+        }
+    }
+}

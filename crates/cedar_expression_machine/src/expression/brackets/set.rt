@@ -1,0 +1,67 @@
+//! A set in brackets.
+ghost use Rattle.std.specs.Prelude.{◌≡◌, OnOk};
+ghost use Rattle.cedar_expression_machine.specs.machines.ExpressionModes.{WantsOperand, mode_signs};
+ghost use Rattle.cedar_expression_machine.specs.machines.Having.{set_more};
+ghost use Rattle.cedar_expression_machine.specs.machines.Wanting.{set_opening, set_closing};
+
+use crate::expression::brackets::paren::around;
+use crate::expression::state::{Frame, Place, Ranged, Set, State};
+use crate::ground::Ground;
+use cedar_expressions::Items;
+use cedar_grammar::reading::extent::Extent;
+use cedar_grammar::reading::put::put;
+use cedar_syntax::cst::{Expr, Primary};
+use std::alloc::{AllocError, Global};
+
+impl Set {
+    /// One element more.
+    pub fn push(&mut self, ground: Ground<'_>, item: Ranged<Expr>) -> Result<(), AllocError>
+        ensures { OnOk result (self.new ≡ set_more ground.entry.source.now self.old item) }
+    {
+        self.items.push(ground.node_of(item)?)
+    }
+}
+
+impl State {
+    /// `[` where an operand is wanted.
+    #[inline(never)]
+    pub fn open_set(&mut self, alloc: Global, opened: Extent) -> Result<(), AllocError>
+        requires { WantsOperand self.old.mode }
+        ensures { OnOk result (self.new ≡ set_opening self.old.stack self.old.levels
+            (mode_signs self.old.mode) opened) }
+    {
+        let signs = self.gap().signs;
+        self.want_again(Place::Item);
+        let outer = self.take_levels(alloc);
+        let items = Items::new(alloc);
+        self.stack.push(Frame::Set(Set {
+            outer,
+            signs,
+            opened,
+            items,
+        }))
+    }
+
+    /// `]` behind the elements.
+    #[inline(never)]
+    pub fn close_set(
+        &mut self,
+        ground: Ground<'_>,
+        frame: Set,
+        end: Extent,
+    ) -> Result<(), AllocError>
+        ensures { OnOk result (self.new
+            ≡ set_closing ground.entry.source.now self.old.stack frame end) }
+    {
+        let Set {
+            outer,
+            signs,
+            opened,
+            items,
+        } = frame;
+        let tree = Primary::EList(items);
+        let extent = around(opened, end);
+        put(&mut self.levels, outer);
+        self.have_primary(ground, signs, Ranged { tree, extent })
+    }
+}

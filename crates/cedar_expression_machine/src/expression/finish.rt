@@ -1,0 +1,61 @@
+//! The tree at the end of the tokens.
+ghost use Rattle.std.specs.Prelude.{◌≡◌, Some, IfOk, OnOk, IsTrue};
+ghost use Rattle.cedar_expression_machine.specs.machines.ExpressionModes.{IsSettled};
+ghost use Rattle.cedar_expression_machine.specs.machines.WholeExpressions.{state_ends, whole_expression_reader, whole_primary_reader, whole_sum_reader};
+
+use crate::expression::state::{Mode, Place, State};
+use crate::ground::Ground;
+use cedar_syntax::cst::{Add, Expr, Primary};
+use cedar_syntax::node::Node;
+use std::alloc::AllocError;
+
+impl State {
+    /// Words that are begun at the end become the last operand.
+    fn settle_last(&mut self, ground: Ground<'_>) -> Result<(), AllocError>
+        requires { IsTrue (state_ends self.old) }
+        ensures { OnOk result (IsSettled ground.entry.source.now self.old self.new) }
+    {
+        match &self.mode {
+            Mode::Word { .. } => self.settle(ground),
+            Mode::Want { .. } | Mode::Have { .. } => Ok(()),
+        }
+    }
+
+    /// The expression that has ended. Nothing is said of the state behind it.
+    #[inline(never)]
+    pub fn finish_expr(&mut self, ground: Ground<'_>) -> Result<Node<Option<Expr>>, AllocError>
+        requires { IsTrue (state_ends self.old) }
+        ensures { IfOk result (λ tree. whole_expression_reader.finish ground.entry.source.now
+            self.old ≡ Some tree) }
+    {
+        self.settle_last(ground)?;
+        self.close_node(ground, Place::Operand)
+    }
+
+    /// The sum that has ended. Nothing is said of the state behind it.
+    #[inline(never)]
+    pub fn finish_sum(&mut self, ground: Ground<'_>) -> Result<Node<Option<Add>>, AllocError>
+        requires { IsTrue (state_ends self.old) }
+        ensures { IfOk result (λ tree. whole_sum_reader.finish ground.entry.source.now self.old
+            ≡ Some tree) }
+    {
+        self.settle_last(ground)?;
+        let operand = self.take_operand(Place::Operand);
+        let item = self.levels.close_add(ground, operand)?;
+        ground.node_of(item)
+    }
+
+    /// The primary that has ended. Nothing is said of the state behind it.
+    pub fn finish_primary(
+        &mut self,
+        ground: Ground<'_>,
+    ) -> Result<Node<Option<Primary>>, AllocError>
+        requires { IsTrue (state_ends self.old) }
+        ensures { IfOk result (λ tree. whole_primary_reader.finish ground.entry.source.now self.old
+            ≡ Some tree) }
+    {
+        self.settle_last(ground)?;
+        let operand = self.take_operand(Place::Operand);
+        Ok(operand.item)
+    }
+}

@@ -1,0 +1,205 @@
+//! An operand alone: the trees above it, of whose levels none is begun. Their places come first,
+//! since memory can be refused to them; behind the last, each tree is made of the one below it and
+//! nothing is dropped, so that the compiler makes them all where they stay.
+ghost use Rattle.std.specs.Prelude.{◌≡◌, [], Some, IfOk};
+ghost use Rattle.cedar_syntax.specs.Trees.{unary_of, member_of, mult_of, add_of, common_of, and_of, or_of};
+ghost use Rattle.cedar_expression_machine.specs.machines.Closing.{fresh, mult_at, add_at, relation_at, or_at, made_expr};
+ghost use Rattle.cedar_expression_machine.specs.machines.OperandPlaces.{places_of};
+
+use crate::expression::state::{Operand, Ranged};
+use crate::ground::Ground;
+use cedar_expressions::{Boxed, Items};
+use cedar_grammar::reading::extent::joined;
+use cedar_syntax::cst::{Add, And, Expr, ExprData, ExprImpl, Member, Mult, Or, Relation, Unary};
+use cedar_syntax::loc::Loc;
+use cedar_syntax::node::Node;
+use std::alloc::{AllocError, Global};
+
+/// The operand with its signs.
+#[inline(always)]
+fn unary_of(operand: Operand, loc: Option<Loc>) -> Unary
+    ensures { result ≡ unary_of operand.signs.op
+        record { node = Some (member_of operand.item operand.access); loc = loc } }
+{
+    let Operand {
+        signs,
+        item,
+        access,
+        extent: _,
+        is_if: _,
+    } = operand;
+    let node = Some(Member { item, access });
+    Unary {
+        op: signs.op,
+        item: Node { node, loc },
+    }
+}
+
+/// The product of one operand.
+#[inline(always)]
+fn mult_of(alloc: Global, unary: Unary, loc: Option<Loc>) -> Mult
+    ensures { result ≡ mult_of record { node = Some unary; loc = loc } [] }
+{
+    let node = Some(unary);
+    Mult {
+        initial: Node { node, loc },
+        extended: Items::new(alloc),
+    }
+}
+
+/// The sum of one product.
+#[inline(always)]
+fn add_of(alloc: Global, mult: Mult, loc: Option<Loc>) -> Add
+    ensures { result ≡ add_of record { node = Some mult; loc = loc } [] }
+{
+    let node = Some(mult);
+    Add {
+        initial: Node { node, loc },
+        extended: Items::new(alloc),
+    }
+}
+
+/// The relation that is one sum.
+#[inline(always)]
+pub fn common_of(alloc: Global, add: Add, loc: Option<Loc>) -> Relation
+    ensures { result ≡ common_of record { node = Some add; loc = loc } [] }
+{
+    let node = Some(add);
+    Relation::Common {
+        initial: Node { node, loc },
+        extended: Items::new(alloc),
+    }
+}
+
+/// The conjunction of one relation.
+#[inline(always)]
+fn and_of(alloc: Global, relation: Relation, loc: Option<Loc>) -> And
+    ensures { result ≡ and_of record { node = Some relation; loc = loc } [] }
+{
+    let node = Some(relation);
+    And {
+        initial: Node { node, loc },
+        extended: Items::new(alloc),
+    }
+}
+
+/// The disjunction of one conjunction.
+#[inline(always)]
+fn or_of(alloc: Global, and: And, loc: Option<Loc>) -> Or
+    ensures { result ≡ or_of record { node = Some and; loc = loc } [] }
+{
+    let node = Some(and);
+    Or {
+        initial: Node { node, loc },
+        extended: Items::new(alloc),
+    }
+}
+
+/// The places of the trees above an operand alone, up to its sum.
+#[derive(Drop)]
+pub struct Places {
+    of_member: Option<Loc>,
+    of_unary: Option<Loc>,
+    of_mult: Option<Loc>,
+}
+
+/// Where they stand.
+#[inline(always)]
+pub fn places_of(ground: Ground<'_>, operand: &Operand) -> Result<Places, AllocError>
+    ensures { IfOk result (λ places. places ≡ places_of ground.entry.source.now operand.now) }
+{
+    let extent = joined(operand.signs.extent, operand.extent);
+    let of_member = ground.loc_at(operand.extent)?;
+    let of_unary = ground.loc_at(extent)?;
+    let of_mult = ground.loc_at(extent)?;
+    Ok(Places {
+        of_member,
+        of_unary,
+        of_mult,
+    })
+}
+
+/// The product that is an operand alone, at these places.
+#[inline(always)]
+pub fn mult_at(alloc: Global, operand: Operand, places: Places) -> Mult
+    ensures { (src : _) → places ≡ places_of src operand
+        → result ≡ (mult_at src (fresh []) operand).tree }
+{
+    let unary = unary_of(operand, places.of_member);
+    mult_of(alloc, unary, places.of_unary)
+}
+
+/// The sum that is an operand alone, at these places.
+#[inline(always)]
+pub fn add_alone(alloc: Global, operand: Operand, places: Places) -> Add
+    ensures { (src : _) → places ≡ places_of src operand
+        → result ≡ (add_at src (fresh []) operand).tree }
+{
+    let unary = unary_of(operand, places.of_member);
+    let mult = mult_of(alloc, unary, places.of_unary);
+    add_of(alloc, mult, places.of_mult)
+}
+
+/// The sum that is this operand alone.
+#[inline(never)]
+pub fn alone_add(ground: Ground<'_>, operand: Operand) -> Result<Ranged<Add>, AllocError>
+    ensures { IfOk result (λ sum. sum ≡ add_at ground.entry.source.now (fresh []) operand) }
+{
+    let extent = joined(operand.signs.extent, operand.extent);
+    let of_member = ground.loc_at(operand.extent)?;
+    let of_unary = ground.loc_at(extent)?;
+    let of_mult = ground.loc_at(extent)?;
+    let unary = unary_of(operand, of_member);
+    let mult = mult_of(ground.alloc, unary, of_unary);
+    Ok(Ranged {
+        tree: add_of(ground.alloc, mult, of_mult),
+        extent,
+    })
+}
+
+/// The relation that is this operand alone.
+#[inline(never)]
+pub fn alone_relation(ground: Ground<'_>, operand: Operand) -> Result<Ranged<Relation>, AllocError>
+    ensures { IfOk result (λ relation. relation
+        ≡ relation_at ground.entry.source.now (fresh []) operand) }
+{
+    let extent = joined(operand.signs.extent, operand.extent);
+    let of_member = ground.loc_at(operand.extent)?;
+    let of_unary = ground.loc_at(extent)?;
+    let of_mult = ground.loc_at(extent)?;
+    let of_add = ground.loc_at(extent)?;
+    let unary = unary_of(operand, of_member);
+    let mult = mult_of(ground.alloc, unary, of_unary);
+    let add = add_of(ground.alloc, mult, of_mult);
+    Ok(Ranged {
+        tree: common_of(ground.alloc, add, of_add),
+        extent,
+    })
+}
+
+/// The expression that is this operand alone.
+#[inline(always)]
+pub fn alone_expr(ground: Ground<'_>, operand: Operand) -> Result<Ranged<Expr>, AllocError>
+    ensures { IfOk result (λ expr. expr ≡ made_expr ground.entry.source.now
+        (or_at ground.entry.source.now (fresh []) operand)) }
+{
+    let extent = joined(operand.signs.extent, operand.extent);
+    let of_member = ground.loc_at(operand.extent)?;
+    let of_unary = ground.loc_at(extent)?;
+    let of_mult = ground.loc_at(extent)?;
+    let of_add = ground.loc_at(extent)?;
+    let of_relation = ground.loc_at(extent)?;
+    let of_and = ground.loc_at(extent)?;
+    let loc = ground.loc_at(extent)?;
+    let unary = unary_of(operand, of_member);
+    let mult = mult_of(ground.alloc, unary, of_unary);
+    let add = add_of(ground.alloc, mult, of_mult);
+    let relation = common_of(ground.alloc, add, of_add);
+    let and = and_of(ground.alloc, relation, of_relation);
+    let node = Some(or_of(ground.alloc, and, of_and));
+    let expr = Boxed::new(ground.alloc, ExprData::Or(Node { node, loc }))?;
+    Ok(Ranged {
+        tree: Expr::Expr(ExprImpl { expr }),
+        extent,
+    })
+}

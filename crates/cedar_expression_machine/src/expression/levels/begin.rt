@@ -1,0 +1,157 @@
+//! What a state becomes where something begins.
+ghost use Rattle.std.specs.Prelude.{◌≡◌, [], None, IfOk, OnOk};
+ghost use Rattle.cedar_expression_machine.specs.declared.expression.state.Mode.TheVariants as mode;
+ghost use Rattle.cedar_expression_machine.specs.machines.Closing.{fresh, no_signs, operand_of};
+ghost use Rattle.cedar_expression_machine.specs.machines.ExpressionModes.{HasOperand, WantsOperand};
+ghost use Rattle.cedar_expression_machine.specs.machines.ExpressionStates.{state, wants, has_primary};
+
+use crate::expression::state::{Branch, Gap, Levels, Mode, Operand, Place, Ranged, Signs, State};
+use crate::ground::Ground;
+use cedar_expressions::Items;
+use cedar_grammar::reading::put::put;
+use cedar_grammar::reading::stack::Stack;
+use cedar_syntax::cst::Primary;
+use cedar_syntax::node::Node;
+use std::alloc::{AllocError, Global};
+use std::mem;
+
+/// Nothing but these `if`s is begun.
+pub fn fresh_levels(branches: Stack<Branch>) -> Levels
+    ensures { result ≡ fresh branches }
+{
+    Levels {
+        branches,
+        or: None,
+        and: None,
+        relation: None,
+        add: None,
+        mult: None,
+    }
+}
+
+/// No sign.
+pub fn no_signs() -> Signs
+    ensures { result ≡ no_signs }
+{
+    Signs {
+        op: None,
+        extent: None,
+    }
+}
+
+/// An operand is wanted, and nothing stands before it.
+pub fn want_at(place: Place) -> Mode
+    ensures { result ≡ wants place }
+{
+    Mode::Want {
+        place,
+        signs: no_signs(),
+    }
+}
+
+/// An operand that has no accesses yet.
+#[inline(always)]
+pub fn operand_of(
+    ground: Ground<'_>,
+    signs: Signs,
+    item: Ranged<Primary>,
+) -> Result<Operand, AllocError>
+    ensures { IfOk result (λ operand. operand ≡ operand_of ground.entry.source.now signs item) }
+{
+    let extent = item.extent;
+    Ok(Operand {
+        signs,
+        item: ground.node_of(item)?,
+        access: Items::new(ground.alloc),
+        extent,
+        is_if: false,
+    })
+}
+
+/// Behind this operand.
+pub fn have(operand: Operand) -> Mode
+    ensures { result ≡ mode.Have operand None }
+{
+    Mode::Have { operand, dot: None }
+}
+
+impl State {
+    /// The operand that has ended is taken out, and behind what stands there one is wanted at this
+    /// place.
+    #[inline(always)]
+    pub fn take_operand(&mut self, place: Place) -> Operand
+        requires { HasOperand self.old.mode }
+        ensures operand { self.old.mode ≡ mode.Have result None }
+        ensures after { self.new ≡ state self.old.stack self.old.levels (wants place) }
+    {
+        match mem::replace(&mut self.mode, want_at(place)) {
+            Mode::Have { operand, dot: _ } => operand,
+            Mode::Want { .. } | Mode::Word { .. } => unreachable!(),
+        }
+    }
+
+    /// Where an operand is wanted, and the signs before it.
+    #[inline(always)]
+    pub fn gap(&self) -> Gap
+        requires { WantsOperand self.now.mode }
+        ensures { self.now.mode ≡ mode.Want result.place result.signs }
+    {
+        match &self.mode {
+            Mode::Want { place, signs } => Gap {
+                place: *place,
+                signs: *signs,
+            },
+            Mode::Word { .. } | Mode::Have { .. } => unreachable!(),
+        }
+    }
+
+    /// An operand is wanted at this place, where one already was.
+    #[inline(always)]
+    pub fn want_again(&mut self, next: Place)
+        requires { WantsOperand self.old.mode }
+        ensures { self.new ≡ state self.old.stack self.old.levels (wants next) }
+    {
+        match &mut self.mode {
+            Mode::Want { place, signs } => {
+                *place = next;
+                *signs = no_signs();
+            }
+            Mode::Word { .. } | Mode::Have { .. } => unreachable!(),
+        }
+    }
+
+    /// The levels that are begun are taken out: nothing is begun inside of the bracket that opens.
+    #[inline(always)]
+    pub fn take_levels(&mut self, alloc: Global) -> Levels
+        ensures levels { result ≡ self.old.levels }
+        ensures after { self.new ≡ state self.old.stack (fresh []) self.old.mode }
+    {
+        mem::replace(&mut self.levels, fresh_levels(Stack::new(alloc)))
+    }
+
+    /// Behind an operand that has no accesses yet.
+    #[inline(always)]
+    pub fn have_primary(
+        &mut self,
+        ground: Ground<'_>,
+        signs: Signs,
+        item: Ranged<Primary>,
+    ) -> Result<(), AllocError>
+        ensures { OnOk result (self.new
+            ≡ has_primary ground.entry.source.now self.old.stack self.old.levels signs item) }
+    {
+        let loc = ground.loc_at(item.extent)?;
+        let operand = Operand {
+            signs,
+            extent: item.extent,
+            item: Node {
+                node: Some(item.tree),
+                loc,
+            },
+            access: Items::new(ground.alloc),
+            is_if: false,
+        };
+        put(&mut self.mode, have(operand));
+        Ok(())
+    }
+}

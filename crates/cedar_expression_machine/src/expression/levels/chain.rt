@@ -1,0 +1,273 @@
+//! One level of operators: its operands so far, and one more.
+ghost use Rattle.std.specs.Prelude.{◌≡◌, Some, None, IfOk, OnOk};
+ghost use Rattle.cedar_expression_machine.specs.machines.Closing.{begun_at, marked_chain, onward, pending, pending_with, plain_chain, plain_with};
+
+use crate::expression::state::{Chain, Mark, Pending, Ranged};
+use crate::ground::Ground;
+use cedar_expressions::{Boxed, Items};
+use cedar_grammar::reading::extent::{Extent, joined};
+use cedar_syntax::loc::Loc;
+use cedar_syntax::node::Node;
+use std::alloc::{AllocError, Global};
+
+impl<T: Drop, I: Drop> Chain<T, I> {
+    /// One operand alone, at this place.
+    #[inline(always)]
+    fn begin(alloc: Global, item: Ranged<T>, loc: Option<Loc>) -> Chain<T, I>
+        ensures { result ≡ begun_at item loc }
+    {
+        Chain {
+            extent: item.extent,
+            initial: Node {
+                node: Some(item.tree),
+                loc,
+            },
+            extended: Items::new(alloc),
+        }
+    }
+}
+
+impl<T: Drop, O: Drop + Copy> Pending<T, O> {
+    /// One more operand.
+    #[inline(always)]
+    fn link(&mut self, ground: Ground<'_>, item: Ranged<T>) -> Result<(), AllocError>
+        ensures chain { OnOk result (self.new.chain ≡ marked_chain ground.entry.source.now
+            (Some self.old) item) }
+    {
+        let loc = ground.loc_at(item.extent)?;
+        self.chain.extent = joined(self.chain.extent, item.extent);
+        let node = Node {
+            node: Some(item.tree),
+            loc,
+        };
+        self.chain.extended.push((self.op, node))
+    }
+
+    /// One more operand, and the operator behind it.
+    #[inline(always)]
+    pub fn push(
+        &mut self,
+        ground: Ground<'_>,
+        item: Ranged<T>,
+        mark: Mark<O>,
+    ) -> Result<(), AllocError>
+        ensures { OnOk result
+            (self.new ≡ pending (marked_chain ground.entry.source.now
+            (Some self.old) item) mark.op mark.extent) }
+    {
+        self.link(ground, item)?;
+        self.chain.extent = joined(self.chain.extent, Some(mark.extent));
+        self.op = mark.op;
+        Ok(())
+    }
+}
+
+/// One operand alone, and the operator behind it.
+#[inline(always)]
+pub fn begin_pending<T: Drop, O: Drop + Copy>(
+    alloc: Global,
+    item: Ranged<T>,
+    loc: Option<Loc>,
+    mark: Mark<O>,
+) -> Pending<T, O>
+    ensures { result ≡ pending (begun_at item loc) mark.op mark.extent }
+{
+    Pending {
+        op: mark.op,
+        chain: Chain {
+            extent: joined(item.extent, Some(mark.extent)),
+            initial: Node {
+                node: Some(item.tree),
+                loc,
+            },
+            extended: Items::new(alloc),
+        },
+    }
+}
+
+/// One more operand and the operator behind it, at a level that may not be begun.
+#[inline(always)]
+pub fn push_pending<T: Drop, O: Drop + Copy>(
+    ground: Ground<'_>,
+    slot: &mut Option<Boxed<Pending<T, O>>>,
+    item: Ranged<T>,
+    mark: Mark<O>,
+) -> Result<(), AllocError>
+    ensures { OnOk result
+        (slot.new ≡ Some (pending
+        (marked_chain ground.entry.source.now slot.old item) mark.op mark.extent)) }
+{
+    match slot {
+        Some(level) => level.as_mut().push(ground, item, mark),
+        None => {
+            let loc = ground.loc_at(item.extent)?;
+            let begun = begin_pending(ground.alloc, item, loc, mark);
+            *slot = Some(Boxed::new(ground.alloc, begun)?);
+            Ok(())
+        }
+    }
+}
+
+/// The level's chain with its last operand.
+#[inline(always)]
+pub fn close_pending<T: Drop, O: Drop + Copy>(
+    ground: Ground<'_>,
+    begun: &mut Option<Boxed<Pending<T, O>>>,
+    item: Ranged<T>,
+) -> Result<Chain<T, (O, Node<Option<T>>)>, AllocError>
+    ensures chain { IfOk result (λ chain. chain ≡ marked_chain ground.entry.source.now begun.old
+        item) }
+    ensures after { OnOk result (begun.new ≡ None) }
+{
+    match begun.take() {
+        Some(mut level) => {
+            level.as_mut().link(ground, item)?;
+            Ok(level.into_inner().chain)
+        }
+        None => {
+            let loc = ground.loc_at(item.extent)?;
+            Ok(Chain::begin(ground.alloc, item, loc))
+        }
+    }
+}
+
+impl<T: Drop> Chain<T, Node<Option<T>>> {
+    /// One more operand of a level that has one operator.
+    #[inline(always)]
+    fn link(&mut self, ground: Ground<'_>, item: Ranged<T>) -> Result<(), AllocError>
+        ensures { OnOk result (self.new ≡ plain_chain ground.entry.source.now (Some self.old)
+            item) }
+    {
+        let loc = ground.loc_at(item.extent)?;
+        self.extent = joined(self.extent, item.extent);
+        self.extended.push(Node {
+            node: Some(item.tree),
+            loc,
+        })
+    }
+
+    /// One more operand, and the operator behind it.
+    #[inline(always)]
+    fn push(
+        &mut self,
+        ground: Ground<'_>,
+        item: Ranged<T>,
+        operator: Extent,
+    ) -> Result<(), AllocError>
+        ensures { OnOk result
+            (self.new ≡ onward (plain_chain ground.entry.source.now (Some self.old) item)
+            operator) }
+    {
+        self.link(ground, item)?;
+        self.extent = joined(self.extent, Some(operator));
+        Ok(())
+    }
+}
+
+/// One more operand, a node already, and the operator behind it, at a level that may not be begun.
+#[inline(always)]
+pub fn push_plain_node<T: Drop>(
+    alloc: Global,
+    slot: &mut Option<Boxed<Chain<T, Node<Option<T>>>>>,
+    node: Node<Option<T>>,
+    extent: Option<Extent>,
+) -> Result<(), AllocError>
+    ensures { OnOk result (slot.new ≡ Some (plain_with slot.old node extent)) }
+{
+    match slot {
+        Some(level) => {
+            let chain = level.as_mut();
+            chain.extent = joined(chain.extent, extent);
+            chain.extended.push(node)
+        }
+        None => {
+            let chain = Chain {
+                initial: node,
+                extended: Items::new(alloc),
+                extent,
+            };
+            *slot = Some(Boxed::new(alloc, chain)?);
+            Ok(())
+        }
+    }
+}
+
+/// The same at a level of several operators.
+#[inline(always)]
+pub fn push_pending_node<T: Drop, O: Drop + Copy>(
+    alloc: Global,
+    slot: &mut Option<Boxed<Pending<T, O>>>,
+    node: Node<Option<T>>,
+    extent: Option<Extent>,
+    op: O,
+) -> Result<(), AllocError>
+    ensures { OnOk result (slot.new ≡ Some (pending_with slot.old node extent op)) }
+{
+    match slot {
+        Some(level) => {
+            let begun = level.as_mut();
+            begun.chain.extent = joined(begun.chain.extent, extent);
+            let before = begun.op;
+            begun.op = op;
+            begun.chain.extended.push((before, node))
+        }
+        None => {
+            let begun = Pending {
+                chain: Chain {
+                    initial: node,
+                    extended: Items::new(alloc),
+                    extent,
+                },
+                op,
+            };
+            *slot = Some(Boxed::new(alloc, begun)?);
+            Ok(())
+        }
+    }
+}
+
+/// The same as `push_pending` at a level of one operator.
+#[inline(always)]
+pub fn push_plain<T: Drop>(
+    ground: Ground<'_>,
+    slot: &mut Option<Boxed<Chain<T, Node<Option<T>>>>>,
+    item: Ranged<T>,
+    operator: Extent,
+) -> Result<(), AllocError>
+    ensures { OnOk result
+        (slot.new ≡ Some (onward (plain_chain ground.entry.source.now slot.old item) operator)) }
+{
+    match slot {
+        Some(level) => level.as_mut().push(ground, item, operator),
+        None => {
+            let loc = ground.loc_at(item.extent)?;
+            let mut chain = Chain::begin(ground.alloc, item, loc);
+            chain.extent = joined(chain.extent, Some(operator));
+            *slot = Some(Boxed::new(ground.alloc, chain)?);
+            Ok(())
+        }
+    }
+}
+
+/// The level's chain with its last operand.
+#[inline(always)]
+pub fn close_plain<T: Drop>(
+    ground: Ground<'_>,
+    begun: &mut Option<Boxed<Chain<T, Node<Option<T>>>>>,
+    item: Ranged<T>,
+) -> Result<Chain<T, Node<Option<T>>>, AllocError>
+    ensures chain { IfOk result (λ chain. chain ≡ plain_chain ground.entry.source.now begun.old
+        item) }
+    ensures after { OnOk result (begun.new ≡ None) }
+{
+    match begun.take() {
+        Some(mut level) => {
+            level.as_mut().link(ground, item)?;
+            Ok(level.into_inner())
+        }
+        None => {
+            let loc = ground.loc_at(item.extent)?;
+            Ok(Chain::begin(ground.alloc, item, loc))
+        }
+    }
+}

@@ -1,0 +1,252 @@
+//! What words are read as, once the token behind them is there.
+ghost use Rattle.std.specs.Prelude.{◌≡◌, [], ◌∷◌, Some, IfOk, OnOk};
+ghost use Rattle.cedar_lexer.specs.Token.{lexeme_of};
+ghost use Rattle.cedar_syntax.specs.Trees.{name_of};
+ghost use Rattle.cedar_grammar.specs.WrittenTokens.{IsWritten};
+ghost use Rattle.cedar_syntax.specs.declared.cst.Primary.TheVariants as primary;
+ghost use Rattle.cedar_grammar.specs.machines.Judged.{done_as};
+ghost use Rattle.cedar_expression_machine.specs.declared.expression.state.Act.TheVariants as acts;
+ghost use Rattle.cedar_expression_machine.specs.declared.expression.state.Frame.TheVariants as frame;
+ghost use Rattle.cedar_expression_machine.specs.declared.expression.state.Place.TheVariants as place;
+ghost use Rattle.cedar_expression_machine.specs.machines.Closing.{if_key, if_operand, if_primary, ranged_tree};
+ghost use Rattle.cedar_expression_machine.specs.machines.ExpressionModes.{HasEndedWords, settled, words_extent};
+ghost use Rattle.cedar_expression_machine.specs.machines.ExpressionStates.{has_operand, has_primary, opening};
+ghost use Rattle.cedar_expression_machine.specs.machines.Expressions.{expression_act, name_at, named_operand};
+ghost use Rattle.cedar_expression_machine.specs.machines.Named.{named_reader, words_tree};
+ghost use Rattle.cedar_expression_machine.specs.machines.Wanting.{literal_at};
+ghost use Rattle.cedar_expression_machine.specs.machines.WholeExpressions.{IsPlanned};
+ghost use Rattle.cedar_expression_machine.specs.machines.Words.{path_extent, word_node};
+
+use crate::expression::levels::begin::{fresh_levels, have, no_signs, operand_of, want_at};
+use crate::expression::operand::words::{self, alone_of, path_extent};
+use crate::expression::state::{Alone, Frame, Guard, Mode, Operand, Place, Ranged, Signs, State};
+use crate::ground::Ground;
+use crate::words::state::{Entity, Path, PathState, Words, WordsAct, WordsState};
+use cedar_expressions::Items;
+use cedar_grammar::reading::extent::Extent;
+use cedar_grammar::reading::place::token_extent;
+use cedar_grammar::reading::put::put;
+use cedar_grammar::reading::stack::Stack;
+use cedar_lexer::token::Token;
+use cedar_syntax::cst::{Expr, Ident, Literal, Name, Primary};
+use cedar_syntax::node::Node;
+use std::alloc::{AllocError, Global};
+use std::mem;
+
+/// An entity as an operand.
+pub fn ref_at(entity: Entity) -> Ranged<Primary>
+    ensures { result ≡ ranged_tree (Some entity.extent) (primary.Ref entity.node) }
+{
+    let Entity { node, extent } = entity;
+    Ranged {
+        tree: Primary::Ref(node),
+        extent: Some(extent),
+    }
+}
+
+/// The word `if` alone as a name.
+fn if_primary(ground: Ground<'_>, extent: Option<Extent>) -> Result<Ranged<Primary>, AllocError>
+    ensures { IfOk result (λ item. item ≡ if_primary ground.entry.source.now extent) }
+{
+    let name = ground.node_at(extent, Ident::If)?;
+    let path = Items::new(ground.alloc);
+    let tree = Primary::Name(ground.node_at(extent, Name { path, name })?);
+    Ok(Ranged { tree, extent })
+}
+
+/// The word `if` right of `has`.
+pub fn if_operand(ground: Ground<'_>, extent: Option<Extent>) -> Result<Operand, AllocError>
+    ensures { IfOk result (λ operand. operand ≡ if_operand ground.entry.source.now extent) }
+{
+    let item = if_primary(ground, extent)?;
+    Ok(Operand {
+        signs: no_signs(),
+        item: ground.node_of(item)?,
+        access: Items::new(ground.alloc),
+        extent,
+        is_if: true,
+    })
+}
+
+/// The word `if` as a key.
+fn if_key(ground: Ground<'_>, extent: Option<Extent>) -> Result<Node<Option<Expr>>, AllocError>
+    ensures { IfOk result (λ key. key ≡ if_key ground.entry.source.now extent) }
+{
+    let item = if_primary(ground, extent)?;
+    let operand = operand_of(ground, no_signs(), item)?;
+    let mut levels = fresh_levels(Stack::new(ground.alloc));
+    ground.node_of(levels.close(ground, operand)?)
+}
+
+impl State {
+    /// Words go on.
+    pub fn read_words(
+        &mut self,
+        ground: Ground<'_>,
+        act: WordsAct,
+        token: &Token<'_>,
+    ) -> Result<bool, AllocError>
+        requires written { IsWritten (lexeme_of token.now) }
+        requires is_planned { IsPlanned self.old token.now.kind (acts.Words act) }
+        ensures { IfOk result (λ fits. done_as fits self.new ≡ expression_act
+            ground.entry.source.now named_reader self.old (acts.Words act) (lexeme_of token.now)) }
+    {
+        match &mut self.mode {
+            Mode::Word { words, .. } => { words.act_words(ground.alloc, ground.source, act, token) }
+            Mode::Want { .. } | Mode::Have { .. } => unreachable!(),
+        }
+    }
+
+    /// `true` or `false`.
+    fn settle_bool(
+        &mut self,
+        ground: Ground<'_>,
+        signs: Signs,
+        extent: Option<Extent>,
+        literal: Literal,
+    ) -> Result<(), AllocError>
+        ensures { OnOk result (self.new ≡ has_primary ground.entry.source.now self.old.stack
+            self.old.levels signs (literal_at ground.entry.source.now extent literal)) }
+    {
+        let loc = ground.loc_at(extent)?;
+        let tree = Primary::Literal(Node {
+            node: Some(literal),
+            loc,
+        });
+        self.have_primary(ground, signs, Ranged { tree, extent })
+    }
+
+    /// A name.
+    fn settle_name(
+        &mut self,
+        ground: Ground<'_>,
+        signs: Signs,
+        path: Path,
+    ) -> Result<(), AllocError>
+        ensures { OnOk result (self.new ≡ has_primary ground.entry.source.now self.old.stack
+            self.old.levels signs (name_at ground.entry.source.now
+            (ranged_tree (Some (path_extent path))
+            (name_of path.before (word_node ground.entry.source.now path.last))))) }
+    {
+        let extent = Some(path_extent(&path));
+        let of_last = ground.loc_at(Some(path.last.extent))?;
+        let loc = ground.loc_at(extent)?;
+        let name = Name {
+            path: path.before,
+            name: Node {
+                node: Some(path.last.ident),
+                loc: of_last,
+            },
+        };
+        let tree = Primary::Name(Node {
+            node: Some(name),
+            loc,
+        });
+        self.have_primary(ground, signs, Ranged { tree, extent })
+    }
+
+    /// An entity.
+    fn settle_ref(
+        &mut self,
+        ground: Ground<'_>,
+        signs: Signs,
+        entity: Entity,
+    ) -> Result<(), AllocError>
+        ensures { OnOk result (self.new ≡ has_primary ground.entry.source.now self.old.stack
+            self.old.levels signs (ranged_tree (Some entity.extent) (primary.Ref entity.node))) }
+    {
+        self.have_primary(ground, signs, ref_at(entity))
+    }
+
+    /// The word `if` right of `has`.
+    fn settle_if(&mut self, ground: Ground<'_>, extent: Option<Extent>) -> Result<(), AllocError>
+        ensures { OnOk result (self.new ≡ has_operand self.old.stack self.old.levels
+            (if_operand ground.entry.source.now extent)) }
+    {
+        let operand = if_operand(ground, extent)?;
+        put(&mut self.mode, have(operand));
+        Ok(())
+    }
+
+    /// A path: what its one word is, or a name.
+    fn settle_path(
+        &mut self,
+        ground: Ground<'_>,
+        signs: Signs,
+        path: Path,
+    ) -> Result<(), AllocError>
+        ensures { OnOk result (self.new ≡ has_operand self.old.stack self.old.levels
+            (named_operand ground.entry.source.now signs
+            (words_tree ground.entry.source.now (Words.Path path)))) }
+    {
+        let extent = Some(path_extent(&path));
+        match alone_of(&path) {
+            Alone::True => self.settle_bool(ground, signs, extent, Literal::True),
+            Alone::False => self.settle_bool(ground, signs, extent, Literal::False),
+            Alone::If => self.settle_if(ground, extent),
+            Alone::Name => self.settle_name(ground, signs, path),
+        }
+    }
+
+    /// Words that have ended become the operand that they are.
+    #[inline(never)]
+    pub fn settle(&mut self, ground: Ground<'_>) -> Result<(), AllocError>
+        requires { HasEndedWords self.old.mode }
+        ensures { OnOk result (Some self.new ≡ settled ground.entry.source.now self.old) }
+    {
+        match &mut self.mode {
+            Mode::Word { signs, words, .. } => {
+                let signs = *signs;
+                match words::take(words) {
+                    Words::Path(path) => self.settle_path(ground, signs, path),
+                    Words::Entity(entity) => self.settle_ref(ground, signs, entity),
+                }
+            }
+            Mode::Want { .. } | Mode::Have { .. } => unreachable!(),
+        }
+    }
+
+    /// Words that have ended are the word `if`: a conditional begins, and its guard is wanted.
+    #[inline(never)]
+    pub fn open_guard(&mut self, alloc: Global) -> Result<(), AllocError>
+        ensures { OnOk result (self.new ≡ opening (frame.Guard record {
+          branches = self.old.levels.branches;
+          opened = words_extent self.old.mode;
+        } ∷ self.old.stack) [] place.Expr) }
+    {
+        let opened = self.words_extent();
+        let branches = mem::replace(&mut self.levels.branches, Stack::new(alloc));
+        self.stack.push(Frame::Guard(Guard { branches, opened }))?;
+        put(&mut self.levels, fresh_levels(Stack::new(alloc)));
+        put(&mut self.mode, want_at(Place::Expr));
+        Ok(())
+    }
+
+    /// The bytes of a path that has ended.
+    fn words_extent(&self) -> Option<Extent>
+        ensures { result ≡ words_extent self.now.mode }
+    {
+        match &self.mode {
+            Mode::Word {
+                words: WordsState::Path(PathState::Have(path)),
+                ..
+            } => { Some(path_extent(path)) }
+            _ => None,
+        }
+    }
+
+    /// `if` and a colon where a key is wanted.
+    #[inline(never)]
+    pub fn close_if_key(&mut self, ground: Ground<'_>, token: &Token<'_>) -> Result<(), AllocError>
+        requires { IsPlanned self.old token.now.kind acts.Key }
+        ensures { OnOk result (Some self.new ≡ expression_act ground.entry.source.now named_reader
+            self.old acts.Key (lexeme_of token.now)) }
+    {
+        let extent = self.words_extent();
+        let tree = if_key(ground, extent)?;
+        put(&mut self.levels, fresh_levels(Stack::new(ground.alloc)));
+        put(&mut self.mode, want_at(Place::Expr));
+        self.begin_value(Ranged { tree, extent }, token_extent(token));
+        Ok(())
+    }
+}

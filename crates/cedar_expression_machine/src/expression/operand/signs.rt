@@ -1,0 +1,26 @@
+//! Signs before an operand.
+ghost use Rattle.std.specs.Prelude.{◌≡◌, Some};
+ghost use Rattle.cedar_expression_machine.specs.machines.ExpressionModes.{MaySign, mode_signs};
+ghost use Rattle.cedar_expression_machine.specs.machines.Wanting.{sign_reading};
+
+use crate::expression::state::{Mode, Place, State};
+use cedar_grammar::reading::class::{Sign, signed};
+use cedar_grammar::reading::extent::{Extent, joined};
+
+impl State {
+    /// One sign more.
+    pub fn read_sign(&mut self, sign: Sign, extent: Extent)
+        requires { MaySign self.old.mode sign }
+        ensures { Some self.new ≡ sign_reading self.old.stack self.old.levels
+            (mode_signs self.old.mode) sign extent }
+    {
+        match &mut self.mode {
+            Mode::Want { place, signs } => {
+                *place = Place::Operand;
+                signs.op = signed(signs.op, sign);
+                signs.extent = joined(signs.extent, Some(extent));
+            }
+            Mode::Word { .. } | Mode::Have { .. } => unreachable!(),
+        }
+    }
+}

@@ -1,0 +1,33 @@
+//! Before the first token of an expression, a sum or a primary.
+ghost use Rattle.std.specs.Prelude.{◌≡◌, []};
+ghost use Rattle.cedar_expression_machine.specs.machines.ExpressionStates.{opening};
+ghost use Rattle.cedar_expression_machine.specs.machines.ExpressionShapes.{start_place};
+
+use crate::expression::levels::begin::{fresh_levels, want_at};
+use crate::expression::state::{Place, State, Wanted};
+use cedar_grammar::reading::stack::Stack;
+use std::alloc::Global;
+
+/// Where the first operand is wanted.
+fn start_place(wanted: Wanted) -> Place
+    ensures { result ≡ start_place wanted }
+{
+    match wanted {
+        Wanted::Expr => Place::Expr,
+        Wanted::Sum => Place::Operand,
+        Wanted::Primary => Place::Primary,
+    }
+}
+
+impl State {
+    /// Before the first token.
+    pub fn start(alloc: Global, wanted: Wanted) -> State
+        ensures { result ≡ opening [] [] (start_place wanted) }
+    {
+        State {
+            stack: Stack::new(alloc),
+            levels: fresh_levels(Stack::new(alloc)),
+            mode: want_at(start_place(wanted)),
+        }
+    }
+}

@@ -1,0 +1,61 @@
+//! One identifier as a whole text.
+
+use crate::words::nodes::{word_node, word_of};
+use crate::words::state::IdentState;
+use cedar_expressions::Source;
+use cedar_grammar::reading::driver::Entry;
+use cedar_grammar::reading::tokens::if_any;
+use cedar_lexer::token::{Token, TokenKind};
+use cedar_syntax::cst::Ident;
+use cedar_syntax::node::Node;
+use std::alloc::{AllocError, Global};
+use std::mem;
+
+impl Entry<Node<Option<Ident>>> for IdentState {
+    ghost use Rattle.cedar_expression_machine.specs.machines.Words.{ident_reader};
+
+    type Act = ();
+
+    ghost reader = { ident_reader };
+
+    fn start(alloc: Global) -> IdentState {
+        IdentState::Start
+    }
+
+    fn first(kind: TokenKind) -> Option<()> {
+        if_any(kind, ())
+    }
+
+    fn plan(&self, kind: TokenKind) -> Option<()> {
+        match self {
+            IdentState::Start => if_any(kind, ()),
+            IdentState::Have(_) => None,
+        }
+    }
+
+    fn ends(&self) -> bool {
+        matches!(self, IdentState::Have(_))
+    }
+
+    fn act(
+        &mut self,
+        alloc: Global,
+        source: &Source,
+        _act: (),
+        token: &Token<'_>,
+    ) -> Result<bool, AllocError> {
+        *self = IdentState::Have(word_of(alloc, token)?);
+        Ok(true)
+    }
+
+    fn finish(
+        &mut self,
+        alloc: Global,
+        source: &Source,
+    ) -> Result<Node<Option<Ident>>, AllocError> {
+        match mem::replace(self, IdentState::Start) {
+            IdentState::Start => unreachable!(),
+            IdentState::Have(word) => word_node(source, word),
+        }
+    }
+}

@@ -1,0 +1,10 @@
+pub mod ExpressionPlaces
+pub mod ExpressionTokens
+pub mod Lying
+pub mod Newest
+pub mod PolicyPlaces
+pub mod Quotes
+pub mod WordPlaces
+pub mod Written
+pub mod again
+pub mod machines

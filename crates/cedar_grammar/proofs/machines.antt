@@ -1,0 +1,14 @@
+pub mod ByActs
+pub mod Driving
+pub mod Ending
+pub mod Expected
+pub mod Extents
+pub mod Holding
+pub mod Laws
+pub mod Marked
+pub mod Mending
+pub mod Readers
+pub mod Rightly
+pub mod SingleTokens
+pub mod Skipping
+pub mod Told

@@ -1,0 +1,16 @@
+pub mod Expected
+pub mod FirstFault
+pub mod Formatted
+pub mod Grammar
+pub mod Leftmost
+pub mod LooseExpressions
+pub mod LoosePolicies
+pub mod LooseWords
+pub mod Mended
+pub mod MendedFaults
+pub mod Place
+pub mod PrintLaw
+pub mod SameWords
+pub mod Sentences
+pub mod WrittenTokens
+pub mod machines

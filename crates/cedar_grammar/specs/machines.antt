@@ -1,0 +1,9 @@
+pub mod Classes
+pub mod Door
+pub mod Judged
+pub mod Marks
+pub mod Mending
+pub mod Recovery
+pub mod SingleTokens
+pub mod Skipping
+pub mod Stacks

@@ -1,0 +1,96 @@
+-- The classes of tokens that Cedar's grammar of expressions tells apart, where an operand is
+-- wanted and behind one; and the signs before an operand.
+use Rattle.std.specs.Prelude.{◌+◌, [], Option, Some, None, cond, nat_lt}
+use Rattle.cedar_lexer.specs.declared.token.TokenKind.{TokenKind}
+use Rattle.cedar_lexer.specs.declared.token.TokenKind.TheVariants as kind
+use Rattle.cedar_expressions.specs.declared.operators.AddOp.TheVariants as sum
+use Rattle.cedar_syntax.specs.declared.cst.Ident.{Ident}
+use Rattle.cedar_syntax.specs.declared.cst.NegOp.{NegOp}
+use Rattle.cedar_syntax.specs.declared.cst.NegOp.TheVariants as neg
+use Rattle.cedar_syntax.specs.declared.cst.RelOp.TheVariants as rel
+use Rattle.cedar_syntax.specs.declared.cst.MultOp.TheVariants as product
+use Rattle.cedar_grammar.specs.declared.reading.class.Sign.{Sign}
+use Rattle.cedar_grammar.specs.declared.reading.class.Sign.TheVariants as sign
+use Rattle.cedar_grammar.specs.declared.reading.class.SlotToken.TheVariants as slot_token
+use Rattle.cedar_grammar.specs.declared.reading.class.Beginning.{Beginning}
+use Rattle.cedar_grammar.specs.declared.reading.class.Beginning.TheVariants as beginning
+use Rattle.cedar_grammar.specs.declared.reading.class.Closing.TheVariants as closing
+use Rattle.cedar_grammar.specs.declared.reading.class.Access.TheVariants as opens
+use Rattle.cedar_grammar.specs.declared.reading.class.Side.TheVariants as side
+use Rattle.cedar_grammar.specs.declared.reading.class.Operator.{Operator}
+use Rattle.cedar_grammar.specs.declared.reading.class.Operator.TheVariants as operator
+use Rattle.cedar_syntax.specs.Tokens.{any_of}
+use Rattle.cedar_syntax.specs.Signs.{sign_limit}
+
+-- what a mark is where an operand is wanted; whether a number fits is found where it is read
+abbrev pub mark_class : TokenKind → Beginning
+mark_class kind.Number = beginning.Number
+mark_class kind.StringLit = beginning.String
+mark_class kind.PrincipalSlot = beginning.Slot slot_token.Principal
+mark_class kind.ResourceSlot = beginning.Slot slot_token.Resource
+mark_class kind.OtherSlot = beginning.Slot slot_token.Other
+mark_class kind.Bang = beginning.Sign sign.Bang
+mark_class kind.Minus = beginning.Sign sign.Dash
+mark_class kind.OpenParen = beginning.Paren
+mark_class kind.OpenBracket = beginning.Bracket
+mark_class kind.OpenBrace = beginning.Brace
+mark_class kind.CloseParen = beginning.Ends closing.Paren
+mark_class kind.CloseBracket = beginning.Ends closing.Bracket
+mark_class kind.CloseBrace = beginning.Ends closing.Brace
+mark_class _ = beginning.Other
+
+-- a word of the language, too, is a word where an operand is wanted
+abbrev pub class_or_word : TokenKind → Option Ident → Beginning
+class_or_word k (Some i) = beginning.Word
+class_or_word k None = mark_class k
+
+-- what a token of this kind is where an operand is wanted
+abbrev pub beginning_of : TokenKind → Beginning
+beginning_of k = class_or_word k (any_of k [])
+
+-- what a token is behind an operand
+abbrev pub operator_of : TokenKind → Operator
+operator_of kind.Dot = operator.Access opens.Dot
+operator_of kind.OpenParen = operator.Access opens.Paren
+operator_of kind.OpenBracket = operator.Access opens.Bracket
+operator_of kind.Star = operator.Multiply product.Times
+operator_of kind.Slash = operator.Multiply product.Divide
+operator_of kind.Percent = operator.Multiply product.Mod
+operator_of kind.Plus = operator.Sum sum.Plus
+operator_of kind.Minus = operator.Sum sum.Minus
+operator_of kind.Less = operator.Compare rel.Less
+operator_of kind.LessEq = operator.Compare rel.LessEq
+operator_of kind.GreaterEq = operator.Compare rel.GreaterEq
+operator_of kind.Greater = operator.Compare rel.Greater
+operator_of kind.NotEq = operator.Compare rel.NotEq
+operator_of kind.EqEq = operator.Compare rel.Eq
+operator_of kind.In = operator.Compare rel.In
+operator_of kind.Eq = operator.Compare rel.InvalidSingleEq
+operator_of kind.Has = operator.Side side.Has
+operator_of kind.Like = operator.Side side.Like
+operator_of kind.Is = operator.Side side.Is
+operator_of kind.AndAnd = operator.And
+operator_of kind.OrOr = operator.Or
+operator_of kind.CloseParen = operator.Ends closing.Paren
+operator_of kind.CloseBracket = operator.Ends closing.Bracket
+operator_of kind.CloseBrace = operator.Ends closing.Brace
+operator_of kind.Comma = operator.Ends closing.Comma
+operator_of kind.Colon = operator.Ends closing.Colon
+operator_of kind.Then = operator.Ends closing.Then
+operator_of kind.Else = operator.Ends closing.Else
+operator_of _ = operator.Other
+
+-- one sign more: both kinds of sign never stand together
+abbrev pub with_sign : Option NegOp → Sign → Option NegOp
+with_sign None sign.Bang = Some (neg.Bang 1)
+with_sign None sign.Dash = Some (neg.Dash 1)
+with_sign (Some (neg.Bang n)) sign.Bang =
+    Some (cond (nat_lt n sign_limit) (neg.Bang (n + 1)) neg.OverBang)
+with_sign (Some (neg.Bang n)) sign.Dash = None
+with_sign (Some neg.OverBang) sign.Bang = Some neg.OverBang
+with_sign (Some neg.OverBang) sign.Dash = None
+with_sign (Some (neg.Dash n)) sign.Bang = None
+with_sign (Some (neg.Dash n)) sign.Dash =
+    Some (cond (nat_lt n sign_limit) (neg.Dash (n + 1)) neg.OverDash)
+with_sign (Some neg.OverDash) sign.Bang = None
+with_sign (Some neg.OverDash) sign.Dash = Some neg.OverDash

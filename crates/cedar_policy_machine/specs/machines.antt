@@ -1,0 +1,11 @@
+pub mod Annotation
+pub mod Condition
+pub mod Following
+pub mod PartOutlines
+pub mod Placing
+pub mod Policies
+pub mod Policy
+pub mod PolicyShapes
+pub mod Scope
+pub mod SequenceShapes
+pub mod Sequences

@@ -1,0 +1,172 @@
+//! An annotation: `@`, a key, and possibly a string in parentheses.
+ghost use Rattle.std.specs.Prelude.{◌≡◌, Some, None, cond, OnOk};
+ghost use Rattle.cedar_lexer.specs.Token.{lexeme_of};
+ghost use Rattle.cedar_lexer.specs.declared.token.TokenKind.TheVariants as kind;
+ghost use Rattle.cedar_grammar.specs.WrittenTokens.{Written};
+ghost use Rattle.cedar_policy_machine.specs.machines.Annotation.{annotation_shape, annotation_opening, annotation_filling, annotation_closing, has_key, wants_value, has_value};
+
+use cedar_expressions::Source;
+use cedar_grammar::reading::driver::Entry;
+use cedar_grammar::reading::put::{put, take_node};
+use cedar_grammar::reading::tokens::{ident_node, if_any, string_node};
+use cedar_lexer::token::{Token, TokenKind};
+use cedar_syntax::cst::{Annotation, Ident, Str};
+use cedar_syntax::node::Node;
+use std::alloc::{AllocError, Global};
+
+/// What has been read of an annotation.
+#[derive(Drop)]
+pub enum AnnotationState {
+    Start,
+    /// Behind `@`.
+    At,
+    Key(Node<Option<Ident>>),
+    /// Behind `(`.
+    Open(Node<Option<Ident>>),
+    Value(Node<Option<Ident>>, Node<Option<Str>>),
+    /// Behind `)`.
+    Closed(Node<Option<Ident>>, Node<Option<Str>>),
+}
+
+/// What is done with a token of an annotation.
+#[derive(Drop, Clone, Copy)]
+pub enum AnnotationAct {
+    /// `@`
+    Mark,
+    Key,
+    /// `(`
+    Open,
+    Value,
+    /// `)`
+    Close,
+}
+
+/// This act, where a token of this kind is this mark.
+pub fn if_mark<A: Drop>(is_mark: bool, act: A) -> Option<A>
+    ensures { result ≡ cond is_mark (Some act) None }
+{
+    if is_mark { Some(act) } else { None }
+}
+
+impl AnnotationState {
+    /// `(` behind the key.
+    fn open(&mut self)
+        requires { annotation_shape self.old ≡ has_key }
+        ensures { Some self.new ≡ annotation_opening self.old }
+    {
+        match self {
+            AnnotationState::Key(key) => {
+                let key = take_node(key);
+                put(self, AnnotationState::Open(key));
+            }
+            _ => unreachable!(),
+        }
+    }
+
+    /// The string behind `(`.
+    fn fill(&mut self, alloc: Global, source: &Source, token: &Token<'_>) -> Result<(), AllocError>
+        requires written { Written kind.StringLit token.now.text.now }
+        requires open { annotation_shape self.old ≡ wants_value }
+        ensures { OnOk result (Some self.new
+            ≡ annotation_filling source.now self.old (lexeme_of token.now)) }
+    {
+        match self {
+            AnnotationState::Open(key) => {
+                let value = string_node(alloc, source, token)?;
+                let key = take_node(key);
+                put(self, AnnotationState::Value(key, value));
+                Ok(())
+            }
+            _ => unreachable!(),
+        }
+    }
+
+    /// `)` behind the string.
+    fn close(&mut self)
+        requires { annotation_shape self.old ≡ has_value }
+        ensures { Some self.new ≡ annotation_closing self.old }
+    {
+        match self {
+            AnnotationState::Value(key, value) => {
+                let key = take_node(key);
+                let value = take_node(value);
+                put(self, AnnotationState::Closed(key, value));
+            }
+            _ => unreachable!(),
+        }
+    }
+}
+
+impl Entry<Annotation> for AnnotationState {
+    ghost use Rattle.cedar_policy_machine.specs.machines.Annotation.{annotation_reader};
+
+    type Act = AnnotationAct;
+
+    ghost reader = { annotation_reader };
+
+    fn start(_: Global) -> AnnotationState {
+        AnnotationState::Start
+    }
+
+    fn first(kind: TokenKind) -> Option<AnnotationAct> {
+        if_mark(matches!(kind, TokenKind::At), AnnotationAct::Mark)
+    }
+
+    fn plan(&self, kind: TokenKind) -> Option<AnnotationAct> {
+        match self {
+            AnnotationState::Start => AnnotationState::first(kind),
+            AnnotationState::At => if_any(kind, AnnotationAct::Key),
+            AnnotationState::Key(_) => {
+                if_mark(matches!(kind, TokenKind::OpenParen), AnnotationAct::Open)
+            }
+            AnnotationState::Open(_) => {
+                if_mark(matches!(kind, TokenKind::StringLit), AnnotationAct::Value)
+            }
+            AnnotationState::Value(_, _) => {
+                if_mark(matches!(kind, TokenKind::CloseParen), AnnotationAct::Close)
+            }
+            AnnotationState::Closed(_, _) => None,
+        }
+    }
+
+    fn ends(&self) -> bool {
+        matches!(
+            self,
+            AnnotationState::Key(_) | AnnotationState::Closed(_, _)
+        )
+    }
+
+    fn act(
+        &mut self,
+        alloc: Global,
+        source: &Source,
+        act: AnnotationAct,
+        token: &Token<'_>,
+    ) -> Result<bool, AllocError> {
+        match act {
+            AnnotationAct::Mark => put(self, AnnotationState::At),
+            AnnotationAct::Key => {
+                let key = ident_node(alloc, source, token)?;
+                put(self, AnnotationState::Key(key));
+            }
+            AnnotationAct::Open => self.open(),
+            AnnotationAct::Value => self.fill(alloc, source, token)?,
+            AnnotationAct::Close => self.close(),
+        }
+        Ok(true)
+    }
+
+    fn finish(&mut self, alloc: Global, source: &Source) -> Result<Annotation, AllocError> {
+        match self {
+            AnnotationState::Key(key) => Ok(Annotation {
+                key: take_node(key),
+                value: None,
+            }),
+            AnnotationState::Closed(key, value) => Ok(Annotation {
+                key: take_node(key),
+                value: Some(take_node(value)),
+            }),
+            _ => unreachable!(),
+        }
+    }
+}

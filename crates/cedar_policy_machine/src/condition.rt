@@ -1,0 +1,200 @@
+//! A condition: a word, and an expression in braces, or none.
+ghost use Rattle.std.specs.Prelude.{◌≡◌, Some, IfOk, OnOk};
+ghost use Rattle.cedar_lexer.specs.Token.{lexeme_of};
+ghost use Rattle.cedar_grammar.specs.WrittenTokens.{IsWritten};
+ghost use Rattle.cedar_grammar.specs.machines.Judged.{done_as};
+ghost use Rattle.cedar_policy_machine.specs.machines.Condition.{body_going, in_body, behind_body, IsBodyPlan, HasBody};
+
+use crate::annotation::if_mark;
+use cedar_expressions::Source;
+use cedar_grammar::reading::driver::Entry;
+use cedar_grammar::reading::put::{put, take_node};
+use cedar_grammar::reading::tokens::{ident_node, if_any};
+use cedar_lexer::token::{Token, TokenKind};
+use cedar_syntax::cst::{Cond, Expr, Ident};
+use cedar_syntax::node::Node;
+use std::alloc::{AllocError, Global};
+
+/// What stands behind the word of a condition, with the state `E` of the expression that is begun.
+#[derive(Drop)]
+pub enum ConditionPart<E> {
+    /// The word is to come.
+    Start,
+    /// Behind the word.
+    Word,
+    /// Behind `{`, before the first token of the expression.
+    Opened,
+    Body(E),
+    /// Behind `}`.
+    Closed(Option<Node<Option<Expr>>>),
+}
+
+/// What has been read of a condition.
+#[derive(Drop)]
+pub struct ConditionState<E> {
+    pub word: Node<Option<Ident>>,
+    pub part: ConditionPart<E>,
+}
+
+/// What is done with a token of a condition, whose body does `A` with one.
+#[derive(Drop, Clone, Copy)]
+pub enum ConditionAct<A> {
+    Word,
+    /// `{`
+    Open,
+    /// The first token of the body.
+    First(A),
+    Body(A),
+    /// `}` behind the body, or behind nothing.
+    Close,
+    CloseEmpty,
+}
+
+impl<E: Entry<Node<Option<Expr>>>> ConditionState<E> {
+    /// The first token in braces.
+    #[inline(never)]
+    fn enter(
+        &mut self,
+        alloc: Global,
+        source: &Source,
+        act: E::Act,
+        token: &Token<'_>,
+    ) -> Result<bool, AllocError>
+        requires written { IsWritten (lexeme_of token.now) }
+        requires is_planned { E.reader.plan E.reader.start token.now.kind ≡ Some act }
+        ensures { IfOk result (λ fits. done_as fits self.new
+            ≡ body_going self.old (E.reader.act source.now E.reader.start act
+            (lexeme_of token.now))) }
+    {
+        put(&mut self.part, ConditionPart::Body(E::start(alloc)));
+        self.go_on(alloc, source, act, token)
+    }
+
+    /// A token of the body.
+    #[inline(always)]
+    fn go_on(
+        &mut self,
+        alloc: Global,
+        source: &Source,
+        act: E::Act,
+        token: &Token<'_>,
+    ) -> Result<bool, AllocError>
+        requires written { IsWritten (lexeme_of token.now) }
+        requires is_planned { IsBodyPlan E.reader.plan self.old.part token.now.kind act }
+        ensures { IfOk result (λ fits. done_as fits self.new
+            ≡ in_body source.now E.reader self.old self.old.part act (lexeme_of token.now)) }
+    {
+        match &mut self.part {
+            ConditionPart::Body(held) => held.act(alloc, source, act, token),
+            _ => unreachable!(),
+        }
+    }
+
+    /// `}` behind the body, which has ended.
+    #[inline(never)]
+    fn close(&mut self, alloc: Global, source: &Source) -> Result<(), AllocError>
+        requires { HasBody E.reader.ends self.old.part }
+        ensures { OnOk result (Some self.new
+            ≡ behind_body source.now E.reader self.old self.old.part) }
+    {
+        match &mut self.part {
+            ConditionPart::Body(held) => {
+                let body = held.finish(alloc, source)?;
+                put(&mut self.part, ConditionPart::Closed(Some(body)));
+                Ok(())
+            }
+            _ => unreachable!(),
+        }
+    }
+}
+
+impl<E: Entry<Node<Option<Expr>>>> Entry<Cond> for ConditionState<E> {
+    ghost use Rattle.cedar_policy_machine.specs.machines.Condition.{condition_reader};
+
+    type Act = ConditionAct<E::Act>;
+
+    ghost reader = { condition_reader E.reader };
+
+    fn start(_: Global) -> ConditionState<E> {
+        ConditionState {
+            word: Node {
+                node: None,
+                loc: None,
+            },
+            part: ConditionPart::Start,
+        }
+    }
+
+    fn first(kind: TokenKind) -> Option<ConditionAct<E::Act>> {
+        if_any(kind, ConditionAct::Word)
+    }
+
+    fn plan(&self, kind: TokenKind) -> Option<ConditionAct<E::Act>> {
+        match &self.part {
+            ConditionPart::Body(held) => match held.plan(kind) {
+                Some(act) => Some(ConditionAct::Body(act)),
+                None => {
+                    let closes = matches!(kind, TokenKind::CloseBrace) && held.ends();
+                    if_mark(closes, ConditionAct::Close)
+                }
+            },
+            ConditionPart::Opened => match E::first(kind) {
+                Some(act) => Some(ConditionAct::First(act)),
+                None => if_mark(
+                    matches!(kind, TokenKind::CloseBrace),
+                    ConditionAct::CloseEmpty,
+                ),
+            },
+            ConditionPart::Start => if_any(kind, ConditionAct::Word),
+            ConditionPart::Word => {
+                if_mark(matches!(kind, TokenKind::OpenBrace), ConditionAct::Open)
+            }
+            ConditionPart::Closed(_) => None,
+        }
+    }
+
+    fn ends(&self) -> bool {
+        matches!(&self.part, ConditionPart::Closed(_))
+    }
+
+    #[inline(always)]
+    fn act(
+        &mut self,
+        alloc: Global,
+        source: &Source,
+        act: ConditionAct<E::Act>,
+        token: &Token<'_>,
+    ) -> Result<bool, AllocError> {
+        match act {
+            ConditionAct::Body(act) => self.go_on(alloc, source, act, token),
+            ConditionAct::First(act) => self.enter(alloc, source, act, token),
+            ConditionAct::Word => {
+                put(&mut self.word, ident_node(alloc, source, token)?);
+                put(&mut self.part, ConditionPart::Word);
+                Ok(true)
+            }
+            ConditionAct::Open => {
+                put(&mut self.part, ConditionPart::Opened);
+                Ok(true)
+            }
+            ConditionAct::Close => {
+                self.close(alloc, source)?;
+                Ok(true)
+            }
+            ConditionAct::CloseEmpty => {
+                put(&mut self.part, ConditionPart::Closed(None));
+                Ok(true)
+            }
+        }
+    }
+
+    fn finish(&mut self, alloc: Global, source: &Source) -> Result<Cond, AllocError> {
+        match &mut self.part {
+            ConditionPart::Closed(expr) => Ok(Cond {
+                cond: take_node(&mut self.word),
+                expr: expr.take(),
+            }),
+            _ => unreachable!(),
+        }
+    }
+}

@@ -1,0 +1,10 @@
+//! How policies are read and how a fault in them is left: the machines of their parts, over any
+//! machines that read the names, sums and expressions in them.
+#![tactic(auto)]
+
+pub mod annotation;
+pub mod condition;
+pub mod policies;
+pub mod policy;
+pub mod scope;
+pub mod sequence;

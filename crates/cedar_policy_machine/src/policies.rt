@@ -1,0 +1,233 @@
+//! One policy and policies, in which reading goes on behind a fault.
+ghost use Rattle.std.specs.Prelude.{◌≡◌};
+ghost use Rattle.cedar_policy_machine.specs.machines.Policies.{condition_way, begun_condition_way, policy_way, closed_condition, closed_policy};
+
+use crate::condition::{ConditionPart, ConditionState};
+use crate::policy::{Annotations, Begun, Conditions, PolicyState, Scope, Section};
+use crate::sequence::{Sequence, SequenceAct, Spanned};
+use cedar_expressions::{Items, Source};
+use cedar_grammar::reading::driver::Entry;
+use cedar_grammar::reading::put::put;
+use cedar_grammar::reading::recovery::{Recovering, Way};
+use cedar_lexer::token::{Token, TokenKind};
+use cedar_syntax::cst::{Add, Expr, Name, Policy};
+use cedar_syntax::node::Node;
+use std::alloc::{AllocError, Global};
+
+impl<E: Entry<Node<Option<Expr>>>> ConditionState<E> {
+    /// How a fault in it is left.
+    fn way(&self) -> Way
+        ensures { result ≡ condition_way self.now.part }
+    {
+        match &self.part {
+            ConditionPart::Opened | ConditionPart::Body(_) => Way::ToBrace,
+            ConditionPart::Start | ConditionPart::Word | ConditionPart::Closed(_) => Way::ToEnd,
+        }
+    }
+
+    /// Nothing stands in its braces.
+    fn shut(&mut self)
+        ensures { self.new ≡ closed_condition self.old }
+    {
+        match &self.part {
+            ConditionPart::Opened | ConditionPart::Body(_) => {
+                put(&mut self.part, ConditionPart::Closed(None));
+            }
+            ConditionPart::Start | ConditionPart::Word | ConditionPart::Closed(_) => {}
+        }
+    }
+}
+
+/// How a fault in a condition is left, where one may be begun.
+fn condition_way<E: Entry<Node<Option<Expr>>>>(begun: &Option<Spanned<ConditionState<E>>>) -> Way
+    ensures { result ≡ begun_condition_way begun.now }
+{
+    match begun {
+        Some(condition) => condition.state.way(),
+        None => Way::ToEnd,
+    }
+}
+
+impl<N, S, E> PolicyState<Annotations, Scope<N, S, E>, Conditions<E>>
+where
+    N: Entry<Node<Option<Name>>>,
+    S: Entry<Node<Option<Add>>>,
+    E: Entry<Node<Option<Expr>>>,
+{
+    /// How a fault in it is left; behind a whole policy, as is said.
+    fn way(&self, behind: Way) -> Way
+        ensures { result ≡ policy_way behind self.now }
+    {
+        match self.section {
+            Section::Conditions => condition_way(&self.conditions.begun),
+            Section::Closed => behind,
+            Section::Annotations | Section::Effect | Section::Scope => Way::ToEnd,
+        }
+    }
+
+    /// Nothing stands in the braces of the condition that is begun.
+    fn close(&mut self)
+        ensures { self.new ≡ closed_policy self.old }
+    {
+        match self.section {
+            Section::Conditions => {
+                if let Some(condition) = &mut self.conditions.begun {
+                    condition.state.shut();
+                }
+            }
+            Section::Annotations | Section::Effect | Section::Scope | Section::Closed => {}
+        }
+    }
+}
+
+impl<N, S, E> Recovering for Spanned<Begun<N, S, E>>
+where
+    N: Entry<Node<Option<Name>>>,
+    S: Entry<Node<Option<Add>>>,
+    E: Entry<Node<Option<Expr>>>,
+{
+    ghost use Rattle.cedar_grammar.specs.declared.reading.recovery.Way.TheVariants as way;
+    ghost use Rattle.cedar_policy_machine.specs.machines.Policies.{policy_way, policy_closing, policy_ending};
+
+    ghost left = { λ s. policy_way way.Stop s.state };
+
+    ghost closed = { λ s. policy_closing s };
+
+    ghost over = { λ s. policy_ending s };
+
+    fn way(&self) -> Way {
+        self.state.way(Way::Stop)
+    }
+
+    fn close(&mut self) {
+        self.state.close();
+    }
+
+    fn end(&mut self, alloc: Global) {
+        put(&mut self.state, PolicyState::unknown(alloc));
+    }
+}
+
+/// Policies that stand one behind the other.
+pub type Whole<N, S, E> = Sequence<Spanned<Begun<N, S, E>>, Node<Option<Policy>>>;
+
+/// What policies do with a token.
+type PoliciesAct<N, S, E> = SequenceAct<<Begun<N, S, E> as Entry<Policy>>::Act>;
+
+impl<N, S, E> Entry<Items<Node<Option<Policy>>>> for Whole<N, S, E>
+where
+    N: Entry<Node<Option<Name>>>,
+    S: Entry<Node<Option<Add>>>,
+    E: Entry<Node<Option<Expr>>>,
+{
+    ghost use Rattle.cedar_policy_machine.specs.machines.Policies.{all_policies_reader};
+    ghost use Rattle.cedar_policy_machine.specs.machines.Scope.{readers_of};
+
+    type Act = SequenceAct<<Begun<N, S, E> as Entry<Policy>>::Act>;
+
+    ghost reader = { all_policies_reader (readers_of N.reader S.reader E.reader) };
+
+    fn start(alloc: Global) -> Whole<N, S, E> {
+        Sequence::new(alloc)
+    }
+
+    fn first(kind: TokenKind) -> Option<PoliciesAct<N, S, E>> {
+        Whole::<N, S, E>::plan_item(kind)
+    }
+
+    fn plan(&self, kind: TokenKind) -> Option<PoliciesAct<N, S, E>> {
+        self.plan_many(kind)
+    }
+
+    fn ends(&self) -> bool {
+        match &self.begun {
+            Some(policy) => policy.ends(),
+            None => true,
+        }
+    }
+
+    #[inline(always)]
+    fn act(
+        &mut self,
+        alloc: Global,
+        source: &Source,
+        act: PoliciesAct<N, S, E>,
+        token: &Token<'_>,
+    ) -> Result<bool, AllocError> {
+        self.act_many(alloc, source, act, token)
+    }
+
+    fn finish(
+        &mut self,
+        alloc: Global,
+        source: &Source,
+    ) -> Result<Items<Node<Option<Policy>>>, AllocError> {
+        self.take(alloc, source)
+    }
+}
+
+impl<N, S, E> Recovering for Whole<N, S, E>
+where
+    N: Entry<Node<Option<Name>>>,
+    S: Entry<Node<Option<Add>>>,
+    E: Entry<Node<Option<Expr>>>,
+{
+    ghost use Rattle.cedar_policy_machine.specs.machines.Policies.{begun_policy_way, policies_closing, policies_ending};
+
+    ghost left = { λ s. begun_policy_way s.begun };
+
+    ghost closed = { λ s. policies_closing s.done s.begun };
+
+    ghost over = { λ s. policies_ending s.done };
+
+    fn way(&self) -> Way {
+        match &self.begun {
+            Some(policy) => policy.state.way(Way::ToEnd),
+            None => Way::ToEnd,
+        }
+    }
+
+    fn close(&mut self) {
+        if let Some(policy) = &mut self.begun {
+            policy.state.close();
+        }
+    }
+
+    fn end(&mut self, alloc: Global) {
+        let over = Spanned {
+            extent: None,
+            state: PolicyState::unknown(alloc),
+        };
+        put(&mut self.begun, Some(over));
+    }
+}
+
+/// Policies as a whole text.
+pub type Text<N, S, E> = Spanned<Whole<N, S, E>>;
+
+impl<N, S, E> Recovering for Text<N, S, E>
+where
+    N: Entry<Node<Option<Name>>>,
+    S: Entry<Node<Option<Add>>>,
+    E: Entry<Node<Option<Expr>>>,
+{
+    ghost use Rattle.cedar_policy_machine.specs.machines.Policies.{begun_policy_way, text_closing, text_ending};
+
+    ghost left = { λ s. begun_policy_way s.state.begun };
+
+    ghost closed = { λ s. text_closing s };
+
+    ghost over = { λ s. text_ending s };
+
+    fn way(&self) -> Way {
+        self.state.way()
+    }
+
+    fn close(&mut self) {
+        self.state.close();
+    }
+
+    fn end(&mut self, alloc: Global) {
+        self.state.end(alloc);
+    }
+}

@@ -1,0 +1,253 @@
+//! A policy: annotations, an effect, a scope in parentheses, conditions, and `;`.
+ghost use Rattle.std.specs.Prelude.{◌≡◌, Some, IsTrue, OnOk};
+ghost use Rattle.cedar_lexer.specs.Token.{lexeme_of};
+ghost use Rattle.cedar_policy_machine.specs.machines.Annotation.{any_node};
+ghost use Rattle.cedar_policy_machine.specs.machines.Policies.{sections, unknown_policy};
+ghost use Rattle.cedar_policy_machine.specs.machines.Policy.{is_word, effect_read};
+ghost use Rattle.cedar_policy_machine.specs.machines.Scope.{readers_of};
+
+use crate::annotation::{AnnotationAct, AnnotationState, if_mark};
+use crate::condition::{ConditionAct, ConditionState};
+use crate::scope::{ElementAct, ElementState};
+use crate::sequence::{Sequence, SequenceAct, Spanned};
+use cedar_expressions::{Items, Source};
+use cedar_grammar::reading::driver::Entry;
+use cedar_grammar::reading::put::{put, take_node};
+use cedar_grammar::reading::tokens::{ident_node, if_any};
+use cedar_lexer::token::{Token, TokenKind};
+use cedar_syntax::cst::{
+    Add, Annotation, Cond, Expr, Ident, Name, Policy, PolicyImpl, VariableDef,
+};
+use cedar_syntax::node::Node;
+use std::alloc::{AllocError, Global};
+use std::mem;
+
+/// The annotations of a policy.
+pub type Annotations = Sequence<Spanned<AnnotationState>, Node<Option<Annotation>>>;
+
+/// The elements of its scope.
+pub type Scope<N, S, E> = Sequence<Spanned<ElementState<N, S, E>>, Node<Option<VariableDef>>>;
+
+/// Its conditions.
+pub type Conditions<E> = Sequence<Spanned<ConditionState<E>>, Node<Option<Cond>>>;
+
+/// Where a policy stands.
+#[derive(Drop, Clone, Copy)]
+pub enum Section {
+    /// Annotations, or the effect, are to come.
+    Annotations,
+    /// Behind the effect.
+    Effect,
+    /// Behind `(`.
+    Scope,
+    /// Behind `)`.
+    Conditions,
+    /// Behind `;`.
+    Closed,
+}
+
+/// What has been read of a policy, each part where it stays: annotations `A`, elements `V` and
+/// conditions `C`.
+#[derive(Drop)]
+pub struct PolicyState<A, V, C> {
+    pub section: Section,
+    pub annotations: A,
+    pub effect: Node<Option<Ident>>,
+    pub scope: V,
+    pub conditions: C,
+}
+
+/// A policy that is begun.
+pub type Begun<N, S, E> = PolicyState<Annotations, Scope<N, S, E>, Conditions<E>>;
+
+/// What is done with a token of a policy, whose parts do `A`, `V` and `C` with one.
+#[derive(Drop, Clone, Copy)]
+pub enum PolicyAct<A, V, C> {
+    Annotation(A),
+    Effect,
+    /// `(`
+    Open,
+    Element(V),
+    /// `)`
+    Close,
+    Condition(C),
+    /// `;`
+    Shut,
+}
+
+impl<N, S, E> PolicyState<Annotations, Scope<N, S, E>, Conditions<E>>
+where
+    N: Entry<Node<Option<Name>>>,
+    S: Entry<Node<Option<Add>>>,
+    E: Entry<Node<Option<Expr>>>,
+{
+    /// A policy of which nothing is known.
+    pub fn unknown(alloc: Global) -> PolicyState<Annotations, Scope<N, S, E>, Conditions<E>>
+        ensures { result ≡ unknown_policy }
+    {
+        PolicyState {
+            section: Section::Closed,
+            annotations: Sequence::new(alloc),
+            effect: Node {
+                node: None,
+                loc: None,
+            },
+            scope: Sequence::new(alloc),
+            conditions: Sequence::new(alloc),
+        }
+    }
+
+    /// The effect behind the annotations.
+    #[inline(never)]
+    fn name(&mut self, alloc: Global, source: &Source, token: &Token<'_>) -> Result<(), AllocError>
+        requires ended { IsTrue (
+            (sections (readers_of N.reader S.reader E.reader)).annotations.ends
+            self.old.annotations) }
+        requires word { IsTrue (is_word token.now.kind) }
+        ensures { OnOk result (effect_read self.old
+            ((sections (readers_of N.reader S.reader E.reader)).annotations.finish source.now
+            self.old.annotations) (any_node source.now (lexeme_of token.now)) ≡ Some self.new) }
+    {
+        self.annotations.end_item(alloc, source)?;
+        put(&mut self.effect, ident_node(alloc, source, token)?);
+        self.section = Section::Effect;
+        Ok(())
+    }
+}
+
+impl<N, S, E> Entry<Policy> for PolicyState<Annotations, Scope<N, S, E>, Conditions<E>>
+where
+    N: Entry<Node<Option<Name>>>,
+    S: Entry<Node<Option<Add>>>,
+    E: Entry<Node<Option<Expr>>>,
+{
+    ghost use Rattle.cedar_policy_machine.specs.machines.Policies.{sections};
+    ghost use Rattle.cedar_policy_machine.specs.machines.Policy.{policy_reader};
+    ghost use Rattle.cedar_policy_machine.specs.machines.Scope.{readers_of};
+
+    type Act = PolicyAct<
+        SequenceAct<AnnotationAct>,
+        SequenceAct<ElementAct<N::Act, S::Act, E::Act>>,
+        SequenceAct<ConditionAct<E::Act>>,
+    >;
+
+    ghost reader = { policy_reader (sections (readers_of N.reader S.reader E.reader)) };
+
+    fn start(alloc: Global) -> PolicyState<Annotations, Scope<N, S, E>, Conditions<E>> {
+        PolicyState {
+            section: Section::Annotations,
+            annotations: Sequence::new(alloc),
+            effect: Node {
+                node: None,
+                loc: None,
+            },
+            scope: Sequence::new(alloc),
+            conditions: Sequence::new(alloc),
+        }
+    }
+
+    fn first(
+        kind: TokenKind,
+    ) -> Option<
+        PolicyAct<
+            SequenceAct<AnnotationAct>,
+            SequenceAct<ElementAct<N::Act, S::Act, E::Act>>,
+            SequenceAct<ConditionAct<E::Act>>,
+        >,
+    > {
+        match Annotations::plan_item(kind) {
+            Some(act) => Some(PolicyAct::Annotation(act)),
+            None => if_any(kind, PolicyAct::Effect),
+        }
+    }
+
+    fn plan(
+        &self,
+        kind: TokenKind,
+    ) -> Option<
+        PolicyAct<
+            SequenceAct<AnnotationAct>,
+            SequenceAct<ElementAct<N::Act, S::Act, E::Act>>,
+            SequenceAct<ConditionAct<E::Act>>,
+        >,
+    > {
+        match self.section {
+            Section::Conditions => match self.conditions.plan_many(kind) {
+                Some(act) => Some(PolicyAct::Condition(act)),
+                None => {
+                    let shuts = matches!(kind, TokenKind::Semicolon) && self.conditions.items_end();
+                    if_mark(shuts, PolicyAct::Shut)
+                }
+            },
+            Section::Scope => match self.scope.plan_listed(kind) {
+                Some(act) => Some(PolicyAct::Element(act)),
+                None => {
+                    let closes = matches!(kind, TokenKind::CloseParen) && self.scope.items_end();
+                    if_mark(closes, PolicyAct::Close)
+                }
+            },
+            Section::Annotations => match self.annotations.plan_many(kind) {
+                Some(act) => Some(PolicyAct::Annotation(act)),
+                None => {
+                    if self.annotations.items_end() {
+                        if_any(kind, PolicyAct::Effect)
+                    } else {
+                        None
+                    }
+                }
+            },
+            Section::Effect => if_mark(matches!(kind, TokenKind::OpenParen), PolicyAct::Open),
+            Section::Closed => None,
+        }
+    }
+
+    fn ends(&self) -> bool {
+        matches!(self.section, Section::Closed)
+    }
+
+    #[inline(always)]
+    fn act(
+        &mut self,
+        alloc: Global,
+        source: &Source,
+        act: PolicyAct<
+            SequenceAct<AnnotationAct>,
+            SequenceAct<ElementAct<N::Act, S::Act, E::Act>>,
+            SequenceAct<ConditionAct<E::Act>>,
+        >,
+        token: &Token<'_>,
+    ) -> Result<bool, AllocError> {
+        match act {
+            PolicyAct::Condition(act) => self.conditions.act_many(alloc, source, act, token),
+            PolicyAct::Element(act) => self.scope.act_many(alloc, source, act, token),
+            PolicyAct::Annotation(act) => self.annotations.act_many(alloc, source, act, token),
+            PolicyAct::Effect => {
+                self.name(alloc, source, token)?;
+                Ok(true)
+            }
+            PolicyAct::Open => {
+                self.section = Section::Scope;
+                Ok(true)
+            }
+            PolicyAct::Close => {
+                self.scope.end_item(alloc, source)?;
+                self.section = Section::Conditions;
+                Ok(true)
+            }
+            PolicyAct::Shut => {
+                self.conditions.end_item(alloc, source)?;
+                self.section = Section::Closed;
+                Ok(true)
+            }
+        }
+    }
+
+    fn finish(&mut self, alloc: Global, source: &Source) -> Result<Policy, AllocError> {
+        Ok(Policy::Policy(PolicyImpl {
+            annotations: mem::replace(&mut self.annotations.done, Items::new(alloc)),
+            effect: take_node(&mut self.effect),
+            variables: mem::replace(&mut self.scope.done, Items::new(alloc)),
+            conds: mem::replace(&mut self.conditions.done, Items::new(alloc)),
+        }))
+    }
+}

@@ -1,0 +1,281 @@
+//! An element of the scope: a variable, and possibly a type name, an entity type and a constraint.
+ghost use Rattle.std.specs.Prelude.{◌≡◌, Some, None, IfOk, OnOk, IsTrue};
+ghost use Rattle.cedar_syntax.specs.Trees.{variable_def_of};
+ghost use Rattle.cedar_policy_machine.specs.machines.Scope.{readers_of, reader_plans, with_part, compare_plan, narrow_plan, behind_part, sum_beginning, constraint_beginning, element_ends, element_finish, MayLeave};
+
+use cedar_expressions::Source;
+use cedar_grammar::reading::driver::Entry;
+use cedar_grammar::reading::mark::as_relation;
+use cedar_grammar::reading::put::{put, take_node};
+use cedar_grammar::reading::tokens::{ident_node, if_any};
+use cedar_lexer::token::{Token, TokenKind};
+use cedar_syntax::cst::{Add, Expr, Ident, Name, RelOp, VariableDef};
+use cedar_syntax::node::Node;
+use std::alloc::{AllocError, Global};
+
+/// The part of an element that is begun: a name `N`, a sum `S` or an expression `E`.
+#[derive(Drop)]
+pub enum ElementPart<N, S, E> {
+    /// The variable is to come.
+    Start,
+    /// The variable is there, and no part is begun.
+    Nothing,
+    /// Behind `:`.
+    TypeName(N),
+    /// Behind `is`.
+    EntityType(S),
+    /// Behind an operator.
+    Constraint(RelOp, E),
+}
+
+/// What has been read of an element, each where it stays, and the part that is begun.
+#[derive(Drop)]
+pub struct ElementState<N, S, E> {
+    pub variable: Node<Option<Ident>>,
+    pub unused_type_name: Option<Node<Option<Name>>>,
+    pub entity_type: Option<Node<Option<Add>>>,
+    pub part: ElementPart<N, S, E>,
+}
+
+/// What is done with a token of an element, whose parts do `N`, `S` and `E` with one.
+#[derive(Drop, Clone, Copy)]
+pub enum ElementAct<N, S, E> {
+    /// The variable.
+    Variable,
+    /// `:`
+    Colon,
+    TypeName(N),
+    /// `is`
+    Is,
+    EntityType(S),
+    /// An operator.
+    Compare(RelOp),
+    Constraint(E),
+}
+
+/// What is done with an operator.
+fn plan_compare<N: Drop, S: Drop, E: Drop>(kind: TokenKind) -> Option<ElementAct<N, S, E>>
+    ensures { result ≡ compare_plan kind }
+{
+    match as_relation(kind) {
+        Some(op) => Some(ElementAct::Compare(op)),
+        None => None,
+    }
+}
+
+/// What is done with `is`, or an operator.
+fn plan_narrow<N: Drop, S: Drop, E: Drop>(kind: TokenKind) -> Option<ElementAct<N, S, E>>
+    ensures { result ≡ narrow_plan kind }
+{
+    match kind {
+        TokenKind::Is => Some(ElementAct::Is),
+        _ => plan_compare(kind),
+    }
+}
+
+impl<N, S, E> ElementState<N, S, E>
+where
+    N: Entry<Node<Option<Name>>>,
+    S: Entry<Node<Option<Add>>>,
+    E: Entry<Node<Option<Expr>>>,
+{
+    /// A type name or an entity type that has ended is put where it stays.
+    #[inline(never)]
+    fn end_part(&mut self, alloc: Global, source: &Source) -> Result<(), AllocError>
+        requires { MayLeave (reader_plans (readers_of N.reader S.reader E.reader))
+            self.old.part }
+        ensures slots { OnOk result ((part : _) → with_part self.new part
+            ≡ behind_part source.now (readers_of N.reader S.reader E.reader) self.old
+            self.old.part part) }
+        ensures tree { OnOk result (element_finish (readers_of N.reader S.reader E.reader)
+            source.now self.old ≡ Some (variable_def_of self.new.variable
+            self.new.unused_type_name self.new.entity_type None)) }
+    {
+        match &mut self.part {
+            ElementPart::TypeName(held) => {
+                let name = held.finish(alloc, source)?;
+                put(&mut self.unused_type_name, Some(name));
+            }
+            ElementPart::EntityType(held) => {
+                let sum = held.finish(alloc, source)?;
+                put(&mut self.entity_type, Some(sum));
+            }
+            ElementPart::Nothing => {}
+            _ => unreachable!(),
+        }
+        Ok(())
+    }
+
+    /// Begins a part behind one that may have ended.
+    #[inline(never)]
+    fn begin_sum(&mut self, alloc: Global, source: &Source) -> Result<(), AllocError>
+        requires { MayLeave (reader_plans (readers_of N.reader S.reader E.reader))
+            self.old.part }
+        ensures { OnOk result (self.new ≡ sum_beginning source.now
+            (readers_of N.reader S.reader E.reader) self.old) }
+    {
+        self.end_part(alloc, source)?;
+        put(&mut self.part, ElementPart::EntityType(S::start(alloc)));
+        Ok(())
+    }
+
+    /// The same, of a constraint.
+    #[inline(never)]
+    fn begin_constraint(
+        &mut self,
+        alloc: Global,
+        source: &Source,
+        op: RelOp,
+    ) -> Result<(), AllocError>
+        requires { MayLeave (reader_plans (readers_of N.reader S.reader E.reader))
+            self.old.part }
+        ensures { OnOk result (self.new ≡ constraint_beginning source.now
+            (readers_of N.reader S.reader E.reader) self.old op) }
+    {
+        self.end_part(alloc, source)?;
+        put(&mut self.part, ElementPart::Constraint(op, E::start(alloc)));
+        Ok(())
+    }
+
+    /// What the constraint compares with, where one is begun, which has ended; another part ends.
+    fn end_constraint(
+        &mut self,
+        alloc: Global,
+        source: &Source,
+    ) -> Result<Option<(RelOp, Node<Option<Expr>>)>, AllocError>
+        requires { IsTrue (element_ends
+            (reader_plans (readers_of N.reader S.reader E.reader)) self.old.part) }
+        ensures { IfOk result (λ ineq. element_finish (readers_of N.reader S.reader E.reader)
+            source.now self.old ≡ Some (variable_def_of self.new.variable
+            self.new.unused_type_name self.new.entity_type ineq)) }
+    {
+        match &mut self.part {
+            ElementPart::Constraint(op, held) => {
+                let right = held.finish(alloc, source)?;
+                Ok(Some((*op, right)))
+            }
+            _ => {
+                self.end_part(alloc, source)?;
+                Ok(None)
+            }
+        }
+    }
+}
+
+impl<N, S, E> Entry<VariableDef> for ElementState<N, S, E>
+where
+    N: Entry<Node<Option<Name>>>,
+    S: Entry<Node<Option<Add>>>,
+    E: Entry<Node<Option<Expr>>>,
+{
+    ghost use Rattle.cedar_policy_machine.specs.machines.Scope.{readers_of, element_reader};
+
+    type Act = ElementAct<N::Act, S::Act, E::Act>;
+
+    ghost reader = { element_reader (readers_of N.reader S.reader E.reader) };
+
+    fn start(_: Global) -> ElementState<N, S, E> {
+        ElementState {
+            variable: Node {
+                node: None,
+                loc: None,
+            },
+            unused_type_name: None,
+            entity_type: None,
+            part: ElementPart::Start,
+        }
+    }
+
+    fn first(kind: TokenKind) -> Option<ElementAct<N::Act, S::Act, E::Act>> {
+        if_any(kind, ElementAct::Variable)
+    }
+
+    fn plan(&self, kind: TokenKind) -> Option<ElementAct<N::Act, S::Act, E::Act>> {
+        match &self.part {
+            ElementPart::Start => if_any(kind, ElementAct::Variable),
+            ElementPart::Nothing => match kind {
+                TokenKind::Colon => Some(ElementAct::Colon),
+                _ => plan_narrow(kind),
+            },
+            ElementPart::TypeName(held) => match held.plan(kind) {
+                Some(act) => Some(ElementAct::TypeName(act)),
+                None => { if held.ends() { plan_narrow(kind) } else { None } }
+            },
+            ElementPart::EntityType(held) => match held.plan(kind) {
+                Some(act) => Some(ElementAct::EntityType(act)),
+                None => {
+                    if held.ends() {
+                        plan_compare(kind)
+                    } else {
+                        None
+                    }
+                }
+            },
+            ElementPart::Constraint(_, held) => match held.plan(kind) {
+                Some(act) => Some(ElementAct::Constraint(act)),
+                None => None,
+            },
+        }
+    }
+
+    fn ends(&self) -> bool {
+        match &self.part {
+            ElementPart::Start => false,
+            ElementPart::Nothing => true,
+            ElementPart::TypeName(held) => held.ends(),
+            ElementPart::EntityType(held) => held.ends(),
+            ElementPart::Constraint(_, held) => held.ends(),
+        }
+    }
+
+    fn act(
+        &mut self,
+        alloc: Global,
+        source: &Source,
+        act: ElementAct<N::Act, S::Act, E::Act>,
+        token: &Token<'_>,
+    ) -> Result<bool, AllocError> {
+        match act {
+            ElementAct::Constraint(act) => match &mut self.part {
+                ElementPart::Constraint(_, held) => held.act(alloc, source, act, token),
+                _ => unreachable!(),
+            },
+            ElementAct::EntityType(act) => match &mut self.part {
+                ElementPart::EntityType(held) => held.act(alloc, source, act, token),
+                _ => unreachable!(),
+            },
+            ElementAct::TypeName(act) => match &mut self.part {
+                ElementPart::TypeName(held) => held.act(alloc, source, act, token),
+                _ => unreachable!(),
+            },
+            ElementAct::Variable => {
+                put(&mut self.variable, ident_node(alloc, source, token)?);
+                put(&mut self.part, ElementPart::Nothing);
+                Ok(true)
+            }
+            ElementAct::Colon => {
+                put(&mut self.part, ElementPart::TypeName(N::start(alloc)));
+                Ok(true)
+            }
+            ElementAct::Is => {
+                self.begin_sum(alloc, source)?;
+                Ok(true)
+            }
+            ElementAct::Compare(op) => {
+                self.begin_constraint(alloc, source, op)?;
+                Ok(true)
+            }
+        }
+    }
+
+    #[inline(always)]
+    fn finish(&mut self, alloc: Global, source: &Source) -> Result<VariableDef, AllocError> {
+        let ineq = self.end_constraint(alloc, source)?;
+        Ok(VariableDef {
+            variable: take_node(&mut self.variable),
+            unused_type_name: self.unused_type_name.take(),
+            entity_type: self.entity_type.take(),
+            ineq,
+        })
+    }
+}

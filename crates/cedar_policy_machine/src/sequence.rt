@@ -1,0 +1,259 @@
+//! Forms that are begun, and what stands before them.
+ghost use Rattle.std.specs.Prelude.{◌≡◌, [], Some, None, IfOk, OnOk, IsTrue};
+ghost use Rattle.cedar_lexer.specs.Token.{lexeme_of};
+ghost use Rattle.cedar_grammar.specs.WrittenTokens.{IsWritten};
+ghost use Rattle.cedar_grammar.specs.machines.Door.{option_image};
+ghost use Rattle.cedar_grammar.specs.machines.Judged.{done_as};
+ghost use Rattle.cedar_policy_machine.specs.machines.Sequences.{sequence, many_plan, list_plan, sequence_ends, sequence_end, item_begun, item_going, items_ended, sequence_act, IsItemPlan, IsSequencePlan};
+
+use cedar_expressions::{Items, Source};
+use cedar_grammar::reading::driver::Entry;
+use cedar_grammar::reading::extent::{Extent, joined};
+use cedar_grammar::reading::place::{loc_at, token_extent};
+use cedar_lexer::token::{Token, TokenKind};
+use cedar_syntax::node::Node;
+use std::alloc::{AllocError, Global};
+use std::mem;
+
+/// A form that is begun, and the bytes of its tokens so far.
+#[derive(Drop)]
+pub struct Spanned<S> {
+    pub extent: Option<Extent>,
+    pub state: S,
+}
+
+impl<T: Drop, S: Entry<T>> Entry<Node<Option<T>>> for Spanned<S> {
+    ghost use Rattle.cedar_policy_machine.specs.machines.Placing.{placing_reader};
+
+    type Act = S::Act;
+
+    ghost reader = { placing_reader S.reader };
+
+    fn start(alloc: Global) -> Spanned<S> {
+        Spanned {
+            extent: None,
+            state: S::start(alloc),
+        }
+    }
+
+    fn first(kind: TokenKind) -> Option<S::Act> {
+        S::first(kind)
+    }
+
+    fn plan(&self, kind: TokenKind) -> Option<S::Act> {
+        self.state.plan(kind)
+    }
+
+    fn ends(&self) -> bool {
+        self.state.ends()
+    }
+
+    fn act(
+        &mut self,
+        alloc: Global,
+        source: &Source,
+        act: S::Act,
+        token: &Token<'_>,
+    ) -> Result<bool, AllocError> {
+        self.extent = joined(self.extent, Some(token_extent(token)));
+        self.state.act(alloc, source, act, token)
+    }
+
+    #[inline(always)]
+    fn finish(&mut self, alloc: Global, source: &Source) -> Result<Node<Option<T>>, AllocError> {
+        let loc = loc_at(source, self.extent)?;
+        let tree = self.state.finish(alloc, source)?;
+        Ok(Node {
+            node: Some(tree),
+            loc,
+        })
+    }
+}
+
+/// Items that are read, and the one that is begun.
+#[derive(Drop)]
+pub struct Sequence<S, T> {
+    pub done: Items<T>,
+    pub begun: Option<S>,
+}
+
+/// What is done with a token of a sequence, whose items do `A` with one.
+#[derive(Drop, Clone, Copy)]
+pub enum SequenceAct<A> {
+    /// It is the begun item's.
+    On(A),
+    /// It begins an item, where none is begun.
+    First(A),
+    /// It begins an item behind the begun one, which has ended.
+    Next(A),
+    /// A comma, behind the begun item.
+    Comma,
+}
+
+impl<T: Drop, S: Entry<T>> Sequence<S, T> {
+    /// Before the first item.
+    pub fn new(alloc: Global) -> Sequence<S, T>
+        ensures { result ≡ sequence [] None }
+    {
+        Sequence {
+            done: Items::new(alloc),
+            begun: None,
+        }
+    }
+
+    /// What is done with a token of this kind where an item may begin and none is begun.
+    pub fn plan_item(kind: TokenKind) -> Option<SequenceAct<S::Act>>
+        ensures { result ≡ option_image (λ act. SequenceAct.First act)
+            (S.reader.plan S.reader.start kind) }
+    {
+        match S::first(kind) {
+            Some(act) => Some(SequenceAct::First(act)),
+            None => None,
+        }
+    }
+
+    /// What is done with it where items stand one behind the other.
+    pub fn plan_many(&self, kind: TokenKind) -> Option<SequenceAct<S::Act>>
+        ensures { result ≡ many_plan (λ first. S.reader.plan S.reader.start first)
+            S.reader.plan S.reader.ends self.now.begun kind }
+    {
+        match &self.begun {
+            Some(item) => match item.plan(kind) {
+                Some(act) => Some(SequenceAct::On(act)),
+                None => {
+                    if !item.ends() {
+                        return None;
+                    }
+                    match S::first(kind) {
+                        Some(act) => Some(SequenceAct::Next(act)),
+                        None => None,
+                    }
+                }
+            },
+            None => Sequence::<S, T>::plan_item(kind),
+        }
+    }
+
+    /// What is done with it where items are separated by commas.
+    pub fn plan_listed(&self, kind: TokenKind) -> Option<SequenceAct<S::Act>>
+        ensures { result ≡ list_plan (λ first. S.reader.plan S.reader.start first)
+            S.reader.plan S.reader.ends self.now.begun kind }
+    {
+        match &self.begun {
+            Some(item) => match item.plan(kind) {
+                Some(act) => Some(SequenceAct::On(act)),
+                None => match kind {
+                    TokenKind::Comma => {
+                        if item.ends() {
+                            Some(SequenceAct::Comma)
+                        } else {
+                            None
+                        }
+                    }
+                    _ => None,
+                },
+            },
+            None => Sequence::<S, T>::plan_item(kind),
+        }
+    }
+
+    /// Whether the items can end here.
+    pub fn items_end(&self) -> bool
+        ensures { result ≡ sequence_ends S.reader.ends self.now.begun }
+    {
+        match &self.begun {
+            Some(item) => item.ends(),
+            None => true,
+        }
+    }
+
+    /// The item that has ended is put to the others.
+    #[inline(never)]
+    pub fn end_item(&mut self, alloc: Global, source: &Source) -> Result<(), AllocError>
+        requires { IsTrue (sequence_ends S.reader.ends self.old.begun) }
+        ensures { OnOk result (items_ended (sequence_end (S.reader.finish source.now)
+            self.old.done self.old.begun) ≡ Some self.new) }
+    {
+        if let Some(item) = &mut self.begun {
+            self.done.push(item.finish(alloc, source)?)?;
+        }
+        self.begun = None;
+        Ok(())
+    }
+
+    /// The first token of an item.
+    #[inline(never)]
+    fn begin_item(
+        &mut self,
+        alloc: Global,
+        source: &Source,
+        act: S::Act,
+        token: &Token<'_>,
+    ) -> Result<bool, AllocError>
+        requires written { IsWritten (lexeme_of token.now) }
+        requires is_planned { S.reader.plan S.reader.start token.now.kind ≡ Some act }
+        ensures { IfOk result (λ fits. done_as fits self.new ≡ item_begun self.old.done
+            (S.reader.act source.now S.reader.start act (lexeme_of token.now))) }
+    {
+        self.begun = Some(S::start(alloc));
+        self.go_on(alloc, source, act, token)
+    }
+
+    /// A token of the begun item.
+    #[inline(always)]
+    fn go_on(
+        &mut self,
+        alloc: Global,
+        source: &Source,
+        act: S::Act,
+        token: &Token<'_>,
+    ) -> Result<bool, AllocError>
+        requires written { IsWritten (lexeme_of token.now) }
+        requires is_planned { IsItemPlan S.reader.plan self.old.begun token.now.kind act }
+        ensures { IfOk result (λ fits. done_as fits self.new ≡ item_going S.reader source.now
+            self.old.done self.old.begun act (lexeme_of token.now)) }
+    {
+        match &mut self.begun {
+            Some(item) => item.act(alloc, source, act, token),
+            None => unreachable!(),
+        }
+    }
+
+    /// Does with a token what is planned.
+    #[inline(always)]
+    pub fn act_many(
+        &mut self,
+        alloc: Global,
+        source: &Source,
+        act: SequenceAct<S::Act>,
+        token: &Token<'_>,
+    ) -> Result<bool, AllocError>
+        requires written { IsWritten (lexeme_of token.now) }
+        requires is_planned { IsSequencePlan S.reader self.old.begun token.now.kind act }
+        ensures { IfOk result (λ fits. done_as fits self.new
+            ≡ sequence_act S.reader source.now self.old act (lexeme_of token.now)) }
+    {
+        match act {
+            SequenceAct::On(act) => self.go_on(alloc, source, act, token),
+            SequenceAct::First(act) => self.begin_item(alloc, source, act, token),
+            SequenceAct::Next(act) => {
+                self.end_item(alloc, source)?;
+                self.begin_item(alloc, source, act, token)
+            }
+            SequenceAct::Comma => {
+                self.end_item(alloc, source)?;
+                Ok(true)
+            }
+        }
+    }
+
+    /// The items that have ended, taken out.
+    pub fn take(&mut self, alloc: Global, source: &Source) -> Result<Items<T>, AllocError>
+        requires { IsTrue (sequence_ends S.reader.ends self.old.begun) }
+        ensures { IfOk result (λ items. sequence_end (S.reader.finish source.now)
+            self.old.done self.old.begun ≡ Some items) }
+    {
+        self.end_item(alloc, source)?;
+        Ok(mem::replace(&mut self.done, Items::new(alloc)))
+    }
+}

@@ -1,8 +1,0 @@
-use Rattle.std.proofs.Common.{◌≡◌, ◌++◌, drop}
-use Rattle.cedar_syntax.specs.machines.Door.{allowed_by}
-use Rattle.cedar_syntax.specs.machines.Judged.{picked_kinds}
-use Rattle.cedar_syntax.proofs.reading.expected.allowed_among.Given as goal
-
--- those of the kinds before this one are there
-abbrev pub invariant-loop-kind : goal.invariant-loop-kind
-invariant-loop-kind g l = l.allowed ++ picked_kinds l.narrowed (allowed_by g.E.Entry.reader l.state) (drop l.kind-index l.kinds) ≡ picked_kinds l.narrowed (allowed_by g.E.Entry.reader l.state) l.kinds

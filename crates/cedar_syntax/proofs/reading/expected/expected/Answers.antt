@@ -1,8 +1,0 @@
-use Rattle.std.proofs.Common.{◌≡◌, IfOk, subst}
-use Rattle.cedar_syntax.specs.Expected.{by_name}
-use Rattle.cedar_syntax.specs.machines.Door.{allowed_by}
-use Rattle.cedar_syntax.specs.machines.Judged.{picked_kinds}
-use Rattle.cedar_syntax.proofs.reading.expected.expected.Goals as goal
-
-pub returns : goal.returns
-returns g c = subst (λ b. IfOk c.allowed_among.result (λ kinds. kinds ≡ picked_kinds b (allowed_by g.E.Entry.reader c.args.state.now) by_name)) c.is_narrowed-narrowed.ensures c.allowed_among.ensures

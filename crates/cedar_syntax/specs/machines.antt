@@ -1,9 +1,0 @@
-pub mod Classes
-pub mod Door
-pub mod Following
-pub mod Judged
-pub mod Mapping
-pub mod Marks
-pub mod Mending
-pub mod Recovery
-pub mod Skipping

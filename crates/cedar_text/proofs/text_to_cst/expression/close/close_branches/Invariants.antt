@@ -1,9 +1,0 @@
-use Rattle.std.proofs.Common.{◌≡◌, length}
-use Rattle.cedar_text.specs.machines.Closing.{with_branches}
-use Rattle.cedar_text.proofs.text_to_cst.expression.close.close_branches.Given as goal
-
-abbrev pub invariant-loop-branch : goal.invariant-loop-branch
-invariant-loop-branch l = with_branches l.ground.source.now l.branches l.item ≡ with_branches l.ground.source.now l.initial.branches l.initial.item
-
-abbrev pub decreases-loop-branch : goal.decreases-loop-branch
-decreases-loop-branch l = length l.branches

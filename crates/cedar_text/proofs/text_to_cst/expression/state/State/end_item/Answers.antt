@@ -1,8 +1,0 @@
-use Rattle.std.proofs.Common.{ap}
-use Rattle.cedar_text.specs.declared.text_to_cst.expression.state.Place.TheVariants as place
-use Rattle.cedar_text.specs.declared.text_to_cst.expression.state.State.{State}
-use Rattle.cedar_text.specs.machines.Closing.{no_signs}
-use Rattle.cedar_text.proofs.text_to_cst.expression.state.State.end_item.Goals as goal
-
-pub want_again-requires : goal.want_again-requires
-want_again-requires c = (place.Item, no_signs, ap (λ (q : State). q.mode) c.in_ok-item.ensures.after)
