@@ -6,8 +6,8 @@
 //! before a backslash.
 
 use cedar_expressions::{
-    AddOp, BinaryCall, BinaryOp, Expr, ExprKind, Items, ListCall, NaryOp, PatternElem, Place, Text,
-    UnaryCall, UnaryOp,
+    AddOp, BinaryCall, BinaryOp, Boxed, Expr, ExprKind, Items, ListCall, NaryOp, PatternElem,
+    Place, Text, UnaryCall, UnaryOp,
 };
 use std::alloc::{AllocError, Global};
 use std::fmt::Display;
@@ -74,15 +74,7 @@ fn write_kind(kind: &ExprKind, out: &mut Written) -> Result<(), AllocError> {
         ExprKind::Val(literal) => out.show(literal),
         ExprKind::Var(var) => out.show(var),
         ExprKind::Slot(slot) => out.show(slot),
-        ExprKind::Ite(parts) => {
-            out.push("ite(")?;
-            write(&parts.as_ref().0, out)?;
-            out.push(", ")?;
-            write(&parts.as_ref().1, out)?;
-            out.push(", ")?;
-            write(&parts.as_ref().2, out)?;
-            out.push(")")
-        }
+        ExprKind::Ite(parts) => write_conditional(parts, out),
         ExprKind::Unary(call, operand) => {
             out.push(unary_name(call))?;
             write(operand.as_ref(), out)?;
@@ -111,6 +103,21 @@ fn write_kind(kind: &ExprKind, out: &mut Written) -> Result<(), AllocError> {
         }
         ExprKind::Record(pairs) => write_pairs(pairs, out),
     }
+}
+
+/// A condition, what it gives where it holds, and what else.
+#[cycle(write)]
+fn write_conditional(
+    parts: &Boxed<(Expr, Expr, Expr)>,
+    out: &mut Written,
+) -> Result<(), AllocError> {
+    out.push("ite(")?;
+    write(&parts.as_ref().0, out)?;
+    out.push(", ")?;
+    write(&parts.as_ref().1, out)?;
+    out.push(", ")?;
+    write(&parts.as_ref().2, out)?;
+    out.push(")")
 }
 
 /// The operands behind a first one.

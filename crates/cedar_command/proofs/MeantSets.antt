@@ -1,4 +1,5 @@
--- A text of policies, and what the answers of `parse_policyset` and of `format_policies` say of its meaning.
+-- A text of policies, and what the answers of `parse_policyset` and of `format_policies` say of
+-- its meaning.
 use Rattle.std.proofs.Common.{◌≡◌, ℕ, List, String, string_bytes, Result, Ok, Err, IfOk, IfErr, MatchResult}
 use Rattle.cedar_lexer.specs.Cut.{Cuts}
 use Rattle.cedar_lexer.specs.Token.{Lexeme}

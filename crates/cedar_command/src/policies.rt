@@ -13,10 +13,11 @@ ghost use Rattle.cedar_syntax.specs.ParseErrors.{IsMemory};
 
 use crate::run::{Verdict, print_failure};
 use crate::streams::{Output, Stop, WriterState};
+use cedar_policy_parser::cst_to_ast::policy_id;
 use cedar_policy_parser::{ExtStyles, parse_policyset};
 use cedar_policy_store::{PolicyID, PolicySet};
 use cedar_syntax::err::Failure;
-use std::alloc::{AllocError, Global};
+use std::alloc::Global;
 use std::io::Write;
 
 /// Prints the text's policies and how many they are, or its faults.
@@ -104,7 +105,7 @@ fn print_policy<O: Write>(
         (writing O.contents out.old out.new)) }
     ensures stops { IfErr result (λ stop. StopsWriting (writer_state out.new) stop) }
 {
-    let Ok(id) = id_of(alloc, number) else {
+    let Ok(id) = policy_id(alloc, number) else {
         return Err(Stop::Memory);
     };
     print_kind(set.static_policy(&id).is_some(), &id, "static", out)?;
@@ -126,14 +127,4 @@ fn print_kind<O: Write>(
         writeln!(out, "{} {kind}", id.as_str())?;
     }
     Ok(())
-}
-
-/// The name that a set gives the policy of a number.
-fn id_of(alloc: Global, number: usize) -> Result<PolicyID, AllocError>
-    ensures { IfOk result (λ id. id ≡ policy_id number) }
-{
-    match format!(in alloc; "policy{number}") {
-        Ok(text) => Ok(PolicyID::new(text)),
-        Err(error) => Err(AllocError::from(error)),
-    }
 }

@@ -6,8 +6,8 @@ use Rattle.cedar_expressions.specs.Value.{Value}
 use Rattle.cedar_syntax.specs.declared.loc.Loc.{Loc}
 use Rattle.cedar_syntax.specs.declared.err.faults.Failure.{Failure}
 use Rattle.cedar_syntax.specs.declared.err.faults.Failure.TheVariants.{Memory, Errors}
-use Rattle.cedar_conversion.specs.declared.members.Access.{Access as Kept}
-use Rattle.cedar_conversion.specs.declared.members.Reading.{Reading}
+use Rattle.cedar_conversion.specs.declared.primaries.members.AccessValue.{AccessValue as Kept}
+use Rattle.cedar_conversion.specs.declared.primaries.members.Reading.{Reading}
 use Rattle.cedar_conversion.specs.Extensions.{Extensions}
 use Rattle.cedar_conversion.specs.Held.{Held, expression}
 use Rattle.cedar_conversion.specs.Members.{Access, field, call, index, accesses_of, method_outcome, name_accesses}

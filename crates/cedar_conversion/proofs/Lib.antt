@@ -6,6 +6,7 @@ pub mod FilledSets
 pub mod Gathered
 pub mod Identifiers
 pub mod Inverted
+pub mod LoneParts
 pub mod Loops
 pub mod Nodes
 pub mod Outcomes

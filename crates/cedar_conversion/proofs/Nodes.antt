@@ -1,12 +1,15 @@
 -- What each node gives, of what its parts give.
-use Rattle.std.proofs.Common.{◌≡◌, List, [], map, Option, Some, None, refl, ap, ◌∙◌, Ok, Err}
+use Rattle.std.proofs.Common.{◌≡◌, zero, suc, List, [], map, Option, Some, None, if◌then◌else◌, refl, sym, ap, ◌∙◌, Ok, Err}
 use Rattle.cedar_syntax.specs.declared.loc.Loc.{Loc}
 use Rattle.cedar_syntax.specs.declared.node.Node.{Node}
 use Rattle.cedar_syntax.specs.declared.cst.RelOp.{RelOp}
 use Rattle.cedar_syntax.specs.declared.cst.Expr.{Expr}
 use Rattle.cedar_syntax.specs.declared.cst.Expr.TheVariants as exprs
 use Rattle.cedar_syntax.specs.declared.cst.ExprImpl.{ExprImpl}
+use Rattle.cedar_syntax.specs.declared.cst.ExprData.{ExprData}
 use Rattle.cedar_syntax.specs.declared.cst.ExprData.TheVariants as datas
+use Rattle.cedar_syntax.specs.declared.cst.NegOp.{NegOp}
+use Rattle.cedar_syntax.specs.declared.cst.NegOp.TheVariants as sign
 use Rattle.cedar_syntax.specs.declared.cst.Or.{Or, out-Or}
 use Rattle.cedar_syntax.specs.declared.cst.And.{And}
 use Rattle.cedar_syntax.specs.declared.cst.Relation.{Relation}
@@ -26,12 +29,14 @@ use Rattle.cedar_syntax.specs.declared.cst.Slot.{Slot}
 use Rattle.cedar_syntax.specs.declared.cst.Ref.{Ref}
 use Rattle.cedar_syntax.specs.declared.cst.RecInit.{RecInit}
 use Rattle.cedar_syntax.specs.Forms.{located, parts_of, expr_form, data_form, or_form, and_form, relation_form, add_form, mult_form, unary_form, member_form, primary_form, access_form, init_form, or_operand, and_operand, relation_operand, add_operand, mult_operand, listed_access, listed_expr, listed_init, typed_form}
-use Rattle.cedar_syntax.specs.Located.{Form}
+use Rattle.cedar_syntax.specs.Located as f
+use Rattle.cedar_syntax.specs.Located.{Located, Form}
 use Rattle.cedar_syntax.specs.Tree.{disjunction, conjunction, relation, sum, product}
 use Rattle.cedar_syntax.proofs.FormLevels.{expr_out, impl_out, data_or, data_if, or_out, and_out, relation_common, relation_has, relation_like, relation_typed, add_out, mult_out, unary_out, member_out, primary_literal, primary_ref, primary_name, primary_slot, primary_expr, primary_list, primary_inits, access_field, access_call, access_index, init_out}
 use Rattle.cedar_conversion.specs.Conversion.{outcome, form_outcome, operands, chain_outcome, conditional_outcome, signs_outcome, number_in, lone_literal, literal_outcome, expression_at, tree_place, accesses_outcome, pairs_outcome, with_attributes, beside_type, match_outcome, type_test_outcome, type_within_outcome, set_value_outcome, record_outcome, access_outcome, access_form_outcome, pair_outcome, pair_form_outcome, value_outcome, bodies}
 use Rattle.cedar_conversion.specs.HasSide.{right_side}
 use Rattle.cedar_conversion.specs.Leaves.{name_leaf, slot_leaf, entity_leaf}
+use Rattle.cedar_conversion.specs.LonePart.{lone_part, no_sign}
 use Rattle.cedar_conversion.specs.Members as member
 use Rattle.cedar_conversion.specs.Members.{member_outcome}
 use Rattle.cedar_conversion.specs.Names.{unreserved_ident}
@@ -39,6 +44,7 @@ use Rattle.cedar_conversion.specs.Extensions.{Extensions}
 use Rattle.cedar_conversion.specs.Held.{Held, as_expression, as_pattern, as_string, as_attribute}
 use Rattle.cedar_conversion.specs.Outcome.{Outcome, fault_outcome, both, next, empty_node}
 use Rattle.cedar_conversion.specs.machines.Applied.{type_relation_outcome}
+use Rattle.cedar_conversion.proofs.LoneParts.{through, to_part}
 use Rattle.cedar_conversion.proofs.Parts.{alone}
 
 pub empty : {X : Type 0} (e : Extensions) (g : X → Form) (n : Node (Option X)) → n.node ≡ None → outcome e (located g n) ≡ fault_outcome empty_node n.loc
@@ -59,78 +65,112 @@ pub or_expr_node : (e : Extensions) (n : Node (Option Expr)) (d : Expr) (i : Exp
 unfolding form_outcome
 or_expr_node e n d i a h k l = filled_with e expr_form n d _ h (expr_is d i k ∙ ap data_form l ∙ data_or a)
 
-pub if_node : (e : Extensions) (n : Node (Option Expr)) (d : Expr) (i : ExprImpl) (a b c : Node (Option Expr)) → n.node ≡ Some d → d ≡ exprs.Expr i → i.expr ≡ datas.If a b c
-    → outcome e (located expr_form n) ≡ next (both (both (next (outcome e (located expr_form a)) as_expression) (next (outcome e (located expr_form b)) as_expression)) (next (outcome e (located expr_form c)) as_expression)) (conditional_outcome n.loc)
+pub data_node : (e : Extensions) (n : Node (Option Expr)) (d : Expr) (i : ExprImpl) (x : ExprData) → n.node ≡ Some d → d ≡ exprs.Expr i → x ≡ i.expr
+    → outcome e (located expr_form n) ≡ form_outcome e n.loc (data_form x)
+data_node e n d i x h k l = filled_with e expr_form n d _ h (expr_is d i k ∙ ap data_form (sym l))
+
+pub if_data : (e : Extensions) (place : Option Loc) (x : ExprData) (a b c : Node (Option Expr)) → x ≡ datas.If a b c
+    → form_outcome e place (data_form x) ≡ next (both (both (next (outcome e (located expr_form a)) as_expression) (next (outcome e (located expr_form b)) as_expression)) (next (outcome e (located expr_form c)) as_expression)) (conditional_outcome place)
 unfolding form_outcome
-if_node e n d i a b c h k l = filled_with e expr_form n d _ h (expr_is d i k ∙ ap data_form l ∙ data_if a b c)
+if_data e place x a b c h = ap (λ t. form_outcome e place t) (ap data_form h ∙ data_if a b c)
 
 -- ---- levels
 
-pub or_node : (e : Extensions) (n : Node (Option Or)) (d : Or) → n.node ≡ Some d
-    → outcome e (located or_form n) ≡ chain_outcome disjunction n.loc (parts_of (map or_operand (out-Or d).extended)) (outcome e (located and_form (out-Or d).initial)) (operands e n.loc (parts_of (map or_operand (out-Or d).extended)))
-unfolding form_outcome
-or_node e n d h = filled_with e or_form n d _ h (or_out d)
+-- what a level gives, opened
+pub level_node : {X : Type 0} (e : Extensions) (g : X → Form) (n : Node (Option X)) (d : X) → n.node ≡ Some d → outcome e (located g n) ≡ form_outcome e n.loc (g d)
+level_node e g n d h = filled_with e g n d (g d) h refl
 
-pub and_node : (e : Extensions) (n : Node (Option And)) (d : And) → n.node ≡ Some d
-    → outcome e (located and_form n) ≡ chain_outcome conjunction n.loc (parts_of (map and_operand d.extended)) (outcome e (located relation_form d.initial)) (operands e n.loc (parts_of (map and_operand d.extended)))
+-- a level that is one part alone gives what this part gives
+by_sign : (e : Extensions) (place : Option Loc) (op : Option NegOp) (n : Located) → form_outcome e place (f.unary op n) ≡ through (outcome e) (form_outcome e place (f.unary op n)) (if no_sign op then Some n else None)
 unfolding form_outcome
-and_node e n d h = filled_with e and_form n d _ h (and_out d)
+by_sign e place None n = refl
+by_sign e place (Some (sign.Bang zero)) n = refl
+by_sign e place (Some (sign.Bang (suc m))) n = refl
+by_sign e place (Some sign.OverBang) n = refl
+by_sign e place (Some (sign.Dash zero)) n = refl
+by_sign e place (Some (sign.Dash (suc m))) n = refl
+by_sign e place (Some sign.OverDash) n = refl
 
-pub common_node : (e : Extensions) (n : Node (Option Relation)) (d : Relation) (a : Node (Option Add)) (xs : List (RelOp × Node (Option Add))) → n.node ≡ Some d → d ≡ relations.Common a xs
-    → outcome e (located relation_form n) ≡ chain_outcome relation n.loc (parts_of (map relation_operand xs)) (outcome e (located add_form a)) (operands e n.loc (parts_of (map relation_operand xs)))
-unfolding form_outcome
-common_node e n d a xs h k = filled_with e relation_form n d _ h (ap relation_form k ∙ relation_common a xs)
+pub alone_member : (e : Extensions) (place : Option Loc) (o : Outcome Held) → next (both o (Ok [])) (λ p. member_outcome e place p.0 p.1) ≡ o
+alone_member e place (Ok h) = refl
+alone_member e place (Err fs) = refl
 
-pub has_node : (e : Extensions) (n : Node (Option Relation)) (d : Relation) (a b : Node (Option Add)) → n.node ≡ Some d → d ≡ relations.Has a b
-    → outcome e (located relation_form n) ≡ next (right_side (tree_place (located add_form b)) (located add_form b)) (λ r. next (value_outcome e (located add_form a)) (with_attributes n.loc r))
-unfolding form_outcome
-has_node e n d a b h k = filled_with e relation_form n d _ h (ap relation_form k ∙ relation_has a b)
+by_part : (e : Extensions) (place : Option Loc) (t : Form) → form_outcome e place t ≡ through (outcome e) (form_outcome e place t) (lone_part t)
+unfolding form_outcome operands accesses_outcome
+by_part e place (f.only n) = refl
+by_part e place (f.chain level n f.none) = alone level place (outcome e n)
+by_part e place (f.unary op n) = by_sign e place op n
+by_part e place (f.member n f.none) = alone_member e place (outcome e n)
+by_part e place t = refl
 
-pub like_node : (e : Extensions) (n : Node (Option Relation)) (d : Relation) (a b : Node (Option Add)) → n.node ≡ Some d → d ≡ relations.Like a b
-    → outcome e (located relation_form n) ≡ next (outcome e (located add_form b)) (λ h. next (both (value_outcome e (located add_form a)) (as_pattern h)) (match_outcome n.loc))
-unfolding form_outcome
-like_node e n d a b h k = filled_with e relation_form n d _ h (ap relation_form k ∙ relation_like a b)
+pub part_node : {X Y : Type 0} (e : Extensions) (g : X → Form) (h : Y → Form) (n : Node (Option X)) (d : X) (a : Node (Option Y)) → n.node ≡ Some d → Some (located h a) ≡ lone_part (g d) → outcome e (located g n) ≡ outcome e (located h a)
+part_node e g h n d a k l = to_part (outcome e) (form_outcome e n.loc (g d)) _ (lone_part (g d)) (located h a) (level_node e g n d k ∙ by_part e n.loc (g d)) l
 
-pub is_node : (e : Extensions) (n : Node (Option Relation)) (d : Relation) (a b : Node (Option Add)) (c : Option (Node (Option Add))) → n.node ≡ Some d → d ≡ relations.IsIn a b c
-    → outcome e (located relation_form n) ≡ type_relation_outcome e n.loc (next (outcome e (located add_form b)) (beside_type (value_outcome e (located add_form a)))) c
+pub or_node : (e : Extensions) (place : Option Loc) (d : Or)
+    → form_outcome e place (or_form d) ≡ chain_outcome disjunction place (parts_of (map or_operand (out-Or d).extended)) (outcome e (located and_form (out-Or d).initial)) (operands e place (parts_of (map or_operand (out-Or d).extended)))
 unfolding form_outcome
-is_node e n d a b c h k = filled_with e relation_form n d _ h (ap relation_form k ∙ relation_typed a b c) ∙ go c
+or_node e place d = ap (λ t. form_outcome e place t) (or_out d)
+
+pub and_node : (e : Extensions) (place : Option Loc) (d : And)
+    → form_outcome e place (and_form d) ≡ chain_outcome conjunction place (parts_of (map and_operand d.extended)) (outcome e (located relation_form d.initial)) (operands e place (parts_of (map and_operand d.extended)))
+unfolding form_outcome
+and_node e place d = ap (λ t. form_outcome e place t) (and_out d)
+
+pub common_node : (e : Extensions) (place : Option Loc) (d : Relation) (a : Node (Option Add)) (xs : List (RelOp × Node (Option Add))) → d ≡ relations.Common a xs
+    → form_outcome e place (relation_form d) ≡ chain_outcome relation place (parts_of (map relation_operand xs)) (outcome e (located add_form a)) (operands e place (parts_of (map relation_operand xs)))
+unfolding form_outcome
+common_node e place d a xs k = ap (λ t. form_outcome e place t) (ap relation_form k ∙ relation_common a xs)
+
+pub has_node : (e : Extensions) (place : Option Loc) (d : Relation) (a b : Node (Option Add)) → d ≡ relations.Has a b
+    → form_outcome e place (relation_form d) ≡ next (right_side (tree_place (located add_form b)) (located add_form b)) (λ r. next (value_outcome e (located add_form a)) (with_attributes place r))
+unfolding form_outcome
+has_node e place d a b k = ap (λ t. form_outcome e place t) (ap relation_form k ∙ relation_has a b)
+
+pub like_node : (e : Extensions) (place : Option Loc) (d : Relation) (a b : Node (Option Add)) → d ≡ relations.Like a b
+    → form_outcome e place (relation_form d) ≡ next (outcome e (located add_form b)) (λ h. next (both (value_outcome e (located add_form a)) (as_pattern h)) (match_outcome place))
+unfolding form_outcome
+like_node e place d a b k = ap (λ t. form_outcome e place t) (ap relation_form k ∙ relation_like a b)
+
+pub is_node : (e : Extensions) (place : Option Loc) (d : Relation) (a b : Node (Option Add)) (c : Option (Node (Option Add))) → d ≡ relations.IsIn a b c
+    → form_outcome e place (relation_form d) ≡ type_relation_outcome e place (next (outcome e (located add_form b)) (beside_type (value_outcome e (located add_form a)))) c
+unfolding form_outcome
+is_node e place d a b c k = ap (λ t. form_outcome e place t) (ap relation_form k ∙ relation_typed a b c) ∙ go c
   where
-    go : (c : Option (Node (Option Add))) → form_outcome e n.loc (typed_form (located add_form a) (located add_form b) c) ≡ type_relation_outcome e n.loc (next (outcome e (located add_form b)) (beside_type (value_outcome e (located add_form a)))) c
+    go : (c : Option (Node (Option Add))) → form_outcome e place (typed_form (located add_form a) (located add_form b) c) ≡ type_relation_outcome e place (next (outcome e (located add_form b)) (beside_type (value_outcome e (located add_form a)))) c
     go None = refl
     go (Some x) = refl
 
 -- `is` alone
-pub is_alone_node : (e : Extensions) (n : Node (Option Relation)) (d : Relation) (a b : Node (Option Add)) (c : Option (Node (Option Add))) → n.node ≡ Some d → d ≡ relations.IsIn a b c → c ≡ None
-    → outcome e (located relation_form n) ≡ next (next (outcome e (located add_form b)) (beside_type (value_outcome e (located add_form a)))) (type_test_outcome n.loc)
-is_alone_node e n d a b c h k none =
-    is_node e n d a b c h k ∙ ap (λ o. type_relation_outcome e n.loc (next (outcome e (located add_form b)) (beside_type (value_outcome e (located add_form a)))) o) none
+pub is_alone_node : (e : Extensions) (place : Option Loc) (d : Relation) (a b : Node (Option Add)) (c : Option (Node (Option Add))) → d ≡ relations.IsIn a b c → c ≡ None
+    → form_outcome e place (relation_form d) ≡ next (next (outcome e (located add_form b)) (beside_type (value_outcome e (located add_form a)))) (type_test_outcome place)
+is_alone_node e place d a b c k none =
+    is_node e place d a b c k ∙ ap (λ o. type_relation_outcome e place (next (outcome e (located add_form b)) (beside_type (value_outcome e (located add_form a)))) o) none
 
 -- `is` with `in`
-pub is_within_node : (e : Extensions) (n : Node (Option Relation)) (d : Relation) (a b : Node (Option Add)) (c : Option (Node (Option Add))) (w : Node (Option Add)) → n.node ≡ Some d → d ≡ relations.IsIn a b c → c ≡ Some w
-    → outcome e (located relation_form n) ≡ next (next (outcome e (located add_form b)) (beside_type (value_outcome e (located add_form a)))) (λ q. next (value_outcome e (located add_form w)) (type_within_outcome n.loc q))
-is_within_node e n d a b c w h k within =
-    is_node e n d a b c h k ∙ ap (λ o. type_relation_outcome e n.loc (next (outcome e (located add_form b)) (beside_type (value_outcome e (located add_form a)))) o) within
+pub is_within_node : (e : Extensions) (place : Option Loc) (d : Relation) (a b : Node (Option Add)) (c : Option (Node (Option Add))) (w : Node (Option Add)) → d ≡ relations.IsIn a b c → c ≡ Some w
+    → form_outcome e place (relation_form d) ≡ next (next (outcome e (located add_form b)) (beside_type (value_outcome e (located add_form a)))) (λ q. next (value_outcome e (located add_form w)) (type_within_outcome place q))
+is_within_node e place d a b c w k within =
+    is_node e place d a b c k ∙ ap (λ o. type_relation_outcome e place (next (outcome e (located add_form b)) (beside_type (value_outcome e (located add_form a)))) o) within
 
-pub add_node : (e : Extensions) (n : Node (Option Add)) (d : Add) → n.node ≡ Some d
-    → outcome e (located add_form n) ≡ chain_outcome sum n.loc (parts_of (map add_operand (out-Add d).extended)) (outcome e (located mult_form (out-Add d).initial)) (operands e n.loc (parts_of (map add_operand (out-Add d).extended)))
+pub add_node : (e : Extensions) (place : Option Loc) (d : Add)
+    → form_outcome e place (add_form d) ≡ chain_outcome sum place (parts_of (map add_operand (out-Add d).extended)) (outcome e (located mult_form (out-Add d).initial)) (operands e place (parts_of (map add_operand (out-Add d).extended)))
 unfolding form_outcome
-add_node e n d h = filled_with e add_form n d _ h (add_out d)
+add_node e place d = ap (λ t. form_outcome e place t) (add_out d)
 
-pub mult_node : (e : Extensions) (n : Node (Option Mult)) (d : Mult) → n.node ≡ Some d
-    → outcome e (located mult_form n) ≡ chain_outcome product n.loc (parts_of (map mult_operand (out-Mult d).extended)) (outcome e (located unary_form (out-Mult d).initial)) (operands e n.loc (parts_of (map mult_operand (out-Mult d).extended)))
+pub mult_node : (e : Extensions) (place : Option Loc) (d : Mult)
+    → form_outcome e place (mult_form d) ≡ chain_outcome product place (parts_of (map mult_operand (out-Mult d).extended)) (outcome e (located unary_form (out-Mult d).initial)) (operands e place (parts_of (map mult_operand (out-Mult d).extended)))
 unfolding form_outcome
-mult_node e n d h = filled_with e mult_form n d _ h (mult_out d)
+mult_node e place d = ap (λ t. form_outcome e place t) (mult_out d)
 
-pub unary_node : (e : Extensions) (n : Node (Option Unary)) (d : Unary) → n.node ≡ Some d
-    → outcome e (located unary_form n) ≡ signs_outcome n.loc (out-Unary d).op (number_in (lone_literal (located member_form (out-Unary d).item))) (outcome e (located member_form (out-Unary d).item))
+pub unary_node : (e : Extensions) (place : Option Loc) (d : Unary)
+    → form_outcome e place (unary_form d) ≡ signs_outcome place (out-Unary d).op (number_in (lone_literal (located member_form (out-Unary d).item))) (outcome e (located member_form (out-Unary d).item))
 unfolding form_outcome
-unary_node e n d h = filled_with e unary_form n d _ h (unary_out d)
+unary_node e place d = ap (λ t. form_outcome e place t) (unary_out d)
 
-pub member_node : (e : Extensions) (n : Node (Option Member)) (d : Member) → n.node ≡ Some d
-    → outcome e (located member_form n) ≡ next (both (outcome e (located primary_form d.item)) (accesses_outcome e (parts_of (map listed_access d.access)))) (λ p. member_outcome e n.loc p.0 p.1)
+pub member_node : (e : Extensions) (place : Option Loc) (d : Member)
+    → form_outcome e place (member_form d) ≡ next (both (outcome e (located primary_form d.item)) (accesses_outcome e (parts_of (map listed_access d.access)))) (λ p. member_outcome e place p.0 p.1)
 unfolding form_outcome
-member_node e n d h = filled_with e member_form n d _ h (member_out d)
+member_node e place d = ap (λ t. form_outcome e place t) (member_out d)
 
 -- ---- primaries
 
@@ -174,48 +214,6 @@ pub inits_node : (e : Extensions) (n : Node (Option Primary)) (d : Primary) (a :
     → outcome e (located primary_form n) ≡ next (pairs_outcome e (parts_of (map listed_init a))) (record_outcome n.loc)
 unfolding form_outcome
 inits_node e n d a h k = filled_with e primary_form n d _ h (ap primary_form k ∙ primary_inits a)
-
--- ---- one part alone
-
-pub or_alone : (e : Extensions) (n : Node (Option Or)) (d : Or) → n.node ≡ Some d → (out-Or d).extended ≡ [] → outcome e (located or_form n) ≡ outcome e (located and_form (out-Or d).initial)
-unfolding operands
-or_alone e n d h none = or_node e n d h ∙ ap (λ xs. chain_outcome disjunction n.loc (parts_of (map or_operand xs)) (outcome e (located and_form (out-Or d).initial)) (operands e n.loc (parts_of (map or_operand xs)))) none
-    ∙ alone disjunction n.loc (outcome e (located and_form (out-Or d).initial))
-
-pub and_alone : (e : Extensions) (n : Node (Option And)) (d : And) → n.node ≡ Some d → d.extended ≡ [] → outcome e (located and_form n) ≡ outcome e (located relation_form d.initial)
-unfolding operands
-and_alone e n d h none = and_node e n d h ∙ ap (λ xs. chain_outcome conjunction n.loc (parts_of (map and_operand xs)) (outcome e (located relation_form d.initial)) (operands e n.loc (parts_of (map and_operand xs)))) none
-    ∙ alone conjunction n.loc (outcome e (located relation_form d.initial))
-
-pub add_alone : (e : Extensions) (n : Node (Option Add)) (d : Add) → n.node ≡ Some d → (out-Add d).extended ≡ [] → outcome e (located add_form n) ≡ outcome e (located mult_form (out-Add d).initial)
-unfolding operands
-add_alone e n d h none = add_node e n d h ∙ ap (λ xs. chain_outcome sum n.loc (parts_of (map add_operand xs)) (outcome e (located mult_form (out-Add d).initial)) (operands e n.loc (parts_of (map add_operand xs)))) none
-    ∙ alone sum n.loc (outcome e (located mult_form (out-Add d).initial))
-
-pub mult_alone : (e : Extensions) (n : Node (Option Mult)) (d : Mult) → n.node ≡ Some d → (out-Mult d).extended ≡ [] → outcome e (located mult_form n) ≡ outcome e (located unary_form (out-Mult d).initial)
-unfolding operands
-mult_alone e n d h none = mult_node e n d h ∙ ap (λ xs. chain_outcome product n.loc (parts_of (map mult_operand xs)) (outcome e (located unary_form (out-Mult d).initial)) (operands e n.loc (parts_of (map mult_operand xs)))) none
-    ∙ alone product n.loc (outcome e (located unary_form (out-Mult d).initial))
-
-pub common_alone : (e : Extensions) (n : Node (Option Relation)) (d : Relation) (a : Node (Option Add)) (xs : List (RelOp × Node (Option Add))) → n.node ≡ Some d → d ≡ relations.Common a xs → xs ≡ []
-    → outcome e (located relation_form n) ≡ outcome e (located add_form a)
-unfolding operands
-common_alone e n d a xs h k none = common_node e n d a xs h k ∙ ap (λ ys. chain_outcome relation n.loc (parts_of (map relation_operand ys)) (outcome e (located add_form a)) (operands e n.loc (parts_of (map relation_operand ys)))) none
-    ∙ alone relation n.loc (outcome e (located add_form a))
-
-pub unsigned : (e : Extensions) (n : Node (Option Unary)) (d : Unary) → n.node ≡ Some d → (out-Unary d).op ≡ None → outcome e (located unary_form n) ≡ outcome e (located member_form (out-Unary d).item)
-unsigned e n d h none = unary_node e n d h ∙ ap (λ op. signs_outcome n.loc op (number_in (lone_literal (located member_form (out-Unary d).item))) (outcome e (located member_form (out-Unary d).item))) none
-
-alone_member : (e : Extensions) (place : Option Loc) (o : Outcome Held) → next (both o (Ok [])) (λ p. member_outcome e place p.0 p.1) ≡ o
-alone_member e place (Ok h) = refl
-alone_member e place (Err fs) = refl
-
-pub bare_member : (e : Extensions) (n : Node (Option Member)) (d : Member) → n.node ≡ Some d → d.access ≡ [] → outcome e (located member_form n) ≡ outcome e (located primary_form d.item)
-unfolding accesses_outcome
-bare_member e n d h none =
-    member_node e n d h
-    ∙ ap (λ xs. next (both (outcome e (located primary_form d.item)) (accesses_outcome e (parts_of (map listed_access xs)))) (λ p. member_outcome e n.loc p.0 p.1)) none
-    ∙ alone_member e n.loc (outcome e (located primary_form d.item))
 
 -- ---- accesses and pairs
 

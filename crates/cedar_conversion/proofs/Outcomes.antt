@@ -11,11 +11,11 @@ use Rattle.cedar_syntax.specs.declared.err.faults.ParseError.{ParseError}
 use Rattle.cedar_syntax.specs.Forms.{parts_of}
 use Rattle.cedar_syntax.specs.Located.{Located, none}
 use Rattle.cedar_syntax.specs.Tree.{Operator}
-use Rattle.cedar_syntax.specs.Joined.{TellsBoth, WantsMemory}
+use Rattle.cedar_syntax.specs.Joined.{TellsBoth, TellsFaults, WantsMemory}
 use Rattle.cedar_conversion.specs.Conversion.{Part, operands, with_part, factor, value_outcome}
 use Rattle.cedar_conversion.specs.Extensions.{Extensions}
 use Rattle.cedar_conversion.specs.Outcome.{Kind, Outcome, both, next, fault_outcome, item_more}
-use Rattle.cedar_conversion.specs.Seen.{Refuses, Gives, named_faults, named_fault}
+use Rattle.cedar_conversion.specs.Seen.{Refuses, Gives, itself, named_faults, named_fault}
 use Rattle.cedar_conversion.specs.machines.Views.{TellsAlone, Grows, one_more, rest_view}
 use Rattle.cedar_conversion.proofs.Loops.{take_next, map_snoc}
 
@@ -33,6 +33,16 @@ refused_at Y (Errors es) kind place h = ap Err (sym h)
 -- an outcome that is one fault refuses with what tells it
 pub refuses : {Y : Type 0} (f : Failure) (o : Outcome Y) (kind : Kind) (place : Option Loc) → o ≡ fault_outcome kind place → TellsAlone f kind place → Refuses f o
 refuses {Y = Y} f o kind place e h = rw e (refused_at Y f kind place h)
+
+-- faults, or want of memory for them, refuse what the faults refuse
+pub kept_refusal : {Y : Type 0} (f : Failure) (faults : List ParseError) (o : Outcome Y) → TellsFaults f faults → o ≡ Err (named_faults faults) → Refuses f o
+kept_refusal (Memory e) faults o t h = tt
+kept_refusal (Errors es) faults o t h = h ∙ ap (λ fs. Err (named_faults fs)) (sym t)
+
+-- one fault alone, or want of memory for it
+pub told_alone : (f : Failure) (faults : List ParseError) (kind : Kind) (place : Option Loc) → TellsFaults f faults → named_faults faults ≡ (kind, place) ∷ [] → TellsAlone f kind place
+told_alone (Memory e) faults kind place t h = tt
+told_alone (Errors es) faults kind place t h = ap named_faults t ∙ h
 
 -- ---- what is joined
 
@@ -118,6 +128,14 @@ grown_gives u (Ok a) (Ok t) (Ok g) xs x h k l = rw (h, k) (ap Ok (sym (ap (λ ts
 grown_gives u (Ok a) (Err f) (Ok g) xs x h k l = absurd l
 grown_gives u (Err f) item (Ok g) xs x h k l = absurd l
 grown_gives u all item (Err f) xs x h k l = refused_next f (both xs x) (λ p. Ok (p.0 ++ p.1 ∷ [])) (both_refused (λ v. map u v.items) u all item xs x f h k l)
+
+-- the same of items that are seen as they are
+pub items_grown : {T : Type 0} (all : Result (Vec T Global) Failure) (item : Result T Failure) (grown : Result (Vec T Global) Failure) (xs : Outcome (List T)) (x : Outcome T)
+    → Gives (λ v. v.items) all xs → Gives itself item x → Grows all item grown → Gives (λ v. v.items) grown (item_more xs x)
+items_grown (Ok a) (Ok t) (Ok g) xs x h k l = rw (h, k) (ap Ok (sym l))
+items_grown (Ok a) (Err f) (Ok g) xs x h k l = absurd l
+items_grown (Err f) item (Ok g) xs x h k l = absurd l
+items_grown all item (Err f) xs x h k l = refused_next f (both xs x) (λ p. Ok (p.0 ++ p.1 ∷ [])) (both_refused (λ v. v.items) itself all item xs x f h k l)
 
 item_behind : (op : Operator) (ps : Outcome (List Part)) (x : Outcome Value) → item_more ps (next x (λ v. Ok (op, v))) ≡ one_more op ps x
 item_behind op (Ok ps) (Ok v) = refl

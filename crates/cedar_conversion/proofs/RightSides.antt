@@ -1,11 +1,11 @@
 -- What the right side of `has` gives, level by level.
-use Rattle.std.proofs.Common.{◌≡◌, Bool, true, false, List, [], ◌∷◌, map, Option, Some, None, if◌then◌else◌, refl, ap, ◌∙◌}
+use Rattle.std.proofs.Common.{◌≡◌, Bool, true, false, List, map, Option, Some, None, if◌then◌else◌, refl, ap, ◌∙◌}
 use Rattle.cedar_syntax.specs.declared.loc.Loc.{Loc}
 use Rattle.cedar_syntax.specs.declared.node.Node.{Node}
-use Rattle.cedar_syntax.specs.declared.cst.Add.{Add, out-Add}
-use Rattle.cedar_syntax.specs.declared.cst.Mult.{Mult, out-Mult}
-use Rattle.cedar_syntax.specs.declared.cst.MultOp.{MultOp}
-use Rattle.cedar_syntax.specs.declared.cst.Unary.{Unary, out-Unary}
+use Rattle.cedar_syntax.specs.declared.cst.Add.{Add}
+use Rattle.cedar_syntax.specs.declared.cst.Mult.{Mult}
+use Rattle.cedar_syntax.specs.declared.cst.NegOp.{NegOp}
+use Rattle.cedar_syntax.specs.declared.cst.Unary.{Unary}
 use Rattle.cedar_syntax.specs.declared.cst.Member.{Member}
 use Rattle.cedar_syntax.specs.declared.cst.Primary.{Primary}
 use Rattle.cedar_syntax.specs.declared.cst.Primary.TheVariants as primaries
@@ -15,17 +15,18 @@ use Rattle.cedar_syntax.specs.declared.cst.Name.{Name}
 use Rattle.cedar_syntax.specs.declared.cst.Slot.{Slot}
 use Rattle.cedar_syntax.specs.declared.cst.Ref.{Ref}
 use Rattle.cedar_syntax.specs.declared.cst.RecInit.{RecInit}
-use Rattle.cedar_expressions.specs.declared.operators.AddOp.{AddOp}
-use Rattle.cedar_syntax.specs.Forms.{located, parts_of, add_form, mult_form, unary_form, member_form, primary_form, add_operand, mult_operand, listed_access}
+use Rattle.cedar_syntax.specs.Forms.{located, parts_of, add_form, mult_form, unary_form, member_form, primary_form, listed_access}
 use Rattle.cedar_syntax.specs.Located as f
-use Rattle.cedar_syntax.specs.Located.{Form, Parts}
-use Rattle.cedar_syntax.specs.Tree.{sum, product}
+use Rattle.cedar_syntax.specs.Located.{Located, Form, Parts}
+use Rattle.cedar_syntax.specs.Tree.{Level, sum, product}
 use Rattle.cedar_syntax.proofs.FormLevels.{add_out, mult_out, unary_out, member_out, primary_literal, primary_ref, primary_name, primary_slot, primary_expr, primary_list, primary_inits}
 use Rattle.cedar_conversion.specs.Conversion.{tree_place}
-use Rattle.cedar_conversion.specs.HasSide.{Attributes, attributes_of, begins_with, beginning_outcome, no_sign, right_form, right_side}
+use Rattle.cedar_conversion.specs.HasSide.{Attributes, attributes_of, begins_with, beginning_outcome, right_form, right_side}
 use Rattle.cedar_conversion.specs.Leaves.{name_leaf}
 use Rattle.cedar_conversion.specs.Literals.{literal_outcome}
+use Rattle.cedar_conversion.specs.LonePart.{lone_part, no_sign}
 use Rattle.cedar_conversion.specs.Outcome.{Outcome, fault_outcome, next, empty_node, invalid_has_rhs}
+use Rattle.cedar_conversion.proofs.LoneParts.{through, to_none, to_part}
 
 -- ---- the primary that begins it
 
@@ -73,50 +74,40 @@ pub member_side : (w : Option Loc) (n : Node (Option Member)) (d : Member) → n
 unfolding right_form
 member_side w n d h = side_is w member_form n d _ h (member_out d)
 
--- what an operand gives, with signs or without
-abbrev sided : Option Loc → Unary → Bool → Outcome Attributes
-sided w d bare = if bare then right_side w (located member_form (out-Unary d).item) else fault_outcome invalid_has_rhs w
+-- operators and signs: one part alone is gone on to, anything else is refused at the whole side
+abbrev sided : Option Loc → Option Located → Outcome Attributes
+sided w p = through (right_side w) (fault_outcome invalid_has_rhs w) p
 
-unary_side : (w : Option Loc) (n : Node (Option Unary)) (d : Unary) → n.node ≡ Some d → right_side w (located unary_form n) ≡ sided w d (no_sign (out-Unary d).op)
+by_chain : (w : Option Loc) (level : Level) (a : Located) (ps : Parts) → right_form w (f.chain level a ps) ≡ sided w (lone_part (f.chain level a ps))
 unfolding right_form
-unary_side w n d h = side_is w unary_form n d _ h (unary_out d)
+by_chain w level a f.none = refl
+by_chain w level a (f.more op n others) = refl
 
-pub unsigned_side : (w : Option Loc) (n : Node (Option Unary)) (d : Unary) → n.node ≡ Some d → no_sign (out-Unary d).op ≡ true → right_side w (located unary_form n) ≡ right_side w (located member_form (out-Unary d).item)
-unsigned_side w n d h bare = unary_side w n d h ∙ ap (sided w d) bare
+by_sign : (w : Option Loc) (n : Located) (b : Bool) → (if b then right_side w n else fault_outcome invalid_has_rhs w) ≡ sided w (if b then Some n else None)
+by_sign w n true = refl
+by_sign w n false = refl
 
-pub signed_side : (w : Option Loc) (n : Node (Option Unary)) (d : Unary) → n.node ≡ Some d → no_sign (out-Unary d).op ≡ false → right_side w (located unary_form n) ≡ fault_outcome invalid_has_rhs w
-signed_side w n d h signs = unary_side w n d h ∙ ap (sided w d) signs
-
-factor_side : (w : Option Loc) (n : Node (Option Mult)) (d : Mult) (xs : List (MultOp × Node (Option Unary))) → n.node ≡ Some d → (out-Mult d).extended ≡ xs
-    → right_side w (located mult_form n) ≡ right_form w (f.chain product (located unary_form (out-Mult d).initial) (parts_of (map mult_operand xs)))
-factor_side w n d xs h k = side_is w mult_form n d _ h (mult_out d) ∙ ap (λ ys. right_form w (f.chain product (located unary_form (out-Mult d).initial) (parts_of (map mult_operand ys)))) k
-
-pub lone_factor : (w : Option Loc) (n : Node (Option Mult)) (d : Mult) → n.node ≡ Some d → (out-Mult d).extended ≡ [] → right_side w (located mult_form n) ≡ right_side w (located unary_form (out-Mult d).initial)
+by_unary : (w : Option Loc) (op : Option NegOp) (n : Located) → right_form w (f.unary op n) ≡ sided w (lone_part (f.unary op n))
 unfolding right_form
-lone_factor w n d h none = factor_side w n d [] h none
+by_unary w op n = by_sign w n (no_sign op)
 
-pub several_factors : (w : Option Loc) (n : Node (Option Mult)) (d : Mult) → n.node ≡ Some d → ((out-Mult d).extended ≡ [] → ⊥) → right_side w (located mult_form n) ≡ fault_outcome invalid_has_rhs w
-unfolding right_form
-several_factors w n d h some = factor_side w n d (out-Mult d).extended h refl ∙ go (out-Mult d).extended some
-  where
-    go : (xs : List (MultOp × Node (Option Unary))) → (xs ≡ [] → ⊥) → right_form w (f.chain product (located unary_form (out-Mult d).initial) (parts_of (map mult_operand xs))) ≡ fault_outcome invalid_has_rhs w
-    go [] h = absurd (h refl)
-    go (x ∷ xs) h = refl
+by_form : (w : Option Loc) (t u : Form) → t ≡ u → right_form w u ≡ sided w (lone_part u) → right_form w t ≡ sided w (lone_part t)
+by_form w t u h k = rw h k
 
-term_side : (w : Option Loc) (d : Add) (xs : List (AddOp × Node (Option Mult))) → (out-Add d).extended ≡ xs → right_form w (add_form d) ≡ right_form w (f.chain sum (located mult_form (out-Add d).initial) (parts_of (map add_operand xs)))
-term_side w d xs k = ap (λ u. right_form w u) (add_out d) ∙ ap (λ ys. right_form w (f.chain sum (located mult_form (out-Add d).initial) (parts_of (map add_operand ys)))) k
+pub add_side : (w : Option Loc) (d : Add) → right_form w (add_form d) ≡ sided w (lone_part (add_form d))
+add_side w d = by_form w _ _ (add_out d) (by_chain w sum _ _)
 
-pub lone_term : (w : Option Loc) (d : Add) → (out-Add d).extended ≡ [] → right_form w (add_form d) ≡ right_side w (located mult_form (out-Add d).initial)
-unfolding right_form
-lone_term w d none = term_side w d [] none
+pub mult_side : (w : Option Loc) (n : Node (Option Mult)) (d : Mult) → n.node ≡ Some d → right_side w (located mult_form n) ≡ sided w (lone_part (mult_form d))
+mult_side w n d h = side_is w mult_form n d _ h refl ∙ by_form w _ _ (mult_out d) (by_chain w product _ _)
 
-pub several_terms : (w : Option Loc) (d : Add) → ((out-Add d).extended ≡ [] → ⊥) → right_form w (add_form d) ≡ fault_outcome invalid_has_rhs w
-unfolding right_form
-several_terms w d some = term_side w d (out-Add d).extended refl ∙ go (out-Add d).extended some
-  where
-    go : (xs : List (AddOp × Node (Option Mult))) → (xs ≡ [] → ⊥) → right_form w (f.chain sum (located mult_form (out-Add d).initial) (parts_of (map add_operand xs))) ≡ fault_outcome invalid_has_rhs w
-    go [] h = absurd (h refl)
-    go (x ∷ xs) h = refl
+pub unary_side : (w : Option Loc) (n : Node (Option Unary)) (d : Unary) → n.node ≡ Some d → right_side w (located unary_form n) ≡ sided w (lone_part (unary_form d))
+unary_side w n d h = side_is w unary_form n d _ h refl ∙ by_form w _ _ (unary_out d) (by_unary w _ _)
+
+pub on_part : (w : Option Loc) (o : Outcome Attributes) (p : Option Located) (a : Located) → o ≡ sided w p → Some a ≡ p → o ≡ right_side w a
+on_part w o p a h k = to_part (right_side w) (fault_outcome invalid_has_rhs w) o p a h k
+
+pub on_none : (w : Option Loc) (o : Outcome Attributes) (p : Option Located) → o ≡ sided w p → None ≡ p → o ≡ fault_outcome invalid_has_rhs w
+on_none w o p h k = to_none (right_side w) (fault_outcome invalid_has_rhs w) o p h k
 
 pub whole_side : (n : Node (Option Add)) (d : Add) → n.node ≡ Some d → right_side (tree_place (located add_form n)) (located add_form n) ≡ right_form n.loc (add_form d)
 unfolding right_side

@@ -1,15 +1,14 @@
 -- Right of `has`: a bare string, or identifiers joined by `.`. Where the right side is one member
 -- without operators or signs, a literal or a name that begins it is converted first.
-use Rattle.std.specs.Prelude.{ℕ, zero, List, [], ◌∷◌, Bool, true, false, Option, Some, None, Ok, if◌then◌else◌}
+use Rattle.std.specs.Prelude.{ℕ, List, [], ◌∷◌, Option, Ok, if◌then◌else◌}
 use Rattle.cedar_expressions.specs.Written.{var_text}
 use Rattle.cedar_syntax.specs.declared.loc.Loc.{Loc}
-use Rattle.cedar_syntax.specs.declared.cst.NegOp.{NegOp}
-use Rattle.cedar_syntax.specs.declared.cst.NegOp.TheVariants as sign
 use Rattle.cedar_syntax.specs.Located as f
 use Rattle.cedar_syntax.specs.Located.{Located, Form, Parts}
 use Rattle.cedar_conversion.specs.Held.{Held, expression, variable, bare_name, bare_truth, bare_string, unqualified}
 use Rattle.cedar_conversion.specs.Leaves.{name_leaf}
 use Rattle.cedar_conversion.specs.Literals.{literal_outcome}
+pub use Rattle.cedar_conversion.specs.LonePart.{no_sign}
 use Rattle.cedar_conversion.specs.Names.{unreserved_ident}
 use Rattle.cedar_conversion.specs.Outcome.{Outcome, fault_outcome, next, empty_node, invalid_has_rhs, reserved_identifier}
 use Rattle.cedar_conversion.specs.Strings.{text_outcome}
@@ -61,13 +60,6 @@ beginning_outcome whole accesses place _ = fault_outcome invalid_has_rhs place
 abbrev pub begins_with : Option Loc → Parts → Located → Outcome Attributes
 begins_with whole accesses (f.missing place) = fault_outcome empty_node place
 begins_with whole accesses (f.at place form) = beginning_outcome whole accesses place form
-
--- whether nothing is to be applied
-abbrev pub no_sign : Option NegOp → Bool
-no_sign None = true
-no_sign (Some (sign.Bang zero)) = true
-no_sign (Some (sign.Dash zero)) = true
-no_sign _ = false
 
 -- through operators with one part and operands without signs to the member; `whole` is the place
 -- of the whole right side

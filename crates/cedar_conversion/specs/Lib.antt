@@ -1,3 +1,4 @@
+pub mod Causes
 pub mod CedarExtensions
 pub mod Conversion
 pub mod Entities
@@ -6,6 +7,7 @@ pub mod HasSide
 pub mod Held
 pub mod Leaves
 pub mod Literals
+pub mod LonePart
 pub mod Members
 pub mod Names
 pub mod Outcome

@@ -4,8 +4,8 @@ use Rattle.cedar_syntax.specs.declared.loc.Loc.{Loc}
 use Rattle.cedar_expressions.specs.Path.{Path}
 use Rattle.cedar_expressions.specs.Value as v
 use Rattle.cedar_expressions.specs.Value.{Value, values}
-use Rattle.cedar_conversion.specs.declared.methods.Standard.{Standard}
-use Rattle.cedar_conversion.specs.declared.methods.Standard.TheVariants as standard
+use Rattle.cedar_conversion.specs.declared.primaries.methods.Standard.{Standard}
+use Rattle.cedar_conversion.specs.declared.primaries.methods.Standard.TheVariants as standard
 use Rattle.cedar_conversion.specs.Extensions.{Extensions}
 use Rattle.cedar_conversion.specs.Held.{Held, expression, variable, bare_name, as_expression}
 use Rattle.cedar_conversion.specs.Outcome.{Outcome, fault_outcome, next, variable_call, no_methods, invalid_access, invalid_index, expression_call, wrong_arity, function_call_on_method, method_call_on_function, unknown_method, unknown_function}

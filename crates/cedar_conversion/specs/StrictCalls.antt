@@ -5,8 +5,8 @@ use Rattle.std.specs.Option.{is_some}
 use Rattle.std.specs.Str.{bytes_eq}
 use Rattle.cedar_expressions.specs.Value as v
 use Rattle.cedar_expressions.specs.Value.{Value, values}
-use Rattle.cedar_conversion.specs.declared.methods.Standard.{Standard}
-use Rattle.cedar_conversion.specs.declared.methods.Standard.TheVariants as standard
+use Rattle.cedar_conversion.specs.declared.primaries.methods.Standard.{Standard}
+use Rattle.cedar_conversion.specs.declared.primaries.methods.Standard.TheVariants as standard
 use Rattle.cedar_conversion.specs.Extensions.{Extensions}
 use Rattle.cedar_conversion.specs.StrictWords.{path_value}
 

@@ -1,7 +1,8 @@
 //! What a part of the conversion answers, left where its caller wants it.
 //!
-//! A large value that a call returns is copied into the frame of each caller that hands it on. With its place handed down instead, a level of nesting
-//! holds a copy only where it has several parts, and one part alone goes through its levels without a frame.
+//! A large value that a call returns is copied into the frame of each caller that hands it on.
+//! With its place handed down instead, a level of nesting holds a copy only where it has several
+//! parts, and one part alone goes through its levels without a frame.
 ghost use Rattle.std.specs.Prelude.{◌≡◌, List};
 ghost use Rattle.cedar_expressions.specs.Value.{Value};
 ghost use Rattle.cedar_syntax.specs.Tree.{Operator};
@@ -14,14 +15,21 @@ ghost use Rattle.cedar_conversion.specs.Table.{table_of};
 ghost use Rattle.cedar_conversion.specs.machines.Applied.{seen_accesses};
 ghost use Rattle.cedar_conversion.specs.machines.Views.{rest_view, one_more, plain};
 
-use crate::collections::Accesses;
-use crate::conditional::{if_from, parens_from};
-use crate::join::more;
-use crate::members::member_from;
-use crate::methods::Site;
-use crate::special::{ExprOrSpecial, expr_of, unreached};
+pub mod failure;
+pub mod faults;
+pub mod lists;
+pub mod places;
+pub mod special;
+pub mod wanted;
+
+use crate::answer::failure::Failure;
+use crate::answer::lists::more;
+use crate::answer::special::{ExprOrSpecial, empty_node, expr_of};
+use crate::operators::conditional::{if_from, parens_from};
+use crate::primaries::collections::Accesses;
+use crate::primaries::members::member_from;
+use crate::primaries::methods::Site;
 use cedar_expressions::ExprBuilderInfallibleBuild;
-use cedar_syntax::err::Failure;
 use cedar_syntax::loc::Loc;
 use std::alloc::{AllocError, Global};
 use std::mem;
@@ -33,8 +41,8 @@ pub type Converted<E> = Result<ExprOrSpecial<E>, Failure>;
 pub(crate) type Parts<O, E> = Result<Vec<(O, E)>, Failure>;
 
 /// A place for an answer, before there is one.
-pub fn unanswered<T>() -> Result<T, Failure> {
-    Err(Failure::Memory(AllocError))
+pub fn placeholder<T>() -> Result<T, Failure> {
+    Err(Failure::from(AllocError))
 }
 
 /// Leaves an answer.
@@ -50,7 +58,7 @@ pub(crate) fn put<T: Drop>(place: &mut T, value: T)
 pub(crate) fn take<T: Drop>(place: &mut Result<T, Failure>) -> Result<T, Failure>
     ensures { result ≡ place.old }
 {
-    mem::replace(place, unanswered::<T>())
+    mem::replace(place, placeholder::<T>())
 }
 
 /// The expression that the answer is, where an expression is wanted.
@@ -113,7 +121,7 @@ pub(crate) fn parens_in<B: ExprBuilderInfallibleBuild>(
 
 /// A conditional of its guard, its first part, and its last part, which the answer is.
 #[inline(never)]
-pub(crate) fn chosen_in<B: ExprBuilderInfallibleBuild>(
+pub(crate) fn if_in<B: ExprBuilderInfallibleBuild>(
     alloc: Global,
     loc: &Option<Loc>,
     guard: &mut Result<B::Expr, Failure>,
@@ -154,12 +162,12 @@ pub(crate) fn member_in<B: ExprBuilderInfallibleBuild>(
 
 /// A node with nothing in it.
 #[inline(never)]
-pub(crate) fn unreached_in<B: ExprBuilderInfallibleBuild>(
+pub(crate) fn empty_node_in<B: ExprBuilderInfallibleBuild>(
     alloc: Global,
     loc: &Option<Loc>,
     answer: &mut Converted<B::Expr>,
 )
     ensures { Gives (plain B.meaning) answer.new (fault_outcome empty_node loc.now) }
 {
-    put(answer, Err(unreached(alloc, loc)));
+    put(answer, Err(empty_node(alloc, loc)));
 }

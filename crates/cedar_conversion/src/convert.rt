@@ -1,30 +1,35 @@
-//! The conversion of expressions: each call opens one node, converts its parts and joins what they gave.
+//! The conversion of expressions: each call opens one node, converts its parts and joins what they
+//! gave.
 //!
-//! The answer is left where the caller wants it (`answer`), so a node with one part goes through without a frame of its own; a node with several goes to
-//! the function of its level's chain. That one takes the node itself, by which the proof sees that the calls end, so it opens the node again and has an
-//! arm for what its caller has already taken.
-ghost use Rattle.std.specs.Prelude.{◌≡◌, Option, Some};
+//! The answer is left where the caller wants it (`answer`), so a node with one part goes through
+//! without a frame of its own; a tree with several goes to the function of its level's chain,
+//! which takes the tree whole: by that the proof sees that the calls end.
+ghost use Rattle.std.specs.Prelude.{◌≡◌, Option};
 ghost use Rattle.cedar_syntax.specs.declared.node.Node.{Node as Held};
 ghost use Rattle.cedar_syntax.specs.declared.cst.Add.{Add as Sum};
+ghost use Rattle.cedar_syntax.specs.declared.cst.Expr.{Expr as Tree};
+ghost use Rattle.cedar_syntax.specs.declared.cst.ExprData.TheVariants as datas;
 ghost use Rattle.cedar_syntax.specs.declared.cst.Relation.TheVariants as relations;
 ghost use Rattle.cedar_syntax.specs.declared.cst.Expr.TheVariants as exprs;
-ghost use Rattle.cedar_syntax.specs.Forms.{located, expr_form, or_form, and_form, relation_form, add_form, mult_form, unary_form};
-ghost use Rattle.cedar_conversion.specs.Conversion.{outcome};
+ghost use Rattle.cedar_syntax.specs.Forms.{located, expr_form, data_form, or_form, and_form, relation_form, add_form, mult_form, unary_form};
+ghost use Rattle.cedar_conversion.specs.Conversion.{outcome, form_outcome};
 ghost use Rattle.cedar_conversion.specs.Seen.{Gives};
 ghost use Rattle.cedar_conversion.specs.Table.{table_of};
 ghost use Rattle.cedar_conversion.specs.machines.Views.{plain};
 
-use crate::answer::{Converted, Parts, chosen_in, gather, put, take, unreached_in, value_in};
-use crate::chain::{AndAnd, OrOr, chain_from, factor_of};
-use crate::has_side::right_side;
-use crate::join::{at_most_one, more};
-use crate::literals::bare_number;
+use crate::answer::lists::{at_most_one, more};
+use crate::answer::{Converted, Parts, empty_node_in, gather, if_in, put, take, value_in};
+use crate::leaves::literals::bare_number;
+use crate::operators::alone::Alone;
+use crate::operators::chain::{AndAnd, OrOr, chain_from, factor_of};
+use crate::operators::has_side::right_side;
+use crate::operators::sides::{has_from, is_from, is_in_from, like_from, type_beside};
+use crate::operators::signs::{signed_from, without_operand};
 use crate::primaries::member;
-use crate::sides::{has_from, is_from, is_in_from, like_from, type_beside};
-use crate::signs::{signed_from, without_operand};
 use crate::styles::ExtStyles;
 use cedar_expressions::{AddOp, ExprBuilderInfallibleBuild};
 use cedar_syntax::cst::{self, MultOp, RelOp};
+use cedar_syntax::loc::Loc;
 use cedar_syntax::node::Node;
 use std::alloc::Global;
 
@@ -50,39 +55,42 @@ pub fn expr<B: ExprBuilderInfallibleBuild>(
         (located expr_form node.now)) }
 {
     match &node.node {
-        Some(tree) => match inner_of(tree).expr.as_ref() {
-            cst::ExprData::Or(part) => or::<B>(alloc, styles, part, answer),
-            cst::ExprData::If(_, _, _) => conditional::<B>(alloc, styles, node, answer),
-        },
-        None => conditional::<B>(alloc, styles, node, answer),
+        Some(tree) => {
+            let data = inner_of(tree).expr.as_ref();
+            match data {
+                cst::ExprData::Or(part) => or::<B>(alloc, styles, part, answer),
+                cst::ExprData::If(_, _, _) => {
+                    conditional::<B>(alloc, styles, &node.loc, data, answer)
+                }
+            }
+        }
+        None => empty_node_in::<B>(alloc, &node.loc, answer),
     }
 }
 
+/// A conditional. A disjunction is its caller's.
 #[cycle(convert)]
 #[inline(never)]
 fn conditional<B: ExprBuilderInfallibleBuild>(
     alloc: Global,
     styles: &ExtStyles,
-    node: &Node<Option<cst::Expr>>,
+    loc: &Option<Loc>,
+    tree: &cst::ExprData,
     answer: &mut Converted<B::Expr>,
 )
-    ensures { Gives (plain B.meaning) answer.new (outcome (table_of styles.now)
-        (located expr_form node.now)) }
+    ensures { (a b c : Held (Option Tree)) → tree.now ≡ datas.If a b c
+        → Gives (plain B.meaning) answer.new
+        (form_outcome (table_of styles.now) loc.now (data_form tree.now)) }
 {
-    match &node.node {
-        Some(tree) => match inner_of(tree).expr.as_ref() {
-            cst::ExprData::Or(part) => or::<B>(alloc, styles, part, answer),
-            cst::ExprData::If(guard, consequent, alternative) => {
-                expr::<B>(alloc, styles, guard, answer);
-                let mut guard = value_in::<B>(alloc, answer);
-                expr::<B>(alloc, styles, consequent, answer);
-                let mut consequent = value_in::<B>(alloc, answer);
-                expr::<B>(alloc, styles, alternative, answer);
-                chosen_in::<B>(alloc, &node.loc, &mut guard, &mut consequent, answer)
-            }
-        },
-        None => unreached_in::<B>(alloc, &node.loc, answer),
-    }
+    let cst::ExprData::If(guard, consequent, alternative) = tree else {
+        return empty_node_in::<B>(alloc, loc, answer);
+    };
+    expr::<B>(alloc, styles, guard, answer);
+    let mut guard = value_in::<B>(alloc, answer);
+    expr::<B>(alloc, styles, consequent, answer);
+    let mut consequent = value_in::<B>(alloc, answer);
+    expr::<B>(alloc, styles, alternative, answer);
+    if_in::<B>(alloc, loc, &mut guard, &mut consequent, answer)
 }
 
 /// A disjunction, or its one part.
@@ -98,8 +106,11 @@ fn or<B: ExprBuilderInfallibleBuild>(
         (located or_form node.now)) }
 {
     match &node.node {
-        Some(or) if or.extended.is_empty() => and::<B>(alloc, styles, &or.initial, answer),
-        _ => or_chain::<B>(alloc, styles, node, answer),
+        Some(tree) => match tree.alone() {
+            Some(part) => and::<B>(alloc, styles, part, answer),
+            None => or_chain::<B>(alloc, styles, &node.loc, tree, answer),
+        },
+        None => empty_node_in::<B>(alloc, &node.loc, answer),
     }
 }
 
@@ -108,28 +119,24 @@ fn or<B: ExprBuilderInfallibleBuild>(
 fn or_chain<B: ExprBuilderInfallibleBuild>(
     alloc: Global,
     styles: &ExtStyles,
-    node: &Node<Option<cst::Or>>,
+    loc: &Option<Loc>,
+    or: &cst::Or,
     answer: &mut Converted<B::Expr>,
 )
-    ensures { Gives (plain B.meaning) answer.new (outcome (table_of styles.now)
-        (located or_form node.now)) }
+    ensures { Gives (plain B.meaning) answer.new
+        (form_outcome (table_of styles.now) loc.now (or_form or.now)) }
 {
-    match &node.node {
-        Some(or) => {
-            and::<B>(alloc, styles, &or.initial, answer);
-            let first = take(answer);
-            let mut rest: Parts<OrOr, B::Expr> = Ok(Vec::new(alloc));
-            for part in or.extended.as_slice() {
-                and::<B>(alloc, styles, part, answer);
-                gather::<B, OrOr>(alloc, &mut rest, OrOr, answer);
-            }
-            put(
-                answer,
-                chain_from::<B, OrOr>(alloc, &node.loc, first, rest, Ok(())),
-            )
-        }
-        None => unreached_in::<B>(alloc, &node.loc, answer),
+    and::<B>(alloc, styles, &or.initial, answer);
+    let first = take(answer);
+    let mut rest: Parts<OrOr, B::Expr> = Ok(Vec::new(alloc));
+    for part in or.extended.as_slice() {
+        and::<B>(alloc, styles, part, answer);
+        gather::<B, OrOr>(alloc, &mut rest, OrOr, answer);
     }
+    put(
+        answer,
+        chain_from::<B, OrOr>(alloc, loc, first, rest, Ok(())),
+    )
 }
 
 /// A conjunction, or its one part.
@@ -145,8 +152,11 @@ fn and<B: ExprBuilderInfallibleBuild>(
         (located and_form node.now)) }
 {
     match &node.node {
-        Some(and) if and.extended.is_empty() => relation::<B>(alloc, styles, &and.initial, answer),
-        _ => and_chain::<B>(alloc, styles, node, answer),
+        Some(tree) => match tree.alone() {
+            Some(part) => relation::<B>(alloc, styles, part, answer),
+            None => and_chain::<B>(alloc, styles, &node.loc, tree, answer),
+        },
+        None => empty_node_in::<B>(alloc, &node.loc, answer),
     }
 }
 
@@ -155,28 +165,24 @@ fn and<B: ExprBuilderInfallibleBuild>(
 fn and_chain<B: ExprBuilderInfallibleBuild>(
     alloc: Global,
     styles: &ExtStyles,
-    node: &Node<Option<cst::And>>,
+    loc: &Option<Loc>,
+    and: &cst::And,
     answer: &mut Converted<B::Expr>,
 )
-    ensures { Gives (plain B.meaning) answer.new (outcome (table_of styles.now)
-        (located and_form node.now)) }
+    ensures { Gives (plain B.meaning) answer.new
+        (form_outcome (table_of styles.now) loc.now (and_form and.now)) }
 {
-    match &node.node {
-        Some(and) => {
-            relation::<B>(alloc, styles, &and.initial, answer);
-            let first = take(answer);
-            let mut rest: Parts<AndAnd, B::Expr> = Ok(Vec::new(alloc));
-            for part in and.extended.as_slice() {
-                relation::<B>(alloc, styles, part, answer);
-                gather::<B, AndAnd>(alloc, &mut rest, AndAnd, answer);
-            }
-            put(
-                answer,
-                chain_from::<B, AndAnd>(alloc, &node.loc, first, rest, Ok(())),
-            )
-        }
-        None => unreached_in::<B>(alloc, &node.loc, answer),
+    relation::<B>(alloc, styles, &and.initial, answer);
+    let first = take(answer);
+    let mut rest: Parts<AndAnd, B::Expr> = Ok(Vec::new(alloc));
+    for part in and.extended.as_slice() {
+        relation::<B>(alloc, styles, part, answer);
+        gather::<B, AndAnd>(alloc, &mut rest, AndAnd, answer);
     }
+    put(
+        answer,
+        chain_from::<B, AndAnd>(alloc, loc, first, rest, Ok(())),
+    )
 }
 
 /// A relation, or its one part.
@@ -192,10 +198,11 @@ fn relation<B: ExprBuilderInfallibleBuild>(
         (located relation_form node.now)) }
 {
     match &node.node {
-        Some(cst::Relation::Common { initial, extended }) if extended.is_empty() => {
-            add::<B>(alloc, styles, initial, answer)
-        }
-        _ => relation_chain::<B>(alloc, styles, node, answer),
+        Some(tree) => match tree.alone() {
+            Some(part) => add::<B>(alloc, styles, part, answer),
+            None => relation_chain::<B>(alloc, styles, &node.loc, tree, answer),
+        },
+        None => empty_node_in::<B>(alloc, &node.loc, answer),
     }
 }
 
@@ -204,14 +211,15 @@ fn relation<B: ExprBuilderInfallibleBuild>(
 fn relation_chain<B: ExprBuilderInfallibleBuild>(
     alloc: Global,
     styles: &ExtStyles,
-    node: &Node<Option<cst::Relation>>,
+    loc: &Option<Loc>,
+    relation: &cst::Relation,
     answer: &mut Converted<B::Expr>,
 )
-    ensures { Gives (plain B.meaning) answer.new (outcome (table_of styles.now)
-        (located relation_form node.now)) }
+    ensures { Gives (plain B.meaning) answer.new
+        (form_outcome (table_of styles.now) loc.now (relation_form relation.now)) }
 {
-    match &node.node {
-        Some(cst::Relation::Common { initial, extended }) => {
+    match relation {
+        cst::Relation::Common { initial, extended } => {
             add::<B>(alloc, styles, initial, answer);
             let first = take(answer);
             let mut rest: Parts<RelOp, B::Expr> = Ok(Vec::new(alloc));
@@ -219,16 +227,15 @@ fn relation_chain<B: ExprBuilderInfallibleBuild>(
                 add::<B>(alloc, styles, part, answer);
                 gather::<B, RelOp>(alloc, &mut rest, *op, answer);
             }
-            let allowed = at_most_one(alloc, &node.loc, extended.as_slice());
+            let allowed = at_most_one(alloc, loc, extended.as_slice());
             put(
                 answer,
-                chain_from::<B, RelOp>(alloc, &node.loc, first, rest, allowed),
+                chain_from::<B, RelOp>(alloc, loc, first, rest, allowed),
             )
         }
-        Some(cst::Relation::Has { .. }) => has::<B>(alloc, styles, node, answer),
-        Some(cst::Relation::Like { .. }) => like::<B>(alloc, styles, node, answer),
-        Some(cst::Relation::IsIn { .. }) => typed::<B>(alloc, styles, node, answer),
-        None => unreached_in::<B>(alloc, &node.loc, answer),
+        cst::Relation::Has { .. } => has::<B>(alloc, styles, loc, relation, answer),
+        cst::Relation::Like { .. } => like::<B>(alloc, styles, loc, relation, answer),
+        cst::Relation::IsIn { .. } => is_in::<B>(alloc, styles, loc, relation, answer),
     }
 }
 
@@ -238,20 +245,21 @@ fn relation_chain<B: ExprBuilderInfallibleBuild>(
 fn has<B: ExprBuilderInfallibleBuild>(
     alloc: Global,
     styles: &ExtStyles,
-    node: &Node<Option<cst::Relation>>,
+    loc: &Option<Loc>,
+    relation: &cst::Relation,
     answer: &mut Converted<B::Expr>,
 )
-    ensures { (a b : Held (Option Sum)) → node.now.node ≡ Some (relations.Has a b)
+    ensures { (a b : Held (Option Sum)) → relation.now ≡ relations.Has a b
         → Gives (plain B.meaning) answer.new
-        (outcome (table_of styles.now) (located relation_form node.now)) }
+        (form_outcome (table_of styles.now) loc.now (relation_form relation.now)) }
 {
-    let Some(cst::Relation::Has { target, field }) = &node.node else {
-        return unreached_in::<B>(alloc, &node.loc, answer);
+    let cst::Relation::Has { target, field } = relation else {
+        return empty_node_in::<B>(alloc, loc, answer);
     };
     let right = right_side::<B>(alloc, field.as_ref());
     add::<B>(alloc, styles, target, answer);
     let target = value_in::<B>(alloc, answer);
-    put(answer, has_from::<B>(alloc, &node.loc, right, target))
+    put(answer, has_from::<B>(alloc, loc, right, target))
 }
 
 /// `like`. Another relation than this is its caller's.
@@ -260,45 +268,45 @@ fn has<B: ExprBuilderInfallibleBuild>(
 fn like<B: ExprBuilderInfallibleBuild>(
     alloc: Global,
     styles: &ExtStyles,
-    node: &Node<Option<cst::Relation>>,
+    loc: &Option<Loc>,
+    relation: &cst::Relation,
     answer: &mut Converted<B::Expr>,
 )
-    ensures { (a b : Held (Option Sum)) → node.now.node ≡ Some (relations.Like a b)
+    ensures { (a b : Held (Option Sum)) → relation.now ≡ relations.Like a b
         → Gives (plain B.meaning) answer.new
-        (outcome (table_of styles.now) (located relation_form node.now)) }
+        (form_outcome (table_of styles.now) loc.now (relation_form relation.now)) }
 {
-    let Some(cst::Relation::Like { target, pattern }) = &node.node else {
-        return unreached_in::<B>(alloc, &node.loc, answer);
+    let cst::Relation::Like { target, pattern } = relation else {
+        return empty_node_in::<B>(alloc, loc, answer);
     };
     add::<B>(alloc, styles, target, answer);
     let target = value_in::<B>(alloc, answer);
     add::<B>(alloc, styles, pattern.as_ref(), answer);
     let pattern = take(answer);
-    put(answer, like_from::<B>(alloc, &node.loc, target, pattern))
+    put(answer, like_from::<B>(alloc, loc, target, pattern))
 }
 
 /// `is` alone or with `in`. Another relation than these is its caller's.
 #[cycle(convert)]
 #[inline(never)]
-fn typed<B: ExprBuilderInfallibleBuild>(
+fn is_in<B: ExprBuilderInfallibleBuild>(
     alloc: Global,
     styles: &ExtStyles,
-    node: &Node<Option<cst::Relation>>,
+    loc: &Option<Loc>,
+    relation: &cst::Relation,
     answer: &mut Converted<B::Expr>,
 )
     ensures { (a b : Held (Option Sum)) (c : Option (Held (Option Sum)))
-        → node.now.node ≡ Some (relations.IsIn a b c) → Gives (plain B.meaning) answer.new
-        (outcome (table_of styles.now) (located relation_form node.now)) }
+        → relation.now ≡ relations.IsIn a b c → Gives (plain B.meaning) answer.new
+        (form_outcome (table_of styles.now) loc.now (relation_form relation.now)) }
 {
-    let Some(
-        cst::Relation::IsIn {
-            target,
-            entity_type,
-            in_entity,
-        },
-    ) = &node.node
+    let cst::Relation::IsIn {
+        target,
+        entity_type,
+        in_entity,
+    } = relation
     else {
-        return unreached_in::<B>(alloc, &node.loc, answer);
+        return empty_node_in::<B>(alloc, loc, answer);
     };
     add::<B>(alloc, styles, target, answer);
     let left = value_in::<B>(alloc, answer);
@@ -306,11 +314,11 @@ fn typed<B: ExprBuilderInfallibleBuild>(
     let right = take(answer);
     let pair = type_beside::<B>(alloc, &target.loc, left, right);
     match in_entity {
-        None => put(answer, is_from::<B>(alloc, &node.loc, pair)),
+        None => put(answer, is_from::<B>(alloc, loc, pair)),
         Some(within) => {
             add::<B>(alloc, styles, within.as_ref(), answer);
             let within = value_in::<B>(alloc, answer);
-            put(answer, is_in_from::<B>(alloc, &node.loc, pair, within))
+            put(answer, is_in_from::<B>(alloc, loc, pair, within))
         }
     }
 }
@@ -328,8 +336,11 @@ pub fn add<B: ExprBuilderInfallibleBuild>(
         (located add_form node.now)) }
 {
     match &node.node {
-        Some(add) if add.extended.is_empty() => mult::<B>(alloc, styles, &add.initial, answer),
-        _ => add_chain::<B>(alloc, styles, node, answer),
+        Some(tree) => match tree.alone() {
+            Some(part) => mult::<B>(alloc, styles, part, answer),
+            None => add_chain::<B>(alloc, styles, &node.loc, tree, answer),
+        },
+        None => empty_node_in::<B>(alloc, &node.loc, answer),
     }
 }
 
@@ -338,28 +349,24 @@ pub fn add<B: ExprBuilderInfallibleBuild>(
 fn add_chain<B: ExprBuilderInfallibleBuild>(
     alloc: Global,
     styles: &ExtStyles,
-    node: &Node<Option<cst::Add>>,
+    loc: &Option<Loc>,
+    add: &cst::Add,
     answer: &mut Converted<B::Expr>,
 )
-    ensures { Gives (plain B.meaning) answer.new (outcome (table_of styles.now)
-        (located add_form node.now)) }
+    ensures { Gives (plain B.meaning) answer.new
+        (form_outcome (table_of styles.now) loc.now (add_form add.now)) }
 {
-    match &node.node {
-        Some(add) => {
-            mult::<B>(alloc, styles, &add.initial, answer);
-            let first = take(answer);
-            let mut rest: Parts<AddOp, B::Expr> = Ok(Vec::new(alloc));
-            for (op, part) in add.extended.as_slice() {
-                mult::<B>(alloc, styles, part, answer);
-                gather::<B, AddOp>(alloc, &mut rest, *op, answer);
-            }
-            put(
-                answer,
-                chain_from::<B, AddOp>(alloc, &node.loc, first, rest, Ok(())),
-            )
-        }
-        None => unreached_in::<B>(alloc, &node.loc, answer),
+    mult::<B>(alloc, styles, &add.initial, answer);
+    let first = take(answer);
+    let mut rest: Parts<AddOp, B::Expr> = Ok(Vec::new(alloc));
+    for (op, part) in add.extended.as_slice() {
+        mult::<B>(alloc, styles, part, answer);
+        gather::<B, AddOp>(alloc, &mut rest, *op, answer);
     }
+    put(
+        answer,
+        chain_from::<B, AddOp>(alloc, loc, first, rest, Ok(())),
+    )
 }
 
 /// A product, or its one part.
@@ -375,8 +382,11 @@ fn mult<B: ExprBuilderInfallibleBuild>(
         (located mult_form node.now)) }
 {
     match &node.node {
-        Some(mult) if mult.extended.is_empty() => unary::<B>(alloc, styles, &mult.initial, answer),
-        _ => mult_chain::<B>(alloc, styles, node, answer),
+        Some(tree) => match tree.alone() {
+            Some(part) => unary::<B>(alloc, styles, part, answer),
+            None => mult_chain::<B>(alloc, styles, &node.loc, tree, answer),
+        },
+        None => empty_node_in::<B>(alloc, &node.loc, answer),
     }
 }
 
@@ -385,29 +395,25 @@ fn mult<B: ExprBuilderInfallibleBuild>(
 fn mult_chain<B: ExprBuilderInfallibleBuild>(
     alloc: Global,
     styles: &ExtStyles,
-    node: &Node<Option<cst::Mult>>,
+    loc: &Option<Loc>,
+    mult: &cst::Mult,
     answer: &mut Converted<B::Expr>,
 )
-    ensures { Gives (plain B.meaning) answer.new (outcome (table_of styles.now)
-        (located mult_form node.now)) }
+    ensures { Gives (plain B.meaning) answer.new
+        (form_outcome (table_of styles.now) loc.now (mult_form mult.now)) }
 {
-    match &node.node {
-        Some(mult) => {
-            unary::<B>(alloc, styles, &mult.initial, answer);
-            let first = take(answer);
-            let mut rest: Parts<MultOp, B::Expr> = Ok(Vec::new(alloc));
-            for (op, part) in mult.extended.as_slice() {
-                unary::<B>(alloc, styles, part, answer);
-                let part = value_in::<B>(alloc, answer);
-                more::<B, MultOp>(&mut rest, *op, factor_of::<B>(alloc, &node.loc, *op, part));
-            }
-            put(
-                answer,
-                chain_from::<B, MultOp>(alloc, &node.loc, first, rest, Ok(())),
-            )
-        }
-        None => unreached_in::<B>(alloc, &node.loc, answer),
+    unary::<B>(alloc, styles, &mult.initial, answer);
+    let first = take(answer);
+    let mut rest: Parts<MultOp, B::Expr> = Ok(Vec::new(alloc));
+    for (op, part) in mult.extended.as_slice() {
+        unary::<B>(alloc, styles, part, answer);
+        let part = value_in::<B>(alloc, answer);
+        more::<B, MultOp>(&mut rest, *op, factor_of::<B>(alloc, loc, *op, part));
     }
+    put(
+        answer,
+        chain_from::<B, MultOp>(alloc, loc, first, rest, Ok(())),
+    )
 }
 
 /// An operand, with signs or without.
@@ -423,37 +429,33 @@ fn unary<B: ExprBuilderInfallibleBuild>(
         (located unary_form node.now)) }
 {
     match &node.node {
-        Some(unary) if unary.op.is_none() => member::<B>(alloc, styles, &unary.item, answer),
-        _ => signed::<B>(alloc, styles, node, answer),
+        Some(tree) => match tree.alone() {
+            Some(item) => member::<B>(alloc, styles, item, answer),
+            None => signs::<B>(alloc, styles, &node.loc, tree, answer),
+        },
+        None => empty_node_in::<B>(alloc, &node.loc, answer),
     }
 }
 
 #[cycle(convert)]
 #[inline(never)]
-fn signed<B: ExprBuilderInfallibleBuild>(
+fn signs<B: ExprBuilderInfallibleBuild>(
     alloc: Global,
     styles: &ExtStyles,
-    node: &Node<Option<cst::Unary>>,
+    loc: &Option<Loc>,
+    unary: &cst::Unary,
     answer: &mut Converted<B::Expr>,
 )
-    ensures { Gives (plain B.meaning) answer.new (outcome (table_of styles.now)
-        (located unary_form node.now)) }
+    ensures { Gives (plain B.meaning) answer.new
+        (form_outcome (table_of styles.now) loc.now (unary_form unary.now)) }
 {
-    match &node.node {
-        Some(unary) => {
-            let bare = bare_number(&unary.item);
-            match without_operand::<B>(alloc, &node.loc, &unary.item.loc, unary.op, bare) {
-                Some(given) => put(answer, given),
-                None => {
-                    member::<B>(alloc, styles, &unary.item, answer);
-                    let item = take(answer);
-                    put(
-                        answer,
-                        signed_from::<B>(alloc, &node.loc, unary.op, bare, item),
-                    )
-                }
-            }
+    let bare = bare_number(&unary.item);
+    match without_operand::<B>(alloc, loc, &unary.item.loc, unary.op, bare) {
+        Some(given) => put(answer, given),
+        None => {
+            member::<B>(alloc, styles, &unary.item, answer);
+            let item = take(answer);
+            put(answer, signed_from::<B>(alloc, loc, unary.op, bare, item))
         }
-        None => unreached_in::<B>(alloc, &node.loc, answer),
     }
 }

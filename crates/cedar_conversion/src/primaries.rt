@@ -1,4 +1,5 @@
-//! The conversion of members and primaries: the part of the ring of calls below the operators (`convert`).
+//! The conversion of members and primaries: the part of the ring of calls below the operators
+//! (`convert`).
 ghost use Rattle.std.specs.Prelude.{◌≡◌, List, Option, Some};
 ghost use Rattle.cedar_syntax.specs.declared.cst.Expr.{Expr as Tree};
 ghost use Rattle.cedar_syntax.specs.declared.cst.MemAccess.TheVariants as accesses;
@@ -6,7 +7,9 @@ ghost use Rattle.cedar_syntax.specs.declared.cst.Primary.TheVariants as primarie
 ghost use Rattle.cedar_syntax.specs.declared.cst.RecInit.{RecInit as Init};
 ghost use Rattle.cedar_syntax.specs.declared.node.Node.{Node as Held};
 ghost use Rattle.cedar_syntax.specs.Forms.{located, member_form, primary_form, access_form, init_form};
-ghost use Rattle.cedar_conversion.specs.Conversion.{outcome, access_outcome, pair_outcome};
+ghost use Rattle.cedar_conversion.specs.Conversion.{outcome, form_outcome, access_outcome, pair_outcome};
+ghost use Rattle.cedar_conversion.specs.Leaves.{entity_leaf, name_leaf, slot_leaf};
+ghost use Rattle.cedar_conversion.specs.Literals.{literal_outcome};
 ghost use Rattle.cedar_conversion.specs.Members.{Access as Given};
 ghost use Rattle.cedar_conversion.specs.Outcome.{Outcome, item_more};
 ghost use Rattle.cedar_conversion.specs.Seen.{Gives};
@@ -14,23 +17,29 @@ ghost use Rattle.cedar_conversion.specs.Table.{table_of};
 ghost use Rattle.cedar_conversion.specs.machines.Applied.{Pair, seen_accesses, seen_pairs};
 ghost use Rattle.cedar_conversion.specs.machines.Views.{plain};
 
+pub(crate) mod collections;
+pub(crate) mod members;
+pub mod methods;
+
+use crate::answer::special::empty_node;
 use crate::answer::{
-    Converted, Parts, gather, member_in, parens_in, put, take, unreached_in, value_in,
+    Converted, Parts, empty_node_in, gather, member_in, parens_in, put, take, value_in,
 };
-use crate::collections::{
+use crate::convert::expr;
+use crate::leaves::entities::entity;
+use crate::leaves::literals::literal;
+use crate::leaves::names::variable_or_name;
+use crate::leaves::slots::slot;
+use crate::operators::alone::Alone;
+use crate::primaries::collections::{
     Accesses, Beside, Pairs, add_access, add_pair, call_from, field_from, index_from, pair_from,
     record_from, set_from,
 };
-use crate::convert::expr;
-use crate::entities::entity;
-use crate::literals::literal;
-use crate::methods::Site;
-use crate::names::named;
-use crate::slots::slot;
-use crate::special::unreached;
+use crate::primaries::methods::Site;
 use crate::styles::ExtStyles;
 use cedar_expressions::ExprBuilderInfallibleBuild;
 use cedar_syntax::cst;
+use cedar_syntax::loc::Loc;
 use cedar_syntax::node::Node;
 use std::alloc::Global;
 
@@ -47,42 +56,35 @@ pub(crate) fn member<B: ExprBuilderInfallibleBuild>(
         (located member_form node.now)) }
 {
     match &node.node {
-        Some(member) if member.access.is_empty() => {
-            primary::<B>(alloc, styles, &member.item, answer)
-        }
-        _ => accessed::<B>(alloc, styles, node, answer),
+        Some(tree) => match tree.alone() {
+            Some(item) => primary::<B>(alloc, styles, item, answer),
+            None => member_chain::<B>(alloc, styles, &node.loc, tree, answer),
+        },
+        None => empty_node_in::<B>(alloc, &node.loc, answer),
     }
 }
 
 /// A primary and its accesses.
 #[cycle(convert)]
 #[inline(never)]
-fn accessed<B: ExprBuilderInfallibleBuild>(
+fn member_chain<B: ExprBuilderInfallibleBuild>(
     alloc: Global,
     styles: &ExtStyles,
-    node: &Node<Option<cst::Member>>,
+    loc: &Option<Loc>,
+    member: &cst::Member,
     answer: &mut Converted<B::Expr>,
 )
-    ensures { Gives (plain B.meaning) answer.new (outcome (table_of styles.now)
-        (located member_form node.now)) }
+    ensures { Gives (plain B.meaning) answer.new
+        (form_outcome (table_of styles.now) loc.now (member_form member.now)) }
 {
-    match &node.node {
-        Some(member) => {
-            primary::<B>(alloc, styles, &member.item, answer);
-            let mut item = take(answer);
-            let mut all: Accesses<B::Expr> = Ok(Vec::new(alloc));
-            for part in member.access.as_slice() {
-                access::<B>(alloc, styles, part, answer, &mut all);
-            }
-            let site = Site {
-                alloc,
-                styles,
-                loc: &node.loc,
-            };
-            member_in::<B>(site, &mut item, &mut all, answer)
-        }
-        None => unreached_in::<B>(alloc, &node.loc, answer),
+    primary::<B>(alloc, styles, &member.item, answer);
+    let mut item = take(answer);
+    let mut all: Accesses<B::Expr> = Ok(Vec::new(alloc));
+    for part in member.access.as_slice() {
+        access::<B>(alloc, styles, part, answer, &mut all);
     }
+    let site = Site { alloc, styles, loc };
+    member_in::<B>(site, &mut item, &mut all, answer)
 }
 
 /// One access, added behind those so far. What is left in `answer` is of no use.
@@ -109,7 +111,7 @@ fn access<B: ExprBuilderInfallibleBuild>(
             let index = take(answer);
             add_access::<B>(all, index_from::<B>(alloc, index))
         }
-        None => add_access::<B>(all, Err(unreached(alloc, &node.loc))),
+        None => add_access::<B>(all, Err(empty_node(alloc, &node.loc))),
     }
 }
 
@@ -129,7 +131,7 @@ fn arguments<B: ExprBuilderInfallibleBuild>(
         (item_more xs (access_outcome (table_of styles.now) (located access_form node.now))) }
 {
     let Some(cst::MemAccess::Call(items)) = &node.node else {
-        return add_access::<B>(all, Err(unreached(alloc, &node.loc)));
+        return add_access::<B>(all, Err(empty_node(alloc, &node.loc)));
     };
     let mut given: Parts<Beside, B::Expr> = Ok(Vec::new(alloc));
     for part in items.as_slice() {
@@ -156,35 +158,64 @@ fn primary<B: ExprBuilderInfallibleBuild>(
             expr::<B>(alloc, styles, inner, answer);
             parens_in::<B>(alloc, &inner.loc, answer)
         }
-        _ => gathered::<B>(alloc, styles, node, answer),
+        Some(cst::Primary::EList(_)) => set::<B>(alloc, styles, node, answer),
+        Some(cst::Primary::RInits(_)) => record::<B>(alloc, styles, node, answer),
+        Some(cst::Primary::Literal(inner)) => literal_in::<B>(alloc, inner, answer),
+        Some(cst::Primary::Ref(inner)) => entity_in::<B>(alloc, inner.as_ref(), answer),
+        Some(cst::Primary::Name(inner)) => name_in::<B>(alloc, &node.loc, inner, answer),
+        Some(cst::Primary::Slot(inner)) => slot_in::<B>(alloc, inner, answer),
+        None => empty_node_in::<B>(alloc, &node.loc, answer),
     }
 }
 
-#[cycle(convert)]
+// ---- primaries with no expression in them: what they hold stands in no frame of the ring
+
 #[inline(never)]
-fn gathered<B: ExprBuilderInfallibleBuild>(
+fn literal_in<B: ExprBuilderInfallibleBuild>(
     alloc: Global,
-    styles: &ExtStyles,
-    node: &Node<Option<cst::Primary>>,
+    node: &Node<Option<cst::Literal>>,
     answer: &mut Converted<B::Expr>,
 )
-    ensures { Gives (plain B.meaning) answer.new (outcome (table_of styles.now)
-        (located primary_form node.now)) }
+    ensures { Gives (plain B.meaning) answer.new (literal_outcome node.now.loc node.now.node) }
 {
-    match &node.node {
-        Some(cst::Primary::Literal(inner)) => put(answer, literal::<B>(alloc, inner)),
-        Some(cst::Primary::Ref(inner)) => put(answer, entity::<B>(alloc, inner.as_ref())),
-        Some(cst::Primary::Name(inner)) => put(answer, named::<B>(alloc, &node.loc, inner)),
-        Some(cst::Primary::Slot(inner)) => put(answer, slot::<B>(alloc, inner)),
-        Some(cst::Primary::Expr(nested)) => {
-            expr::<B>(alloc, styles, nested, answer);
-            parens_in::<B>(alloc, &nested.loc, answer)
-        }
-        Some(cst::Primary::EList(_)) => set::<B>(alloc, styles, node, answer),
-        Some(cst::Primary::RInits(_)) => record::<B>(alloc, styles, node, answer),
-        None => unreached_in::<B>(alloc, &node.loc, answer),
-    }
+    put(answer, literal::<B>(alloc, node))
 }
+
+#[inline(never)]
+fn entity_in<B: ExprBuilderInfallibleBuild>(
+    alloc: Global,
+    node: &Node<Option<cst::Ref>>,
+    answer: &mut Converted<B::Expr>,
+)
+    ensures { Gives (plain B.meaning) answer.new (entity_leaf node.now) }
+{
+    put(answer, entity::<B>(alloc, node))
+}
+
+#[inline(never)]
+fn name_in<B: ExprBuilderInfallibleBuild>(
+    alloc: Global,
+    loc: &Option<Loc>,
+    node: &Node<Option<cst::Name>>,
+    answer: &mut Converted<B::Expr>,
+)
+    ensures { Gives (plain B.meaning) answer.new (name_leaf loc.now node.now) }
+{
+    put(answer, variable_or_name::<B>(alloc, loc, node))
+}
+
+#[inline(never)]
+fn slot_in<B: ExprBuilderInfallibleBuild>(
+    alloc: Global,
+    node: &Node<Option<cst::Slot>>,
+    answer: &mut Converted<B::Expr>,
+)
+    ensures { Gives (plain B.meaning) answer.new (slot_leaf node.now) }
+{
+    put(answer, slot::<B>(alloc, node))
+}
+
+// ---- sets and records
 
 /// A set. Another primary is its caller's.
 #[cycle(convert)]
@@ -200,7 +231,7 @@ fn set<B: ExprBuilderInfallibleBuild>(
         (located primary_form node.now)) }
 {
     let Some(cst::Primary::EList(items)) = &node.node else {
-        return unreached_in::<B>(alloc, &node.loc, answer);
+        return empty_node_in::<B>(alloc, &node.loc, answer);
     };
     let mut all: Parts<Beside, B::Expr> = Ok(Vec::new(alloc));
     for part in items.as_slice() {
@@ -224,7 +255,7 @@ fn record<B: ExprBuilderInfallibleBuild>(
         (located primary_form node.now)) }
 {
     let Some(cst::Primary::RInits(inits)) = &node.node else {
-        return unreached_in::<B>(alloc, &node.loc, answer);
+        return empty_node_in::<B>(alloc, &node.loc, answer);
     };
     let mut all: Pairs<B::Expr> = Ok(Vec::new(alloc));
     for part in inits.as_slice() {
@@ -255,6 +286,6 @@ fn init<B: ExprBuilderInfallibleBuild>(
             let value = value_in::<B>(alloc, answer);
             add_pair::<B>(all, pair_from::<B>(alloc, key, value))
         }
-        None => add_pair::<B>(all, Err(unreached(alloc, &node.loc))),
+        None => add_pair::<B>(all, Err(empty_node(alloc, &node.loc))),
     }
 }

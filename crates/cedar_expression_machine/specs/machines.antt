@@ -9,7 +9,7 @@ pub mod Having
 pub mod Keeping
 pub mod Named
 pub mod NamedShapes
-pub mod OperandPlaces
+pub mod AlonePlaces
 pub mod Wanting
 pub mod WholeExpressions
 pub mod WordShapes

@@ -45,7 +45,8 @@ choices (Fs ∷ Fss) each all (inr x) (inr y) = through (ap inr) (ap (right x)) 
 pub enum : (N : Record) (each : Each Bool N.parts) → Deciding N.parts each → (x y : N.D) → Decides (by false false N.parts each (N.as_values x) (N.as_values y)) (x ≡ y)
 enum N each all x y = through (values_one N x y) (ap N.as_values) (choices N.parts each all (N.as_values x) (N.as_values y))
 
--- one choice against all others, where its own variant's comparison decides equality of what g gives
+-- one choice against all others, where its own variant's comparison decides equality of what g
+-- gives
 abbrev pub place : (Fss : List (List Field)) → Choice Fss → ℕ
 place Fss c = tag (rowss Fss) (intoss Fss c)
 

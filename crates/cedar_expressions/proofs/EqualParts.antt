@@ -1,4 +1,5 @@
--- The parts of an expression that hold no expression are equal by `==` exactly if they are the same.
+-- The parts of an expression that hold no expression are equal by `==` exactly if they are the
+-- same.
 use Rattle.std.proofs.Common.{◌≡◌, ℕ, Bool, Decides, List, nat_eq, int_eq}
 use Rattle.std.specs.Cmp.{unsigned_Decides, signed_Decides, booleans_Decides}
 use Rattle.std.specs.Bool.{beq}

@@ -1,4 +1,5 @@
--- What an expression means, places aside, is what its calls make of parts whose slots stand nowhere.
+-- What an expression means, places aside, is what its calls make of parts whose slots stand
+-- nowhere.
 use Rattle.std.proofs.Common.{◌≡◌, ℕ, List, [], ◌∷◌, Option, map, refl, ap, sym, ◌∙◌, subst}
 use Rattle.cedar_expressions.specs.declared.operators.AddOp.{AddOp}
 use Rattle.cedar_expressions.specs.declared.operators.UnaryOp.TheVariants as operator

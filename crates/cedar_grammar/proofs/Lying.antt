@@ -1,4 +1,5 @@
--- Where tokens stand: one behind the other, on boundaries of characters, so that the bytes of some of them are a place of the text.
+-- Where tokens stand: one behind the other, on boundaries of characters, so that the bytes of some
+-- of them are a place of the text.
 use Rattle.std.proofs.Common.{◌≡◌, ℕ, ◌+◌, ◌-◌, ◌≤◌, List, [], ◌∷◌, ◌++◌, Option, Some, length, drop, refl, sym, ap, subst, arith}
 use Rattle.std.specs.Str.{IsUtf8, IsCharBoundary}
 use Rattle.std.proofs.lemmas.Str.{IsCharBoundary-from_drop}

@@ -1,10 +1,11 @@
-//! Reads a whole text by one rule of the grammar, token after token: the driver, and what it shares
-//! with the machines of the rules.
+//! Reads a whole text by one rule of the grammar, token after token: the driver, and what it
+//! shares with the machines of the rules.
 
 pub mod class;
 pub mod driver;
 pub mod expected;
 pub mod extent;
+pub mod identifier;
 pub mod literal;
 pub mod mark;
 pub mod mending;
@@ -13,4 +14,3 @@ pub mod put;
 pub mod recovery;
 pub mod stack;
 pub mod tokens;
-pub mod words;

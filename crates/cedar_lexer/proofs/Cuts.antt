@@ -1,4 +1,5 @@
--- A text has one cut or one bad place, and each of its beginnings that is laid out is the beginning of that.
+-- A text has one cut or one bad place, and each of its beginnings that is laid out is the
+-- beginning of that.
 use Rattle.std.proofs.Common.{◌≡◌, ℕ, zero, suc, ◌+◌, ◌-◌, ◌<◌, ◌≤◌, List, [], ◌∷◌, ◌++◌, length, take, drop, refl, sym, ap, ◌∙◌, subst, arith, append_assoc, append-nil, Option, Some, None}
 use Rattle.std.specs.Char.{encode_utf8}
 use Rattle.std.specs.Str.{IsUtf8, encode_utf8_all}

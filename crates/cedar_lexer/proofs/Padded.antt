@@ -1,4 +1,5 @@
--- White space or a comment straight before a token, and parentheses around tokens: the other tokens keep their words.
+-- White space or a comment straight before a token, and parentheses around tokens: the other
+-- tokens keep their words.
 use Rattle.std.proofs.Common.{◌≡◌, ℕ, ◌+◌, true, List, [], ◌∷◌, ◌++◌, map, length, drop, refl, sym, ap, ap₂, ◌∙◌, subst, arith, append_assoc, Some, inl, inr, ◌<◌, ◌≤◌}
 use Rattle.std.specs.Str.{IsUtf8}
 use Rattle.std.specs.Prelude.{IsTrue}

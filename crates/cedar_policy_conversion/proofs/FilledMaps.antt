@@ -1,6 +1,7 @@
 -- A map that annotations fill: one more, be it new, known or refused.
-use Rattle.std.proofs.Common.{◌≡◌, ◌⊎◌, inl, inr, ◌<◌, ◌+◌, ◌||◌, ℕ, Bool, true, false, cond, is_some, List, [], ◌∷◌, ◌++◌, append-nil, take, length, get_or, Option, Some, Result, Ok, Err, IfOk, IfErr, IsErrAnd, bytes_eq, refl, sym, ap, ◌∙◌, subst}
+use Rattle.std.proofs.Common.{◌≡◌, ◌⊎◌, inl, inr, ◌<◌, ◌+◌, ◌||◌, ℕ, Bool, true, false, cond, is_some, List, [], ◌∷◌, ◌++◌, append-nil, take, length, get_or, Option, Some, Result, Ok, Err, IsErrAnd, bytes_eq, refl, sym, ap, ◌∙◌, subst}
 use Rattle.std.specs.List.{fold}
+use Rattle.std.specs.BTreeMap.{BTreeMap}
 use Rattle.std.specs.FinMap.{FinMap, insert, empty, get, contains_key, get-insert, get-empty}
 use Rattle.std.specs.Cmp.Lexicographic.{nat_list_cmp_total}
 use Rattle.std.proofs.lemmas.Map.Text.{is_eq-slice_cmp}
@@ -18,7 +19,7 @@ use Rattle.cedar_syntax.specs.declared.err.faults.Failure.TheVariants.{Memory, E
 use Rattle.cedar_syntax.specs.declared.loc.Loc.{Loc}
 use Rattle.cedar_syntax.specs.declared.node.Node.{Node}
 use Rattle.cedar_syntax.specs.Joined.{WantsMemory}
-use Rattle.cedar_policy_conversion.specs.AnnotationKeys.{AnnotationContent, Answers, AnswersEach, Gathering, annotation_at, annotation_outcome, gathering_with, gathering_with_node, gathering, has_key, with_pair, empty_gathering, key_value_outcome, paired_keys, with_new_key}
+use Rattle.cedar_policy_conversion.specs.AnnotationKeys.{AnnotationContent, Answers, AnswersEach, Gathering, GivesByKey, annotation_at, annotation_outcome, gathering_with, gathering_with_node, gathering, has_key, with_pair, empty_gathering, key_value_outcome, paired_keys, with_new_key}
 use Rattle.cedar_conversion.specs.Names.{content_outcome}
 use Rattle.cedar_conversion.specs.Outcome.{NamedFault, Outcome, both, next, duplicate_annotation, item_more, faults_outcome}
 use Rattle.cedar_conversion.specs.Seen.{Gives, Refuses, named_faults}
@@ -183,6 +184,11 @@ module _ {F T : Type 0} (g : Shared F (Option (String Global) × (Option (Bor Lo
 
   -- ---- the end
 
+  -- what `?` passes on
+  pub refused_on : (r : Result (BTreeMap (List ℕ) T) Failure) (failure : Failure) (o : Outcome (List AnnotationContent)) → IsErrAnd r (λ e. e ≡ failure) → Refuses failure o → GivesByKey g f r o
+  refused_on (Ok x) failure o is h = absurd is
+  refused_on (Err e) failure o is h = rw is h
+
   pub filled_err : (so_far : Gathering) (m : FinMap text_order T) (all : Result (Unit {0}) Failure) (failure : Failure) → all ≡ Err failure → HoldsSoFar g f so_far m all → Refuses failure so_far.all
   filled_err so_far m all (Memory e) is h = tt
   filled_err so_far m all (Errors es) is h = let k : HoldsSoFar g f so_far m (Err (Errors es)) = subst (HoldsSoFar g f so_far m) is h in k.1
@@ -197,13 +203,3 @@ gathered_from so_far (y ∷ xs) x = gathered_from (gathering_with_node so_far y)
 
 pub gathered_next : (xs : List (Node (Option Annotation))) (i : ℕ) (x : Node (Option Annotation)) → i < length xs → x ≡ get_or xs i x → gathering (take (i + 1) xs) ≡ gathering_with_node (gathering (take i xs)) x
 gathered_next xs i x more is = ap gathering (take_next xs i x more is) ∙ gathered_from empty_gathering (take i xs) x
-
--- ---- what `?` passes on
-
-pub refused_on : {X Y : Type 0} (r : Result X Failure) (f : Failure) (o : Outcome Y) → IsErrAnd r (λ e. e ≡ f) → Refuses f o → IfErr r (λ e. Refuses e o)
-refused_on (Ok x) f o is h = absurd is
-refused_on (Err e) f o is h = rw is h
-
-pub no_value : {X : Type 0} (P : X → Type 0) (r : Result X Failure) (f : Failure) → IsErrAnd r (λ e. e ≡ f) → IfOk r P
-no_value P (Ok x) f is = absurd is
-no_value P (Err e) f is = tt

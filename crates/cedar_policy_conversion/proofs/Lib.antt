@@ -2,9 +2,12 @@ pub mod ConditionFree
 pub mod ConditionValues
 pub mod FilledMaps
 pub mod FoldedConditions
+pub mod FreeNames
 pub mod IsKinds
 pub mod LonePrimaries
+pub mod LoneValues
 pub mod MappedValues
+pub mod NumberedSets
 pub mod PolicyLists
 pub mod PolicySides
 pub mod ReferredNodes

@@ -7,17 +7,14 @@ use Rattle.cedar_expressions.specs.declared.place.Slot.{Slot}
 use Rattle.cedar_policy_store.specs.declared.constraints.EntityReference.TheVariants as reference
 use Rattle.cedar_policy_store.specs.declared.constraints.PrincipalOrResourceConstraint.{PrincipalOrResourceConstraint}
 use Rattle.cedar_policy_store.specs.declared.constraints.PrincipalOrResourceConstraint.TheVariants as constraint
-use Rattle.cedar_policy_store.specs.declared.static_policy.UnexpectedSlotError.{UnexpectedSlotError}
-use Rattle.cedar_policy_store.specs.declared.static_policy.UnexpectedSlotError.TheVariants.{FoundSlot}
 use Rattle.cedar_policy_store.specs.declared.template.Template.{Template}
-use Rattle.cedar_policy_store.specs.StaticPolicies.{IsFirstSlot}
 use Rattle.cedar_policy_store.specs.PlaceFree.{asks_for_slot, constraint_meaning, has_slot_in_scope}
 use Rattle.cedar_policy_store.specs.TemplateSlots.{at_most_one, constraint_slot, template_slots}
 use Rattle.cedar_syntax.specs.declared.loc.Loc.{Loc}
 use Rattle.cedar_conversion.specs.Places.{place_within}
 use Rattle.cedar_conversion.specs.Outcome.{Outcome, NamedFault, fault_outcome, expected_static_policy}
 use Rattle.cedar_policy_conversion.specs.Policies.{TemplateParts, meaning_of, only_static, scope_slots, side_outcome, policy_side, slot_faults, template_parts, unless_slots}
-use Rattle.cedar_policy_conversion.specs.machines.PolicyViews.{IsConditionFree, slot_of}
+use Rattle.cedar_policy_conversion.specs.machines.PolicyViews.{IsConditionFree}
 
 -- ---- a template's slots
 
@@ -33,9 +30,9 @@ scope_alone t none =
 left_at : (slots : List Slot) (t : TemplateParts) → slots ≡ [] → policy_side slots t ≡ Left t
 left_at slots t h = ap (λ ss. policy_side ss t) h
 
-right_some : (slots : List Slot) (t : TemplateParts) → is_some (slice_get slots 0) ≡ true → policy_side slots t ≡ Right t
-right_some [] t h = cc
-right_some (r ∷ slots) t h = refl
+right_at : (slots : List Slot) (t : TemplateParts) (s : Slot) → Some s ≡ slice_get slots 0 → policy_side slots t ≡ Right t
+right_at [] t s h = cc
+right_at (r ∷ slots) t s h = refl
 
 side_by : (a b : Option Slot) (t : TemplateParts) → policy_side (at_most_one a ++ at_most_one b) t ≡ cond (is_some a || is_some b) (Right t) (Left t)
 side_by None None t = refl
@@ -67,41 +64,31 @@ pub is_right : (b : Bool) (t u : TemplateParts) → cond b (Right t) (Left t) �
 is_right true t u h = (refl, cc)
 is_right false t u h = cc
 
--- a template whose outcome is given, on its side
-pub on_right : (o : Outcome TemplateParts) (t : Template) → o ≡ Ok (template_parts t) → IsConditionFree t → is_some (slice_get (template_slots t) 0) ≡ true → side_outcome o ≡ Ok (Right (template_parts t))
-on_right o t h none some =
-    ap side_outcome h
-    ∙ ap Ok (right_some (scope_slots (template_parts t)) (template_parts t) (ap (λ slots. is_some (slice_get slots 0)) (sym (scope_alone t none)) ∙ some))
-
--- the scope has a slot exactly where the template has
-pub slots_there : (t : Template) (b : Bool) → IsConditionFree t → is_some (slice_get (scope_slots (template_parts t)) 0) ≡ b → is_some (slice_get (template_slots t) 0) ≡ b
-slots_there t b none h = ap (λ slots. is_some (slice_get slots 0)) (scope_alone t none) ∙ h
-
-none_there : {X : Type 0} (xs : List X) → is_some (slice_get xs 0) ≡ false → xs ≡ []
+none_there : {X : Type 0} (xs : List X) → None ≡ slice_get xs 0 → xs ≡ []
 none_there [] h = refl
 none_there (x ∷ xs) h = cc
 
-pub no_slots : (t : Template) → IsConditionFree t → is_some (slice_get (scope_slots (template_parts t)) 0) ≡ false → template_slots t ≡ []
-no_slots t none h = none_there (template_slots t) (slots_there t false none h)
+pub no_slots : (t : Template) → IsConditionFree t → None ≡ slice_get (scope_slots (template_parts t)) 0 → template_slots t ≡ []
+no_slots t free none = scope_alone t free ∙ none_there (scope_slots (template_parts t)) none
 
-pub on_left : (o : Outcome TemplateParts) (t p : Template) → o ≡ Ok (template_parts t) → IsConditionFree t → p ≡ t → template_slots t ≡ [] → side_outcome o ≡ Ok (Left (template_parts p))
-on_left o t p h none same empty =
+-- a template whose outcome is given, on its side
+pub on_right : (o : Outcome TemplateParts) (t : Template) (s : Slot) → o ≡ Ok (template_parts t) → Some s ≡ slice_get (scope_slots (template_parts t)) 0 → side_outcome o ≡ Ok (Right (template_parts t))
+on_right o t s h there = ap side_outcome h ∙ ap Ok (right_at (scope_slots (template_parts t)) (template_parts t) s there)
+
+pub on_left : (o : Outcome TemplateParts) (t p : Template) → o ≡ Ok (template_parts t) → p ≡ t → None ≡ slice_get (scope_slots (template_parts t)) 0 → side_outcome o ≡ Ok (Left (template_parts p))
+on_left o t p h same none =
     ap side_outcome h
-    ∙ ap Ok (left_at (scope_slots (template_parts t)) (template_parts t) (sym (scope_alone t none) ∙ empty) ∙ ap (λ u. Left (template_parts u)) (sym same))
+    ∙ ap Ok (left_at (scope_slots (template_parts t)) (template_parts t) (none_there (scope_slots (template_parts t)) none) ∙ ap (λ u. Left (template_parts u)) (sym same))
 
 -- ---- a static policy is wanted
 
-unless_some : (place : Option Loc) (slots : List Slot) (t : TemplateParts) (s : Slot) → slice_get slots 0 ≡ Some s → unless_slots place slots t ≡ fault_outcome expected_static_policy (place_within place s.place)
+pub unless_some : (place : Option Loc) (slots : List Slot) (t : TemplateParts) (s : Slot) → Some s ≡ slice_get slots 0 → unless_slots place slots t ≡ fault_outcome expected_static_policy (place_within place s.place)
 unless_some place [] t s h = cc
 unless_some place (r ∷ slots) t s h = let same : r ≡ s = cc in ap (λ u. unless_slots place (u ∷ slots) t) same
 
-pub static_refused : (place : Option Loc) (t : Template) (s : Slot) → IsConditionFree t → slice_get (template_slots t) 0 ≡ Some s
-    → unless_slots place (scope_slots (template_parts t)) (template_parts t) ≡ fault_outcome expected_static_policy (place_within place s.place)
-static_refused place t s none first = unless_some place (scope_slots (template_parts t)) (template_parts t) s (ap (λ slots. slice_get slots 0) (sym (scope_alone t none)) ∙ first)
-
-pub not_static_refused : (place : Option Loc) (t : Template) (error : UnexpectedSlotError) → IsConditionFree t → IsFirstSlot t error
-    → unless_slots place (scope_slots (template_parts t)) (template_parts t) ≡ fault_outcome expected_static_policy (place_within place (slot_of error).place)
-not_static_refused place t (FoundSlot s) none first = static_refused place t s none first
+pub unless_none : (place : Option Loc) (t p : Template) → p ≡ t → None ≡ slice_get (scope_slots (template_parts t)) 0 → unless_slots place (scope_slots (template_parts t)) (template_parts t) ≡ Ok (template_parts p)
+unless_none place t p same none =
+    ap (λ slots. unless_slots place slots (template_parts t)) (none_there (scope_slots (template_parts t)) none) ∙ ap (λ u. Ok (template_parts u)) (sym same)
 
 -- faults of a template, and those behind them
 pub static_faulty : (place : Option Loc) (o : Outcome TemplateParts) (faults all : List NamedFault) → o ≡ Err faults → all ≡ faults ++ slot_faults faults → only_static place o ≡ Err all

@@ -1,6 +1,8 @@
 -- Sets of policies, one policy more.
 use Rattle.std.proofs.Common.{◌≡◌, ◌+◌, ◌<◌, ◌≤◌, ℕ, zero, suc, true, false, List, [], ◌∷◌, ◌++◌, take, length, get_or, Option, Result, Ok, Err, refl, sym, ap, subst, ◌∙◌, arith}
 use Rattle.std.specs.FinMap.{empty}
+use Rattle.std.specs.List.{enumerate_from}
+use Rattle.std.proofs.lemmas.List.FromFn.{get_or-enumerate_from, length-enumerate_from}
 use Rattle.either.specs.declared.Either.{Either}
 use Rattle.either.specs.declared.Either.TheVariants.{Left, Right}
 use Rattle.cedar_policy_store.specs.declared.template.Template.{Template}
@@ -143,6 +145,13 @@ set_next e ns i n more is =
     ap (λ ms. parts_set_outcome (k.policies_from e 0 ms)) (take_next ns i n more is)
     ∙ ap parts_set_outcome (numbered_snoc e 0 (take i ns) n)
     ∙ ap (λ j. parts_set_outcome (item_more (k.policies_from e 0 (take i ns)) (k.template_outcome e (policy_id j) n))) count
+
+-- what a numbered list yields next: how many it yielded, and the item there
+pub numbered_next : {X : Type 0} (xs : List X) (i : ℕ) (p : ℕ × X) → i < length (enumerate_from 0 xs) → p ≡ get_or (enumerate_from 0 xs) i p → (i < length xs) × (p.0 ≡ i) × (p.1 ≡ get_or xs i p.1)
+numbered_next xs i p more is =
+    let few : i < length xs = omega (arith, more, length-enumerate_from 0 xs) in
+    let at = is ∙ get_or-enumerate_from 0 xs i p few in
+    (few, ap (λ q. q.0) at ∙ zero-plus i, ap (λ q. q.1) at)
 
 -- ---- the first and the last
 

@@ -1,24 +1,27 @@
 -- Annotations of a policy: what a key and its string give, and the keys of a policy's annotations,
 -- all of them different. The rules are those of Cedar's `to_kv_pair` and `get_ast_annotations`.
-use Rattle.std.specs.Prelude.{ℕ, List, [], ◌∷◌, ◌++◌, fold, Option, Some, None, Ok, Err, Bool, if◌then◌else◌, unwrap_or, ◌≡◌, string_bytes}
+use Rattle.std.specs.Prelude.{ℕ, List, [], ◌∷◌, ◌++◌, fold, Option, Some, None, Ok, Err, Bool, if◌then◌else◌, unwrap_or, ◌≡◌, string_bytes, Result}
 use denote.Ref.{Bor}
 use denote.Param.Members.{Shared}
 use Rattle.std.specs.List.{list_any}
 use Rattle.std.specs.Option.{option_map, option_copied}
 use Rattle.std.specs.declared.alloc.Global.{Global}
 use Rattle.std.specs.declared.string.String.{String}
+use Rattle.std.specs.BTreeMap.{BTreeMap}
 use Rattle.std.specs.FinMap.{FinMap, insert, empty}
 use Rattle.std.specs.Str.{bytes_eq}
 use Rattle.cedar_policy_store.specs.declared.annotation.Annotation.{Annotation as Kept}
-use Rattle.cedar_policy_store.specs.TextMap.{text_order}
+use Rattle.cedar_policy_store.specs.TextMap.{map_in, text_order}
 use Rattle.cedar_syntax.specs.declared.cst.Annotation.{Annotation}
 use Rattle.cedar_syntax.specs.declared.cst.Str.{Str}
+use Rattle.cedar_syntax.specs.declared.err.faults.Failure.{Failure}
 use Rattle.cedar_syntax.specs.declared.loc.Loc.{Loc}
 use Rattle.cedar_syntax.specs.declared.node.Node.{Node}
 use Rattle.cedar_conversion.specs.Entities.{id_outcome}
 use Rattle.cedar_conversion.specs.Names.{content_outcome, any_ident}
 use Rattle.cedar_conversion.specs.Outcome.{Outcome, fault_outcome, both, next, duplicate_annotation, item_more}
 use Rattle.cedar_conversion.specs.Places.{place_mark}
+use Rattle.cedar_conversion.specs.Seen.{Refuses}
 
 -- a key, the text that its string stands for, if there is one, and the annotation's place
 pub record AnnotationContent : Type 0 where
@@ -125,3 +128,20 @@ with_pair m p = insert m p.0 p.1
 
 abbrev pub values_by_key : {T : Type 0} → List AnnotationContent → List T → FinMap text_order T
 values_by_key all ts = fold with_pair empty (paired_keys all ts)
+
+-- a key with what f answers for its annotation, or the faults
+abbrev pub GivesPair : {F T : Type 0}
+    → Shared F (Option (String Global) × (Option (Bor Loc) × Unit {0})) T → F
+    → Result (List ℕ × T) Failure → Outcome AnnotationContent → Type 0
+GivesPair g f (Ok p) outcome =
+    (a : AnnotationContent) × (outcome ≡ Ok a) × (a.key ≡ p.0) × Answers g f a p.1
+GivesPair g f (Err failure) outcome = Refuses failure outcome
+
+-- what f answers for each annotation, by the keys, or the faults
+abbrev pub GivesByKey : {F T : Type 0}
+    → Shared F (Option (String Global) × (Option (Bor Loc) × Unit {0})) T → F
+    → Result (BTreeMap (List ℕ) T) Failure → Outcome (List AnnotationContent) → Type 0
+GivesByKey {T = T} g f (Ok map) outcome =
+    (all : List AnnotationContent) × (made : List T) × (outcome ≡ Ok all)
+    × AnswersEach g f all made × (map_in map ≡ values_by_key all made)
+GivesByKey g f (Err failure) outcome = Refuses failure outcome

@@ -1,29 +1,28 @@
 //! Annotations: keys, and what a caller makes of their texts.
-ghost use Rattle.std.specs.Prelude.{◌≡◌, ◌⊎◌, List, [], ◌∷◌, ◌++◌, Ok, IfOk, IfErr, true, false, string_bytes};
+ghost use Rattle.std.specs.Prelude.{◌≡◌, ◌⊎◌, List, [], ◌∷◌, ◌++◌, IfOk, true, false, string_bytes};
 ghost use Rattle.std.specs.BTreeMap.{IsOrdered};
 ghost use Rattle.std.specs.FinMap.{contains_key, insert};
 ghost use Rattle.std.specs.Option.{option_map};
 ghost use Rattle.cedar_syntax.specs.declared.err.faults.ParseError.TheVariants.{ToAST};
 ghost use Rattle.cedar_policy_conversion.specs.AnnotationKeys as k;
-ghost use Rattle.cedar_policy_conversion.specs.AnnotationKeys.{AnnotationContent};
 ghost use Rattle.cedar_policy_store.specs.TextMap.{map_in, text_order};
 ghost use Rattle.cedar_conversion.specs.Outcome.{NamedFault, duplicate_annotation, faults_outcome};
-ghost use Rattle.cedar_conversion.specs.Seen.{Gives, Refuses, named_fault};
+ghost use Rattle.cedar_conversion.specs.Seen.{Gives, named_fault};
 ghost use Rattle.cedar_syntax.specs.Joined.{WantsMemory};
 ghost use Rattle.cedar_policy_conversion.specs.machines.Filled.{HoldsSoFar};
 ghost use Rattle.cedar_policy_conversion.specs.machines.PolicyViews.{pair_view};
 ghost use Rattle.cedar_conversion.specs.machines.Views.{empty_view};
 
-use cedar_conversion::entities::id_of;
-use cedar_conversion::joins::{one_more_fault, refused_too};
-use cedar_conversion::names::any_ident;
-use cedar_conversion::special::unreached;
+use cedar_conversion::answer::failure::{Failure, flatten_tuple_2};
+use cedar_conversion::answer::faults::{add_fault, add_refusal};
+use cedar_conversion::answer::special::empty_node;
+use cedar_conversion::leaves::entities::id_of;
+use cedar_conversion::leaves::names::any_id;
 use cedar_expressions::{AnyId, TryClone};
 use cedar_syntax::cst::{Annotation, Str};
-use cedar_syntax::err::{Failure, ToASTError, ToASTErrorKind};
+use cedar_syntax::err::{ToASTError, ToASTErrorKind};
 use cedar_syntax::loc::Loc;
 use cedar_syntax::node::Node;
-use cedar_syntax::util::flatten_tuple_2;
 use std::alloc::{AllocError, Global};
 use std::collections::BTreeMap;
 
@@ -50,7 +49,7 @@ fn pair(
     ensures { Gives (pair_view loc.now) result (k.key_value_outcome loc.now annotation.now) }
 {
     flatten_tuple_2(
-        any_ident(alloc, &annotation.key),
+        any_id(alloc, &annotation.key),
         text_of(alloc, loc, &annotation.value),
     )
 }
@@ -64,7 +63,7 @@ fn text_pair(
 {
     match &node.node {
         Some(inner) => pair(alloc, &node.loc, inner),
-        None => Err(unreached(alloc, &node.loc)),
+        None => Err(empty_node(alloc, &node.loc)),
     }
 }
 
@@ -75,9 +74,7 @@ pub(crate) fn kv_pair<T: Drop, F: Fn(Option<String>, Option<&Loc>) -> T>(
     f: &F,
 ) -> Result<(AnyId, T), Failure>
     requires { F.IsAlwaysCallable f.now }
-    ensures value { IfOk result (λ p. (a : AnnotationContent)
-        × (k.annotation_outcome node.now ≡ Ok a) × (a.key ≡ p.0) × k.Answers F.Fn f.now a p.1) }
-    ensures refused { IfErr result (λ failure. Refuses failure (k.annotation_outcome node.now)) }
+    ensures { k.GivesPair F.Fn f.now result (k.annotation_outcome node.now) }
 {
     let (key, text) = text_pair(alloc, node)?;
     let value = f(text, node.loc.as_ref());
@@ -113,7 +110,7 @@ fn keep<T: Drop>(
 {
     let (key, value) = pair;
     if map.contains_key(&key) {
-        return one_more_fault(alloc, all, duplicate(&key, loc));
+        return add_fault(alloc, all, duplicate(&key, loc));
     }
     map.insert(key, value)?;
     all
@@ -135,7 +132,7 @@ fn one_more<T: Drop, F: Fn(Option<String>, Option<&Loc>) -> T>(
 {
     match kv_pair::<T, F>(alloc, node, f) {
         Ok(pair) => keep::<T>(alloc, map, pair, &node.loc, all),
-        Err(failure) => refused_too(all, failure),
+        Err(failure) => add_refusal(all, failure),
     }
 }
 
@@ -146,11 +143,7 @@ pub(crate) fn annotations<T: Drop, F: Fn(Option<String>, Option<&Loc>) -> T>(
     f: &F,
 ) -> Result<BTreeMap<AnyId, T>, Failure>
     requires { F.IsAlwaysCallable f.now }
-    ensures value { IfOk result (λ map. (all : List AnnotationContent) × (made : List T)
-        × (k.annotations_outcome nodes.now ≡ Ok all) × k.AnswersEach F.Fn f.now all made
-        × (map_in map ≡ k.values_by_key all made)) }
-    ensures refused { IfErr result (λ failure.
-        Refuses failure (k.annotations_outcome nodes.now)) }
+    ensures { k.GivesByKey F.Fn f.now result (k.annotations_outcome nodes.now) }
 {
     let mut map = BTreeMap::new(alloc);
     let mut all: Result<(), Failure> = Ok(());

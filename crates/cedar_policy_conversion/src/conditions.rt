@@ -1,11 +1,10 @@
 //! Conditions: `when` and `unless` with an expression without slots.
-ghost use Rattle.std.specs.Prelude.{◌≡◌, List, Option, IfOk, map};
+ghost use Rattle.std.specs.Prelude.{◌≡◌, IfOk, map};
 ghost use Rattle.std.specs.Option.{option_map};
 ghost use Rattle.cedar_expressions.specs.Meaning.{expr_meaning, unplaced};
-ghost use Rattle.cedar_expressions.specs.Value.{Value};
 ghost use Rattle.cedar_syntax.specs.declared.err.faults.ParseError.TheVariants.{ToAST};
 ghost use Rattle.cedar_policy_conversion.specs.Conditions as k;
-ghost use Rattle.cedar_conversion.specs.Outcome.{Outcome, empty_clause, invalid_condition, slots_in_condition_clause, item_more, faults_outcome};
+ghost use Rattle.cedar_conversion.specs.Outcome.{empty_clause, invalid_condition, slots_in_condition_clause, faults_outcome};
 ghost use Rattle.cedar_conversion.specs.Places.{place_within};
 ghost use Rattle.cedar_policy_conversion.specs.PolicyMeaning.{joint_condition};
 ghost use Rattle.cedar_policy_conversion.specs.machines.PolicyViews.{meanings};
@@ -14,15 +13,17 @@ ghost use Rattle.cedar_conversion.specs.Table.{table_of};
 ghost use Rattle.cedar_conversion.specs.machines.Views.{TellsAlone, empty_view};
 
 use crate::cst_to_ast::{ExprAst, ExtStyles};
-use cedar_conversion::joins::{one_more_fault, place_within};
-use cedar_conversion::methods::Site;
-use cedar_conversion::special::{builder_at, refusal, unreached};
+use crate::expressions::expression;
+use cedar_conversion::answer::failure::Failure;
+use cedar_conversion::answer::faults::{add_fault, place_within};
+use cedar_conversion::answer::lists::add;
+use cedar_conversion::answer::special::{builder_at, empty_node, refusal};
+use cedar_conversion::primaries::methods::Site;
 use cedar_expressions::{Expr, ExprBuilder, ExprBuilderInfallibleBuild, Slot, TryClone};
 use cedar_syntax::cst::{Cond, Ident};
-use cedar_syntax::err::{Failure, ToASTError, ToASTErrorKind};
+use cedar_syntax::err::{ToASTError, ToASTErrorKind};
 use cedar_syntax::loc::Loc;
 use cedar_syntax::node::Node;
-use cedar_syntax::util::flatten_tuple_2;
 use std::alloc::{AllocError, Global};
 
 /// A condition's word that is neither `when` nor `unless`.
@@ -31,7 +32,7 @@ fn other_word(alloc: Global, loc: &Option<Loc>, word: &Ident) -> Failure
 {
     match word.try_clone() {
         Ok(word) => refusal(alloc, ToASTErrorKind::InvalidCondition(word), loc),
-        Err(error) => Failure::Memory(error),
+        Err(error) => Failure::from(error),
     }
 }
 
@@ -43,17 +44,17 @@ fn is_when(alloc: Global, node: &Node<Option<Ident>>) -> Result<bool, Failure>
         Some(Ident::When) => Ok(true),
         Some(Ident::Unless) => Ok(false),
         Some(word) => Err(other_word(alloc, &node.loc, word)),
-        None => Err(unreached(alloc, &node.loc)),
+        None => Err(empty_node(alloc, &node.loc)),
     }
 }
 
 /// A condition with nothing in it.
-fn nothing_in(site: Site<'_>, word: &Option<Ident>) -> Failure
+fn empty_clause(site: Site<'_>, word: &Option<Ident>) -> Failure
     ensures { TellsAlone result empty_clause site.entry.loc.now }
 {
     match word.try_clone() {
         Ok(word) => refusal(site.alloc, ToASTErrorKind::EmptyClause(word), site.loc),
-        Err(error) => Failure::Memory(error),
+        Err(error) => Failure::from(error),
     }
 }
 
@@ -63,8 +64,8 @@ fn clause(site: Site<'_>, cond: &Cond) -> Result<Expr, Failure>
         (k.clause (table_of site.entry.styles.now) site.entry.loc.now cond.now.expr) }
 {
     match &cond.expr {
-        Some(expr) => expr.to_expr::<ExprBuilder<()>>(site.alloc, site.styles),
-        None => Err(nothing_in(site, &cond.cond.node)),
+        Some(expr) => expression::<ExprBuilder<()>>(site.alloc, site.styles, expr),
+        None => Err(empty_clause(site, &cond.cond.node)),
     }
 }
 
@@ -78,29 +79,29 @@ fn slot_fault(slot: Slot, word: &'static str, loc: &Option<Loc>) -> Result<ToAST
 }
 
 /// Refuses each slot of a condition.
-fn no_slots(site: Site<'_>, word: &'static str, slots: &[Slot]) -> Result<(), Failure>
+fn refuse_slots(site: Site<'_>, word: &'static str, slots: &[Slot]) -> Result<(), Failure>
     ensures { Gives empty_view result
         (faults_outcome (map (k.condition_slot_fault site.entry.loc.now) slots.now)) }
 {
     let mut all: Result<(), Failure> = Ok(());
     for slot in slots {
-        all = one_more_fault(site.alloc, all, slot_fault(*slot, word, site.loc));
+        all = add_fault(site.alloc, all, slot_fault(*slot, word, site.loc));
     }
     all
 }
 
 /// Refuses a condition in which slots stand.
-fn without_slots(site: Site<'_>, when: bool, expr: &Expr) -> Result<(), Failure>
+fn refuse_slots_of(site: Site<'_>, when: bool, expr: &Expr) -> Result<(), Failure>
     ensures { Gives empty_view result
         (k.slots_outcome site.entry.loc.now (expr_meaning expr.now)) }
 {
     let word = if when { "when" } else { "unless" };
     let slots = expr.slots(site.alloc)?;
-    no_slots(site, word, slots.as_slice())
+    refuse_slots(site, word, slots.as_slice())
 }
 
 /// `unless` is `not`.
-fn meant(site: Site<'_>, when: bool, expr: Expr) -> Result<Expr, AllocError>
+fn condition_value(site: Site<'_>, when: bool, expr: Expr) -> Result<Expr, AllocError>
     ensures { IfOk result (λ e. expr_meaning e ≡ k.condition_value when (expr_meaning expr)) }
 {
     if when {
@@ -116,8 +117,8 @@ fn condition_of(site: Site<'_>, cond: &Cond) -> Result<Expr, Failure>
 {
     let when = is_when(site.alloc, &cond.cond)?;
     let expr = clause(site, cond)?;
-    without_slots(site, when, &expr)?;
-    Ok(meant(site, when, expr)?)
+    refuse_slots_of(site, when, &expr)?;
+    Ok(condition_value(site, when, expr)?)
 }
 
 fn condition(alloc: Global, styles: &ExtStyles, node: &Node<Option<Cond>>) -> Result<Expr, Failure>
@@ -133,22 +134,8 @@ fn condition(alloc: Global, styles: &ExtStyles, node: &Node<Option<Cond>>) -> Re
             };
             condition_of(site, inner)
         }
-        None => Err(unreached(alloc, &node.loc)),
+        None => Err(empty_node(alloc, &node.loc)),
     }
-}
-
-/// One more condition behind those so far.
-fn one_more(
-    all: Result<Vec<Expr>, Failure>,
-    next: Result<Expr, Failure>,
-) -> Result<Vec<Expr>, Failure>
-    ensures { (cs : Outcome (List Value)) (c : Outcome Value)
-        → Gives meanings all cs → Gives unplaced next c
-        → Gives meanings result (item_more cs c) }
-{
-    let (mut all, next) = flatten_tuple_2(all, next)?;
-    all.push(next)?;
-    Ok(all)
 }
 
 /// The conditions of a policy, joined.
@@ -162,13 +149,13 @@ pub(crate) fn conditions(
 {
     let mut all: Result<Vec<Expr>, Failure> = Ok(Vec::new(alloc));
     for node in nodes {
-        all = one_more(all, condition(alloc, styles, node));
+        add(&mut all, condition(alloc, styles, node));
     }
     all
 }
 
 /// Conditions folded to the right with `&&`: none asks for nothing.
-pub(crate) fn folded(
+pub(crate) fn join_conditions(
     alloc: Global,
     loc: &Option<Loc>,
     conditions: Vec<Expr>,

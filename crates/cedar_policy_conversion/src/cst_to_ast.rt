@@ -1,11 +1,11 @@
 //! Converts placed trees to values.
 //!
-//! In each conversion a node with nothing in it that has to be read is `EmptyNodeInvariantViolation` at its place; no tree that a text gives has one.
-ghost use Rattle.std.specs.Prelude.{◌≡◌, List, Ok, IfOk, IfErr, string_bytes};
+//! In each conversion a node with nothing in it that has to be read is
+//! `EmptyNodeInvariantViolation` at its place; no tree that a text gives has one.
+ghost use Rattle.std.specs.Prelude.{◌≡◌, string_bytes};
 ghost use Rattle.std.specs.Option.{option_copied};
 ghost use Rattle.cedar_policy_store.specs.PlaceFree.{set_meaning};
-ghost use Rattle.cedar_policy_store.specs.TextMap.{map_in};
-ghost use Rattle.cedar_policy_conversion.specs.AnnotationKeys.{AnnotationContent, Answers, AnswersEach, annotation_outcome, annotations_outcome, values_by_key};
+ghost use Rattle.cedar_policy_conversion.specs.AnnotationKeys.{GivesByKey, GivesPair, annotation_outcome, annotations_outcome};
 ghost use Rattle.cedar_policy_conversion.specs.GeneratedIds.{remaining_nodes, named_outcome};
 ghost use Rattle.cedar_policy_conversion.specs.Policies.{template_parts, template_outcome, either_parts, either_outcome, static_outcome, policies_outcome};
 ghost use Rattle.cedar_policy_conversion.specs.References.{referent_outcome, single_entity, entity_or_slot, one_or_multiple};
@@ -15,25 +15,25 @@ ghost use Rattle.cedar_conversion.specs.Conversion.{value_outcome};
 ghost use Rattle.cedar_conversion.specs.Entities.{entity_outcome};
 ghost use Rattle.cedar_conversion.specs.Literals.{lone_literal, string_outcome};
 ghost use Rattle.cedar_conversion.specs.Names.{any_ident as any_outcome, valid_ident as valid_outcome};
-ghost use Rattle.cedar_conversion.specs.Seen.{Gives, Refuses, itself};
+ghost use Rattle.cedar_conversion.specs.Seen.{Gives, itself};
 ghost use Rattle.cedar_conversion.specs.Table.{table_of};
 
 use crate::annotations::{annotations, kv_pair};
-pub use crate::policy_ids::GeneratedPolicyIds;
+use crate::expressions::expression;
+use crate::names::{any_ident, valid_ident};
+pub use crate::policy_ids::{GeneratedPolicyIds, policy_id};
 pub use crate::scope::Scope;
 use crate::scope::scope_of;
-use crate::sets::policy_set;
+use crate::sets::{own_policy_set, policy_set};
 use crate::templates::{static_or_template, static_policy, template};
 pub use crate::to_ref_or_refs::OneOrMultipleRefs;
 use crate::to_ref_or_refs::{SingleEntity, to_ref_or_refs};
-use cedar_conversion::answer::{Converted, unanswered};
-use cedar_conversion::convert::expr;
-use cedar_conversion::entities::entity_of;
-use cedar_conversion::literals::literal_of;
-use cedar_conversion::names::{any_ident, valid_ident};
-use cedar_conversion::special::{expr_of, unreached};
+use cedar_conversion::answer::failure::told;
+use cedar_conversion::answer::special::empty_node;
+use cedar_conversion::answer::wanted::string_literal;
+use cedar_conversion::leaves::entities::entity_of;
+use cedar_conversion::leaves::literals::literal_of;
 pub use cedar_conversion::styles::ExtStyles;
-use cedar_conversion::wanted::string_literal;
 use cedar_expressions::{AnyId, EntityUID, ExprBuilderInfallibleBuild, Id, Var};
 use cedar_policy_store::{EntityReference, PolicyID, PolicySet, StaticPolicy, Template};
 use cedar_syntax::cst::{
@@ -48,16 +48,21 @@ use std::collections::BTreeMap;
 
 /// The conversion of an expression's tree.
 pub trait ExprAst {
-    /// The expression that the tree stands for, made by the builder, or all faults that hinder it, in the order of Cedar's `cst_to_ast`. Or it is
-    /// `Failure::Memory`.
+    /// The expression that the tree stands for, made by the builder, or all faults that hinder it,
+    /// in the order of Cedar's `cst_to_ast`. Or it is `Failure::Memory`.
     ///
-    /// Names: `ArbitraryVariable` for one that is no variable, `ReservedIdentifier`, `InvalidIdentifier` and `ReservedNamespace` for what no name may hold.
-    /// Operators: `AmbiguousOperators` for more than one in a relation, `InvalidSingleEq`, `UnsupportedDivision`, `UnsupportedModulo`, `UnaryOpLimit` for more
-    /// signs than the limit. Literals: `IntegerLiteralTooLarge`, `Unescape` for each bad escape, `InvalidString`, `InvalidSlot`, `InvalidEntityLiteral`. Right of
-    /// `has`: `InvalidHasRHS`, `PathAsAttribute`, and `ReservedIdentifier` for a truth value; of `like`: `InvalidPattern`; of `is`: `InvalidIsType`. Records:
-    /// `InvalidAttribute`, `PathAsAttribute`, `ReservedIdentifier` for a truth value, and `ExpressionConstructionError` for a key that stands again. Calls and
-    /// accesses: `VariableCall`, `ExpressionCall`, `UnknownFunction`, `UnknownMethod`, `FunctionCallOnMethod`, `MethodCallOnFunction`, `NoMethods`, `WrongArity`,
-    /// `InvalidAccess`, `InvalidIndex`, and `InvalidString` for an index that is no bare string.
+    /// Names: `ArbitraryVariable` for one that is no variable, `ReservedIdentifier`,
+    /// `InvalidIdentifier` and `ReservedNamespace` for what no name may hold. Operators:
+    /// `AmbiguousOperators` for more than one in a relation, `InvalidSingleEq`,
+    /// `UnsupportedDivision`, `UnsupportedModulo`, `UnaryOpLimit` for more signs than the limit.
+    /// Literals: `IntegerLiteralTooLarge`, `Unescape` for each bad escape, `InvalidString`,
+    /// `InvalidSlot`, `InvalidEntityLiteral`. Right of `has`: `InvalidHasRHS`, `PathAsAttribute`,
+    /// and `ReservedIdentifier` for a truth value; of `like`: `InvalidPattern`; of `is`:
+    /// `InvalidIsType`. Records: `InvalidAttribute`, `PathAsAttribute`, `ReservedIdentifier` for a
+    /// truth value, and `ExpressionConstructionError` for a key that stands again. Calls and
+    /// accesses: `VariableCall`, `ExpressionCall`, `UnknownFunction`, `UnknownMethod`,
+    /// `FunctionCallOnMethod`, `MethodCallOnFunction`, `NoMethods`, `WrongArity`, `InvalidAccess`,
+    /// `InvalidIndex`, and `InvalidString` for an index that is no bare string.
     fn to_expr<B: ExprBuilderInfallibleBuild>(
         &self,
         alloc: Global,
@@ -66,15 +71,16 @@ pub trait ExprAst {
 
     /// The entity that the tree is, right of an operator of the scope, in parentheses or not.
     ///
-    /// A slot or a set is `WrongEntityArgument`, any other form `WrongNode`, each at its bytes; what is wrong with the entity is told as `RefAst::to_ref` does. Or
-    /// it is `Failure::Memory`.
+    /// A slot or a set is `WrongEntityArgument`, any other form `WrongNode`, each at its bytes;
+    /// what is wrong with the entity is told as `RefAst::to_ref` does. Or it is `Failure::Memory`.
     fn to_ref(&self, alloc: Global, var: Var) -> Result<EntityUID, Failure>;
 
-    /// The entity that the tree is, or the slot of the variable. Another slot is `WrongNode`, a set `WrongEntityArgument`; all else as for `to_ref`.
+    /// The entity that the tree is, or the slot of the variable. Another slot is `WrongNode`, a
+    /// set `WrongEntityArgument`; all else as for `to_ref`.
     fn to_ref_or_slot(&self, alloc: Global, var: Var) -> Result<EntityReference, Failure>;
 
-    /// The entity that the tree is, or the entities of a set, whose items' faults stand one behind another. A slot, and a set in the set, is
-    /// `WrongEntityArgument`; all else as for `to_ref`.
+    /// The entity that the tree is, or the entities of a set, whose items' faults stand one behind
+    /// another. A slot, and a set in the set, is `WrongEntityArgument`; all else as for `to_ref`.
     fn to_refs(&self, alloc: Global, var: Var) -> Result<OneOrMultipleRefs, Failure>;
 }
 
@@ -87,39 +93,38 @@ impl ExprAst for Node<Option<Expr>> {
         ensures { Gives B.meaning result (value_outcome (table_of styles.now)
             (located expr_form self.now)) }
     {
-        let mut answer: Converted<B::Expr> = unanswered();
-        expr::<B>(alloc, styles, self, &mut answer);
-        expr_of::<B>(alloc, answer)
+        told(expression::<B>(alloc, styles, self))
     }
 
     fn to_ref(&self, alloc: Global, var: Var) -> Result<EntityUID, Failure>
         ensures { Gives single_entity.single result (referent_outcome single_entity var self.now) }
     {
-        let SingleEntity(uid) = to_ref_or_refs::<SingleEntity>(alloc, var, self)?;
+        let SingleEntity(uid) = told(to_ref_or_refs::<SingleEntity>(alloc, var, self))?;
         Ok(uid)
     }
 
     fn to_ref_or_slot(&self, alloc: Global, var: Var) -> Result<EntityReference, Failure>
         ensures { Gives itself result (referent_outcome entity_or_slot var self.now) }
     {
-        to_ref_or_refs::<EntityReference>(alloc, var, self)
+        told(to_ref_or_refs::<EntityReference>(alloc, var, self))
     }
 
     fn to_refs(&self, alloc: Global, var: Var) -> Result<OneOrMultipleRefs, Failure>
         ensures { Gives itself result (referent_outcome one_or_multiple var self.now) }
     {
-        to_ref_or_refs::<OneOrMultipleRefs>(alloc, var, self)
+        told(to_ref_or_refs::<OneOrMultipleRefs>(alloc, var, self))
     }
 }
 
 /// The conversion of an identifier.
 pub trait IdentAst {
-    /// The identifier, where a name may hold it. One of the nine reserved words is `ReservedIdentifier`; a text by hand that no name may hold, and
-    /// `Ident::Invalid`, is `InvalidIdentifier`, each at the node's bytes. Or it is `Failure::Memory`.
+    /// The identifier, where a name may hold it. One of the nine reserved words is
+    /// `ReservedIdentifier`; a text by hand that no name may hold, and `Ident::Invalid`, is
+    /// `InvalidIdentifier`, each at the node's bytes. Or it is `Failure::Memory`.
     fn to_valid_ident(&self, alloc: Global) -> Result<Id, Failure>;
 
-    /// Any identifier, the words that no name may hold too. A text by hand that is spelled as no identifier, and `Ident::Invalid`, is `InvalidIdentifier`. Or
-    /// it is `Failure::Memory`.
+    /// Any identifier, the words that no name may hold too. A text by hand that is spelled as no
+    /// identifier, and `Ident::Invalid`, is `InvalidIdentifier`. Or it is `Failure::Memory`.
     fn to_any_ident(&self, alloc: Global) -> Result<AnyId, Failure>;
 }
 
@@ -153,8 +158,9 @@ impl MemberAst for Node<Option<Member>> {
 
 /// A primary that may be a string.
 pub trait PrimaryAst {
-    /// What a string stands for, its escapes read. Each bad escape is `Unescape`, a number that is too large `IntegerLiteralTooLarge`, any other primary
-    /// `InvalidString`, each at the bytes of the innermost node that is looked at. Or it is `Failure::Memory`.
+    /// What a string stands for, its escapes read. Each bad escape is `Unescape`, a number that is
+    /// too large `IntegerLiteralTooLarge`, any other primary `InvalidString`, each at the bytes of
+    /// the innermost node that is looked at. Or it is `Failure::Memory`.
     fn to_string_literal<B: ExprBuilderInfallibleBuild>(
         &self,
         alloc: Global,
@@ -168,15 +174,16 @@ impl PrimaryAst for Node<Option<Primary>> {
     ) -> Result<String, Failure>
         ensures { Gives string_bytes result (string_outcome (located primary_form self.now)) }
     {
-        Ok(string_literal::<B>(alloc, self)?.into_string())
+        Ok(told(string_literal::<B>(alloc, self))?.into_string())
     }
 }
 
 /// The conversion of an entity.
 pub trait RefAst {
-    /// The entity that is meant: a path, `::` and a string. The form with braces is `InvalidEntityLiteral`; what is wrong with the path and with
-    /// the text stands one behind another: `ReservedIdentifier`, `InvalidIdentifier`, `ReservedNamespace`, then `Unescape` or `InvalidString`. Or it is
-    /// `Failure::Memory`.
+    /// The entity that is meant: a path, `::` and a string. The form with braces is
+    /// `InvalidEntityLiteral`; what is wrong with the path and with the text stands one behind
+    /// another: `ReservedIdentifier`, `InvalidIdentifier`, `ReservedNamespace`, then `Unescape` or
+    /// `InvalidString`. Or it is `Failure::Memory`.
     fn to_ref(&self, alloc: Global) -> Result<EntityUID, Failure>;
 }
 
@@ -184,16 +191,18 @@ impl RefAst for Node<Option<Ref>> {
     fn to_ref(&self, alloc: Global) -> Result<EntityUID, Failure>
         ensures { Gives itself result (entity_outcome self.now) }
     {
-        entity_of(alloc, self)
+        told(entity_of(alloc, self))
     }
 }
 
 /// The conversion of an annotation.
 pub trait AnnotationAst {
-    /// The key, and what `f` makes of the text and the place. A condition: `f` may be called on every text and place.
+    /// The key, and what `f` makes of the text and the place. A condition: `f` may be called on
+    /// every text and place.
     ///
-    /// A key is refused as `IdentAst::to_any_ident` does, each bad escape of the text is `Unescape`, a `Str::Invalid` by hand `InvalidString`; both parts'
-    /// faults stand one behind another. Or it is `Failure::Memory`.
+    /// A key is refused as `IdentAst::to_any_ident` does, each bad escape of the text is
+    /// `Unescape`, a `Str::Invalid` by hand `InvalidString`; both parts' faults stand one behind
+    /// another. Or it is `Failure::Memory`.
     fn to_kv_pair<T: Drop, F: Fn(Option<String>, Option<&Loc>) -> T>(
         &self,
         alloc: Global,
@@ -209,28 +218,32 @@ impl AnnotationAst for Node<Option<Annotation>> {
         f: F,
     ) -> Result<(AnyId, T), Failure>
         requires { F.IsAlwaysCallable f }
-        ensures value { IfOk result (λ p. (a : AnnotationContent)
-            × (annotation_outcome self.now ≡ Ok a) × (a.key ≡ p.0) × Answers F.Fn f a p.1) }
-        ensures refused { IfErr result (λ failure. Refuses failure (annotation_outcome self.now)) }
+        ensures { GivesPair F.Fn f result (annotation_outcome self.now) }
     {
-        kv_pair::<T, F>(alloc, self, &f)
+        told(kv_pair::<T, F>(alloc, self, &f))
     }
 }
 
 /// The conversion of a policy's scope and annotations.
 pub trait PolicyImplAst {
-    /// What is asked of the principal, the action and the resource, in this order, or all faults of them.
+    /// What is asked of the principal, the action and the resource, in this order, or all faults
+    /// of them.
     ///
-    /// Each element's first refusal is told: `InvalidScopeVariable` or `IncorrectVariable` for its word, `TypeConstraints` for a name behind `:`,
-    /// `InvalidScopeOperator`, `InvalidActionScopeOperator` or `InvalidSingleEq` for its operator, `IsWithEq`, `InvertedIsIn` or `IsInActionScope` for an `is` that may
-    /// not stand there, `InvalidIsType` or what `to_expr` tells for the type behind `is`, `InvalidActionType`, and what `to_ref`, `to_ref_or_slot` and
-    /// `to_refs` tell. A missing element is
-    /// `MissingScopeVariable` at the end of what stands before it, each one too many `ExtraScopeElement`. Or it is `Failure::Memory`.
+    /// Each element's first refusal is told: `InvalidScopeVariable` or `IncorrectVariable` for its
+    /// word, `TypeConstraints` for a name behind `:`, `InvalidScopeOperator`,
+    /// `InvalidActionScopeOperator` or `InvalidSingleEq` for its operator, `IsWithEq`,
+    /// `InvertedIsIn` or `IsInActionScope` for an `is` that may not stand there, `InvalidIsType`
+    /// or what `to_expr` tells for the type behind `is`, `InvalidActionType`, and what `to_ref`,
+    /// `to_ref_or_slot` and `to_refs` tell. A missing element is `MissingScopeVariable` at the end
+    /// of what stands before it, each one too many `ExtraScopeElement`. Or it is
+    /// `Failure::Memory`.
     fn extract_scope(&self, alloc: Global, styles: &ExtStyles) -> Result<Scope, Failure>;
 
-    /// What `f` makes of each annotation, by its key. A condition: `f` may be called on every text and place.
+    /// What `f` makes of each annotation, by its key. A condition: `f` may be called on every text
+    /// and place.
     ///
-    /// An annotation whose key an earlier one that converts has is `DuplicateAnnotation` at its bytes; all else as for `to_kv_pair`, one annotation behind another.
+    /// An annotation whose key an earlier one that converts has is `DuplicateAnnotation` at its
+    /// bytes; all else as for `to_kv_pair`, one annotation behind another.
     fn get_ast_annotations<T: Drop, F: Fn(Option<String>, Option<&Loc>) -> T>(
         &self,
         alloc: Global,
@@ -243,7 +256,7 @@ impl PolicyImplAst for PolicyImpl {
     fn extract_scope(&self, alloc: Global, styles: &ExtStyles) -> Result<Scope, Failure>
         ensures { Gives itself result (scope_outcome (table_of styles.now) self.now) }
     {
-        scope_of(alloc, styles, &self.effect.loc, self.variables.as_slice())
+        told(scope_of(alloc, styles, &self.effect.loc, self.variables.as_slice()))
     }
 
     fn get_ast_annotations<T: Drop, F: Fn(Option<String>, Option<&Loc>) -> T>(
@@ -252,24 +265,22 @@ impl PolicyImplAst for PolicyImpl {
         f: F,
     ) -> Result<BTreeMap<AnyId, T>, Failure>
         requires { F.IsAlwaysCallable f }
-        ensures value { IfOk result (λ map. (all : List AnnotationContent) × (made : List T)
-            × (annotations_outcome self.now.annotations ≡ Ok all) × AnswersEach F.Fn f all made
-            × (map_in map ≡ values_by_key all made)) }
-        ensures refused { IfErr result (λ failure.
-            Refuses failure (annotations_outcome self.now.annotations)) }
+        ensures { GivesByKey F.Fn f result (annotations_outcome self.now.annotations) }
     {
-        annotations::<T, F>(alloc, self.annotations.as_slice(), &f)
+        told(annotations::<T, F>(alloc, self.annotations.as_slice(), &f))
     }
 }
 
 /// The conversion of a policy.
 pub trait PolicyAst {
-    /// The template that the tree stands for, of a static policy too, or all faults that hinder it: those of the effect (`InvalidEffect`), of each
-    /// annotation, of the scope (`PolicyImplAst::extract_scope`), and of each condition, one behind another.
+    /// The template that the tree stands for, of a static policy too, or all faults that hinder
+    /// it: those of the effect (`InvalidEffect`), of each annotation, of the scope
+    /// (`PolicyImplAst::extract_scope`), and of each condition, one behind another.
     ///
-    /// A condition's word is `when` or `unless`, else it is `InvalidCondition`; without an expression it is `EmptyClause`; its expression is refused as
-    /// `ExprAst::to_expr` does; and each slot in one that converts is `SlotsInConditionClause`, at the slot's bytes, or at the condition's where those don't
-    /// lie within them. Or it is `Failure::Memory`.
+    /// A condition's word is `when` or `unless`, else it is `InvalidCondition`; without an
+    /// expression it is `EmptyClause`; its expression is refused as `ExprAst::to_expr` does; and
+    /// each slot in one that converts is `SlotsInConditionClause`, at the slot's bytes, or at the
+    /// condition's where those don't lie within them. Or it is `Failure::Memory`.
     fn to_template(
         &self,
         alloc: Global,
@@ -285,7 +296,8 @@ pub trait PolicyAst {
         styles: &ExtStyles,
     ) -> Result<Template, Failure>;
 
-    /// A static policy, or a template where a slot stands in its scope. It is refused as `to_template` is.
+    /// A static policy, or a template where a slot stands in its scope. It is refused as
+    /// `to_template` is.
     fn to_policy_or_template(
         &self,
         alloc: Global,
@@ -293,9 +305,10 @@ pub trait PolicyAst {
         styles: &ExtStyles,
     ) -> Result<Either<StaticPolicy, Template>, Failure>;
 
-    /// The static policy that the tree stands for. A template is `ExpectedStaticPolicy` alone, at its first slot's bytes, or at the policy's where those
-    /// don't lie within them. Where `to_template` is refused, so is this, with one `ExpectedStaticPolicy` more behind those faults for each
-    /// `SlotsInConditionClause` among them, at the same bytes.
+    /// The static policy that the tree stands for. A template is `ExpectedStaticPolicy` alone, at
+    /// its first slot's bytes, or at the policy's where those don't lie within them. Where
+    /// `to_template` is refused, so is this, with one `ExpectedStaticPolicy` more behind those
+    /// faults for each `SlotsInConditionClause` among them, at the same bytes.
     fn to_policy(
         &self,
         alloc: Global,
@@ -314,7 +327,7 @@ impl PolicyAst for Node<Option<Policy>> {
         ensures { Gives template_parts result
             (template_outcome (table_of styles.now) id self.now) }
     {
-        template(alloc, styles, id, self)
+        told(template(alloc, styles, id, self))
     }
 
     fn to_policy_template(
@@ -326,7 +339,7 @@ impl PolicyAst for Node<Option<Policy>> {
         ensures { Gives template_parts result
             (template_outcome (table_of styles.now) id self.now) }
     {
-        template(alloc, styles, id, self)
+        told(template(alloc, styles, id, self))
     }
 
     fn to_policy_or_template(
@@ -338,7 +351,7 @@ impl PolicyAst for Node<Option<Policy>> {
         ensures { Gives either_parts result
             (either_outcome (table_of styles.now) id self.now) }
     {
-        static_or_template(alloc, styles, id, self)
+        told(static_or_template(alloc, styles, id, self))
     }
 
     fn to_policy(
@@ -350,7 +363,7 @@ impl PolicyAst for Node<Option<Policy>> {
         ensures { Gives template_parts result
             (static_outcome (table_of styles.now) id self.now) }
     {
-        static_policy(alloc, styles, id, self)
+        told(static_policy(alloc, styles, id, self))
     }
 }
 
@@ -359,9 +372,14 @@ pub trait PoliciesAst {
     /// Each policy with its name: `policy` and how many stand before it, in plain decimal.
     fn with_generated_policyids(&self, alloc: Global) -> Result<GeneratedPolicyIds<'_>, Failure>;
 
-    /// The set that the tree stands for: static policies and templates, named `policy0`, `policy1` and so on. It is refused with the faults of each policy,
-    /// as `PolicyAst::to_template` tells them, one policy behind another. Or it is `Failure::Memory`.
+    /// The set that the tree stands for: static policies and templates, named `policy0`, `policy1`
+    /// and so on. It is refused with the faults of each policy, as `PolicyAst::to_template` tells
+    /// them, one policy behind another. Or it is `Failure::Memory`.
     fn to_policyset(&self, alloc: Global, styles: &ExtStyles) -> Result<PolicySet, Failure>;
+
+    /// The same of a tree by value: each policy's tree is dropped as soon as it is converted, so
+    /// that tree and set never stand whole beside one another.
+    fn into_policyset(self, alloc: Global, styles: &ExtStyles) -> Result<PolicySet, Failure>;
 }
 
 impl PoliciesAst for Node<Option<Policies>> {
@@ -370,7 +388,7 @@ impl PoliciesAst for Node<Option<Policies>> {
     {
         match &self.node {
             Some(policies) => Ok(GeneratedPolicyIds::new(alloc, policies.0.as_slice())),
-            None => Err(unreached(alloc, &self.loc)),
+            None => Err(Failure::from(empty_node(alloc, &self.loc))),
         }
     }
 
@@ -378,6 +396,13 @@ impl PoliciesAst for Node<Option<Policies>> {
         ensures { Gives set_meaning result
             (policies_outcome (table_of styles.now) self.now) }
     {
-        policy_set(alloc, styles, self)
+        told(policy_set(alloc, styles, self))
+    }
+
+    fn into_policyset(self, alloc: Global, styles: &ExtStyles) -> Result<PolicySet, Failure>
+        ensures { Gives set_meaning result
+            (policies_outcome (table_of styles.now) self) }
+    {
+        told(own_policy_set(alloc, styles, self))
     }
 }

@@ -4,7 +4,9 @@
 mod annotations;
 mod conditions;
 pub mod cst_to_ast;
+mod expressions;
 mod lone;
+pub mod names;
 mod policy_ids;
 mod scope;
 mod sets;

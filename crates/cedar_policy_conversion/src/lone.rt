@@ -1,17 +1,18 @@
-//! The primary that an expression is, through operators with one operand and parentheses; any other form is refused by what it is.
-ghost use Rattle.std.specs.Prelude.{◌≡◌};
+//! The primary that an expression is, through operators with one operand and parentheses; any
+//! other form is refused by what it is.
 ghost use Rattle.cedar_syntax.specs.Forms.{located, expr_form, or_form, and_form, relation_form, add_form, mult_form, unary_form, member_form, primary_form};
-ghost use Rattle.cedar_conversion.specs.HasSide.{no_sign};
 ghost use Rattle.cedar_conversion.specs.Outcome.{wrong_node};
 ghost use Rattle.cedar_policy_conversion.specs.References.{lone};
 ghost use Rattle.cedar_conversion.specs.Seen.{Gives};
 ghost use Rattle.cedar_conversion.specs.machines.Views.{TellsAlone};
 
+use cedar_conversion::answer::failure::Failure;
+use cedar_conversion::answer::special::{empty_node, refusal};
 use cedar_conversion::convert::inner_of;
-use cedar_conversion::special::{refusal, unreached};
+use cedar_conversion::operators::alone::Alone;
 use cedar_expressions::Text;
 use cedar_syntax::cst;
-use cedar_syntax::err::{Failure, ToASTErrorKind};
+use cedar_syntax::err::ToASTErrorKind;
 use cedar_syntax::loc::Loc;
 use cedar_syntax::node::Node;
 use std::alloc::{AllocError, Global};
@@ -28,7 +29,7 @@ fn shown(alloc: Global, got: &str, hint: &str) -> Result<Shown, AllocError> {
 }
 
 /// Another form than what is wanted.
-pub(crate) fn not_wanted(
+pub(crate) fn wrong_node(
     alloc: Global,
     expected: &'static str,
     shown: Result<Shown, AllocError>,
@@ -45,7 +46,7 @@ pub(crate) fn not_wanted(
             };
             refusal(alloc, kind, loc)
         }
-        Err(error) => Failure::Memory(error),
+        Err(error) => Failure::from(error),
     }
 }
 
@@ -59,7 +60,7 @@ pub(crate) fn form(
 ) -> Failure
     ensures { TellsAlone result wrong_node loc.now }
 {
-    not_wanted(alloc, expected, shown(alloc, got, hint), loc)
+    wrong_node(alloc, expected, shown(alloc, got, hint), loc)
 }
 
 /// Signs, as they are printed.
@@ -73,21 +74,21 @@ fn signs(
 {
     match op {
         Some(op) => match format!(in alloc; "a `{op}` expression") {
-            Ok(got) => not_wanted(alloc, expected, Ok((Text::from(got), None)), loc),
+            Ok(got) => wrong_node(alloc, expected, Ok((Text::from(got), None)), loc),
             Err(error) => Failure::from(error),
         },
         None => form(alloc, expected, "an expression", "", loc),
     }
 }
 
-/// Whether nothing is to be applied to an operand.
-fn no_sign(op: &Option<cst::NegOp>) -> bool
-    ensures { result ≡ no_sign op.now }
-{
-    matches!(
-        op,
-        None | Some(cst::NegOp::Bang(0)) | Some(cst::NegOp::Dash(0))
-    )
+/// What a message says of a relation.
+fn relation_word(relation: &cst::Relation) -> &'static str {
+    match relation {
+        cst::Relation::Common { .. } => "a binary operator",
+        cst::Relation::Has { .. } => "a `has` expression",
+        cst::Relation::Like { .. } => "a `like` expression",
+        cst::Relation::IsIn { .. } => "an `is` expression",
+    }
 }
 
 // ---- the walk
@@ -108,7 +109,7 @@ pub(crate) fn lone_expr<'a>(
                 Err(form(alloc, expected, "an `if` expression", "", &node.loc))
             }
         },
-        None => Err(unreached(alloc, &node.loc)),
+        None => Err(empty_node(alloc, &node.loc)),
     }
 }
 
@@ -121,15 +122,14 @@ fn lone_or<'a>(
     ensures { Gives (λ p. located primary_form p.now) result (lone (located or_form node.now)) }
 {
     match &node.node {
-        Some(or) => {
-            if or.extended.is_empty() {
-                lone_and(alloc, expected, &or.initial)
-            } else {
+        Some(or) => match or.alone() {
+            Some(part) => lone_and(alloc, expected, part),
+            None => {
                 let hint = "a policy can be written for each side of the `||`";
                 Err(form(alloc, expected, "a `||` expression", hint, &node.loc))
             }
-        }
-        None => Err(unreached(alloc, &node.loc)),
+        },
+        None => Err(empty_node(alloc, &node.loc)),
     }
 }
 
@@ -142,15 +142,14 @@ fn lone_and<'a>(
     ensures { Gives (λ p. located primary_form p.now) result (lone (located and_form node.now)) }
 {
     match &node.node {
-        Some(and) => {
-            if and.extended.is_empty() {
-                lone_relation(alloc, expected, &and.initial)
-            } else {
+        Some(and) => match and.alone() {
+            Some(part) => lone_relation(alloc, expected, part),
+            None => {
                 let hint = "the right side of the `&&` can stand in a `when` condition";
                 Err(form(alloc, expected, "a `&&` expression", hint, &node.loc))
             }
-        }
-        None => Err(unreached(alloc, &node.loc)),
+        },
+        None => Err(empty_node(alloc, &node.loc)),
     }
 }
 
@@ -164,23 +163,11 @@ fn lone_relation<'a>(
         (lone (located relation_form node.now)) }
 {
     match &node.node {
-        Some(cst::Relation::Common { initial, extended }) => {
-            if extended.is_empty() {
-                lone_add(alloc, expected, initial)
-            } else {
-                Err(form(alloc, expected, "a binary operator", "", &node.loc))
-            }
-        }
-        Some(cst::Relation::Has { .. }) => {
-            Err(form(alloc, expected, "a `has` expression", "", &node.loc))
-        }
-        Some(cst::Relation::Like { .. }) => {
-            Err(form(alloc, expected, "a `like` expression", "", &node.loc))
-        }
-        Some(cst::Relation::IsIn { .. }) => {
-            Err(form(alloc, expected, "an `is` expression", "", &node.loc))
-        }
-        None => Err(unreached(alloc, &node.loc)),
+        Some(relation) => match relation.alone() {
+            Some(part) => lone_add(alloc, expected, part),
+            None => Err(form(alloc, expected, relation_word(relation), "", &node.loc)),
+        },
+        None => Err(empty_node(alloc, &node.loc)),
     }
 }
 
@@ -193,15 +180,14 @@ fn lone_add<'a>(
     ensures { Gives (λ p. located primary_form p.now) result (lone (located add_form node.now)) }
 {
     match &node.node {
-        Some(add) => {
-            if add.extended.is_empty() {
-                lone_mult(alloc, expected, &add.initial)
-            } else {
+        Some(add) => match add.alone() {
+            Some(term) => lone_mult(alloc, expected, term),
+            None => {
                 let hint = "no name of a type holds `+` or `-`";
                 Err(form(alloc, expected, "a `+/-` expression", hint, &node.loc))
             }
-        }
-        None => Err(unreached(alloc, &node.loc)),
+        },
+        None => Err(empty_node(alloc, &node.loc)),
     }
 }
 
@@ -214,14 +200,11 @@ fn lone_mult<'a>(
     ensures { Gives (λ p. located primary_form p.now) result (lone (located mult_form node.now)) }
 {
     match &node.node {
-        Some(mult) => {
-            if mult.extended.is_empty() {
-                lone_unary(alloc, expected, &mult.initial)
-            } else {
-                Err(form(alloc, expected, "a `*` expression", "", &node.loc))
-            }
-        }
-        None => Err(unreached(alloc, &node.loc)),
+        Some(mult) => match mult.alone() {
+            Some(factor) => lone_unary(alloc, expected, factor),
+            None => Err(form(alloc, expected, "a `*` expression", "", &node.loc)),
+        },
+        None => Err(empty_node(alloc, &node.loc)),
     }
 }
 
@@ -234,14 +217,11 @@ fn lone_unary<'a>(
     ensures { Gives (λ p. located primary_form p.now) result (lone (located unary_form node.now)) }
 {
     match &node.node {
-        Some(unary) => {
-            if no_sign(&unary.op) {
-                lone_member(alloc, expected, &unary.item)
-            } else {
-                Err(signs(alloc, expected, &unary.op, &node.loc))
-            }
-        }
-        None => Err(unreached(alloc, &node.loc)),
+        Some(unary) => match unary.alone() {
+            Some(item) => lone_member(alloc, expected, item),
+            None => Err(signs(alloc, expected, &unary.op, &node.loc)),
+        },
+        None => Err(empty_node(alloc, &node.loc)),
     }
 }
 
@@ -255,15 +235,14 @@ fn lone_member<'a>(
         (lone (located member_form node.now)) }
 {
     match &node.node {
-        Some(member) => {
-            if member.access.is_empty() {
-                lone_primary(alloc, expected, &member.item)
-            } else {
+        Some(member) => match member.alone() {
+            Some(item) => lone_primary(alloc, expected, item),
+            None => {
                 let hint = "names of types are joined by `::`";
                 Err(form(alloc, expected, "a `.` expression", hint, &node.loc))
             }
-        }
-        None => Err(unreached(alloc, &node.loc)),
+        },
+        None => Err(empty_node(alloc, &node.loc)),
     }
 }
 
@@ -285,6 +264,6 @@ fn lone_primary<'a>(
         Some(cst::Primary::Slot(_)) => Ok(node),
         Some(cst::Primary::EList(_)) => Ok(node),
         Some(cst::Primary::RInits(_)) => Ok(node),
-        None => Err(unreached(alloc, &node.loc)),
+        None => Err(empty_node(alloc, &node.loc)),
     }
 }

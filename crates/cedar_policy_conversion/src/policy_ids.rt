@@ -8,8 +8,8 @@ use cedar_syntax::cst::Policy;
 use cedar_syntax::node::Node;
 use std::alloc::{AllocError, Global};
 
-/// The name of the policy behind so many others.
-pub(crate) fn policy_id(alloc: Global, count: usize) -> Result<PolicyID, AllocError>
+/// The name that a set gives the policy behind so many others: `policy0`, `policy1` and so on.
+pub fn policy_id(alloc: Global, count: usize) -> Result<PolicyID, AllocError>
     ensures { IfOk result (λ id. id ≡ policy_id count) }
 {
     match format!(in alloc; "policy{count}") {
@@ -18,7 +18,8 @@ pub(crate) fn policy_id(alloc: Global, count: usize) -> Result<PolicyID, AllocEr
     }
 }
 
-/// The policies of a set with their names: `policy` and how many stand before it. After want of memory it has ended.
+/// The policies of a set with their names: `policy` and how many stand before it. After want of
+/// memory it has ended.
 #[derive(Drop)]
 pub struct GeneratedPolicyIds<'a> {
     alloc: Global,

@@ -17,15 +17,15 @@ mod element;
 use crate::cst_to_ast::ExtStyles;
 use crate::scope::action::action;
 use crate::scope::element::{principal, resource};
-use cedar_conversion::joins::one_more_fault;
-use cedar_conversion::special::refusal;
+use cedar_conversion::answer::failure::{Failure, flatten_tuple_2};
+use cedar_conversion::answer::faults::add_fault;
+use cedar_conversion::answer::special::refusal;
 use cedar_expressions::{Boxed, TryClone, Var};
 use cedar_policy_store::{ActionConstraint, PrincipalConstraint, ResourceConstraint};
 use cedar_syntax::cst::VariableDef;
-use cedar_syntax::err::{Failure, ToASTError, ToASTErrorKind};
+use cedar_syntax::err::{ToASTError, ToASTErrorKind};
 use cedar_syntax::loc::{Loc, SourceSpan};
 use cedar_syntax::node::Node;
-use cedar_syntax::util::flatten_tuple_2;
 use std::alloc::{AllocError, Global};
 
 /// A place that is known, else the last one before it.
@@ -70,7 +70,7 @@ fn missing(alloc: Global, var: Var, before: &Option<Loc>) -> Failure
 {
     match end_place(before) {
         Ok(place) => refusal(alloc, ToASTErrorKind::MissingScopeVariable(var), &place),
-        Err(error) => Failure::Memory(error),
+        Err(error) => Failure::from(error),
     }
 }
 
@@ -90,12 +90,12 @@ fn extra_fault(alloc: Global, node: &Node<Option<VariableDef>>) -> Result<ToASTE
 }
 
 /// Refuses each element beyond the third.
-fn no_extra(alloc: Global, others: &[Node<Option<VariableDef>>]) -> Result<(), Failure>
+fn refuse_extra(alloc: Global, others: &[Node<Option<VariableDef>>]) -> Result<(), Failure>
     ensures { Gives empty_view result (s.no_extra others.now) }
 {
     let mut all: Result<(), Failure> = Ok(());
     for node in others {
-        all = one_more_fault(alloc, all, extra_fault(alloc, node));
+        all = add_fault(alloc, all, extra_fault(alloc, node));
     }
     all
 }
@@ -177,16 +177,16 @@ pub(crate) fn scope_of(
     let third = elements.get(2);
     let behind_first = place_behind(place, first);
     let behind_second = place_behind(behind_first, second);
-    joined(
+    join_elements(
         principal_there(alloc, styles, place, first),
         action_there(alloc, styles, behind_first, second),
         resource_there(alloc, styles, behind_second, third),
-        no_extra(alloc, others(elements)),
+        refuse_extra(alloc, others(elements)),
     )
 }
 
 /// The elements of a scope joined, and what is refused beside them.
-fn joined(
+fn join_elements(
     principal: Result<PrincipalConstraint, Failure>,
     action: Result<ActionConstraint, Failure>,
     resource: Result<ResourceConstraint, Failure>,

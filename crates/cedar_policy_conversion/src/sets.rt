@@ -1,26 +1,103 @@
 //! Sets of policies.
-ghost use Rattle.std.specs.Prelude.{List, OnOk};
-ghost use Rattle.cedar_policy_store.specs.PlaceFree.{set_meaning};
+ghost use Rattle.std.specs.Prelude.{◌≡◌, ◌<◌, ◌^◌, List, OnOk, OnErr, IfErr, false, length};
+ghost use Rattle.cedar_policy_store.specs.PlaceFree.{Policies as Meant, set_meaning};
+ghost use Rattle.cedar_policy_store.specs.PolicyMaps.{holds_id};
 ghost use Rattle.cedar_conversion.specs.Outcome.{Outcome, item_more};
 ghost use Rattle.cedar_policy_conversion.specs.Policies as k;
 ghost use Rattle.cedar_policy_conversion.specs.PolicyMeaning.{policy_id as policy_id_of};
 ghost use Rattle.cedar_conversion.specs.Seen.{Gives};
 ghost use Rattle.cedar_conversion.specs.Table.{table_of};
-ghost use Rattle.cedar_policy_conversion.specs.machines.Filled.{IsAdded, set_view};
+ghost use Rattle.cedar_policy_conversion.specs.machines.Filled.{AddsAtMost, IsAdded, IsFreeFor, WantsMemoryAlone, id_of, set_view};
 
 use crate::cst_to_ast::ExtStyles;
-use crate::policy_ids::policy_id;
+use crate::policy_ids::{GeneratedPolicyIds, policy_id};
 use crate::templates::static_or_template;
-use cedar_conversion::joins::refused_too;
-use cedar_conversion::special::unreached;
+use cedar_conversion::answer::failure::Failure;
+use cedar_conversion::answer::faults::add_refusal;
+use cedar_conversion::answer::special::empty_node;
 use cedar_policy_store::{PolicySet, PolicySetError, StaticPolicy, Template};
 use cedar_syntax::cst::{Policies, Policy};
-use cedar_syntax::err::Failure;
 use cedar_syntax::node::Node;
 use either::Either;
 use std::alloc::{AllocError, Global};
 
-/// The policy that a tree stands for, under its name.
+/// Adds a policy or a template under its name, which is free.
+fn add(set: &mut PolicySet, policy: Either<StaticPolicy, Template>) -> Result<(), PolicySetError>
+    requires { holds_id set.old (id_of policy) ≡ false }
+    ensures added { OnOk result (IsAdded set.old policy set.new) }
+    ensures refused { IfErr result WantsMemoryAlone }
+    ensures unchanged { OnErr result (set.new ≡ set.old) }
+{
+    match policy {
+        Either::Left(policy) => set.add_static(policy),
+        Either::Right(template) => set.add_template(template),
+    }
+}
+
+/// Keeps a policy under its name, which is free.
+fn keep(set: &mut PolicySet, policy: Either<StaticPolicy, Template>) -> Result<(), AllocError>
+    requires { holds_id set.old (id_of policy) ≡ false }
+    ensures added { OnOk result (IsAdded set.old policy set.new) }
+    ensures unchanged { OnErr result (set.new ≡ set.old) }
+{
+    match add(set, policy) {
+        Ok(()) => Ok(()),
+        Err(PolicySetError::Memory(error)) => Err(error),
+        Err(PolicySetError::Occupied { .. }) => unreachable!(),
+    }
+}
+
+/// Keeps one policy more, under a name that is free, or tells its faults behind those of the
+/// policies before it.
+fn one_more(
+    set: &mut PolicySet,
+    all: Result<(), Failure>,
+    next: Result<Either<StaticPolicy, Template>, Failure>,
+) -> Result<(), Failure>
+    requires { IsFreeFor set.old next }
+    ensures told { (o : Outcome (List k.TemplateParts)) (x : Outcome k.TemplateParts)
+        → Gives (set_view set.old) all (k.parts_set_outcome o)
+        → Gives k.either_parts next (k.side_outcome x)
+        → Gives (set_view set.new) result (k.parts_set_outcome (item_more o x)) }
+    ensures named { AddsAtMost next set.old set.new }
+{
+    match next {
+        Ok(policy) => match keep(set, policy) {
+            Ok(()) => all,
+            Err(error) => Err(Failure::from(error)),
+        },
+        Err(failure) => add_refusal(all, failure),
+    }
+}
+
+/// The set, if none of its policies is refused.
+fn filled(set: PolicySet, all: Result<(), Failure>) -> Result<PolicySet, Failure>
+    ensures { (o : Outcome Meant) → Gives (set_view set) all o → Gives set_meaning result o }
+{
+    all?;
+    Ok(set)
+}
+
+/// The policies of a set, joined, each under its name.
+fn policies(
+    alloc: Global,
+    styles: &ExtStyles,
+    nodes: &[Node<Option<Policy>>],
+) -> Result<PolicySet, Failure>
+    requires { length nodes.now < 2 ^ 64 }
+    ensures { Gives set_meaning result
+        (k.set_outcome (table_of styles.now) nodes.now) }
+{
+    let mut set = PolicySet::new(alloc);
+    let mut all: Result<(), Failure> = Ok(());
+    for item in GeneratedPolicyIds::new(alloc, nodes) {
+        let (id, node) = item?;
+        all = one_more(&mut set, all, static_or_template(alloc, styles, id, node));
+    }
+    filled(set, all)
+}
+
+/// The policy that stands there in a set, under its name.
 fn policy_at(
     alloc: Global,
     styles: &ExtStyles,
@@ -34,67 +111,23 @@ fn policy_at(
     static_or_template(alloc, styles, id, node)
 }
 
-/// Adds a policy or a template under its name.
-fn add(set: &mut PolicySet, policy: Either<StaticPolicy, Template>) -> Result<(), PolicySetError>
-    ensures { OnOk result (IsAdded set.old policy set.new) }
-{
-    match policy {
-        Either::Left(policy) => set.add_static(policy),
-        Either::Right(template) => set.add_template(template),
-    }
-}
-
-/// Keeps a policy under its name. It has a number that no other of the set has, so the name is free.
-fn keep(set: &mut PolicySet, policy: Either<StaticPolicy, Template>) -> Result<(), AllocError>
-    ensures { OnOk result (IsAdded set.old policy set.new) }
-{
-    match add(set, policy) {
-        Ok(()) => Ok(()),
-        Err(PolicySetError::Memory(error)) => Err(error),
-        Err(PolicySetError::Occupied { .. }) => Err(AllocError),
-    }
-}
-
-/// Keeps one policy more, or tells its faults behind those of the policies before it.
-fn one_more(
-    set: &mut PolicySet,
-    all: Result<(), Failure>,
-    next: Result<Either<StaticPolicy, Template>, Failure>,
-) -> Result<(), Failure>
-    ensures { (o : Outcome (List k.TemplateParts)) (x : Outcome k.TemplateParts)
-        → Gives (set_view set.old) all (k.parts_set_outcome o)
-        → Gives k.either_parts next (k.side_outcome x)
-        → Gives (set_view set.new) result (k.parts_set_outcome (item_more o x)) }
-{
-    match next {
-        Ok(policy) => match keep(set, policy) {
-            Ok(()) => all,
-            Err(error) => Err(Failure::Memory(error)),
-        },
-        Err(failure) => refused_too(all, failure),
-    }
-}
-
-/// The policies of a set, joined, each under its name.
-fn policies(
+/// The same of nodes by value: each is let go as soon as it is converted, so that their memory
+/// serves the set.
+fn own_policies(
     alloc: Global,
     styles: &ExtStyles,
-    nodes: &[Node<Option<Policy>>],
+    nodes: Vec<Node<Option<Policy>>>,
 ) -> Result<PolicySet, Failure>
+    requires { length nodes.items < 2 ^ 64 }
     ensures { Gives set_meaning result
-        (k.set_outcome (table_of styles.now) nodes.now) }
+        (k.set_outcome (table_of styles.now) nodes.items) }
 {
     let mut set = PolicySet::new(alloc);
     let mut all: Result<(), Failure> = Ok(());
-    for count in 0..nodes.len() {
-        all = one_more(
-            &mut set,
-            all,
-            policy_at(alloc, styles, count, &nodes[count]),
-        );
+    for (count, node) in nodes.into_iter().enumerate() {
+        all = one_more(&mut set, all, policy_at(alloc, styles, count, &node));
     }
-    all?;
-    Ok(set)
+    filled(set, all)
 }
 
 /// The set that a tree stands for.
@@ -108,6 +141,22 @@ pub(crate) fn policy_set(
 {
     match &node.node {
         Some(inner) => policies(alloc, styles, inner.0.as_slice()),
-        None => Err(unreached(alloc, &node.loc)),
+        None => Err(empty_node(alloc, &node.loc)),
+    }
+}
+
+/// The set that a tree by value stands for.
+pub(crate) fn own_policy_set(
+    alloc: Global,
+    styles: &ExtStyles,
+    node: Node<Option<Policies>>,
+) -> Result<PolicySet, Failure>
+    ensures { Gives set_meaning result
+        (k.policies_outcome (table_of styles.now) node) }
+{
+    let (inner, loc) = node.into_inner();
+    match inner {
+        Some(inner) => own_policies(alloc, styles, inner.0.into_vec()),
+        None => Err(empty_node(alloc, &loc)),
     }
 }

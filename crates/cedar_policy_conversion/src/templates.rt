@@ -1,8 +1,7 @@
 //! Policies: templates and static policies.
-ghost use Rattle.std.specs.Prelude.{◌≡◌, ◌∷◌, ◌++◌, [], Option, IfOk, OnOk, is_some, slice_get, string_bytes, unwrap_or};
+ghost use Rattle.std.specs.Prelude.{◌≡◌, ◌∷◌, ◌++◌, [], Option, IfOk, OnOk, slice_get, string_bytes, unwrap_or};
 ghost use Rattle.std.specs.Option.{option_map};
 ghost use Rattle.cedar_expressions.specs.Placed.{marked_place};
-ghost use Rattle.cedar_policy_store.specs.TemplateSlots.{at_most_one};
 ghost use Rattle.cedar_syntax.specs.declared.cst.Policy.TheVariants as variants;
 ghost use Rattle.cedar_syntax.specs.declared.err.faults.ParseError.TheVariants.{ToAST};
 ghost use Rattle.cedar_syntax.specs.ParseErrors.{faults_of};
@@ -10,27 +9,25 @@ ghost use Rattle.cedar_syntax.specs.declared.loc.Loc.{Loc};
 ghost use Rattle.cedar_conversion.specs.Places.{place_within};
 ghost use Rattle.cedar_conversion.specs.Outcome.{Outcome, invalid_effect, expected_static_policy};
 ghost use Rattle.cedar_policy_conversion.specs.Policies as k;
-ghost use Rattle.cedar_policy_conversion.specs.machines.PolicyViews.{IsConditionFree, parts_view, slot_of};
+ghost use Rattle.cedar_policy_conversion.specs.machines.PolicyViews.{IsConditionFree, parts_view};
 ghost use Rattle.cedar_conversion.specs.Seen.{Gives, Refuses, itself, named_faults, named_fault};
 ghost use Rattle.cedar_conversion.specs.Table.{table_of};
 ghost use Rattle.cedar_conversion.specs.machines.Views.{TellsAlone, lent_bytes, optional_fault};
 
 use crate::annotations::annotations;
-use crate::conditions::{conditions, folded};
+use crate::conditions::{conditions, join_conditions};
 use crate::cst_to_ast::ExtStyles;
 use crate::scope::{Scope, scope_of};
-use cedar_conversion::joins::place_within;
-use cedar_conversion::places::{bytes_at, bytes_of};
-use cedar_conversion::special::{refusal, unreached};
+use cedar_conversion::answer::failure::{Failure, flatten_tuple_2};
+use cedar_conversion::answer::faults::place_within;
+use cedar_conversion::answer::places::{bytes_at, bytes_of};
+use cedar_conversion::answer::special::{empty_node, refusal};
 use cedar_expressions::{AnyId, Expr, Slot, TryClone};
-use cedar_policy_store::{
-    Annotation, Annotations, Effect, PolicyID, StaticPolicy, Template, UnexpectedSlotError,
-};
+use cedar_policy_store::{Annotation, Annotations, Effect, PolicyID, StaticPolicy, Template};
 use cedar_syntax::cst::{Ident, Policy, PolicyImpl};
-use cedar_syntax::err::{Failure, ParseError, ParseErrors, ToASTError, ToASTErrorKind};
+use cedar_syntax::err::{self, ParseError, ParseErrors, ToASTError, ToASTErrorKind};
 use cedar_syntax::loc::Loc;
 use cedar_syntax::node::Node;
-use cedar_syntax::util::flatten_tuple_2;
 use either::Either;
 use std::alloc::{AllocError, Global};
 use std::collections::BTreeMap;
@@ -49,7 +46,7 @@ fn other_word(alloc: Global, loc: &Option<Loc>, word: &Ident) -> Failure
 {
     match word.try_clone() {
         Ok(word) => refusal(alloc, ToASTErrorKind::InvalidEffect(word), loc),
-        Err(error) => Failure::Memory(error),
+        Err(error) => Failure::from(error),
     }
 }
 
@@ -60,7 +57,7 @@ fn effect(alloc: Global, node: &Node<Option<Ident>>) -> Result<Effect, Failure>
         Some(Ident::Permit) => Ok(Effect::Permit),
         Some(Ident::Forbid) => Ok(Effect::Forbid),
         Some(word) => Err(other_word(alloc, &node.loc, word)),
-        None => Err(unreached(alloc, &node.loc)),
+        None => Err(empty_node(alloc, &node.loc)),
     }
 }
 
@@ -110,7 +107,7 @@ fn constructed(
 {
     let ((effect, annotations), (scope, conditions)) = parts;
     let (principal, action, resource) = scope;
-    let condition = folded(alloc, loc, conditions)?;
+    let condition = join_conditions(alloc, loc, conditions)?;
     Ok(Template::new(
         id,
         bytes_of(loc),
@@ -138,28 +135,20 @@ pub(crate) fn template(
             let parts = parts(alloc, styles, inner_of(policy))?;
             Ok(constructed(alloc, id, &node.loc, parts)?)
         }
-        None => Err(unreached(alloc, &node.loc)),
+        None => Err(empty_node(alloc, &node.loc)),
     }
 }
 
 // ---- static policies
 
-/// Whether there is one of two slots.
-fn is_there(first: Option<Slot>, second: Option<Slot>) -> bool
-    ensures { result ≡ is_some (slice_get (at_most_one first ++ at_most_one second) 0) }
+/// The first slot of a template's scope.
+fn slot_in_scope(template: &Template) -> Option<Slot>
+    ensures { result ≡ slice_get (k.scope_slots (k.template_parts template.now)) 0 }
 {
-    match first {
-        Some(_) => true,
-        None => matches!(second, Some(_)),
+    match template.principal_constraint().slot() {
+        Some(slot) => Some(slot),
+        None => template.resource_constraint().slot(),
     }
-}
-
-/// Whether a slot stands in a template's scope.
-fn has_slot_in_scope(template: &Template) -> bool
-    ensures { result ≡ is_some (slice_get (k.scope_slots (k.template_parts template.now)) 0) }
-{
-    let principal = template.principal_constraint().slot();
-    is_there(principal, template.resource_constraint().slot())
 }
 
 /// A static policy, or a template with a slot, which only its scope may have.
@@ -173,10 +162,10 @@ pub(crate) fn static_or_template(
         (k.either_outcome (table_of styles.now) id node.now) }
 {
     let template = template(alloc, styles, id, node)?;
-    if has_slot_in_scope(&template) {
-        return Ok(Either::Right(template));
+    match slot_in_scope(&template) {
+        Some(_) => Ok(Either::Right(template)),
+        None => Ok(Either::Left(StaticPolicy::of_static(template))),
     }
-    Ok(Either::Left(StaticPolicy::of_static(template)))
 }
 
 /// A template where a static policy is wanted.
@@ -185,7 +174,7 @@ fn found_slot(alloc: Global, slot: Slot, loc: &Option<Loc>) -> Failure
 {
     match place_within(loc, slot.place) {
         Ok(place) => refusal(alloc, ToASTErrorKind::expected_static_policy(slot), &place),
-        Err(error) => Failure::Memory(error),
+        Err(error) => Failure::from(error),
     }
 }
 
@@ -251,29 +240,20 @@ fn add_static_faults(alloc: Global, faults: &mut ParseErrors) -> Result<(), Allo
     add_faults(faults, more)
 }
 
-/// What a template with a slot is refused with where a static policy is wanted.
-fn not_static(alloc: Global, error: UnexpectedSlotError, loc: &Option<Loc>) -> Failure
-    ensures { TellsAlone result expected_static_policy
-        (place_within loc.now (slot_of error).place) }
-{
-    match error {
-        UnexpectedSlotError::FoundSlot(slot) => found_slot(alloc, slot, loc),
-    }
-}
-
-/// A template that is a static policy, or its first slot refused.
+/// A template that is a static policy, or its first slot refused, which only its scope may have.
 fn only_static(
     alloc: Global,
     loc: &Option<Loc>,
     template: Template,
 ) -> Result<StaticPolicy, Failure>
-    ensures { IsConditionFree template → Gives k.template_parts result
+    requires { IsConditionFree template }
+    ensures { Gives k.template_parts result
         (k.unless_slots loc.now (k.scope_slots (k.template_parts template))
         (k.template_parts template)) }
 {
-    match StaticPolicy::try_from(template) {
-        Ok(policy) => Ok(policy),
-        Err(error) => Err(not_static(alloc, error, loc)),
+    match slot_in_scope(&template) {
+        Some(slot) => Err(found_slot(alloc, slot, loc)),
+        None => Ok(StaticPolicy::of_static(template)),
     }
 }
 
@@ -282,11 +262,11 @@ fn refused_static(alloc: Global, failure: Failure) -> Failure
     ensures { (place : Option Loc) (o : Outcome k.TemplateParts)
         → Refuses failure o → Refuses result (k.only_static place o) }
 {
-    match failure {
-        Failure::Memory(error) => Failure::Memory(error),
-        Failure::Errors(mut faults) => match add_static_faults(alloc, &mut faults) {
-            Ok(()) => Failure::Errors(faults),
-            Err(error) => Failure::Memory(error),
+    match err::Failure::from(failure) {
+        err::Failure::Memory(error) => Failure::from(error),
+        err::Failure::Errors(mut faults) => match add_static_faults(alloc, &mut faults) {
+            Ok(()) => Failure::of_errors(alloc, faults),
+            Err(error) => Failure::from(error),
         },
     }
 }

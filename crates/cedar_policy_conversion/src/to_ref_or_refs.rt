@@ -1,25 +1,25 @@
-//! Right of an operator of the scope: an entity, the variable's own slot, or a set of entities. What is made of the primary that stands there is told by a kind of
-//! reference.
-ghost use Rattle.std.specs.Prelude.{◌≡◌, List, map};
-ghost use Rattle.cedar_expressions.specs.declared.entity.EntityUID.{EntityUID as Entity};
+//! Right of an operator of the scope: an entity, the variable's own slot, or a set of entities.
+//! What is made of the primary that stands there is told by a kind of reference.
+ghost use Rattle.std.specs.Prelude.{◌≡◌, map};
 ghost use Rattle.cedar_syntax.specs.Forms.{located, parts_of, listed_expr, expr_form, primary_form};
-ghost use Rattle.cedar_conversion.specs.Outcome.{Outcome, wrong_node, wrong_entity_argument, item_more};
+ghost use Rattle.cedar_conversion.specs.Outcome.{wrong_node, wrong_entity_argument};
 ghost use Rattle.cedar_policy_conversion.specs.References.{RefKind as Kind, single_entity, entity_or_slot, one_or_multiple, literal_fault, entity_at, lone_entity, entities, single_outcome, own_slot_outcome, several_outcome, of_variable, referent_at, referent_outcome};
 ghost use Rattle.cedar_conversion.specs.Seen.{Gives, itself};
 ghost use Rattle.cedar_conversion.specs.machines.Views.{TellsAlone};
 
-use crate::lone::{form, lone_expr, not_wanted};
-use cedar_conversion::entities::entity_of;
-use cedar_conversion::places::bytes_of;
-use cedar_conversion::special::{refusal, unreached};
+use crate::lone::{form, lone_expr, wrong_node};
+use cedar_conversion::answer::failure::Failure;
+use cedar_conversion::answer::lists::add;
+use cedar_conversion::answer::places::bytes_of;
+use cedar_conversion::answer::special::{empty_node, refusal};
+use cedar_conversion::leaves::entities::entity_of;
 use cedar_expressions::{EntityUID, Items, NodePlace, Text, Var};
 use cedar_policy_store::EntityReference;
 use cedar_syntax::cst;
+use cedar_syntax::err::ToASTErrorKind;
 use cedar_syntax::err::parse_errors::Ref;
-use cedar_syntax::err::{Failure, ToASTErrorKind};
 use cedar_syntax::loc::Loc;
 use cedar_syntax::node::Node;
-use cedar_syntax::util::flatten_tuple_2;
 use std::alloc::Global;
 
 /// One entity and nothing else.
@@ -76,7 +76,7 @@ impl RefKind for SingleEntity {
     }
 
     fn create_slot(alloc: Global, loc: &Option<Loc>) -> Result<SingleEntity, Failure> {
-        Err(no_slot_for_one(alloc, loc))
+        Err(slot_as_entity(alloc, loc))
     }
 
     fn create_multiple_refs(
@@ -85,7 +85,7 @@ impl RefKind for SingleEntity {
         items: &[Node<Option<cst::Expr>>],
     ) -> Result<SingleEntity, Failure> {
         let _ = items;
-        Err(no_set_for_one(alloc, loc))
+        Err(set_as_entity(alloc, loc))
     }
 }
 
@@ -162,7 +162,7 @@ impl RefKind for OneOrMultipleRefs {
 }
 
 /// A slot where one entity is wanted.
-fn no_slot_for_one(alloc: Global, loc: &Option<Loc>) -> Failure
+fn slot_as_entity(alloc: Global, loc: &Option<Loc>) -> Failure
     ensures { TellsAlone result wrong_entity_argument loc.now }
 {
     let kind = ToASTErrorKind::wrong_entity_argument_one_expected(Ref::Single, Ref::Template);
@@ -170,7 +170,7 @@ fn no_slot_for_one(alloc: Global, loc: &Option<Loc>) -> Failure
 }
 
 /// A set where one entity is wanted.
-fn no_set_for_one(alloc: Global, loc: &Option<Loc>) -> Failure
+fn set_as_entity(alloc: Global, loc: &Option<Loc>) -> Failure
     ensures { TellsAlone result wrong_entity_argument loc.now }
 {
     let kind = ToASTErrorKind::wrong_entity_argument_one_expected(Ref::Single, Ref::Set);
@@ -190,10 +190,10 @@ fn literal_found(
 {
     match &node.node {
         Some(literal) => match format!(in alloc; "literal `{literal}`") {
-            Ok(got) => not_wanted(alloc, expected, Ok((Text::from(got), None)), loc),
+            Ok(got) => wrong_node(alloc, expected, Ok((Text::from(got), None)), loc),
             Err(error) => Failure::from(error),
         },
-        None => unreached(alloc, &node.loc),
+        None => empty_node(alloc, &node.loc),
     }
 }
 
@@ -230,8 +230,8 @@ fn entity_at(alloc: Global, node: &Node<Option<cst::Primary>>) -> Result<EntityU
 {
     match &node.node {
         Some(cst::Primary::Ref(inner)) => entity_of(alloc, inner.as_ref()),
-        Some(cst::Primary::Slot(_)) => Err(no_slot_for_one(alloc, &node.loc)),
-        Some(cst::Primary::EList(_)) => Err(no_set_for_one(alloc, &node.loc)),
+        Some(cst::Primary::Slot(_)) => Err(slot_as_entity(alloc, &node.loc)),
+        Some(cst::Primary::EList(_)) => Err(set_as_entity(alloc, &node.loc)),
         Some(cst::Primary::Literal(inner)) => {
             Err(literal_found(alloc, SingleEntity::err_str(), &node.loc, inner))
         }
@@ -244,7 +244,7 @@ fn entity_at(alloc: Global, node: &Node<Option<cst::Primary>>) -> Result<EntityU
         Some(cst::Primary::Expr(_)) => {
             Err(record_found(alloc, SingleEntity::err_str(), &node.loc))
         }
-        None => Err(unreached(alloc, &node.loc)),
+        None => Err(empty_node(alloc, &node.loc)),
     }
 }
 
@@ -255,27 +255,13 @@ fn lone_entity(alloc: Global, node: &Node<Option<cst::Expr>>) -> Result<EntityUI
     entity_at(alloc, lone_expr(alloc, SingleEntity::err_str(), node)?)
 }
 
-/// One more entity behind those so far.
-fn one_more_entity(
-    all: Result<Vec<EntityUID>, Failure>,
-    next: Result<EntityUID, Failure>,
-) -> Result<Vec<EntityUID>, Failure>
-    ensures { (uids : Outcome (List Entity)) (uid : Outcome Entity)
-        → Gives (λ v. v.items) all uids → Gives itself next uid
-        → Gives (λ v. v.items) result (item_more uids uid) }
-{
-    let (mut all, next) = flatten_tuple_2(all, next)?;
-    all.push(next)?;
-    Ok(all)
-}
-
 /// The entities of a set.
 fn entities(alloc: Global, items: &[Node<Option<cst::Expr>>]) -> Result<Vec<EntityUID>, Failure>
     ensures { Gives (λ v. v.items) result (entities (parts_of (map listed_expr items.now))) }
 {
     let mut all: Result<Vec<EntityUID>, Failure> = Ok(Vec::new(alloc));
     for item in items {
-        all = one_more_entity(all, lone_entity(alloc, item));
+        add(&mut all, lone_entity(alloc, item));
     }
     all
 }
@@ -291,7 +277,7 @@ fn other_slot(
     ensures { TellsAlone result wrong_node loc.now }
 {
     match format!(in alloc; "{slot} instead of ?{var}") {
-        Ok(got) => not_wanted(alloc, expected, Ok((Text::from(got), None)), loc),
+        Ok(got) => wrong_node(alloc, expected, Ok((Text::from(got), None)), loc),
         Err(error) => Failure::from(error),
     }
 }
@@ -333,7 +319,7 @@ fn slot_found<T: RefKind>(
     let made = T::create_slot(alloc, loc)?;
     match &node.node {
         Some(slot) => of_variable::<T>(alloc, loc, var, made, slot),
-        None => Err(unreached(alloc, &node.loc)),
+        None => Err(empty_node(alloc, &node.loc)),
     }
 }
 
@@ -359,11 +345,12 @@ fn referred_at<T: RefKind>(
         }
         Some(cst::Primary::RInits(_)) => Err(record_found(alloc, T::err_str(), &node.loc)),
         Some(cst::Primary::Expr(_)) => Err(record_found(alloc, T::err_str(), &node.loc)),
-        None => Err(unreached(alloc, &node.loc)),
+        None => Err(empty_node(alloc, &node.loc)),
     }
 }
 
-/// What an expression refers to: an entity, the slot of a variable, or a set of entities, as far as the kind takes them.
+/// What an expression refers to: an entity, the slot of a variable, or a set of entities, as far
+/// as the kind takes them.
 pub(crate) fn to_ref_or_refs<T: RefKind>(
     alloc: Global,
     var: Var,

@@ -8,7 +8,7 @@ ghost use Rattle.cedar_policy_machine.specs.machines.Annotation.{annotation_shap
 use cedar_expressions::Source;
 use cedar_grammar::reading::driver::Entry;
 use cedar_grammar::reading::put::{put, take_node};
-use cedar_grammar::reading::tokens::{ident_node, if_any, string_node};
+use cedar_grammar::reading::tokens::{ident_node, if_ident, string_node};
 use cedar_lexer::token::{Token, TokenKind};
 use cedar_syntax::cst::{Annotation, Ident, Str};
 use cedar_syntax::node::Node;
@@ -115,7 +115,7 @@ impl Entry<Annotation> for AnnotationState {
     fn plan(&self, kind: TokenKind) -> Option<AnnotationAct> {
         match self {
             AnnotationState::Start => AnnotationState::first(kind),
-            AnnotationState::At => if_any(kind, AnnotationAct::Key),
+            AnnotationState::At => if_ident(kind, AnnotationAct::Key),
             AnnotationState::Key(_) => {
                 if_mark(matches!(kind, TokenKind::OpenParen), AnnotationAct::Open)
             }

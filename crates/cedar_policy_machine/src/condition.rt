@@ -3,13 +3,13 @@ ghost use Rattle.std.specs.Prelude.{◌≡◌, Some, IfOk, OnOk};
 ghost use Rattle.cedar_lexer.specs.Token.{lexeme_of};
 ghost use Rattle.cedar_grammar.specs.WrittenTokens.{IsWritten};
 ghost use Rattle.cedar_grammar.specs.machines.Judged.{done_as};
-ghost use Rattle.cedar_policy_machine.specs.machines.Condition.{body_going, in_body, behind_body, IsBodyPlan, HasBody};
+ghost use Rattle.cedar_policy_machine.specs.machines.Condition.{body_going, in_body, behind_body, condition_reader, IsBodyPlan, HasBody};
 
 use crate::annotation::if_mark;
 use cedar_expressions::Source;
 use cedar_grammar::reading::driver::Entry;
 use cedar_grammar::reading::put::{put, take_node};
-use cedar_grammar::reading::tokens::{ident_node, if_any};
+use cedar_grammar::reading::tokens::{ident_node, if_ident};
 use cedar_lexer::token::{Token, TokenKind};
 use cedar_syntax::cst::{Cond, Expr, Ident};
 use cedar_syntax::node::Node;
@@ -106,6 +106,44 @@ impl<E: Entry<Node<Option<Expr>>>> ConditionState<E> {
             _ => unreachable!(),
         }
     }
+
+    /// Does with a token what is planned, before the body and behind it.
+    #[inline(never)]
+    fn act_around(
+        &mut self,
+        alloc: Global,
+        source: &Source,
+        act: ConditionAct<E::Act>,
+        token: &Token<'_>,
+    ) -> Result<bool, AllocError>
+        requires written { IsWritten (lexeme_of token.now) }
+        requires is_planned { (condition_reader E.reader).plan self.old token.now.kind
+            ≡ Some act }
+        ensures { IfOk result (λ fits. done_as fits self.new ≡ (condition_reader E.reader).act
+            source.now self.old act (lexeme_of token.now)) }
+    {
+        match act {
+            ConditionAct::Body(act) => self.go_on(alloc, source, act, token),
+            ConditionAct::First(act) => self.enter(alloc, source, act, token),
+            ConditionAct::Word => {
+                put(&mut self.word, ident_node(alloc, source, token)?);
+                put(&mut self.part, ConditionPart::Word);
+                Ok(true)
+            }
+            ConditionAct::Open => {
+                put(&mut self.part, ConditionPart::Opened);
+                Ok(true)
+            }
+            ConditionAct::Close => {
+                self.close(alloc, source)?;
+                Ok(true)
+            }
+            ConditionAct::CloseEmpty => {
+                put(&mut self.part, ConditionPart::Closed(None));
+                Ok(true)
+            }
+        }
+    }
 }
 
 impl<E: Entry<Node<Option<Expr>>>> Entry<Cond> for ConditionState<E> {
@@ -126,7 +164,7 @@ impl<E: Entry<Node<Option<Expr>>>> Entry<Cond> for ConditionState<E> {
     }
 
     fn first(kind: TokenKind) -> Option<ConditionAct<E::Act>> {
-        if_any(kind, ConditionAct::Word)
+        if_ident(kind, ConditionAct::Word)
     }
 
     fn plan(&self, kind: TokenKind) -> Option<ConditionAct<E::Act>> {
@@ -145,7 +183,7 @@ impl<E: Entry<Node<Option<Expr>>>> Entry<Cond> for ConditionState<E> {
                     ConditionAct::CloseEmpty,
                 ),
             },
-            ConditionPart::Start => if_any(kind, ConditionAct::Word),
+            ConditionPart::Start => if_ident(kind, ConditionAct::Word),
             ConditionPart::Word => {
                 if_mark(matches!(kind, TokenKind::OpenBrace), ConditionAct::Open)
             }
@@ -167,24 +205,11 @@ impl<E: Entry<Node<Option<Expr>>>> Entry<Cond> for ConditionState<E> {
     ) -> Result<bool, AllocError> {
         match act {
             ConditionAct::Body(act) => self.go_on(alloc, source, act, token),
-            ConditionAct::First(act) => self.enter(alloc, source, act, token),
-            ConditionAct::Word => {
-                put(&mut self.word, ident_node(alloc, source, token)?);
-                put(&mut self.part, ConditionPart::Word);
-                Ok(true)
-            }
-            ConditionAct::Open => {
-                put(&mut self.part, ConditionPart::Opened);
-                Ok(true)
-            }
-            ConditionAct::Close => {
-                self.close(alloc, source)?;
-                Ok(true)
-            }
-            ConditionAct::CloseEmpty => {
-                put(&mut self.part, ConditionPart::Closed(None));
-                Ok(true)
-            }
+            ConditionAct::First(_)
+            | ConditionAct::Word
+            | ConditionAct::Open
+            | ConditionAct::Close
+            | ConditionAct::CloseEmpty => self.act_around(alloc, source, act, token),
         }
     }
 

@@ -3,12 +3,14 @@ ghost use Rattle.std.specs.Prelude.{◌≡◌};
 ghost use Rattle.cedar_policy_machine.specs.machines.Policies.{condition_way, begun_condition_way, policy_way, closed_condition, closed_policy};
 
 use crate::condition::{ConditionPart, ConditionState};
-use crate::policy::{Annotations, Begun, Conditions, PolicyState, Scope, Section};
+use crate::policy::{
+    AnnotationSequence, Begun, ConditionSequence, ElementSequence, PolicyState, Section,
+};
 use crate::sequence::{Sequence, SequenceAct, Spanned};
 use cedar_expressions::{Items, Source};
 use cedar_grammar::reading::driver::Entry;
 use cedar_grammar::reading::put::put;
-use cedar_grammar::reading::recovery::{Recovering, Way};
+use cedar_grammar::reading::recovery::{Recovering, RecoveryWay};
 use cedar_lexer::token::{Token, TokenKind};
 use cedar_syntax::cst::{Add, Expr, Name, Policy};
 use cedar_syntax::node::Node;
@@ -16,12 +18,13 @@ use std::alloc::{AllocError, Global};
 
 impl<E: Entry<Node<Option<Expr>>>> ConditionState<E> {
     /// How a fault in it is left.
-    fn way(&self) -> Way
+    fn way(&self) -> RecoveryWay
         ensures { result ≡ condition_way self.now.part }
     {
         match &self.part {
-            ConditionPart::Opened | ConditionPart::Body(_) => Way::ToBrace,
-            ConditionPart::Start | ConditionPart::Word | ConditionPart::Closed(_) => Way::ToEnd,
+            ConditionPart::Opened | ConditionPart::Body(_) => RecoveryWay::ToBrace,
+            ConditionPart::Start | ConditionPart::Word | ConditionPart::Closed(_) =>
+                RecoveryWay::ToEnd,
         }
     }
 
@@ -39,29 +42,31 @@ impl<E: Entry<Node<Option<Expr>>>> ConditionState<E> {
 }
 
 /// How a fault in a condition is left, where one may be begun.
-fn condition_way<E: Entry<Node<Option<Expr>>>>(begun: &Option<Spanned<ConditionState<E>>>) -> Way
+fn condition_way<E: Entry<Node<Option<Expr>>>>(
+    begun: &Option<Spanned<ConditionState<E>>>,
+) -> RecoveryWay
     ensures { result ≡ begun_condition_way begun.now }
 {
     match begun {
         Some(condition) => condition.state.way(),
-        None => Way::ToEnd,
+        None => RecoveryWay::ToEnd,
     }
 }
 
-impl<N, S, E> PolicyState<Annotations, Scope<N, S, E>, Conditions<E>>
+impl<N, S, E> PolicyState<AnnotationSequence, ElementSequence<N, S, E>, ConditionSequence<E>>
 where
     N: Entry<Node<Option<Name>>>,
     S: Entry<Node<Option<Add>>>,
     E: Entry<Node<Option<Expr>>>,
 {
     /// How a fault in it is left; behind a whole policy, as is said.
-    fn way(&self, behind: Way) -> Way
+    fn way(&self, behind: RecoveryWay) -> RecoveryWay
         ensures { result ≡ policy_way behind self.now }
     {
         match self.section {
             Section::Conditions => condition_way(&self.conditions.begun),
             Section::Closed => behind,
-            Section::Annotations | Section::Effect | Section::Scope => Way::ToEnd,
+            Section::Annotations | Section::Effect | Section::Scope => RecoveryWay::ToEnd,
         }
     }
 
@@ -86,7 +91,7 @@ where
     S: Entry<Node<Option<Add>>>,
     E: Entry<Node<Option<Expr>>>,
 {
-    ghost use Rattle.cedar_grammar.specs.declared.reading.recovery.Way.TheVariants as way;
+    ghost use Rattle.cedar_grammar.specs.declared.reading.recovery.RecoveryWay.TheVariants as way;
     ghost use Rattle.cedar_policy_machine.specs.machines.Policies.{policy_way, policy_closing, policy_ending};
 
     ghost left = { λ s. policy_way way.Stop s.state };
@@ -95,8 +100,8 @@ where
 
     ghost over = { λ s. policy_ending s };
 
-    fn way(&self) -> Way {
-        self.state.way(Way::Stop)
+    fn way(&self) -> RecoveryWay {
+        self.state.way(RecoveryWay::Stop)
     }
 
     fn close(&mut self) {
@@ -104,17 +109,17 @@ where
     }
 
     fn end(&mut self, alloc: Global) {
-        put(&mut self.state, PolicyState::unknown(alloc));
+        self.state.forget(alloc);
     }
 }
 
 /// Policies that stand one behind the other.
-pub type Whole<N, S, E> = Sequence<Spanned<Begun<N, S, E>>, Node<Option<Policy>>>;
+pub type PolicySequence<N, S, E> = Sequence<Spanned<Begun<N, S, E>>, Node<Option<Policy>>>;
 
 /// What policies do with a token.
 type PoliciesAct<N, S, E> = SequenceAct<<Begun<N, S, E> as Entry<Policy>>::Act>;
 
-impl<N, S, E> Entry<Items<Node<Option<Policy>>>> for Whole<N, S, E>
+impl<N, S, E> Entry<Items<Node<Option<Policy>>>> for PolicySequence<N, S, E>
 where
     N: Entry<Node<Option<Name>>>,
     S: Entry<Node<Option<Add>>>,
@@ -127,12 +132,12 @@ where
 
     ghost reader = { all_policies_reader (readers_of N.reader S.reader E.reader) };
 
-    fn start(alloc: Global) -> Whole<N, S, E> {
+    fn start(alloc: Global) -> PolicySequence<N, S, E> {
         Sequence::new(alloc)
     }
 
     fn first(kind: TokenKind) -> Option<PoliciesAct<N, S, E>> {
-        Whole::<N, S, E>::plan_item(kind)
+        PolicySequence::<N, S, E>::plan_item(kind)
     }
 
     fn plan(&self, kind: TokenKind) -> Option<PoliciesAct<N, S, E>> {
@@ -166,7 +171,7 @@ where
     }
 }
 
-impl<N, S, E> Recovering for Whole<N, S, E>
+impl<N, S, E> Recovering for PolicySequence<N, S, E>
 where
     N: Entry<Node<Option<Name>>>,
     S: Entry<Node<Option<Add>>>,
@@ -180,10 +185,10 @@ where
 
     ghost over = { λ s. policies_ending s.done };
 
-    fn way(&self) -> Way {
+    fn way(&self) -> RecoveryWay {
         match &self.begun {
-            Some(policy) => policy.state.way(Way::ToEnd),
-            None => Way::ToEnd,
+            Some(policy) => policy.state.way(RecoveryWay::ToEnd),
+            None => RecoveryWay::ToEnd,
         }
     }
 
@@ -194,18 +199,26 @@ where
     }
 
     fn end(&mut self, alloc: Global) {
-        let over = Spanned {
-            extent: None,
-            state: PolicyState::unknown(alloc),
-        };
-        put(&mut self.begun, Some(over));
+        match &mut self.begun {
+            Some(policy) => {
+                policy.extent = None;
+                policy.state.forget(alloc);
+            }
+            None => {
+                let over = Spanned {
+                    extent: None,
+                    state: PolicyState::unknown(alloc),
+                };
+                put(&mut self.begun, Some(over));
+            }
+        }
     }
 }
 
 /// Policies as a whole text.
-pub type Text<N, S, E> = Spanned<Whole<N, S, E>>;
+pub type SpannedSequence<N, S, E> = Spanned<PolicySequence<N, S, E>>;
 
-impl<N, S, E> Recovering for Text<N, S, E>
+impl<N, S, E> Recovering for SpannedSequence<N, S, E>
 where
     N: Entry<Node<Option<Name>>>,
     S: Entry<Node<Option<Add>>>,
@@ -219,7 +232,7 @@ where
 
     ghost over = { λ s. text_ending s };
 
-    fn way(&self) -> Way {
+    fn way(&self) -> RecoveryWay {
         self.state.way()
     }
 

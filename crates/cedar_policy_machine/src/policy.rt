@@ -13,7 +13,7 @@ use crate::sequence::{Sequence, SequenceAct, Spanned};
 use cedar_expressions::{Items, Source};
 use cedar_grammar::reading::driver::Entry;
 use cedar_grammar::reading::put::{put, take_node};
-use cedar_grammar::reading::tokens::{ident_node, if_any};
+use cedar_grammar::reading::tokens::{ident_node, if_ident};
 use cedar_lexer::token::{Token, TokenKind};
 use cedar_syntax::cst::{
     Add, Annotation, Cond, Expr, Ident, Name, Policy, PolicyImpl, VariableDef,
@@ -23,18 +23,21 @@ use std::alloc::{AllocError, Global};
 use std::mem;
 
 /// The annotations of a policy.
-pub type Annotations = Sequence<Spanned<AnnotationState>, Node<Option<Annotation>>>;
+pub type AnnotationSequence = Sequence<Spanned<AnnotationState>, Node<Option<Annotation>>>;
 
 /// The elements of its scope.
-pub type Scope<N, S, E> = Sequence<Spanned<ElementState<N, S, E>>, Node<Option<VariableDef>>>;
+pub type ElementSequence<N, S, E> = Sequence<
+    Spanned<ElementState<N, S, E>>,
+    Node<Option<VariableDef>>,
+>;
 
 /// Its conditions.
-pub type Conditions<E> = Sequence<Spanned<ConditionState<E>>, Node<Option<Cond>>>;
+pub type ConditionSequence<E> = Sequence<Spanned<ConditionState<E>>, Node<Option<Cond>>>;
 
 /// Where a policy stands.
 #[derive(Drop, Clone, Copy)]
 pub enum Section {
-    /// Annotations, or the effect, are to come.
+    /// AnnotationSequence, or the effect, are to come.
     Annotations,
     /// Behind the effect.
     Effect,
@@ -58,7 +61,11 @@ pub struct PolicyState<A, V, C> {
 }
 
 /// A policy that is begun.
-pub type Begun<N, S, E> = PolicyState<Annotations, Scope<N, S, E>, Conditions<E>>;
+pub type Begun<N, S, E> = PolicyState<
+    AnnotationSequence,
+    ElementSequence<N, S, E>,
+    ConditionSequence<E>,
+>;
 
 /// What is done with a token of a policy, whose parts do `A`, `V` and `C` with one.
 #[derive(Drop, Clone, Copy)]
@@ -75,14 +82,16 @@ pub enum PolicyAct<A, V, C> {
     Shut,
 }
 
-impl<N, S, E> PolicyState<Annotations, Scope<N, S, E>, Conditions<E>>
+impl<N, S, E> PolicyState<AnnotationSequence, ElementSequence<N, S, E>, ConditionSequence<E>>
 where
     N: Entry<Node<Option<Name>>>,
     S: Entry<Node<Option<Add>>>,
     E: Entry<Node<Option<Expr>>>,
 {
     /// A policy of which nothing is known.
-    pub fn unknown(alloc: Global) -> PolicyState<Annotations, Scope<N, S, E>, Conditions<E>>
+    pub fn unknown(
+        alloc: Global,
+    ) -> PolicyState<AnnotationSequence, ElementSequence<N, S, E>, ConditionSequence<E>>
         ensures { result ≡ unknown_policy }
     {
         PolicyState {
@@ -95,6 +104,23 @@ where
             scope: Sequence::new(alloc),
             conditions: Sequence::new(alloc),
         }
+    }
+
+    /// Nothing is known of it any more.
+    pub fn forget(&mut self, alloc: Global)
+        ensures { self.new ≡ unknown_policy }
+    {
+        self.section = Section::Closed;
+        self.annotations.clear(alloc);
+        put(
+            &mut self.effect,
+            Node {
+                node: None,
+                loc: None,
+            },
+        );
+        self.scope.clear(alloc);
+        self.conditions.clear(alloc);
     }
 
     /// The effect behind the annotations.
@@ -115,7 +141,8 @@ where
     }
 }
 
-impl<N, S, E> Entry<Policy> for PolicyState<Annotations, Scope<N, S, E>, Conditions<E>>
+impl<N, S, E> Entry<Policy>
+    for PolicyState<AnnotationSequence, ElementSequence<N, S, E>, ConditionSequence<E>>
 where
     N: Entry<Node<Option<Name>>>,
     S: Entry<Node<Option<Add>>>,
@@ -133,7 +160,9 @@ where
 
     ghost reader = { policy_reader (sections (readers_of N.reader S.reader E.reader)) };
 
-    fn start(alloc: Global) -> PolicyState<Annotations, Scope<N, S, E>, Conditions<E>> {
+    fn start(
+        alloc: Global,
+    ) -> PolicyState<AnnotationSequence, ElementSequence<N, S, E>, ConditionSequence<E>> {
         PolicyState {
             section: Section::Annotations,
             annotations: Sequence::new(alloc),
@@ -155,9 +184,9 @@ where
             SequenceAct<ConditionAct<E::Act>>,
         >,
     > {
-        match Annotations::plan_item(kind) {
+        match AnnotationSequence::plan_item(kind) {
             Some(act) => Some(PolicyAct::Annotation(act)),
-            None => if_any(kind, PolicyAct::Effect),
+            None => if_ident(kind, PolicyAct::Effect),
         }
     }
 
@@ -190,7 +219,7 @@ where
                 Some(act) => Some(PolicyAct::Annotation(act)),
                 None => {
                     if self.annotations.items_end() {
-                        if_any(kind, PolicyAct::Effect)
+                        if_ident(kind, PolicyAct::Effect)
                     } else {
                         None
                     }

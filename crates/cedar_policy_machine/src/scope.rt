@@ -1,13 +1,13 @@
 //! An element of the scope: a variable, and possibly a type name, an entity type and a constraint.
 ghost use Rattle.std.specs.Prelude.{◌≡◌, Some, None, IfOk, OnOk, IsTrue};
 ghost use Rattle.cedar_syntax.specs.Trees.{variable_def_of};
-ghost use Rattle.cedar_policy_machine.specs.machines.Scope.{readers_of, reader_plans, with_part, compare_plan, narrow_plan, behind_part, sum_beginning, constraint_beginning, element_ends, element_finish, MayLeave};
+ghost use Rattle.cedar_policy_machine.specs.machines.Scope.{readers_of, reader_plans, element_with_part, compare_plan, narrow_plan, behind_part, sum_beginning, constraint_beginning, element_ends, element_finish, MayLeave};
 
 use cedar_expressions::Source;
 use cedar_grammar::reading::driver::Entry;
 use cedar_grammar::reading::mark::as_relation;
 use cedar_grammar::reading::put::{put, take_node};
-use cedar_grammar::reading::tokens::{ident_node, if_any};
+use cedar_grammar::reading::tokens::{ident_node, if_ident};
 use cedar_lexer::token::{Token, TokenKind};
 use cedar_syntax::cst::{Add, Expr, Ident, Name, RelOp, VariableDef};
 use cedar_syntax::node::Node;
@@ -84,7 +84,7 @@ where
     fn end_part(&mut self, alloc: Global, source: &Source) -> Result<(), AllocError>
         requires { MayLeave (reader_plans (readers_of N.reader S.reader E.reader))
             self.old.part }
-        ensures slots { OnOk result ((part : _) → with_part self.new part
+        ensures slots { OnOk result ((part : _) → element_with_part self.new part
             ≡ behind_part source.now (readers_of N.reader S.reader E.reader) self.old
             self.old.part part) }
         ensures tree { OnOk result (element_finish (readers_of N.reader S.reader E.reader)
@@ -187,12 +187,12 @@ where
     }
 
     fn first(kind: TokenKind) -> Option<ElementAct<N::Act, S::Act, E::Act>> {
-        if_any(kind, ElementAct::Variable)
+        if_ident(kind, ElementAct::Variable)
     }
 
     fn plan(&self, kind: TokenKind) -> Option<ElementAct<N::Act, S::Act, E::Act>> {
         match &self.part {
-            ElementPart::Start => if_any(kind, ElementAct::Variable),
+            ElementPart::Start => if_ident(kind, ElementAct::Variable),
             ElementPart::Nothing => match kind {
                 TokenKind::Colon => Some(ElementAct::Colon),
                 _ => plan_narrow(kind),

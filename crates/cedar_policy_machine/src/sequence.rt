@@ -8,8 +8,9 @@ ghost use Rattle.cedar_policy_machine.specs.machines.Sequences.{sequence, many_p
 
 use cedar_expressions::{Items, Source};
 use cedar_grammar::reading::driver::Entry;
-use cedar_grammar::reading::extent::{Extent, joined};
+use cedar_grammar::reading::extent::{Extent, join_extents};
 use cedar_grammar::reading::place::{loc_at, token_extent};
+use cedar_grammar::reading::put::{put, put_apart};
 use cedar_lexer::token::{Token, TokenKind};
 use cedar_syntax::node::Node;
 use std::alloc::{AllocError, Global};
@@ -55,7 +56,7 @@ impl<T: Drop, S: Entry<T>> Entry<Node<Option<T>>> for Spanned<S> {
         act: S::Act,
         token: &Token<'_>,
     ) -> Result<bool, AllocError> {
-        self.extent = joined(self.extent, Some(token_extent(token)));
+        self.extent = join_extents(self.extent, Some(token_extent(token)));
         self.state.act(alloc, source, act, token)
     }
 
@@ -98,6 +99,18 @@ impl<T: Drop, S: Entry<T>> Sequence<S, T> {
         Sequence {
             done: Items::new(alloc),
             begun: None,
+        }
+    }
+
+    /// Nothing is read or begun any more. Where no item is begun, none is let go: so the compiler
+    /// copies none.
+    pub fn clear(&mut self, alloc: Global)
+        ensures { self.new ≡ sequence [] None }
+    {
+        put(&mut self.done, Items::new(alloc));
+        match &self.begun {
+            Some(_) => put(&mut self.begun, None),
+            None => {}
         }
     }
 
@@ -181,6 +194,17 @@ impl<T: Drop, S: Entry<T>> Sequence<S, T> {
         Ok(())
     }
 
+    /// An item begins, where none is begun.
+    #[inline(always)]
+    fn enter(&mut self, alloc: Global)
+        ensures { self.new ≡ sequence self.old.done (Some S.reader.start) }
+    {
+        match &self.begun {
+            None => put(&mut self.begun, Some(S::start(alloc))),
+            Some(_) => put_apart(&mut self.begun, Some(S::start(alloc))),
+        }
+    }
+
     /// The first token of an item.
     #[inline(never)]
     fn begin_item(
@@ -195,7 +219,7 @@ impl<T: Drop, S: Entry<T>> Sequence<S, T> {
         ensures { IfOk result (λ fits. done_as fits self.new ≡ item_begun self.old.done
             (S.reader.act source.now S.reader.start act (lexeme_of token.now))) }
     {
-        self.begun = Some(S::start(alloc));
+        self.enter(alloc);
         self.go_on(alloc, source, act, token)
     }
 

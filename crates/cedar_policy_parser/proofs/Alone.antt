@@ -1,5 +1,6 @@
--- Where the parts have values, a relation is refused for its operators alone, a product for its quotients and remainders, in order, a record for a key that
--- it has twice; and a name that is no variable is refused as an expression. So is a whole expression that is one of these alone.
+-- Where the parts have values, a relation is refused for its operators alone, a product for its
+-- quotients and remainders, in order, a record for a key that it has twice; and a name that is no
+-- variable is refused as an expression. So is a whole expression that is one of these alone.
 use Rattle.std.proofs.Common.{◌≡◌, ℕ, zero, suc, true, List, [], ◌∷◌, ◌++◌, Option, Some, None, Ok, Err, refl, sym, ap, ◌∙◌}
 use Rattle.std.specs.Map.{keys_of}
 use Rattle.cedar_expressions.specs.Keys.{repeats_key}

@@ -1,4 +1,5 @@
--- Any tree is tidy by hand, where nothing is asked of it; so its faults are of the kinds of a policy, and there are some.
+-- Any tree is tidy by hand, where nothing is asked of it; so its faults are of the kinds of a
+-- policy, and there are some.
 use Rattle.std.proofs.Common.{ℕ, List, [], ◌∷◌, Option, Some, None}
 use Rattle.cedar_syntax.specs.declared.node.Node.{Node}
 use Rattle.cedar_syntax.specs.declared.cst.Annotation.{Annotation}

@@ -34,7 +34,7 @@ use Rattle.cedar_conversion.specs.Names.{content_outcome, all_of, valid_ident_of
 use Rattle.cedar_conversion.specs.Outcome as k
 use Rattle.cedar_conversion.specs.Outcome.{NamedFault, Outcome, fault_outcome, both, next}
 use Rattle.cedar_policy_parser.specs.Sites as site
-use Rattle.cedar_policy_parser.specs.Sites.{Site, IsPart, IsName, IsNameNode, IsNamed, IsVariable, IsLiteral, IsTruth, IsTruthValue, IsQuoted, IsString, IsSiteOf}
+use Rattle.cedar_policy_parser.specs.Sites.{Site, IsPart, IsNameSite, IsNameNode, IsNamed, IsVariableSite, IsLiteral, IsTruth, IsTruthValue, IsQuoted, IsString, IsSiteOf}
 use Rattle.cedar_policy_parser.specs.Standing.{LiesWithin}
 use Rattle.cedar_conversion.specs.Strict.{largest}
 use Rattle.cedar_conversion.specs.Strings.{escape_faults}
@@ -53,7 +53,7 @@ place_held (bare_string p raw) = p
 
 abbrev pub Is : Located → Held → Type 0
 Is n (expression p x) = Unit {0}
-Is n (variable p x) = IsVariable n
+Is n (variable p x) = IsVariableSite n
 Is n (bare_name p path) = IsNamed n path
 Is n (bare_truth p b) = IsTruthValue n
 Is n (bare_string p raw) = (c : Option Literal) × (i : IsLiteral n c) × IsQuoted c raw × LiesWithin i.1 p

@@ -11,8 +11,8 @@ use Rattle.cedar_syntax.specs.Located as f
 use Rattle.cedar_syntax.specs.Located.{Located, Form, Parts, at}
 use Rattle.cedar_syntax.specs.Tree.{Operator}
 use Rattle.cedar_policy_parser.specs.Sites as site
-use Rattle.cedar_policy_parser.specs.Sites.{Site, IsName, IsNamed, IsVariable}
-use Rattle.cedar_conversion.specs.declared.methods.Standard.{Standard}
+use Rattle.cedar_policy_parser.specs.Sites.{Site, IsNameSite, IsNamed, IsVariableSite}
+use Rattle.cedar_conversion.specs.declared.primaries.methods.Standard.{Standard}
 use Rattle.cedar_conversion.specs.Conversion.{tree_place, outcome}
 use Rattle.cedar_policy_parser.specs.DueKinds as due
 use Rattle.cedar_policy_parser.specs.DueKinds.{IsDueFunction, IsDueMember, IsDueMethod, OnValue, count, arity}
@@ -155,7 +155,7 @@ name_accesses_due e P p name a rest s t i (a_field c (a_field d g)) = told P p (
 name_accesses_due e P p name a rest s t i (a_field c (an_index g)) = told P p (Given p) k.invalid_access (t k.invalid_access (due.name_field i refl (λ x. x)))
 
 -- of a variable
-variable_accesses_due : {n : Located} {all : Parts} {xs : List Access} (e : Extensions) (P : Kind → Type 0) (p : Option Loc) (x : Value) → ToTell e P n all → IsVariable n → Gives all xs → Tells (At P p) (Given p) (variable_accesses e p x xs)
+variable_accesses_due : {n : Located} {all : Parts} {xs : List Access} (e : Extensions) (P : Kind → Type 0) (p : Option Loc) (x : Value) → ToTell e P n all → IsVariableSite n → Gives all xs → Tells (At P p) (Given p) (variable_accesses e p x xs)
 variable_accesses_due e P p x t i nothing = refl
 variable_accesses_due e P p x t i (a_call c g) = told P p (Given p) k.variable_call (t k.variable_call (due.variable_called i tt))
 variable_accesses_due e P p x t i (an_index g) = accesses_due e P p x t (due.variable i (λ y. y)) (an_index g)

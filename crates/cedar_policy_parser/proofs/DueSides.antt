@@ -24,7 +24,7 @@ use Rattle.cedar_conversion.specs.Names.{name_outcome, named_variable}
 use Rattle.cedar_conversion.specs.Outcome as k
 use Rattle.cedar_conversion.specs.Outcome.{NamedFault, Outcome, both, next}
 use Rattle.cedar_policy_parser.specs.Sites as site
-use Rattle.cedar_policy_parser.specs.Sites.{Site, IsPart, IsName, IsNameNode, IsNamed, IsVariable, IsLiteral, IsTruth, IsTruthValue, IsQuoted, IsString, IsAnyString}
+use Rattle.cedar_policy_parser.specs.Sites.{Site, IsPart, IsNameSite, IsNameNode, IsNamed, IsVariableSite, IsLiteral, IsTruth, IsTruthValue, IsQuoted, IsString, IsAnyString}
 use Rattle.cedar_policy_parser.specs.Standing.{LiesWithin}
 use Rattle.cedar_conversion.specs.Strings.{layout, text_outcome}
 use Rattle.cedar_policy_parser.proofs.Alone.{comes_to}
@@ -70,7 +70,7 @@ leaf_of_name : (e : Extensions) (p : Option Loc) (m : Node (Option Name)) (h : H
 unfolding outcome form_outcome
 leaf_of_name e p m h c = name_gives p (named_variable m.node) m (name_outcome m) h refl c
 
-pub of_name : (e : Extensions) (n : Located) (h : Held) → outcome e n ≡ Ok h → ¬ (OfName h) → ¬ (IsName n)
+pub of_name : (e : Extensions) (n : Located) (h : Held) → outcome e n ≡ Ok h → ¬ (OfName h) → ¬ (IsNameSite n)
 of_name e n h c g i = g (leaf_of_name e i.1.0 i.0 h (sym (comes_to e i.1.1) ∙ c))
 
 variable_gives : (p : Option Loc) (v : Option Var) (m : Node (Option Name)) (x : Var) (h : Held) → v ≡ Some x → variable_or_name p v m ≡ Ok h → OfVariable h
@@ -81,7 +81,7 @@ leaf_of_variable : (e : Extensions) (p : Option Loc) (m : Node (Option Name)) (x
 unfolding outcome form_outcome
 leaf_of_variable e p m x h v c = variable_gives p (named_variable m.node) m x h v c
 
-pub of_variable : (e : Extensions) (n : Located) (h : Held) → outcome e n ≡ Ok h → ¬ (OfVariable h) → ¬ (IsVariable n)
+pub of_variable : (e : Extensions) (n : Located) (h : Held) → outcome e n ≡ Ok h → ¬ (OfVariable h) → ¬ (IsVariableSite n)
 of_variable e n h c g i = g (leaf_of_variable e i.1.0 i.0 i.2 h i.3 (sym (comes_to e i.1.1) ∙ c))
 
 truth_gives : (p : Option Loc) (c : Option Literal) (h : Held) → IsTruth c → literal_outcome p c ≡ Ok h → OfTruth h

@@ -28,7 +28,7 @@ use Rattle.cedar_conversion.specs.Names.{unreserved_ident}
 use Rattle.cedar_conversion.specs.Outcome as k
 use Rattle.cedar_conversion.specs.Outcome.{NamedFault, Outcome, both, next}
 use Rattle.cedar_policy_parser.specs.Sites as site
-use Rattle.cedar_policy_parser.specs.Sites.{Site, IsPart, IsAmong, is_negated, IsName}
+use Rattle.cedar_policy_parser.specs.Sites.{Site, IsPart, IsAmong, is_negated, IsNameSite}
 use Rattle.cedar_policy_parser.specs.Standing.{LiesWithin}
 use Rattle.cedar_conversion.specs.Strict.{largest}
 use Rattle.cedar_policy_parser.proofs.Alone.{chain_alone, member_alone}

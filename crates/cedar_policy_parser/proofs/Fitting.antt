@@ -1,5 +1,5 @@
--- Tokens of a cut stand one behind the other, so that the place of some of them lies within that of all; and each is
--- spelled as its kind is.
+-- Tokens of a cut stand one behind the other, so that the place of some of them lies within that
+-- of all; and each is spelled as its kind is.
 use Rattle.std.proofs.Common.{◌≡◌, ℕ, ◌≤◌, List, [], ◌∷◌, ◌++◌, Some, refl, sym, ap, subst, arith}
 use Rattle.cedar_lexer.specs.Token.{Lexeme}
 use Rattle.cedar_lexer.specs.declared.token.TokenKind.{TokenKind}

@@ -1,5 +1,5 @@
--- Trees of which no node is empty, each within the place of the node that it is a part of, with the
--- operators of its level between operands.
+-- Trees of which no node is empty, each within the place of the node that it is a part of, with
+-- the operators of its level between operands.
 use Rattle.std.proofs.Common.{◌≡◌, Option, Some, None}
 use Rattle.cedar_syntax.specs.declared.loc.Loc.{Loc}
 use Rattle.cedar_syntax.specs.Located.{Located, Form, Parts, missing, at, only, ite, chain, has, like, is, is_in, unary, member, field, call, index, literal, name, slot, reference, parens, set, record_of, init, none, more}

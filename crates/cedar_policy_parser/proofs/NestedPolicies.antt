@@ -1,5 +1,5 @@
--- The expressions of a parsed policy's conditions: each node lies within the place of the node that it is a part of. So the faults
--- of a condition are due.
+-- The expressions of a parsed policy's conditions: each node lies within the place of the node
+-- that it is a part of. So the faults of a condition are due.
 use Rattle.std.proofs.Common.{◌≡◌, ℕ, List, ◌++◌, Option, Some, Err, refl, ◌∙◌, subst}
 use Rattle.std.specs.List.{All}
 use Rattle.cedar_lexer.specs.Token.{Lexeme}

@@ -1,4 +1,5 @@
--- Trees that are read from tokens: each node lies within the place of the node that it is a part of.
+-- Trees that are read from tokens: each node lies within the place of the node that it is a part
+-- of.
 use Rattle.std.proofs.Common.{◌≡◌, ℕ, List, [], ◌∷◌, ◌++◌, map, Option, Some, None, refl, sym, ◌∙◌, ap, subst}
 use Rattle.cedar_lexer.specs.Token.{Lexeme}
 use Rattle.cedar_lexer.specs.declared.token.TokenKind.TheVariants as kind

@@ -1,4 +1,5 @@
--- What is not due: at one site no kind but those that the rules name there, and no two of them, but at a product.
+-- What is not due: at one site no kind but those that the rules name there, and no two of them,
+-- but at a product.
 use Rattle.std.proofs.Common.{◌≡◌, ◌≢◌, ◌⊎◌, inl, inr, ℕ, List, [], ◌∷◌, Option, Some, None, Ok, refl, sym, ◌∙◌, ap, subst}
 use Rattle.std.specs.List.{Contains}
 use Rattle.std.proofs.lemmas.List.Elements.{Contains-append_left, Contains-append_right, Contains-push}
@@ -29,7 +30,7 @@ use Rattle.cedar_conversion.specs.Names.{name_outcome, named_variable}
 use Rattle.cedar_conversion.specs.Outcome as k
 use Rattle.cedar_conversion.specs.Outcome.{Kind, Outcome, next}
 use Rattle.cedar_policy_parser.specs.Sites as site
-use Rattle.cedar_policy_parser.specs.Sites.{Site, IsName, IsNamed, IsVariable, IsTruthValue, IsQuoted}
+use Rattle.cedar_policy_parser.specs.Sites.{Site, IsNameSite, IsNamed, IsVariableSite, IsTruthValue, IsQuoted}
 use Rattle.cedar_policy_parser.proofs.Alone.{comes_to}
 use Rattle.cedar_policy_parser.proofs.DueMembers.{not_standard, not_other}
 use Rattle.cedar_policy_parser.proofs.DueSides.{of_truth, of_variable}
@@ -55,7 +56,7 @@ same_name h = cc
 one_name : (e : Extensions) (n : Located) (x y : Path) → IsNamed n x → IsNamed n y → x ≡ y
 one_name e n x y i j = same_name (ok_is (sym (named_gives e n x i) ∙ named_gives e n y j))
 
-no_variable : (e : Extensions) (n : Located) (path : Path) → IsNamed n path → ¬ (IsVariable n)
+no_variable : (e : Extensions) (n : Located) (path : Path) → IsNamed n path → ¬ (IsVariableSite n)
 no_variable e n path i = of_variable e n (bare_name i.1.0 path) (named_gives e n path i) (λ x. x)
 
 no_truth : (e : Extensions) (n : Located) (path : Path) → IsNamed n path → ¬ (IsTruthValue n)
@@ -117,8 +118,8 @@ one_more (over h l) g = over h (one_more l g)
 
 -- the first of the accesses that stand behind a value
 data Begins (e : Extensions) (n : Located) (all : Parts) : Parts → Type 0 where
-  no_name : ¬ (IsName n) → Begins e n all all
-  variable : IsVariable n → ¬ (BeginsWithCall all) → Begins e n all all
+  no_name : ¬ (IsNameSite n) → Begins e n all all
+  variable : IsVariableSite n → ¬ (BeginsWithCall all) → Begins e n all all
   behind_function : {path : Path} {op : Operator} {p : Option Loc} {items rest : Parts} → IsNamed n path → ((kind : Kind) → ¬ (IsDueFunction e path kind)) → all ≡ more op (at p (f.call items)) rest → Begins e n all rest
 
 led : {e : Extensions} {n : Located} {all r : Parts} → OnValue e n all r → (s : Parts) × Begins e n all s × Leads e s r
@@ -164,12 +165,12 @@ begins_named {n = n} {path = path} e i (behind_function {path = other} j d c) = 
 value_of_name : {n : Located} {all r : Parts} {path : Path} (e : Extensions) → IsNamed n path → OnValue e n all r → BeginsWithCall all × ((kind : Kind) → ¬ (IsDueFunction e path kind))
 value_of_name {path = path} e i o = begins_named {path = path} e i (led o).1
 
-begins_variable : {n : Located} {all r : Parts} (e : Extensions) → IsVariable n → Begins e n all r → ¬ (BeginsWithCall all)
+begins_variable : {n : Located} {all r : Parts} (e : Extensions) → IsVariableSite n → Begins e n all r → ¬ (BeginsWithCall all)
 begins_variable e v (no_name h) c = h (v.0, v.1)
 begins_variable e v (variable w g) c = g c
 begins_variable {n = n} e v (behind_function {path = path} j d h) c = no_variable e n path j v
 
-value_of_variable : {n : Located} {all r : Parts} (e : Extensions) → IsVariable n → OnValue e n all r → ¬ (BeginsWithCall all)
+value_of_variable : {n : Located} {all r : Parts} (e : Extensions) → IsVariableSite n → OnValue e n all r → ¬ (BeginsWithCall all)
 value_of_variable e v o = begins_variable e v (led o).1
 
 no_field : {op oq : Operator} {p q : Option Loc} {m : Located} {i : Node (Option Ident)} {r s : Parts} → ¬ (more op (at p (f.index m)) r ≡ more oq (at q (f.field i)) s)

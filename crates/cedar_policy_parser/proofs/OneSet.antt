@@ -1,4 +1,5 @@
--- Tokens of policies, and of a set of them, have at most one meaning, where they have at most one tree.
+-- Tokens of policies, and of a set of them, have at most one meaning, where they have at most one
+-- tree.
 use Rattle.std.proofs.Common.{◌≡◌, ℕ, List, [], sym, ap, ◌∙◌}
 use Rattle.cedar_lexer.specs.Token.{Lexeme}
 use Rattle.cedar_policy_store.specs.PlaceFree as free

@@ -1,4 +1,5 @@
--- In a tree that is read from tokens each level with one part stands where that part stands. So what such a tree comes to stands at the tree's own place.
+-- In a tree that is read from tokens each level with one part stands where that part stands. So
+-- what such a tree comes to stands at the tree's own place.
 use Rattle.std.proofs.Common.{◌≡◌, ℕ, true, false, List, [], ◌∷◌, ◌++◌, append-nil, map, Option, Some, None, refl, sym, ap, ◌∙◌, subst}
 use Rattle.cedar_lexer.specs.Token.{Lexeme}
 use Rattle.cedar_lexer.specs.declared.token.TokenKind.TheVariants as kind

@@ -1,4 +1,5 @@
--- What is spelled as an identifier for the lexer and for names, and what the identifier of a text gives.
+-- What is spelled as an identifier for the lexer and for names, and what the identifier of a text
+-- gives.
 use Rattle.std.proofs.Common.{◌≡◌, ◌∙◌, ℕ, Bool, true, false, ◌&&◌, not, cond, List, [], ◌∷◌, codes, Option, Some, None, Ok, refl, sym, ap, subst}
 use Rattle.std.specs.Bool.{Decides}
 use Rattle.std.specs.List.{list_all}

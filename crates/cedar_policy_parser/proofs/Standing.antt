@@ -62,8 +62,8 @@ BothHold Q R p = Q p.0 × R p.1
 
 -- ---- kinds
 
--- the kinds of a policy: no name that another policy has, nor what stands for a fault of a text; and of one that is read no empty
--- node and no identifier's spelling
+-- the kinds of a policy: no name that another policy has, nor what stands for a fault of a text;
+-- and of one that is read no empty node and no identifier's spelling
 abbrev pub IsTold : Kinds
 IsTold o empty_node = ByHand o
 IsTold o invalid_identifier = ByHand o
@@ -72,7 +72,8 @@ IsTold o duplicate_template_id = ⊥
 IsTold o membership_invariant_violation = ⊥
 IsTold o _ = Unit {0}
 
--- and those of an expression or an element of the scope: nothing is missing there, and nothing is too much
+-- and those of an expression or an element of the scope: nothing is missing there, and nothing is
+-- too much
 abbrev pub IsPlain : Kinds
 IsPlain o empty_node = ByHand o
 IsPlain o invalid_identifier = ByHand o

@@ -8,7 +8,7 @@ use Rattle.cedar_expressions.specs.Written.{var_text}
 use Rattle.cedar_syntax.specs.declared.loc.Loc.{Loc}
 use Rattle.cedar_syntax.specs.Located as f
 use Rattle.cedar_syntax.specs.Located.{Located, Form, Parts}
-use Rattle.cedar_conversion.specs.declared.methods.Standard.{Standard}
+use Rattle.cedar_conversion.specs.declared.primaries.methods.Standard.{Standard}
 use Rattle.cedar_conversion.specs.Extensions.{Extensions}
 use Rattle.cedar_conversion.specs.HasSide.{attributes_of, begins_with, beginning_outcome, behind_first, field_form, field_of, fields_of, no_sign, right_form, right_side, string_alone}
 use Rattle.cedar_conversion.specs.Held.{Held, expression, variable, bare_name, bare_truth, bare_string, as_expression}

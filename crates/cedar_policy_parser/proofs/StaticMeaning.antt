@@ -1,4 +1,5 @@
--- A policy's tree gives a static policy exactly where what its tokens mean has no slot in its scope.
+-- A policy's tree gives a static policy exactly where what its tokens mean has no slot in its
+-- scope.
 use Rattle.std.proofs.Common.{◌≡◌, ◌↔◌, ℕ, Bool, true, false, cond, List, [], ◌∷◌, Option, Ok, Err, refl, sym, ap, ◌∙◌, subst}
 use Rattle.either.specs.declared.Either.TheVariants.{Left, Right}
 use Rattle.cedar_expressions.specs.declared.place.Slot.{Slot}

@@ -1,5 +1,5 @@
--- Trees of which no node is empty, each within one place, and each identifier one that a name may hold; of a tree by hand nothing is
--- asked.
+-- Trees of which no node is empty, each within one place, and each identifier one that a name may
+-- hold; of a tree by hand nothing is asked.
 use Rattle.std.proofs.Common.{◌≡◌, ℕ, true, List, [], ◌∷◌, Option, Some, None}
 use Rattle.cedar_expressions.specs.Path.{is_valid_identifier}
 use Rattle.cedar_syntax.specs.declared.node.Node.{Node}

@@ -1,4 +1,5 @@
--- Trees of policies of which no node is empty, each within one place; those that are read from tokens are so.
+-- Trees of policies of which no node is empty, each within one place; those that are read from
+-- tokens are so.
 use Rattle.std.proofs.Common.{ℕ, List, [], ◌∷◌, ◌++◌, Option, Some, None}
 use Rattle.cedar_lexer.specs.Token.{Lexeme}
 use Rattle.cedar_lexer.specs.declared.token.TokenKind.TheVariants as kind

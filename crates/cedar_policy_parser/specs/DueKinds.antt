@@ -29,7 +29,7 @@ use Rattle.cedar_syntax.specs.Located as f
 use Rattle.cedar_syntax.specs.Located.{Located, Form, Parts, at, none, more}
 use Rattle.cedar_syntax.specs.Pattern.{pattern_faults}
 use Rattle.cedar_syntax.specs.Tree.{Operator, relation, product, compare, multiply}
-use Rattle.cedar_conversion.specs.declared.methods.Standard.{Standard}
+use Rattle.cedar_conversion.specs.declared.primaries.methods.Standard.{Standard}
 use Rattle.cedar_policy_parser.specs.Alone.{ArePairs}
 use Rattle.cedar_conversion.specs.Extensions.{Extensions}
 use Rattle.cedar_conversion.specs.HasSide.{no_sign}
@@ -38,7 +38,7 @@ use Rattle.cedar_conversion.specs.Members.{takes_one, plain_name}
 use Rattle.cedar_conversion.specs.Names.{name_outcome, named_variable, valid_ident, unreserved_ident, identifiers, path_of}
 use Rattle.cedar_conversion.specs.Outcome as k
 use Rattle.cedar_conversion.specs.Outcome.{Kind, NamedFault, Outcome}
-use Rattle.cedar_policy_parser.specs.Sites.{Role, Site, node, wanted, name, identifier, expression, attributes, pattern, entity_type, string, key, site_place, IsSiteOf, IsAmong, IsName, IsVariable, IsNamed, IsTruth, IsTruthValue, IsQuoted, IsString, IsAnyString}
+use Rattle.cedar_policy_parser.specs.Sites.{Role, Site, node, wanted, name, identifier, expression, attributes, pattern, entity_type, string, key, site_place, IsSiteOf, IsAmong, IsNameSite, IsVariableSite, IsNamed, IsTruth, IsTruthValue, IsQuoted, IsString, IsAnyString}
 use Rattle.cedar_policy_parser.specs.Standing.{LiesWithin}
 use Rattle.cedar_conversion.specs.Strict.{largest}
 use Rattle.cedar_conversion.specs.StrictCalls.{standard_method, names_method}
@@ -166,8 +166,8 @@ pub data IsBehindLink (e : Extensions) : Parts → Parts → Type 0 where
 -- The second accesses, some of the first, stand behind a value: behind a head that is no name, or
 -- a variable; behind a call of a name that is a function's; or behind a link of such accesses.
 pub data OnValue (e : Extensions) (n : Located) (all : Parts) : Parts → Type 0 where
-  no_name : ¬ (IsName n) → OnValue e n all all
-  variable : IsVariable n → ¬ (BeginsWithCall all) → OnValue e n all all
+  no_name : ¬ (IsNameSite n) → OnValue e n all all
+  variable : IsVariableSite n → ¬ (BeginsWithCall all) → OnValue e n all all
   behind_function : {path : Path} {op : Operator} {p : Option Loc} {items rest : Parts}
       → IsNamed n path → ((kind : Kind) → ¬ (IsDueFunction e path kind))
       → all ≡ more op (at p (f.call items)) rest → OnValue e n all rest
@@ -185,7 +185,7 @@ pub data IsDueBehind (e : Extensions) : Parts → Kind → Type 0 where
 -- due for a head and its accesses, from the left
 pub data IsDueMember (e : Extensions) (n : Located) (all : Parts) : Kind → Type 0 where
   -- first behind a variable
-  variable_called : IsVariable n → BeginsWithCall all → IsDueMember e n all k.variable_call
+  variable_called : IsVariableSite n → BeginsWithCall all → IsDueMember e n all k.variable_call
   -- first behind another name
   name_indexed : {path : Path} {op : Operator} {p : Option Loc} {m : Located} {rest : Parts}
       → IsNamed n path → all ≡ more op (at p (f.index m)) rest
@@ -255,14 +255,14 @@ pub data IsDue (e : Extensions) : Kind → Site → Type 0 where
   no_pattern : {n : Located} → ¬ (IsAnyString n) → IsDue e k.invalid_pattern (wanted pattern n)
   faulty_pattern : {n : Located} (raw : List ℕ) → IsString n raw
       → pattern_faults raw (layout raw) ≢ [] → IsDue e k.unescape (wanted pattern n)
-  no_type : {n : Located} → ¬ (IsName n) → IsDue e k.invalid_is_type (wanted entity_type n)
+  no_type : {n : Located} → ¬ (IsNameSite n) → IsDue e k.invalid_is_type (wanted entity_type n)
   no_text : {n : Located} → ¬ (IsAnyString n) → IsDue e k.invalid_string (wanted string n)
   -- accesses and calls
   accesses : {kind : Kind} {p : Option Loc} {n : Located} {all : Parts} → IsDueMember e n all kind
       → IsDue e kind (node (at p (f.member n all)))
   -- a record's keys: one that is no name, truth value or string; `true` and `false`; a path; two
   -- that are the same
-  no_key : {n : Located} → ¬ (IsName n) → ¬ (IsTruthValue n) → ¬ (IsAnyString n)
+  no_key : {n : Located} → ¬ (IsNameSite n) → ¬ (IsTruthValue n) → ¬ (IsAnyString n)
       → IsDue e k.invalid_attribute (wanted key n)
   truth_as_key : {n : Located} → IsTruthValue n → IsDue e k.reserved_identifier (wanted key n)
   path_as_key : {n : Located} {path : Path} → IsNamed n path → path.path ≢ []

@@ -58,12 +58,12 @@ site_place (identifier n) = n.loc
 abbrev pub IsNameNode : Located → Node (Option Name) → Type 0
 IsNameNode n m = (p : Option Loc) × ComesTo n (at p (f.name m))
 
-abbrev pub IsName : Located → Type 0
-IsName n = (m : Node (Option Name)) × IsNameNode n m
+abbrev pub IsNameSite : Located → Type 0
+IsNameSite n = (m : Node (Option Name)) × IsNameNode n m
 
 -- `principal`, `action`, `resource` or `context`
-abbrev pub IsVariable : Located → Type 0
-IsVariable n =
+abbrev pub IsVariableSite : Located → Type 0
+IsVariableSite n =
     (m : Node (Option Name)) × IsNameNode n m × (x : Var) × (named_variable m.node ≡ Some x)
 
 -- another name, of which no identifier is refused

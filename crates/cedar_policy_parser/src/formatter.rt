@@ -22,13 +22,15 @@ use cedar_text::text_to_cst::laws::printed_texts;
 use cedar_text::text_to_cst::parse_policies;
 use std::alloc::{AllocError, Global};
 
-/// The policies that a text means, in lines: of each policy its tokens' texts as `Display` writes them, one space between two,
-/// and a line feed behind each policy. Comments are left out, and so are leading zeros and last commas.
+/// The policies that a text means, in lines: of each policy its tokens' texts as `Display` writes
+/// them, one space between two, and a line feed behind each policy. Comments are left out, and so
+/// are leading zeros and last commas.
 ///
-/// It answers a text exactly if the tokens that `text` cuts into have a meaning in the strict grammar of policy sets under this
-/// table. The answer's tokens mean the same set, places aside, and a call on the answer gives the same bytes. Any other text is
-/// refused as `parse_policyset` refuses it, with one or more faults, each at its bytes of the text: those of `parse_policies`, all
-/// that there are, or those of `to_policyset`, all that there are. Or it is `Failure::Memory`.
+/// It answers a text exactly if the tokens that `text` cuts into have a meaning in the strict
+/// grammar of policy sets under this table. The answer's tokens mean the same set, places aside,
+/// and a call on the answer gives the same bytes. Any other text is refused as `parse_policyset`
+/// refuses it, with one or more faults, each at its bytes of the text: those of `parse_policies`,
+/// all that there are, or those of `to_policyset`, all that there are. Or it is `Failure::Memory`.
 ///
 /// The layout is this library's own: the crate that it ports has no formatter.
 pub fn format_policies(alloc: Global, text: &str, styles: &ExtStyles) -> Result<String, Failure>
@@ -48,12 +50,12 @@ pub fn format_policies(alloc: Global, text: &str, styles: &ExtStyles) -> Result<
     let set = parse_policyset(alloc, text, styles)?;
     drop(set);
     let tree = parse_policies(alloc, text)?;
-    let lines = in_lines(alloc, &tree)?;
+    let lines = tree_in_lines(alloc, &tree)?;
     Ok(lines)
 }
 
 /// The policies of a tree in lines.
-fn in_lines(alloc: Global, tree: &Node<Option<Policies>>) -> Result<String, AllocError>
+fn tree_in_lines(alloc: Global, tree: &Node<Option<Policies>>) -> Result<String, AllocError>
     ensures { IfOk result (λ text. string_bytes text ≡ formatted tree.now) }
 {
     match tree.as_inner() {

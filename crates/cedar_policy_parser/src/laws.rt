@@ -82,23 +82,26 @@ pub fn one_meaning()
     expressions();
 }
 
-/// Trees that differ in their places alone are converted to the same value, the places of its slots aside, or none of them to any.
+/// Trees that differ in their places alone are converted to the same value, the places of its
+/// slots aside, or none of them to any.
 pub fn values_see_no_place()
     ensures { (table : Extensions) (m n : Located) → unlocated m ≡ unlocated n
         → option_map without_places (outcome_value (value_outcome table m))
         ≡ option_map without_places (outcome_value (value_outcome table n)) }
 {}
 
-/// A relation whose operands have values is refused for its operators alone, at its place: two or more are
-/// `AmbiguousOperators`, a single `=` is `InvalidSingleEq`. A product whose operands have values is refused for each `/` and
-/// `%` in order, at its place, and for nothing else. More signs than the limit are `UnaryOpLimit` alone, at the place of the
-/// operand with its signs, whatever the operand is. A record of which each key is an attribute and each value a value, with a
-/// key twice, is `ExpressionConstructionError` alone, at its place. A name that is no variable is `ArbitraryVariable` alone
-/// where an expression is wanted, in parentheses or not, at its place.
+/// A relation whose operands have values is refused for its operators alone, at its place: two or
+/// more are `AmbiguousOperators`, a single `=` is `InvalidSingleEq`. A product whose operands have
+/// values is refused for each `/` and `%` in order, at its place, and for nothing else. More signs
+/// than the limit are `UnaryOpLimit` alone, at the place of the operand with its signs, whatever
+/// the operand is. A record of which each key is an attribute and each value a value, with a key
+/// twice, is `ExpressionConstructionError` alone, at its place. A name that is no variable is
+/// `ArbitraryVariable` alone where an expression is wanted, in parentheses or not, at its place.
 ///
-/// So is a whole expression that is one of these and no more, bare or in parentheses (`IsAlone`): an `Expr` node's tree is
-/// `located expr_form` of the node, and `to_expr` gives its `value_outcome`. Where an expression that is read from tokens is
-/// one of these bare (`ComesTo`), wherever it stands in a text, that place is the expression's own.
+/// So is a whole expression that is one of these and no more, bare or in parentheses (`IsAlone`):
+/// an `Expr` node's tree is `located expr_form` of the node, and `to_expr` gives its
+/// `value_outcome`. Where an expression that is read from tokens is one of these bare (`ComesTo`),
+/// wherever it stands in a text, that place is the expression's own.
 pub fn refused_alone()
     ensures ambiguous { (table : Extensions) (place : Option Loc) (a b c : Located)
         (op next : t.Operator)
@@ -166,16 +169,17 @@ pub fn refused_alone()
         → place ≡ tree.loc }
 {}
 
-/// What a text's tree is refused with stands within the tree's place, each fault at a known place of the same text; it is never
-/// of an empty node nor of an identifier's spelling, and there is a fault.
+/// What a text's tree is refused with stands within the tree's place, each fault at a known place
+/// of the same text; it is never of an empty node nor of an identifier's spelling, and there is a
+/// fault.
 pub fn faults_stand_within()
     ensures { (table : Extensions) (text : List ℕ) (tree : Cell Tree)
         → IsTreeOf ReadsExpr text tree
         → StandWithin tree.loc (value_outcome table (located expr_form tree)) }
 {}
 
-/// The same of the tree of a primary's text where a string is wanted, of an entity's, and of an identifier's where a name is to
-/// hold it.
+/// The same of the tree of a primary's text where a string is wanted, of an entity's, and of an
+/// identifier's where a name is to hold it.
 pub fn faults_of_leaves_stand_within()
     ensures strings { (text : List ℕ) (tree : Cell Primary) → IsTreeOf ReadsPrimary text tree
         → StandWithin tree.loc (string_outcome (located primary_form tree)) }
@@ -185,7 +189,8 @@ pub fn faults_of_leaves_stand_within()
         → StandWithin tree.loc (valid_ident tree) }
 {}
 
-/// Each fault that a text's tree is refused with has a kind that is due at a site of the tree whose place holds the fault's.
+/// Each fault that a text's tree is refused with has a kind that is due at a site of the tree
+/// whose place holds the fault's.
 pub fn faults_are_due()
     ensures { (table : Extensions) (text : List ℕ) (tree : Cell Tree)
         → IsTreeOf ReadsExpr text tree
@@ -193,8 +198,9 @@ pub fn faults_are_due()
         (value_outcome table (located expr_form tree)) }
 {}
 
-/// A condition with `when` or `unless` whose expression isn't converted is refused with just the expression's faults, each of a
-/// kind that is due in it: in a text's policy, and in each policy of a text's set.
+/// A condition with `when` or `unless` whose expression isn't converted is refused with just the
+/// expression's faults, each of a kind that is due in it: in a text's policy, and in each policy
+/// of a text's set.
 pub fn condition_faults_are_due()
     ensures policies { (table : Extensions) (text : List ℕ) (tree : Cell PolicyTree)
         → IsTreeOf ReadsPolicy text tree → OfParts (HaveDueFaults table) tree }
@@ -203,8 +209,8 @@ pub fn condition_faults_are_due()
         → All (OfParts (HaveDueFaults table)) set.0 }
 {}
 
-/// A kind is due at no site but where the rules name it, nor beside another one at the same site, but at a product, which may
-/// have both a `/` and a `%`.
+/// A kind is due at no site but where the rules name it, nor beside another one at the same site,
+/// but at a product, which may have both a `/` and a `%`.
 pub fn other_kinds_are_not_due()
     ensures named { (table : Extensions) (site : Site) (kind : Kind)
         → IsDue table kind site → Contains (kinds_of_site site) kind }
@@ -212,8 +218,8 @@ pub fn other_kinds_are_not_due()
         → IsDue table kind site → IsDue table other site → (kind ≡ other) ⊎ IsProduct site }
 {}
 
-/// The pieces that a string is taken for are those that its raw text is laid out of, of which there are no others
-/// (`cedar_syntax::unescape::laws::one_layout`).
+/// The pieces that a string is taken for are those that its raw text is laid out of, of which
+/// there are no others (`cedar_syntax::unescape::laws::one_layout`).
 pub fn strings_are_laid_out()
     ensures { (raw : List ℕ) → IsLaidOut raw (layout raw) }
 {}
@@ -223,7 +229,8 @@ pub fn one_spelling()
     ensures { (text : List ℕ) → IsIdentifierText text ↔ (is_identifier text ≡ true) }
 {}
 
-/// The identifier of a text, a word of the language too, is any identifier: its node gives the text of the one token.
+/// The identifier of a text, a word of the language too, is any identifier: its node gives the
+/// text of the one token.
 pub fn identifier_is_any()
     ensures { (text : List ℕ) (tree : Cell Ident) → IsTreeOf ReadsIdent text tree
         → (token : Lexeme) × Cuts text (token ∷ []) × (any_ident tree ≡ Ok token.text) }

@@ -2,8 +2,8 @@
 //! that join text and meaning.
 //!
 //! It passes on what its calls take and give: the modules of the crates below under their names,
-//! the values, the policies, and the owners of text and lists. So a program names this crate alone,
-//! and `either` where it calls `to_policy_or_template`.
+//! the values, the policies, and the owners of text and lists. So a program names this crate
+//! alone, and `either` where it calls `to_policy_or_template`.
 #![tactic(auto)]
 
 pub mod formatter;
@@ -12,7 +12,6 @@ pub mod lexer;
 mod parse;
 pub mod policy_laws;
 
-pub use cedar_conversion::names;
 pub use cedar_expressions::{
     AddOp, AnyId, BinaryCall, BinaryOp, Boxed, Eid, EntityType, EntityUID, Expr, ExprBuilder,
     ExprBuilderInfallibleBuild, ExprKind, ExpressionConstructionError, Id, InternalName, Items,
@@ -23,7 +22,7 @@ pub use cedar_policy_conversion::cst_to_ast::{
     AnnotationAst, ExprAst, ExtStyles, GeneratedPolicyIds, IdentAst, MemberAst, OneOrMultipleRefs,
     PoliciesAst, PolicyAst, PolicyImplAst, PrimaryAst, RefAst, Scope,
 };
-pub use cedar_policy_conversion::{cst_to_ast, to_ref_or_refs};
+pub use cedar_policy_conversion::{cst_to_ast, names, to_ref_or_refs};
 pub use cedar_policy_store::{
     ActionConstraint, Annotation, Annotations, Effect, EntityReference, PolicyID, PolicySet,
     PolicySetError, PrincipalConstraint, PrincipalOrResourceConstraint, ResourceConstraint,

@@ -28,9 +28,10 @@ use std::alloc::Global;
 
 /// The expression that a text means.
 ///
-/// It answers a value exactly if the tokens that the text cuts into have a meaning in the strict grammar under this table, and then that
-/// value, the only one. Any other text is refused with one or more faults, each at its bytes of the text: the one fault of
-/// `parse_expr`, or those of `to_expr`, all that there are. Or it is `Failure::Memory`.
+/// It answers a value exactly if the tokens that the text cuts into have a meaning in the strict
+/// grammar under this table, and then that value, the only one. Any other text is refused with one
+/// or more faults, each at its bytes of the text: the one fault of `parse_expr`, or those of
+/// `to_expr`, all that there are. Or it is `Failure::Memory`.
 pub fn parse_expression(alloc: Global, text: &str, styles: &ExtStyles) -> Result<Expr, Failure>
     ensures value { IfOk result (λ e.
         (ts : List Lexeme) × Cuts text.now ts × Means
@@ -47,15 +48,18 @@ pub fn parse_expression(alloc: Global, text: &str, styles: &ExtStyles) -> Result
 
 /// The policies that a text means.
 ///
-/// It answers a set exactly if the tokens that the text cuts into have a meaning in the strict grammar of policy sets under this table, and
-/// then that set, the only one, places aside: its policies and templates under `policy0`, `policy1` and so on. Any other text is
-/// refused with one or more faults, each at its bytes of the text: those of `parse_policies`, all that there are, or those of
-/// `to_policyset`, all that there are. Of a text whose tokens the loose grammar has no tree for and whose numbers fit 64 bits, one
-/// fault starts before all others: at the first token, or the end, that no sentence of it allows. Or it is `Failure::Memory`.
+/// It answers a set exactly if the tokens that the text cuts into have a meaning in the strict
+/// grammar of policy sets under this table, and then that set, the only one, places aside: its
+/// policies and templates under `policy0`, `policy1` and so on. Any other text is refused with one
+/// or more faults, each at its bytes of the text: those of `parse_policies`, all that there are,
+/// or those of `to_policyset`, all that there are. Of a text whose tokens the loose grammar has no
+/// tree for and whose numbers fit 64 bits, one fault starts before all others: at the first token,
+/// or the end, that no sentence of it allows. Or it is `Failure::Memory`.
 ///
-/// A text that meant a set while no more than four signs in a row were counted means that set. What a text means stays what it
-/// means where a white space character, or a comment with its line end, is put straight before a token of it, and where
-/// parentheses are put around the whole expression of a condition, or around an entity or a slot of a scope.
+/// A text that meant a set while no more than four signs in a row were counted means that set.
+/// What a text means stays what it means where a white space character, or a comment with its line
+/// end, is put straight before a token of it, and where parentheses are put around the whole
+/// expression of a condition, or around an entity or a slot of a scope.
 pub fn parse_policyset(alloc: Global, text: &str, styles: &ExtStyles) -> Result<PolicySet, Failure>
     ensures value { IfOk result (λ set.
         (ts : List Lexeme) × Cuts text.now ts × IsPolicySet
@@ -79,5 +83,5 @@ pub fn parse_policyset(alloc: Global, text: &str, styles: &ExtStyles) -> Result<
     at_most_one_cut();
     one_set();
     let tree = parse_policies(alloc, text)?;
-    tree.to_policyset(alloc, styles)
+    tree.into_policyset(alloc, styles)
 }

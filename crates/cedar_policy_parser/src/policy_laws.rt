@@ -1,4 +1,5 @@
-//! Laws that join the definitions: what the trees of policies are converted to is what their tokens mean.
+//! Laws that join the definitions: what the trees of policies are converted to is what their
+//! tokens mean.
 ghost use Rattle.std.specs.Prelude.{◌≡◌, ◌≢◌, ◌↔◌, ◌≤◌, ℕ, List, [], map, Option, Some, None, Ok, Err};
 ghost use Rattle.std.specs.List.{All};
 ghost use Rattle.either.specs.declared.Either.TheVariants.{Left, Right};
@@ -59,8 +60,9 @@ pub fn meant_is_policy()
         × (meaning_of parts ≡ policy) }
 {}
 
-/// A policy's tree is converted where a static policy is wanted exactly where it is converted and what its tokens mean has no
-/// slot in its scope, and to the same. Tokens that mean such a policy have a tree that is converted to it there.
+/// A policy's tree is converted where a static policy is wanted exactly where it is converted and
+/// what its tokens mean has no slot in its scope, and to the same. Tokens that mean such a policy
+/// have a tree that is converted to it there.
 pub fn static_policy_is_meant()
     ensures converted { (table : Extensions) (src id : List ℕ)
         (ts : List Lexeme) (x : PolicyTree) (parts : TemplateParts)
@@ -76,8 +78,9 @@ pub fn static_policy_is_meant()
         × (meaning_of parts ≡ policy) }
 {}
 
-/// Where either is wanted, a policy's tree is converted to a static policy exactly where what its tokens mean has no slot in
-/// its scope, and else to a template. Tokens that mean one or the other have a tree that is converted to it as such.
+/// Where either is wanted, a policy's tree is converted to a static policy exactly where what its
+/// tokens mean has no slot in its scope, and else to a template. Tokens that mean one or the other
+/// have a tree that is converted to it as such.
 pub fn side_is_meant()
     ensures static_policies { (table : Extensions) (src id : List ℕ)
         (ts : List Lexeme) (x : PolicyTree) (parts : TemplateParts)
@@ -105,7 +108,8 @@ pub fn side_is_meant()
         × (meaning_of parts ≡ policy) }
 {}
 
-/// What the tree of a set is converted to is what its tokens mean; so is the tree that a whole text has, be it of no tokens.
+/// What the tree of a set is converted to is what its tokens mean; so is the tree that a whole
+/// text has, be it of no tokens.
 pub fn set_is_meant()
     ensures tokens { (table : Extensions) (src : List ℕ) (ts : List Lexeme)
         (x : SetTree) (set : free.Policies)
@@ -116,7 +120,8 @@ pub fn set_is_meant()
         → (ts : List Lexeme) × Cuts text ts × IsPolicySet table sign_limit ts set }
 {}
 
-/// Tokens that mean a set have a tree that is converted to it; so has a text that is cut into them, be it into none.
+/// Tokens that mean a set have a tree that is converted to it; so has a text that is cut into
+/// them, be it into none.
 pub fn meant_is_set()
     ensures tokens { (table : Extensions) (src : List ℕ) (ts : List Lexeme) (set : free.Policies)
         → IsPolicySet table sign_limit ts set
@@ -128,7 +133,8 @@ pub fn meant_is_set()
         × (k.policies_outcome table tree ≡ Ok set) }
 {}
 
-/// Trees of sets that differ in their places alone are converted to the same set, or neither of them to any.
+/// Trees of sets that differ in their places alone are converted to the same set, or neither of
+/// them to any.
 pub fn sets_see_no_place()
     ensures { (table : Extensions) (x y : Cell SetTree) → SameUpToPlaces unlocated_policies x y
         → outcome_value (k.policies_outcome table x) ≡ outcome_value (k.policies_outcome table y) }
@@ -150,10 +156,11 @@ pub fn one_set()
     policies();
 }
 
-/// What the tree of a policy, or of a set, is refused with stands within its place, each fault at a known place of the same
-/// text; it is never of an empty node nor of an identifier's spelling, and there is a fault. What a
-/// policy of a set is refused with stands within that policy's place; what its effect, an annotation or a condition is refused
-/// with within its own place, and what its scope is refused with within the policy's.
+/// What the tree of a policy, or of a set, is refused with stands within its place, each fault at
+/// a known place of the same text; it is never of an empty node nor of an identifier's spelling,
+/// and there is a fault. What a policy of a set is refused with stands within that policy's place;
+/// what its effect, an annotation or a condition is refused with within its own place, and what
+/// its scope is refused with within the policy's.
 pub fn policy_faults_stand_within()
     ensures policies { (table : Extensions) (text id : List ℕ)
         (tree : Cell PolicyTree)
@@ -178,8 +185,9 @@ pub fn policy_faults_stand_within()
         → PartsStandWithin table node.loc parts) set.0 }
 {}
 
-/// The faults of a set are those of its policies, one after another, whatever name each has. Those of a policy are those of its
-/// effect, of each annotation, of its scope and of each condition, in this order.
+/// The faults of a set are those of its policies, one after another, whatever name each has. Those
+/// of a policy are those of its effect, of each annotation, of its scope and of each condition, in
+/// this order.
 pub fn blocks()
     ensures set { (table : Extensions) (id : List ℕ)
         (nodes : List (Node (Option PolicyTree)))
@@ -190,13 +198,14 @@ pub fn blocks()
         ≡ policy_faults table parts }
 {}
 
-/// In a parsed policy, and in each policy of a parsed set, a refused effect is `InvalidEffect` alone; its scope has a
-/// `MissingScopeVariable` just for each element that is missing, and an `ExtraScopeElement` just for each beyond three. A
-/// condition whose word is neither `when` nor `unless` is `InvalidCondition` alone; with one of them it is `EmptyClause` alone
-/// if it has no expression, and, if its expression converts, just a `SlotsInConditionClause` for each slot, in order, where the
-/// slot stands within the condition. No fault of a policy's or a set's tree, by hand too, is of a name that two policies have,
-/// nor a text's own, whatever of the two kinds of policy is wanted; and where such a tree, or a part of a policy, is refused
-/// there is a fault.
+/// In a parsed policy, and in each policy of a parsed set, a refused effect is `InvalidEffect`
+/// alone; its scope has a `MissingScopeVariable` just for each element that is missing, and an
+/// `ExtraScopeElement` just for each beyond three. A condition whose word is neither `when` nor
+/// `unless` is `InvalidCondition` alone; with one of them it is `EmptyClause` alone if it has no
+/// expression, and, if its expression converts, just a `SlotsInConditionClause` for each slot, in
+/// order, where the slot stands within the condition. No fault of a policy's or a set's tree, by
+/// hand too, is of a name that two policies have, nor a text's own, whatever of the two kinds of
+/// policy is wanted; and where such a tree, or a part of a policy, is refused there is a fault.
 pub fn due()
     ensures effect { (text : List ℕ) (tree : Cell PolicyTree)
         → IsTreeOf ReadsPolicy text tree → OfParts RefusesEffect tree }

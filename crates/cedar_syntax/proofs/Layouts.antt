@@ -1,4 +1,5 @@
--- A raw text is laid out of pieces in exactly one way, and a loop that reads one piece after the other finds it.
+-- A raw text is laid out of pieces in exactly one way, and a loop that reads one piece after the
+-- other finds it.
 use Rattle.std.proofs.Common.{◌≡◌, ℕ, Bool, true, false, ◌&&◌, ◌==◌, suc, zero, ◌+◌, ◌-◌, ◌<◌, ◌≤◌, List, [], ◌∷◌, ◌++◌, length, Some, None, refl, sym, ap, ◌∙◌, subst, arith, append_assoc, append-nil, length-append}
 use Rattle.std.specs.List.{flat_map}
 use Rattle.std.specs.Str.{chars, IsUtf8, encode_utf8_all}
@@ -86,7 +87,8 @@ pub record Whole {A : Type 0} (gives : Placed → List A) (tells : Placed → Li
   pub given : flat_map gives pieces ≡ got
   pub told : flat_map tells pieces ≡ found
 
--- so much of the raw text is read that, however the rest of it is laid out, the whole is, with what was got and found so far before that of the rest
+-- so much of the raw text is read that, however the rest of it is laid out, the whole is, with
+-- what was got and found so far before that of the rest
 abbrev pub Continues : {A : Type 0} → (Placed → List A) → (Placed → List UnescapeError) → List ℕ → List ℕ → List A → List UnescapeError → Type 0
 Continues gives tells raw rest got found = (ps : List Placed) → PieceLayout (length raw - length rest) (chars rest) ps → Whole gives tells raw (got ++ flat_map gives ps) (found ++ flat_map tells ps)
 

@@ -1,4 +1,4 @@
--- What a list of faults ends as when what it lent is written.
+-- What a list of faults holds once the loan of what is in it ends.
 use Rattle.std.specs.Borrow.{Lends, MutBor, Fml}
 use Rattle.cedar_syntax.specs.declared.err.non_empty.NonEmpty.{NonEmpty}
 use Rattle.cedar_syntax.specs.declared.err.faults.ParseError.{ParseError}

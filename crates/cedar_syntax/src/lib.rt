@@ -2,22 +2,15 @@
 //! can have.
 #![tactic(auto)]
 
-mod clones;
 mod copy;
-mod copy_leaves;
-mod copy_traits;
 pub mod cst;
-mod display;
 pub mod err;
 pub mod laws;
-mod leaves;
 pub mod loc;
 pub mod node;
 pub mod position;
 mod print;
-mod print_policies;
 mod slots;
-mod tokens;
 pub mod unescape;
 pub mod util;
 

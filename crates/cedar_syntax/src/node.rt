@@ -3,7 +3,7 @@ ghost use Rattle.std.specs.Prelude.{◌≡◌, Some, None, Ok, Err, IfOk, IfErr,
 ghost use Rattle.std.specs.Option.{option_copied};
 ghost use Rattle.std.specs.Cmp.{on_per, on_equiv, on_po, on_total};
 
-use crate::copy::beside;
+use crate::copy::expressions::beside;
 use crate::err::{Failure, ParseErrors, ToASTError, ToASTErrorKind};
 use crate::loc::Loc;
 use cedar_expressions::TryClone;

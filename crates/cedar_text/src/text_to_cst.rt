@@ -1,4 +1,5 @@
-//! The loose syntax tree of a text, or the faults for which it has none: the first, of policies all.
+//! The loose syntax tree of a text, or the faults for which it has none: the first, of policies
+//! all.
 ghost use Rattle.std.specs.Prelude.{◌≡◌, List, MatchResult, IfOk, IfErr};
 ghost use Rattle.std.specs.List.{All};
 ghost use Rattle.cedar_lexer.specs.Cut.{Cuts};
@@ -28,7 +29,7 @@ ghost use Rattle.cedar_syntax.specs.Unplaced.{expr_tree, primary_tree, name_tree
 pub mod laws;
 mod policy_entries;
 
-use crate::text_to_cst::policy_entries::{AllState, OneState};
+use crate::text_to_cst::policy_entries::{WholePoliciesState, WholePolicyState};
 use cedar_expression_machine::expression::entries::{ExprState, PrimaryState};
 use cedar_expression_machine::words::state::{IdentState, PathState, WordsState};
 use cedar_grammar::reading::expected::Narrowing;
@@ -40,15 +41,17 @@ use std::alloc::Global;
 
 /// The tree of policies.
 ///
-/// It answers a tree exactly if the text cuts into tokens that are policies by the loose grammar, and then that tree,
-/// the only one. Every place in it is a range of bytes of the text, on boundaries of characters. Its printed text cuts
-/// into tokens that have this tree too, places aside, and no other.
+/// It answers a tree exactly if the text cuts into tokens that are policies by the loose grammar,
+/// and then that tree, the only one. Every place in it is a range of bytes of the text, on
+/// boundaries of characters. Its printed text cuts into tokens that have this tree too, places
+/// aside, and no other.
 ///
-/// A refusal is all faults of the text, the one at which the parse stops first: behind a token with which no policies
-/// go on, reading goes on with the mended tokens. Each fault is one of those of `parse_expr`, of policies; where an
-/// operand has ended in something that is open and a token is refused, only the kinds that close it are told as
-/// expected. Of a text that cuts into tokens whose numbers all fit 64 bits, one fault starts before all others: that of
-/// the first token with which no policies go on, or of the end. Or it is `Failure::Memory`.
+/// A refusal is all faults of the text, the one at which the parse stops first: behind a token
+/// with which no policies go on, reading goes on with the mended tokens. Each fault is one of
+/// those of `parse_expr`, of policies; where an operand has ended in something that is open and a
+/// token is refused, only the kinds that close it are told as expected. Of a text that cuts into
+/// tokens whose numbers all fit 64 bits, one fault starts before all others: that of the first
+/// token with which no policies go on, or of the end. Or it is `Failure::Memory`.
 pub fn parse_policies(alloc: Global, text: &str) -> Result<Node<Option<Policies>>, Failure>
     ensures found { IfOk result (λ x. IsTreeOf ReadsPolicies text.now x) }
     ensures places { IfOk result
@@ -62,13 +65,13 @@ pub fn parse_policies(alloc: Global, text: &str) -> Result<Node<Option<Policies>
     ensures leftmost { (ts : List Lexeme) → Cuts text.now ts → NumbersFit ts
         → IfErr result (λ f. HasLeftmost ReadsPolicies text.now ts f) }
 {
-    mending::parse_on::<Node<Option<Policies>>, AllState>(alloc, text)
+    mending::parse_on::<Node<Option<Policies>>, WholePoliciesState>(alloc, text)
 }
 
 /// The tree of one policy.
 ///
-/// It answers and refuses as `parse_policies` does, of single policies; behind a whole policy the first fault stops the
-/// parse.
+/// It answers and refuses as `parse_policies` does, of single policies; behind a whole policy the
+/// first fault stops the parse.
 pub fn parse_policy(alloc: Global, text: &str) -> Result<Node<Option<Policy>>, Failure>
     ensures found { IfOk result (λ x. IsTreeOf ReadsPolicy text.now x) }
     ensures places { IfOk result
@@ -82,20 +85,22 @@ pub fn parse_policy(alloc: Global, text: &str) -> Result<Node<Option<Policy>>, F
     ensures leftmost { (ts : List Lexeme) → Cuts text.now ts → NumbersFit ts
         → IfErr result (λ f. HasLeftmost ReadsPolicy text.now ts f) }
 {
-    mending::parse_on::<Node<Option<Policy>>, OneState>(alloc, text)
+    mending::parse_on::<Node<Option<Policy>>, WholePolicyState>(alloc, text)
 }
 
 /// The tree of an expression.
 ///
-/// It answers a tree exactly if the text cuts into tokens that the loose grammar has a tree for, and then that tree,
-/// the only one. Every place in it is a range of bytes of the text, on boundaries of characters. Its printed text cuts
-/// into tokens that have this tree too, places aside, and no other.
+/// It answers a tree exactly if the text cuts into tokens that the loose grammar has a tree for,
+/// and then that tree, the only one. Every place in it is a range of bytes of the text, on
+/// boundaries of characters. Its printed text cuts into tokens that have this tree too, places
+/// aside, and no other.
 ///
-/// A refusal is one fault, the first of these: `UnrecognizedToken`, a token with which no expression goes on, at its
-/// bytes; `UnrecognizedEof`, where no expression ends at the end of the text, at the end of the last token or 0, each
-/// with the kinds of token that could have stood there, and where an operand has ended in something that is open, only
-/// with those that close it; `User`, a number past `u64` where a number may stand, at its digits; `InvalidToken`, where
-/// no token starts. Or it is `Failure::Memory`.
+/// A refusal is one fault, the first of these: `UnrecognizedToken`, a token with which no
+/// expression goes on, at its bytes; `UnrecognizedEof`, where no expression ends at the end of the
+/// text, at the end of the last token or 0, each with the kinds of token that could have stood
+/// there, and where an operand has ended in something that is open, only with those that close it;
+/// `User`, a number past `u64` where a number may stand, at its digits; `InvalidToken`, where no
+/// token starts. Or it is `Failure::Memory`.
 pub fn parse_expr(alloc: Global, text: &str) -> Result<Node<Option<Expr>>, Failure>
     ensures found { IfOk result (λ x. IsTreeOf ReadsExpr text.now x) }
     ensures places { IfOk result (λ x. All (IsPlace text.now) (node_places expr_places x)) }
@@ -111,14 +116,16 @@ pub fn parse_expr(alloc: Global, text: &str) -> Result<Node<Option<Expr>>, Failu
 
 /// The tree of an entity literal.
 ///
-/// It answers a tree exactly if the text cuts into tokens that are an entity literal by the loose grammar, and then that
-/// tree, the only one. Every place in it is a range of bytes of the text, on boundaries of characters. Its printed text
-/// cuts into tokens that have this tree too, places aside, and no other.
+/// It answers a tree exactly if the text cuts into tokens that are an entity literal by the loose
+/// grammar, and then that tree, the only one. Every place in it is a range of bytes of the text,
+/// on boundaries of characters. Its printed text cuts into tokens that have this tree too, places
+/// aside, and no other.
 ///
-/// A refusal is one fault, the first of these: `UnrecognizedToken`, a token with which no entity literal goes on, at its
-/// bytes; `UnrecognizedEof`, where none ends at the end of the text, at the end of the last token or 0, each with the
-/// kinds of token that could have stood there; `User`, a number past `u64` where a number may stand, at its digits;
-/// `InvalidToken`, where no token starts. Or it is `Failure::Memory`.
+/// A refusal is one fault, the first of these: `UnrecognizedToken`, a token with which no entity
+/// literal goes on, at its bytes; `UnrecognizedEof`, where none ends at the end of the text, at
+/// the end of the last token or 0, each with the kinds of token that could have stood there;
+/// `User`, a number past `u64` where a number may stand, at its digits; `InvalidToken`, where no
+/// token starts. Or it is `Failure::Memory`.
 pub fn parse_ref(alloc: Global, text: &str) -> Result<Node<Option<Ref>>, Failure>
     ensures found { IfOk result (λ x. IsTreeOf ReadsRef text.now x) }
     ensures places { IfOk result (λ x. All (IsPlace text.now) (node_places ref_places x)) }
@@ -131,7 +138,8 @@ pub fn parse_ref(alloc: Global, text: &str) -> Result<Node<Option<Ref>>, Failure
     driver::parse::<Node<Option<Ref>>, WordsState>(alloc, text, Narrowing::Never)
 }
 
-/// The tree of a name: an identifier other than `true`, `false` and `if`, or several joined by `::`.
+/// The tree of a name: an identifier other than `true`, `false` and `if`, or several joined by
+/// `::`.
 ///
 /// It answers and refuses as `parse_ref` does, of names.
 pub fn parse_name(alloc: Global, text: &str) -> Result<Node<Option<Name>>, Failure>
@@ -161,7 +169,8 @@ pub fn parse_ident(alloc: Global, text: &str) -> Result<Node<Option<Ident>>, Fai
     driver::parse::<Node<Option<Ident>>, IdentState>(alloc, text, Narrowing::Never)
 }
 
-/// The tree of a primary: a literal, a name, an entity literal, a slot, or what stands in brackets.
+/// The tree of a primary: a literal, a name, an entity literal, a slot, or what stands in
+/// brackets.
 ///
 /// It answers and refuses as `parse_ref` does, of primaries; but where an operand has ended in
 /// something that is open, only the kinds that close it are told as expected.

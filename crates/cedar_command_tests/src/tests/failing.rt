@@ -1,5 +1,5 @@
-//! Streams that fail under `policies` and `format`, a stream of errors that fails, and memory that is
-//! refused before a run.
+//! Streams that fail under `policies` and `format`, a stream of errors that fails, and memory that
+//! is refused before a run.
 use super::arguments::USAGE_LINE;
 use super::held::{holds, holds_for};
 use super::streams::{FailingReader, FailingWriter, fails_at_each_write, run_on};
@@ -65,7 +65,8 @@ fn failing(rt: &impl AllocGlobal, writes_left: usize) -> Output<FailingWriter> {
     })
 }
 
-/// The status is that of a sound writer, to which this was written, or 4 where a write failed. Answers whether all was written.
+/// The status is that of a sound writer, to which this was written, or 4 where a write failed.
+/// Answers whether all was written.
 fn is_said(
     rt: &(impl Abort + AllocGlobal),
     status: u8,

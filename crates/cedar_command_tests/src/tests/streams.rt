@@ -19,7 +19,8 @@ fn owned(rt: &(impl Abort + AllocGlobal), words: &[&str]) -> Vec<String> {
     owned
 }
 
-/// Runs over a writer, with a list of bytes for what is said: the status, the writer, and that list.
+/// Runs over a writer, with a list of bytes for what is said: the status, the writer, and that
+/// list.
 pub(super) fn run_on<R: Read + Drop, O: Write>(
     rt: &(impl Abort + AllocGlobal),
     words: &[&str],
@@ -97,7 +98,8 @@ impl Write for FailingWriter {
     }
 }
 
-/// Runs on a text with each number of writes that are taken, until the run ends as it does on a sound writer.
+/// Runs on a text with each number of writes that are taken, until the run ends as it does on a
+/// sound writer.
 pub(super) fn fails_at_each_write(
     rt: &(impl Abort + AllocGlobal),
     words: &[&str],

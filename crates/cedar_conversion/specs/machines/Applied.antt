@@ -10,9 +10,9 @@ use Rattle.cedar_syntax.specs.declared.cst.Add.{Add}
 use Rattle.cedar_syntax.specs.Forms.{located, add_form}
 use Rattle.cedar_expressions.specs.Value as v
 use Rattle.cedar_expressions.specs.Value.{Value}
-use Rattle.cedar_conversion.specs.declared.members.Access.{Access}
-use Rattle.cedar_conversion.specs.declared.members.Access.TheVariants as access
-use Rattle.cedar_conversion.specs.declared.members.Reading.{Reading}
+use Rattle.cedar_conversion.specs.declared.primaries.members.AccessValue.{AccessValue as Access}
+use Rattle.cedar_conversion.specs.declared.primaries.members.AccessValue.TheVariants as access
+use Rattle.cedar_conversion.specs.declared.primaries.members.Reading.{Reading}
 use Rattle.cedar_expressions.specs.declared.entity.EntityType.{EntityType}
 use Rattle.cedar_expressions.specs.declared.atoms.PatternElem.{PatternElem}
 use Rattle.cedar_conversion.specs.Conversion.{ValueAndType, type_test_outcome, type_within_outcome, value_outcome}

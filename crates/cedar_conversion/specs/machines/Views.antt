@@ -13,8 +13,8 @@ use Rattle.cedar_syntax.specs.declared.loc.Loc.{Loc}
 use Rattle.cedar_syntax.specs.Joined.{TellsBoth}
 use Rattle.cedar_syntax.specs.ParseErrors.{faults_of}
 use Rattle.cedar_syntax.specs.Tree.{Operator}
-use Rattle.cedar_conversion.specs.declared.special.ExprOrSpecial.{ExprOrSpecial}
-use Rattle.cedar_conversion.specs.declared.special.ExprOrSpecial.TheVariants as special
+use Rattle.cedar_conversion.specs.declared.answer.special.ExprOrSpecial.{ExprOrSpecial}
+use Rattle.cedar_conversion.specs.declared.answer.special.ExprOrSpecial.TheVariants as special
 use Rattle.cedar_conversion.specs.Conversion.{Part}
 use Rattle.cedar_conversion.specs.Held.{Held, expression, variable, bare_name, bare_truth, bare_string}
 use Rattle.cedar_conversion.specs.Outcome.{Kind, NamedFault, Outcome, both, next}

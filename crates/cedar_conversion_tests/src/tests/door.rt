@@ -1,4 +1,5 @@
-//! A program that names one crate: the modules that it passes on, the owners, and Cedar's own extensions.
+//! A program that names one crate: the modules that it passes on, the owners, and Cedar's own
+//! extensions.
 use super::held::{holds, holds_for, made};
 use cedar_policy_parser::err::{Failure, ParseErrors};
 use cedar_policy_parser::lexer::{InvalidToken, Lexer, Token, TokenKind};

@@ -1,4 +1,5 @@
-//! What no text shows: where the slot stands that a fault holds, and how often a caller's function is called.
+//! What no text shows: where the slot stands that a fault holds, and how often a caller's function
+//! is called.
 use super::held::{holds, made, refusal};
 use super::policies::{id, no_styles, policy};
 use cedar_expressions::{Place, Slot, SlotId};

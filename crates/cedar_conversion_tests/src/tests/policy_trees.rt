@@ -177,7 +177,8 @@ fn an_empty_annotation_is_refused(rt: HostRuntime) {
     drop((styles, failure));
 }
 
-/// What a policy asks whose resource has this name behind `:`, this type, and this operator with its right side.
+/// What a policy asks whose resource has this name behind `:`, this type, and this operator with
+/// its right side.
 fn asked(
     rt: &(impl Abort + AllocGlobal),
     unused_type_name: Option<Node<Option<Name>>>,

@@ -1,4 +1,5 @@
-//! What the trees of texts hold: the places of nodes, the parts of chains, and copies of each level.
+//! What the trees of texts hold: the places of nodes, the parts of chains, and copies of each
+//! level.
 use super::held::{holds, holds_for, made, shows_alike_and_copies};
 use super::round_trip::{inside, tree_of};
 use cedar_expressions::{ExprBuilderInfallibleBuild, TryClone};
@@ -31,7 +32,8 @@ fn place_of<T>(rt: &impl Abort, node: &Node<Option<T>>) -> SourceSpan {
     SourceSpan::from(node.loc().expect(rt, "no place"))
 }
 
-/// The places of a sum, of its last operand, and of the expression that stands there in parentheses.
+/// The places of a sum, of its last operand, and of the expression that stands there in
+/// parentheses.
 fn places(rt: &impl Abort, tree: &Node<Option<Expr>>) -> Option<[SourceSpan; 3]> {
     let Expr::Expr(whole) = inside(rt, tree);
     let ExprData::Or(or) = whole.expr.as_ref() else {

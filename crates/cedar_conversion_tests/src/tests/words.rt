@@ -1,4 +1,5 @@
-//! Words that no text gives: spellings that are no identifiers, and words that are spelled and so are none of the words that mean something.
+//! Words that no text gives: spellings that are no identifiers, and words that are spelled and so
+//! are none of the words that mean something.
 use super::held::{made, refusal, says};
 use super::places::{place, text};
 use super::policies::{id, no_styles};
@@ -12,7 +13,8 @@ use cedar_syntax::loc::Loc;
 use cedar_syntax::node::Node;
 use std::process::Abort;
 
-/// Spellings that are no identifiers, whether the word is made as one that isn't valid, and what is said of it.
+/// Spellings that are no identifiers, whether the word is made as one that isn't valid, and what
+/// is said of it.
 const NO_IDENTIFIERS: [(&str, bool, &str); 3] = [
     ("", false, "invalid identifier: "),
     ("a b", false, "invalid identifier: a b"),

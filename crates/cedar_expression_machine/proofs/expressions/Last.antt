@@ -1,5 +1,5 @@
 -- Words that have ended at the end of a tree are its last operand.
-use Rattle.std.proofs.Common.{◌≡◌, ℕ, refl, sym, ap, ◌∙◌, Bool, true, false, cond, IsTrue, List, [], ◌∷◌, Option, Some, None}
+use Rattle.std.proofs.Common.{◌≡◌, ℕ, refl, sym, ap, ◌∙◌, Bool, true, cond, IsTrue, List, [], ◌∷◌, Some, None}
 use Rattle.cedar_syntax.specs.Trees.{Cell}
 use Rattle.cedar_syntax.specs.declared.cst.Ident.{Ident}
 use Rattle.cedar_syntax.specs.declared.cst.Ident.TheVariants as ident
@@ -12,7 +12,7 @@ use Rattle.cedar_expression_machine.specs.declared.expression.state.Levels.{Leve
 use Rattle.cedar_expression_machine.specs.declared.expression.state.Mode.{Mode}
 use Rattle.cedar_expression_machine.specs.declared.expression.state.Mode.TheVariants as mode
 use Rattle.cedar_expression_machine.specs.declared.expression.state.Operand.{Operand}
-use Rattle.cedar_expression_machine.specs.declared.expression.state.Place.{Place}
+use Rattle.cedar_expression_machine.specs.declared.expression.state.OperandPlace.{OperandPlace}
 use Rattle.cedar_expression_machine.specs.declared.expression.state.Signs.{Signs}
 use Rattle.cedar_expression_machine.specs.declared.expression.state.State.{State}
 use Rattle.cedar_expression_machine.specs.machines.ExpressionModes.{words_settled}
@@ -37,7 +37,7 @@ same_if : (src : List ℕ) (xs : List (Cell Ident)) (w : Word) →
 same_if src [] w = same_word w.ident
 same_if src (x ∷ xs) w = refl
 
-ended_so : (src : List ℕ) (lv : Levels) (p : Place) (sg : Signs) (x : NameOrEntity) (q : State) →
+ended_so : (src : List ℕ) (lv : Levels) (p : OperandPlace) (sg : Signs) (x : NameOrEntity) (q : State) →
     if_ends p (named_is_if x) ≡ true → Some q ≡ Some (has_operand [] lv (named_operand src sg x)) →
     (o : Operand) × (named_at_end src p sg x ≡ Some o) × (q.mode ≡ mode.Have o None) × (q.levels ≡ lv)
 ended_so src lv p sg x q h e =

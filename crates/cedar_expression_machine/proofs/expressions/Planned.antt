@@ -10,9 +10,8 @@ use Rattle.cedar_expression_machine.specs.declared.words.state.WordsAct.{WordsAc
 use Rattle.cedar_expression_machine.specs.declared.expression.state.Act.{Act}
 use Rattle.cedar_expression_machine.specs.declared.expression.state.Act.TheVariants as act
 use Rattle.cedar_expression_machine.specs.declared.expression.state.Begin.{Begin}
-use Rattle.cedar_expression_machine.specs.declared.expression.state.Operand.{Operand}
-use Rattle.cedar_expression_machine.specs.declared.expression.state.Place.{Place}
-use Rattle.cedar_expression_machine.specs.declared.expression.state.Place.TheVariants as place
+use Rattle.cedar_expression_machine.specs.declared.expression.state.OperandPlace.{OperandPlace}
+use Rattle.cedar_expression_machine.specs.declared.expression.state.OperandPlace.TheVariants as place
 use Rattle.cedar_expression_machine.specs.declared.expression.state.Reach.{Reach}
 use Rattle.cedar_expression_machine.specs.declared.expression.state.Wanted.{Wanted}
 use Rattle.cedar_expression_machine.specs.machines.ExpressionPlans.{behind_plan, begin_plan, colon_key_plan, ended_words_plan, guard_plan, if_follows, if_plan, key_plan, may_follow, or_else, reach_of, settle_plan, word_plan}
@@ -79,7 +78,7 @@ module _ {W K : Type 0} (w : Wanted) (n : WordOutline W K) (st : List FrameShape
       subst (λ (x : Act). PlannedBehindWords w n st l s kind.Colon x) i.1 (keyed h i.0)
   as_keyed k a h e = as_guarded k a h e
 
-  as_if : (p : Place) (k : TokenKind) (a : Act) →
+  as_if : (p : OperandPlace) (k : TokenKind) (a : Act) →
       option_image n.is_if (n.outline.finish s) ≡ Some true → if_plan w st l p k ≡ Some a →
       PlannedBehindWords w n st l s k a
   as_if place.Expr k a h e = as_guarded k a h e
@@ -89,14 +88,14 @@ module _ {W K : Type 0} (w : Wanted) (n : WordOutline W K) (st : List FrameShape
   as_if place.Operand k a h e = cc
   as_if place.Primary k a h e = cc
 
-  as_ended : (p : Place) (k : TokenKind) (a : Act) (o : Option Bool) →
+  as_ended : (p : OperandPlace) (k : TokenKind) (a : Act) (o : Option Bool) →
       option_image n.is_if (n.outline.finish s) ≡ o → ended_words_plan w st l p o k ≡ Some a →
       PlannedBehindWords w n st l s k a
   as_ended p k a None h e = cc
   as_ended p k a (Some true) h e = as_if p k a h e
   as_ended p k a (Some false) h e = as_settled k false a h e
 
-  on_or_ended : (p : Place) (k : TokenKind) (a : Act) (o : Option WordsAct) →
+  on_or_ended : (p : OperandPlace) (k : TokenKind) (a : Act) (o : Option WordsAct) →
       n.outline.plan s k ≡ o →
       or_else (option_image (λ x. act.Words x) o)
       (ended_words_plan w st l p (option_image n.is_if (n.outline.finish s)) k) ≡ Some a →
@@ -107,6 +106,6 @@ module _ {W K : Type 0} (w : Wanted) (n : WordOutline W K) (st : List FrameShape
   on_or_ended p k a None h e =
       as_ended p k a (option_image n.is_if (n.outline.finish s)) refl e
 
-  pub planned_behind_words : (p : Place) (k : TokenKind) (a : Act) →
+  pub planned_behind_words : (p : OperandPlace) (k : TokenKind) (a : Act) →
       word_plan w n st l p s k ≡ Some a → PlannedBehindWords w n st l s k a
   planned_behind_words p k a e = on_or_ended p k a (n.outline.plan s k) refl e

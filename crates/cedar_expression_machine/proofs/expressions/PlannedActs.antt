@@ -19,12 +19,11 @@ use Rattle.cedar_expression_machine.specs.declared.expression.state.Act.TheVaria
 use Rattle.cedar_expression_machine.specs.declared.expression.state.Begin.{Begin}
 use Rattle.cedar_expression_machine.specs.declared.expression.state.Frame.{Frame}
 use Rattle.cedar_expression_machine.specs.declared.expression.state.Frame.TheVariants as frame
-use Rattle.cedar_expression_machine.specs.declared.expression.state.Guard.{Guard}
 use Rattle.cedar_expression_machine.specs.declared.expression.state.Mode.{Mode}
 use Rattle.cedar_expression_machine.specs.declared.expression.state.Mode.TheVariants as mode
 use Rattle.cedar_expression_machine.specs.declared.expression.state.Operand.{Operand}
-use Rattle.cedar_expression_machine.specs.declared.expression.state.Place.{Place}
-use Rattle.cedar_expression_machine.specs.declared.expression.state.Place.TheVariants as place
+use Rattle.cedar_expression_machine.specs.declared.expression.state.OperandPlace.{OperandPlace}
+use Rattle.cedar_expression_machine.specs.declared.expression.state.OperandPlace.TheVariants as place
 use Rattle.cedar_expression_machine.specs.declared.expression.state.Reach.{Reach}
 use Rattle.cedar_expression_machine.specs.declared.expression.state.Signs.{Signs}
 use Rattle.cedar_expression_machine.specs.declared.expression.state.State.{State}
@@ -78,7 +77,7 @@ module _ (w : Wanted) (st : List FrameShape) (l : LeftShape) (k : TokenKind) whe
   abbrev Behind : WordsState → Act → Type 0
   Behind s a = PlannedBehindWords w named_outline st l (words_shape s) k a
 
-  behind : (p : Place) (sg : Signs) (s : WordsState) (a : Act) → Plans (mode.Word p sg s) a →
+  behind : (p : OperandPlace) (sg : Signs) (s : WordsState) (a : Act) → Plans (mode.Word p sg s) a →
       Behind s a
   behind p sg s a e = planned_behind_words w named_outline st l (words_shape s) p k a e
 
@@ -92,7 +91,7 @@ module _ (w : Wanted) (st : List FrameShape) (l : LeftShape) (k : TokenKind) whe
   no_follow s o h = elim h [ ]
 
   begins : (q : Mode) (b : Begin) → Plans q (act.Begin b) →
-      (p : Place) × (sg : Signs) × (q ≡ mode.Want p sg) × (operand_plan st p (op_sign sg.op) k ≡ Some b)
+      (p : OperandPlace) × (sg : Signs) × (q ≡ mode.Want p sg) × (operand_plan st p (op_sign sg.op) k ≡ Some b)
   begins (mode.Want p sg) b e =
       let i = image_of (λ x. act.Begin x) (operand_plan st p (op_sign sg.op) k) (act.Begin b) e in
       let j : i.0 ≡ b = cc in
@@ -106,7 +105,7 @@ module _ (w : Wanted) (st : List FrameShape) (l : LeftShape) (k : TokenKind) whe
       let j : act.Follow i.0 ≡ act.Begin b = i.2 in cc
 
   goes_on : (q : Mode) (a : WordsAct) → Plans q (act.Words a) →
-      (p : Place) × (sg : Signs) × (s : WordsState) × (q ≡ mode.Word p sg s) ×
+      (p : OperandPlace) × (sg : Signs) × (s : WordsState) × (q ≡ mode.Word p sg s) ×
       (words_plan (words_shape s) k ≡ Some a)
   goes_on (mode.Want p sg) a e =
       let i = image_of (λ x. act.Begin x) (operand_plan st p (op_sign sg.op) k) (act.Words a) e in
@@ -134,7 +133,7 @@ module _ (w : Wanted) (st : List FrameShape) (l : LeftShape) (k : TokenKind) whe
       let i = image_of (λ x. act.Follow x) (behind_plan w st l m.is_if k) (act.Settle o) e in
       let j : act.Follow i.0 ≡ act.Settle o = i.2 in cc
 
-  as_path : (p : Place) (sg : Signs) (s : WordsState) →
+  as_path : (p : OperandPlace) (sg : Signs) (s : WordsState) →
       option_image named_outline.is_if (named_outline.outline.finish (words_shape s)) ≡ Some true →
       HasPath (mode.Word p sg s)
   as_path p sg s h = let i = if_is_path s h in (p, sg, i.0, ap (λ x. mode.Word p sg x) i.1)
@@ -201,7 +200,7 @@ module _ (s : State) (k : TokenKind) where
       begins h.0 (stack_shape s.stack) (left_shape s.levels.relation) k s.mode b h.1
 
   pub words_go_on : (a : WordsAct) → IsPlanned s k (act.Words a) →
-      (p : Place) × (sg : Signs) × (x : WordsState) × (s.mode ≡ mode.Word p sg x) ×
+      (p : OperandPlace) × (sg : Signs) × (x : WordsState) × (s.mode ≡ mode.Word p sg x) ×
       (words_plan (words_shape x) k ≡ Some a)
   words_go_on a h =
       goes_on h.0 (stack_shape s.stack) (left_shape s.levels.relation) k s.mode a h.1

@@ -5,7 +5,7 @@ use Rattle.cedar_lexer.specs.Token.{Lexeme}
 use Rattle.cedar_grammar.specs.declared.reading.class.Beginning.{Beginning}
 use Rattle.cedar_grammar.specs.declared.reading.class.Beginning.TheVariants as beginning
 use Rattle.cedar_grammar.specs.declared.reading.class.Operator.{Operator}
-use Rattle.cedar_expression_machine.specs.declared.expression.state.Place.TheVariants as place
+use Rattle.cedar_expression_machine.specs.declared.expression.state.OperandPlace.TheVariants as place
 use Rattle.cedar_grammar.specs.declared.reading.extent.Extent.{Extent}
 use Rattle.cedar_expression_machine.specs.declared.words.state.WordsAct.{WordsAct}
 use Rattle.cedar_expression_machine.specs.declared.words.state.WordsState.{WordsState}
@@ -21,7 +21,7 @@ use Rattle.cedar_expression_machine.specs.machines.Named.{NameOrEntity}
 use Rattle.cedar_expression_machine.specs.machines.ExpressionShapes.{FrameShape, stack_shape, left_shape, shape_of, WordOutline}
 use Rattle.cedar_expression_machine.specs.machines.ExpressionPlans.{edge, may_follow, class_plan, operand_class_plan, shape_plan}
 use Rattle.cedar_expression_machine.specs.machines.Having.{follow_act}
-use Rattle.cedar_expression_machine.specs.machines.Expressions.{expression_act, reader_of}
+use Rattle.cedar_expression_machine.specs.machines.Expressions.{expression_act, wanted_reader}
 
 abbrev pub Names : Type 0
 Names = Reader WordsState WordsAct NameOrEntity
@@ -75,5 +75,5 @@ planned_kept {T = T} does tree (Some a) = done_kept T (does a)
 planned_kept does tree None = ended_none tree
 
 pub takes_so : {W K T : Type 0} (w : Wanted) (src : List ℕ) (names : Names) (n : WordOutline W K) (f : WordsState → W) (tree : List ℕ → State → Option T) (s : State) (t : Lexeme) →
-    answer_state ((machine_of src (reader_of w names n f tree)).step s t) ≡ step_of w src names n f s t
+    answer_state ((machine_of src (wanted_reader w names n f tree)).step s t) ≡ step_of w src names n f s t
 takes_so w src names n f tree s t = planned_kept (λ a. expression_act src names s a t) (tree src s) (shape_plan w n (shape_of f s) t.kind)

@@ -1,9 +1,9 @@
--- Expressions and primaries as whole texts, and expressions and sums in a policy: their machines read by the rules of the grammar.
+-- Expressions and primaries as whole texts, and expressions and sums in a policy: their machines
+-- read by the rules of the grammar.
 use Rattle.cedar_expression_machine.proofs.expressions.shapes.Done.{BeginWithIdents}
 use Rattle.std.specs.Prelude.{cond}
 use Rattle.std.proofs.Common.{◌≡◌, ℕ, List, [], Some, None, Bool, true, false, refl, sym, ◌∙◌, ap, subst}
 use Rattle.cedar_lexer.specs.Token.{Lexeme}
-use Rattle.cedar_lexer.specs.declared.token.TokenKind.{TokenKind}
 use Rattle.cedar_syntax.specs.declared.cst.Expr.{Expr}
 use Rattle.cedar_syntax.specs.declared.cst.Primary.{Primary}
 use Rattle.cedar_grammar.specs.Grammar.{IsNodeOf}

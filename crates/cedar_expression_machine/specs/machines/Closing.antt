@@ -17,7 +17,7 @@ use Rattle.cedar_syntax.specs.declared.cst.Primary.TheVariants as primary
 use Rattle.cedar_syntax.specs.declared.cst.Ident.TheVariants as ident
 use Rattle.cedar_expression_machine.specs.declared.expression.state.Ranged.{Ranged}
 use Rattle.cedar_expression_machine.specs.declared.expression.state.Chain.{Chain}
-use Rattle.cedar_expression_machine.specs.declared.expression.state.Pending.{Pending}
+use Rattle.cedar_expression_machine.specs.declared.expression.state.PendingChain.{PendingChain}
 use Rattle.cedar_expression_machine.specs.declared.expression.state.Branch.{Branch}
 use Rattle.cedar_expression_machine.specs.declared.expression.state.Left.{Left}
 use Rattle.cedar_expression_machine.specs.declared.expression.state.Left.TheVariants as left
@@ -65,7 +65,8 @@ abbrev pub plain_chain : {T : Type 0} → List ℕ → Option (Plain T) → Rang
 plain_chain src None x = begun_chain src x
 plain_chain src (Some c) x = longer c (node_of src x) x.extent
 
-abbrev pub marked_chain : {T O : Type 0} → List ℕ → Option (Pending T O) → Ranged T → Marked T O
+abbrev pub marked_chain : {T O : Type 0} → List ℕ → Option (PendingChain T O) → Ranged T
+    → Marked T O
 marked_chain src None x = begun_chain src x
 marked_chain src (Some p) x = longer p.chain (p.op, node_of src x) x.extent
 
@@ -78,7 +79,7 @@ onward c e = record {
       (Some e);
 }
 
-abbrev pub pending : {T O : Type 0} → Marked T O → O → Extent → Pending T O
+abbrev pub pending : {T O : Type 0} → Marked T O → O → Extent → PendingChain T O
 pending c o e = record { chain = onward c e; op = o }
 
 -- one more operand that is a node already, with the operator behind it in its bytes
@@ -87,8 +88,8 @@ abbrev pub plain_with : {T : Type 0} → Option (Plain T) → Cell T → Option 
 plain_with None y e = record { initial = y; extended = []; extent = e }
 plain_with (Some c) y e = longer c y e
 
-abbrev pub pending_with : {T O : Type 0} → Option (Pending T O) → Cell T → Option Extent → O
-    → Pending T O
+abbrev pub pending_with : {T O : Type 0} → Option (PendingChain T O) → Cell T → Option Extent → O
+    → PendingChain T O
 pending_with None y e o =
     record { chain = record { initial = y; extended = []; extent = e }; op = o }
 pending_with (Some p) y e o = record { chain = longer p.chain (p.op, y) e; op = o }
@@ -159,7 +160,7 @@ whole src lv m = with_branches src lv.branches (made_expr src (or_at src lv m))
 -- levels
 
 abbrev pub levels_of : List Branch → Option (Plain And) → Option (Plain Relation) → Option Left
-    → Option (Pending Mult AddOp) → Option (Pending Unary MultOp) → Levels
+    → Option (PendingChain Mult AddOp) → Option (PendingChain Unary MultOp) → Levels
 levels_of bs o a r s m = record { branches = bs; or = o; and = a; relation = r; add = s; mult = m }
 
 abbrev pub fresh : List Branch → Levels

@@ -6,7 +6,7 @@ use Rattle.cedar_syntax.specs.declared.cst.Add.{Add}
 use Rattle.cedar_syntax.specs.declared.cst.RelOp.{RelOp}
 use Rattle.cedar_grammar.specs.declared.reading.class.Closing.{Closing}
 use Rattle.cedar_grammar.specs.declared.reading.class.Operator.{Operator}
-use Rattle.cedar_grammar.specs.declared.reading.class.Side.{Side}
+use Rattle.cedar_grammar.specs.declared.reading.class.SideWord.{SideWord}
 use Rattle.cedar_grammar.specs.declared.reading.class.Sign.{Sign}
 use Rattle.cedar_grammar.specs.declared.reading.extent.Extent.{Extent}
 use Rattle.cedar_expression_machine.specs.declared.words.state.Path.{Path}
@@ -22,8 +22,8 @@ use Rattle.cedar_expression_machine.specs.declared.expression.state.Levels.{Leve
 use Rattle.cedar_expression_machine.specs.declared.expression.state.Mode.{Mode}
 use Rattle.cedar_expression_machine.specs.declared.expression.state.Mode.TheVariants as mode
 use Rattle.cedar_expression_machine.specs.declared.expression.state.Operand.{Operand}
-use Rattle.cedar_expression_machine.specs.declared.expression.state.Pending.{Pending}
-use Rattle.cedar_expression_machine.specs.declared.expression.state.Place.{Place}
+use Rattle.cedar_expression_machine.specs.declared.expression.state.PendingChain.{PendingChain}
+use Rattle.cedar_expression_machine.specs.declared.expression.state.OperandPlace.{OperandPlace}
 use Rattle.cedar_expression_machine.specs.declared.expression.state.Ranged.{Ranged}
 use Rattle.cedar_expression_machine.specs.declared.expression.state.Reach.{Reach}
 use Rattle.cedar_expression_machine.specs.declared.expression.state.Record.{Record}
@@ -41,30 +41,30 @@ use Rattle.cedar_expression_machine.specs.machines.Words.{path_extent, words_end
 
 -- where an operand is wanted
 abbrev pub WantsOperand : Mode → Type 0
-WantsOperand q = (p : Place) × (sg : Signs) × (q ≡ mode.Want p sg)
+WantsOperand q = (p : OperandPlace) × (sg : Signs) × (q ≡ mode.Want p sg)
 
 -- a token of this kind begins such an operand, or stands before one
 abbrev pub IsBegun : State → TokenKind → Begin → Type 0
-IsBegun s k b = (p : Place) × (sg : Signs) × (s.mode ≡ mode.Want p sg) ×
+IsBegun s k b = (p : OperandPlace) × (sg : Signs) × (s.mode ≡ mode.Want p sg) ×
     (operand_plan (stack_shape s.stack) p (op_sign sg.op) k ≡ Some b)
 
 -- one sign more may stand there
 abbrev pub MaySign : Mode → Sign → Type 0
-MaySign q x = (p : Place) × (sg : Signs) × (q ≡ mode.Want p sg) ×
+MaySign q x = (p : OperandPlace) × (sg : Signs) × (q ≡ mode.Want p sg) ×
     IsTrue (may_sign (op_sign sg.op) x)
 
 -- a list may end there
 abbrev pub MayEndList : List Frame → Type 0
-MayEndList st = (p : Place) × (c : Closing) × IsTrue (list_may_end (stack_shape st) p c)
+MayEndList st = (p : OperandPlace) × (c : Closing) × IsTrue (list_may_end (stack_shape st) p c)
 
 -- behind words that have ended
 abbrev pub HasEndedWords : Mode → Type 0
-HasEndedWords q = (p : Place) × (sg : Signs) × (w : WordsState) × (q ≡ mode.Word p sg w) ×
+HasEndedWords q = (p : OperandPlace) × (sg : Signs) × (w : WordsState) × (q ≡ mode.Word p sg w) ×
     IsTrue (is_some (words_end w))
 
 -- and are a path
 abbrev pub HasPath : Mode → Type 0
-HasPath q = (p : Place) × (sg : Signs) × (x : Path) ×
+HasPath q = (p : OperandPlace) × (sg : Signs) × (x : Path) ×
     (q ≡ mode.Word p sg (words.Path (path.Have x)))
 
 -- behind an operand
@@ -88,13 +88,13 @@ HasRecord st = (f : Record) × (rest : List Frame) × (st ≡ frame.Record f ∷
 -- which left side is begun
 
 abbrev pub IsCommon : Option Left → Type 0
-IsCommon l = (p : Pending Add RelOp) × (l ≡ Some (left.Common p))
+IsCommon l = (p : PendingChain Add RelOp) × (l ≡ Some (left.Common p))
 
 abbrev pub IsTyped : Option Left → Type 0
 IsTyped l = (y : Ranged (Cell Add)) × (l ≡ Some (left.Is y))
 
 abbrev pub IsSided : Option Left → Type 0
-IsSided l = (x : Side) × (y : Ranged (Cell Add)) × (l ≡ Some (side_of x y))
+IsSided l = (x : SideWord) × (y : Ranged (Cell Add)) × (l ≡ Some (side_of x y))
 
 abbrev pub IsWithin : Option Left → Type 0
 IsWithin l = (y z : Cell Add) × (e : Option Extent) × (l ≡ Some (left.IsIn y z e))

@@ -3,10 +3,10 @@ use Rattle.std.specs.Prelude.{Bool, true, false, List, [], ◌∷◌, Option, So
 use Rattle.cedar_lexer.specs.declared.token.TokenKind.{TokenKind}
 use Rattle.cedar_grammar.specs.declared.reading.class.Closing.{Closing}
 use Rattle.cedar_grammar.specs.declared.reading.class.Closing.TheVariants as closing
-use Rattle.cedar_grammar.specs.declared.reading.class.Access.{Access}
-use Rattle.cedar_grammar.specs.declared.reading.class.Access.TheVariants as opens
-use Rattle.cedar_grammar.specs.declared.reading.class.Side.{Side}
-use Rattle.cedar_grammar.specs.declared.reading.class.Side.TheVariants as side
+use Rattle.cedar_grammar.specs.declared.reading.class.AccessStart.{AccessStart}
+use Rattle.cedar_grammar.specs.declared.reading.class.AccessStart.TheVariants as opens
+use Rattle.cedar_grammar.specs.declared.reading.class.SideWord.{SideWord}
+use Rattle.cedar_grammar.specs.declared.reading.class.SideWord.TheVariants as side
 use Rattle.cedar_grammar.specs.declared.reading.class.Operator.{Operator}
 use Rattle.cedar_grammar.specs.declared.reading.class.Operator.TheVariants as operator
 use Rattle.cedar_expression_machine.specs.declared.words.state.WordsAct.{WordsAct}
@@ -14,15 +14,15 @@ use Rattle.cedar_expression_machine.specs.declared.expression.state.Act.{Act}
 use Rattle.cedar_expression_machine.specs.declared.expression.state.Act.TheVariants as act
 use Rattle.cedar_expression_machine.specs.declared.expression.state.Begin.{Begin}
 use Rattle.cedar_expression_machine.specs.declared.expression.state.Begin.TheVariants as begin
-use Rattle.cedar_expression_machine.specs.declared.expression.state.Place.{Place}
-use Rattle.cedar_expression_machine.specs.declared.expression.state.Place.TheVariants as place
+use Rattle.cedar_expression_machine.specs.declared.expression.state.OperandPlace.{OperandPlace}
+use Rattle.cedar_expression_machine.specs.declared.expression.state.OperandPlace.TheVariants as place
 use Rattle.cedar_expression_machine.specs.declared.expression.state.Wanted.{Wanted}
 use Rattle.cedar_grammar.specs.machines.Door.{Outline, ends_with}
 use Rattle.cedar_expression_machine.specs.machines.Having.{side_place}
-use Rattle.cedar_expression_machine.specs.machines.ExpressionShapes.{LeftShape, free, comparing, sided_once, typed, FrameShape, in_paren, in_set, in_call, in_index, in_record, in_guard, in_yes, ModeShape, wants, worded, dotted, had_shape, Shape, shape, WordOutline, start_place}
+use Rattle.cedar_expression_machine.specs.machines.ExpressionShapes.{LeftShape, free, comparing, sided_once, typed, FrameShape, in_paren, in_set, in_call, in_index, in_record, in_guard, in_then, ModeShape, wants, worded, dotted, had_shape, Shape, shape, WordOutline, start_place}
 use Rattle.cedar_expression_machine.specs.machines.ExpressionPlans.{shape_plan, shape_ends}
 
-abbrev pub opening_shape : {W : Type 0} → List FrameShape → Place → Shape W
+abbrev pub opening_shape : {W : Type 0} → List FrameShape → OperandPlace → Shape W
 opening_shape st p = shape st free (wants p None)
 
 abbrev pub wanted_operand : {W : Type 0} → List FrameShape → LeftShape → Shape W
@@ -45,7 +45,8 @@ abbrev pub first_shape : {W K : Type 0} → WordOutline W K → TokenKind → Op
 first_shape n k None = n.outline.start
 first_shape n k (Some a) = n.outline.act n.outline.start a k
 
-abbrev pub begin_shape : {W K : Type 0} → WordOutline W K → List FrameShape → LeftShape → Place
+abbrev pub begin_shape : {W K : Type 0} → WordOutline W K → List FrameShape → LeftShape
+    → OperandPlace
     → Begin → TokenKind → Shape W
 begin_shape n st l p begin.Word k =
     shape st l (worded p (first_shape n k (n.outline.plan n.outline.start k)))
@@ -60,7 +61,7 @@ begin_shape n st l p (begin.Ends c) k = list_end_shape st l
 
 -- ---- behind an operand
 
-abbrev pub access_shape : {W : Type 0} → List FrameShape → LeftShape → Bool → Access → Shape W
+abbrev pub access_shape : {W : Type 0} → List FrameShape → LeftShape → Bool → AccessStart → Shape W
 access_shape st l b opens.Dot = shape st l (dotted b)
 access_shape st l b opens.Paren = opening_shape (in_call l b ∷ st) place.Item
 access_shape st l b opens.Bracket = opening_shape (in_index l b ∷ st) place.Expr
@@ -72,7 +73,7 @@ compared comparing = comparing
 compared sided_once = sided_once
 compared typed = sided_once
 
-abbrev pub side_left_shape : Side → LeftShape
+abbrev pub side_left_shape : SideWord → LeftShape
 side_left_shape side.Has = sided_once
 side_left_shape side.Like = sided_once
 side_left_shape side.Is = typed
@@ -102,8 +103,8 @@ end_shape (in_set l ∷ st) k c = set_end_shape st l c
 end_shape (in_call l b ∷ st) k c = call_end_shape st l b c
 end_shape (in_index l b ∷ st) k c = operand_had st l b
 end_shape (in_record l b ∷ st) k c = record_end_shape st l b c
-end_shape (in_guard ∷ st) k c = opening_shape (in_yes ∷ st) place.Expr
-end_shape (in_yes ∷ st) k c = opening_shape st place.Expr
+end_shape (in_guard ∷ st) k c = opening_shape (in_then ∷ st) place.Expr
+end_shape (in_then ∷ st) k c = opening_shape st place.Expr
 
 abbrev pub follow_shape : {W : Type 0} → List FrameShape → LeftShape → Bool → Operator → Shape W
 follow_shape st l b (operator.Access a) = access_shape st l b a

@@ -13,8 +13,8 @@ use Rattle.cedar_grammar.specs.declared.reading.class.Closing.{Closing}
 use Rattle.cedar_grammar.specs.declared.reading.class.Closing.TheVariants as closing
 use Rattle.cedar_grammar.specs.declared.reading.class.Operator.{Operator}
 use Rattle.cedar_grammar.specs.declared.reading.class.Operator.TheVariants as operator
-use Rattle.cedar_expression_machine.specs.declared.expression.state.Place.{Place}
-use Rattle.cedar_expression_machine.specs.declared.expression.state.Place.TheVariants as place
+use Rattle.cedar_expression_machine.specs.declared.expression.state.OperandPlace.{OperandPlace}
+use Rattle.cedar_expression_machine.specs.declared.expression.state.OperandPlace.TheVariants as place
 use Rattle.cedar_expression_machine.specs.declared.expression.state.Wanted.{Wanted}
 use Rattle.cedar_expression_machine.specs.declared.expression.state.Wanted.TheVariants as form
 use Rattle.cedar_expression_machine.specs.declared.expression.state.Reach.{Reach}
@@ -26,7 +26,7 @@ use Rattle.cedar_expression_machine.specs.declared.expression.state.Begin.TheVar
 use Rattle.cedar_expression_machine.specs.declared.expression.state.Act.{Act}
 use Rattle.cedar_expression_machine.specs.declared.expression.state.Act.TheVariants as act
 use Rattle.cedar_grammar.specs.machines.Classes.{beginning_of, operator_of}
-use Rattle.cedar_expression_machine.specs.machines.ExpressionShapes.{LeftShape, free, comparing, sided_once, typed, FrameShape, in_paren, in_set, in_call, in_index, in_record, in_guard, in_yes, ModeShape, wants, worded, dotted, had_shape, Shape, WordOutline}
+use Rattle.cedar_expression_machine.specs.machines.ExpressionShapes.{LeftShape, free, comparing, sided_once, typed, FrameShape, in_paren, in_set, in_call, in_index, in_record, in_guard, in_then, ModeShape, wants, worded, dotted, had_shape, Shape, WordOutline}
 
 -- how far an operand goes on: inside of brackets as a whole expression's
 
@@ -92,7 +92,7 @@ may_end (in_record l false) closing.Colon = true
 may_end (in_record l true) closing.Comma = true
 may_end (in_record l true) closing.Brace = true
 may_end in_guard closing.Then = true
-may_end in_yes closing.Else = true
+may_end in_then closing.Else = true
 may_end _ _ = false
 
 abbrev pub stack_may_end : List FrameShape → Closing → Bool
@@ -141,7 +141,7 @@ may_sign (Some sign.Bang) sign.Bang = true
 may_sign (Some sign.Dash) sign.Dash = true
 may_sign _ _ = false
 
-abbrev pub sign_may_stand : Place → Option Sign → Sign → Bool
+abbrev pub sign_may_stand : OperandPlace → Option Sign → Sign → Bool
 sign_may_stand place.Primary q s = false
 sign_may_stand _ q s = may_sign q s
 
@@ -160,7 +160,7 @@ abbrev pub in_a_record : List FrameShape → Bool
 in_a_record (in_record l false ∷ st) = true
 in_a_record _ = false
 
-abbrev pub list_may_end : List FrameShape → Place → Closing → Bool
+abbrev pub list_may_end : List FrameShape → OperandPlace → Closing → Bool
 list_may_end st place.Item closing.Bracket = in_a_set st
 list_may_end st place.Item closing.Paren = in_a_call st
 list_may_end st place.Item _ = false
@@ -171,14 +171,15 @@ list_may_end st place.Has c = false
 list_may_end st place.Operand c = false
 list_may_end st place.Primary c = false
 
-abbrev pub operand_class_plan : List FrameShape → Place → Option Sign → Beginning → Option Begin
+abbrev pub operand_class_plan : List FrameShape → OperandPlace → Option Sign → Beginning
+    → Option Begin
 operand_class_plan st p q (beginning.Sign s) =
     cond (sign_may_stand p q s) (Some (begin.Sign s)) None
 operand_class_plan st p q (beginning.Ends c) =
     cond (list_may_end st p c) (Some (begin.Ends c)) None
 operand_class_plan st p q c = class_plan c
 
-abbrev pub operand_plan : List FrameShape → Place → Option Sign → TokenKind → Option Begin
+abbrev pub operand_plan : List FrameShape → OperandPlace → Option Sign → TokenKind → Option Begin
 operand_plan st p q k = operand_class_plan st p q (beginning_of k)
 
 -- ---- behind words that have ended
@@ -197,7 +198,7 @@ abbrev pub key_plan : List FrameShape → TokenKind → Option Act
 key_plan st kind.Colon = colon_key_plan st
 key_plan st k = guard_plan k
 
-abbrev pub if_plan : Wanted → List FrameShape → LeftShape → Place → TokenKind → Option Act
+abbrev pub if_plan : Wanted → List FrameShape → LeftShape → OperandPlace → TokenKind → Option Act
 if_plan w st l place.Expr k = guard_plan k
 if_plan w st l place.Item k = guard_plan k
 if_plan w st l place.Key k = key_plan st k
@@ -205,7 +206,7 @@ if_plan w st l place.Has k = settle_plan (behind_plan w st l true k)
 if_plan w st l place.Operand k = None
 if_plan w st l place.Primary k = None
 
-abbrev pub ended_words_plan : Wanted → List FrameShape → LeftShape → Place → Option Bool
+abbrev pub ended_words_plan : Wanted → List FrameShape → LeftShape → OperandPlace → Option Bool
     → TokenKind → Option Act
 ended_words_plan w st l p None k = None
 ended_words_plan w st l p (Some true) k = if_plan w st l p k
@@ -216,7 +217,7 @@ or_else (Some a) o = Some a
 or_else None o = o
 
 abbrev pub word_plan : {W K : Type 0} → Wanted → WordOutline W K → List FrameShape → LeftShape
-    → Place → W → TokenKind → Option Act
+    → OperandPlace → W → TokenKind → Option Act
 word_plan w n st l p s k = or_else (option_image (λ a. act.Words a) (n.outline.plan s k))
     (ended_words_plan w st l p (option_image n.is_if (n.outline.finish s)) k)
 
@@ -235,12 +236,12 @@ shape_plan w n u k = mode_plan w n u.stack u.left_side u.mode k
 
 -- ---- whether the tree can end
 
-abbrev pub if_ends : Place → Bool → Bool
+abbrev pub if_ends : OperandPlace → Bool → Bool
 if_ends p false = true
 if_ends place.Has true = true
 if_ends _ true = false
 
-abbrev pub words_can_end : {W K : Type 0} → WordOutline W K → Place → Option K → Bool
+abbrev pub words_can_end : {W K : Type 0} → WordOutline W K → OperandPlace → Option K → Bool
 words_can_end n p None = false
 words_can_end n p (Some x) = if_ends p (n.is_if x)
 

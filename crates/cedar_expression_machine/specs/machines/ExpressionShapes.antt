@@ -11,8 +11,8 @@ use Rattle.cedar_expression_machine.specs.declared.expression.state.Left.{Left}
 use Rattle.cedar_expression_machine.specs.declared.expression.state.Left.TheVariants as left
 use Rattle.cedar_expression_machine.specs.declared.expression.state.Frame.{Frame}
 use Rattle.cedar_expression_machine.specs.declared.expression.state.Frame.TheVariants as frame
-use Rattle.cedar_expression_machine.specs.declared.expression.state.Place.{Place}
-use Rattle.cedar_expression_machine.specs.declared.expression.state.Place.TheVariants as place
+use Rattle.cedar_expression_machine.specs.declared.expression.state.OperandPlace.{OperandPlace}
+use Rattle.cedar_expression_machine.specs.declared.expression.state.OperandPlace.TheVariants as place
 use Rattle.cedar_expression_machine.specs.declared.expression.state.Mode.{Mode}
 use Rattle.cedar_expression_machine.specs.declared.expression.state.Mode.TheVariants as mode
 use Rattle.cedar_expression_machine.specs.declared.expression.state.State.{State}
@@ -37,12 +37,12 @@ pub data FrameShape : Type 0 where
   in_index : LeftShape → Bool → FrameShape
   in_record : LeftShape → Bool → FrameShape
   in_guard : FrameShape
-  in_yes : FrameShape
+  in_then : FrameShape
 
 pub data ModeShape (W : Type 0) : Type 0 where
   -- here, behind signs of this kind or none
-  wants : Place → Option Sign → ModeShape W
-  worded : Place → W → ModeShape W
+  wants : OperandPlace → Option Sign → ModeShape W
+  worded : OperandPlace → W → ModeShape W
   dotted : Bool → ModeShape W
   had_shape : Bool → ModeShape W
 
@@ -60,7 +60,7 @@ pub record WordOutline (W K : Type 0) : Type 0 where
   pub is_if : K → Bool
 
 -- where the first operand is wanted
-abbrev pub start_place : Wanted → Place
+abbrev pub start_place : Wanted → OperandPlace
 start_place form.Expr = place.Expr
 start_place form.Sum = place.Operand
 start_place form.Primary = place.Primary
@@ -82,7 +82,7 @@ frame_shape (frame.Call f) = in_call (left_shape f.outer.relation) f.operand.is_
 frame_shape (frame.Index f) = in_index (left_shape f.outer.relation) f.operand.is_if
 frame_shape (frame.Record f) = in_record (left_shape f.outer.relation) (is_some f.key)
 frame_shape (frame.Guard f) = in_guard
-frame_shape (frame.Yes f) = in_yes
+frame_shape (frame.Then f) = in_then
 
 abbrev pub stack_shape : List Frame → List FrameShape
 stack_shape [] = []

@@ -7,8 +7,8 @@ use Rattle.cedar_expression_machine.specs.declared.expression.state.Levels.{Leve
 use Rattle.cedar_expression_machine.specs.declared.expression.state.Signs.{Signs}
 use Rattle.cedar_expression_machine.specs.declared.expression.state.Operand.{Operand}
 use Rattle.cedar_expression_machine.specs.declared.expression.state.Frame.{Frame}
-use Rattle.cedar_expression_machine.specs.declared.expression.state.Place.{Place}
-use Rattle.cedar_expression_machine.specs.declared.expression.state.Place.TheVariants as place
+use Rattle.cedar_expression_machine.specs.declared.expression.state.OperandPlace.{OperandPlace}
+use Rattle.cedar_expression_machine.specs.declared.expression.state.OperandPlace.TheVariants as place
 use Rattle.cedar_expression_machine.specs.declared.expression.state.Mode.{Mode}
 use Rattle.cedar_expression_machine.specs.declared.expression.state.Mode.TheVariants as mode
 use Rattle.cedar_expression_machine.specs.declared.expression.state.State.{State}
@@ -22,11 +22,11 @@ abbrev pub state : List Frame → Levels → Mode → State
 state st lv m = record { stack = st; levels = lv; mode = m }
 
 -- an operand is wanted, and nothing stands before it
-abbrev pub wants : Place → Mode
+abbrev pub wants : OperandPlace → Mode
 wants p = mode.Want p no_signs
 
 -- an expression begins within these brackets and `if`s
-abbrev pub opening : List Frame → List Branch → Place → State
+abbrev pub opening : List Frame → List Branch → OperandPlace → State
 opening st bs p = state st (fresh bs) (wants p)
 
 abbrev pub going_on : List Frame → Levels → State

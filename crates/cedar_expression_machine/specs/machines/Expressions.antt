@@ -23,8 +23,8 @@ use Rattle.cedar_expression_machine.specs.declared.expression.state.Signs.{Signs
 use Rattle.cedar_expression_machine.specs.declared.expression.state.Operand.{Operand}
 use Rattle.cedar_expression_machine.specs.declared.expression.state.Frame.{Frame}
 use Rattle.cedar_expression_machine.specs.declared.expression.state.Frame.TheVariants as frame
-use Rattle.cedar_expression_machine.specs.declared.expression.state.Place.{Place}
-use Rattle.cedar_expression_machine.specs.declared.expression.state.Place.TheVariants as place
+use Rattle.cedar_expression_machine.specs.declared.expression.state.OperandPlace.{OperandPlace}
+use Rattle.cedar_expression_machine.specs.declared.expression.state.OperandPlace.TheVariants as place
 use Rattle.cedar_expression_machine.specs.declared.expression.state.Mode.{Mode}
 use Rattle.cedar_expression_machine.specs.declared.expression.state.Mode.TheVariants as mode
 use Rattle.cedar_expression_machine.specs.declared.expression.state.State.{State}
@@ -98,12 +98,12 @@ if_key_reading src _ l e = None
 -- ---- what is done with a token, by the mode in which it is planned
 
 abbrev pub want_act : List ℕ → Reader WordsState WordsAct NameOrEntity → List Frame → Levels
-    → Place → Signs → Act → Lexeme → Option State
+    → OperandPlace → Signs → Act → Lexeme → Option State
 want_act src names st lv p sg (act.Begin b) t = begin_act src names st lv p sg b t
 want_act src names st lv p sg _ t = None
 
 abbrev pub word_act : List ℕ → Reader WordsState WordsAct NameOrEntity → List Frame → Levels
-    → Place → Signs → WordsState → Act → Lexeme → Option State
+    → OperandPlace → Signs → WordsState → Act → Lexeme → Option State
 word_act src names st lv p sg w (act.Words a) t =
     option_image (λ v. word_held st lv p sg v) (names.act src w a t)
 word_act src names st lv p sg w (act.Settle o) t = with_words (names.finish src w)
@@ -150,7 +150,7 @@ named_is_if (named.path x) = alone_is_if (alone_of x.tree.path x.tree.name)
 named_is_if (named.entity x) = false
 
 -- the last operand, if no bracket is open and nothing more has to come
-abbrev pub named_at_end : List ℕ → Place → Signs → NameOrEntity → Option Operand
+abbrev pub named_at_end : List ℕ → OperandPlace → Signs → NameOrEntity → Option Operand
 named_at_end src p sg x = cond (if_ends p (named_is_if x)) (Some (named_operand src sg x)) None
 
 abbrev pub last_operand : List ℕ → Reader WordsState WordsAct NameOrEntity → List Frame → Mode
@@ -179,9 +179,9 @@ primary_at_end src names s = option_image (λ m. m.item) (last_operand src names
 -- ---- the readers
 
 -- by the tree that is wanted of the whole, and how it is made at the end
-abbrev pub reader_of : {W K T : Type 0} → Wanted → Reader WordsState WordsAct NameOrEntity
+abbrev pub wanted_reader : {W K T : Type 0} → Wanted → Reader WordsState WordsAct NameOrEntity
     → WordOutline W K → (WordsState → W) → (List ℕ → State → Option T) → Reader State Act T
-reader_of w names n f tree = record {
+wanted_reader w names n f tree = record {
   start = opening [] [] (start_place w);
   plan = λ s k. shape_plan w n (shape_of f s) k;
   act = λ src s a t. expression_act src names s a t;
@@ -191,12 +191,13 @@ reader_of w names n f tree = record {
 
 abbrev pub expression_reader : {W K : Type 0} → Reader WordsState WordsAct NameOrEntity
     → WordOutline W K → (WordsState → W) → Reader State Act (Ranged Expr)
-expression_reader names n f = reader_of form.Expr names n f (λ src s. expr_at_end src names s)
+expression_reader names n f = wanted_reader form.Expr names n f (λ src s. expr_at_end src names s)
 
 abbrev pub sum_reader : {W K : Type 0} → Reader WordsState WordsAct NameOrEntity
     → WordOutline W K → (WordsState → W) → Reader State Act (Ranged Add)
-sum_reader names n f = reader_of form.Sum names n f (λ src s. sum_at_end src names s)
+sum_reader names n f = wanted_reader form.Sum names n f (λ src s. sum_at_end src names s)
 
 abbrev pub primary_reader : {W K : Type 0} → Reader WordsState WordsAct NameOrEntity
     → WordOutline W K → (WordsState → W) → Reader State Act (Cell Primary)
-primary_reader names n f = reader_of form.Primary names n f (λ src s. primary_at_end src names s)
+primary_reader names n f =
+    wanted_reader form.Primary names n f (λ src s. primary_at_end src names s)

@@ -12,10 +12,10 @@ use Rattle.cedar_syntax.specs.declared.cst.Primary.TheVariants as primary
 use Rattle.cedar_syntax.specs.declared.cst.Ident.{Ident}
 use Rattle.cedar_grammar.specs.declared.reading.class.Closing.{Closing}
 use Rattle.cedar_grammar.specs.declared.reading.class.Closing.TheVariants as closing
-use Rattle.cedar_grammar.specs.declared.reading.class.Access.{Access}
-use Rattle.cedar_grammar.specs.declared.reading.class.Access.TheVariants as opens
-use Rattle.cedar_grammar.specs.declared.reading.class.Side.{Side}
-use Rattle.cedar_grammar.specs.declared.reading.class.Side.TheVariants as side
+use Rattle.cedar_grammar.specs.declared.reading.class.AccessStart.{AccessStart}
+use Rattle.cedar_grammar.specs.declared.reading.class.AccessStart.TheVariants as opens
+use Rattle.cedar_grammar.specs.declared.reading.class.SideWord.{SideWord}
+use Rattle.cedar_grammar.specs.declared.reading.class.SideWord.TheVariants as side
 use Rattle.cedar_grammar.specs.declared.reading.class.Operator.{Operator}
 use Rattle.cedar_grammar.specs.declared.reading.class.Operator.TheVariants as operator
 use Rattle.cedar_expression_machine.specs.declared.expression.state.Ranged.{Ranged}
@@ -31,11 +31,11 @@ use Rattle.cedar_expression_machine.specs.declared.expression.state.Index.{Index
 use Rattle.cedar_expression_machine.specs.declared.expression.state.Record.{Record}
 use Rattle.cedar_expression_machine.specs.declared.expression.state.Key.{Key}
 use Rattle.cedar_expression_machine.specs.declared.expression.state.Guard.{Guard}
-use Rattle.cedar_expression_machine.specs.declared.expression.state.Yes.{Yes}
+use Rattle.cedar_expression_machine.specs.declared.expression.state.Then.{Then}
 use Rattle.cedar_expression_machine.specs.declared.expression.state.Frame.{Frame}
 use Rattle.cedar_expression_machine.specs.declared.expression.state.Frame.TheVariants as frame
-use Rattle.cedar_expression_machine.specs.declared.expression.state.Place.{Place}
-use Rattle.cedar_expression_machine.specs.declared.expression.state.Place.TheVariants as place
+use Rattle.cedar_expression_machine.specs.declared.expression.state.OperandPlace.{OperandPlace}
+use Rattle.cedar_expression_machine.specs.declared.expression.state.OperandPlace.TheVariants as place
 use Rattle.cedar_expression_machine.specs.declared.expression.state.Mode.TheVariants as mode
 use Rattle.cedar_expression_machine.specs.declared.expression.state.State.{State}
 use Rattle.cedar_grammar.specs.declared.reading.extent.Extent.{Extent}
@@ -57,7 +57,7 @@ sum_beginning src st lv m o e =
     going_on st (levels_of lv.branches lv.or lv.and lv.relation
     (Some (pending (marked_chain src lv.add (mult_at src lv m)) o e)) None)
 
-abbrev pub left_beginning : List Frame → Levels → Left → Place → State
+abbrev pub left_beginning : List Frame → Levels → Left → OperandPlace → State
 left_beginning st lv l p =
     state st (levels_of lv.branches lv.or lv.and (Some l) None None) (wants p)
 
@@ -86,17 +86,18 @@ comparison_beginning src st lv (Some (left.Has y)) x o e = None
 comparison_beginning src st lv (Some (left.Like y)) x o e = None
 comparison_beginning src st lv (Some (left.IsIn y z l)) x o e = None
 
-abbrev pub side_of : Side → Ranged (Cell Add) → Left
+abbrev pub side_of : SideWord → Ranged (Cell Add) → Left
 side_of side.Has y = left.Has y
 side_of side.Like y = left.Like y
 side_of side.Is y = left.Is y
 
-abbrev pub side_place : Side → Place
+abbrev pub side_place : SideWord → OperandPlace
 side_place side.Has = place.Has
 side_place side.Like = place.Operand
 side_place side.Is = place.Operand
 
-abbrev pub side_beginning : List ℕ → List Frame → Levels → Option Left → Ranged Add → Side → Extent
+abbrev pub side_beginning : List ℕ → List Frame → Levels → Option Left → Ranged Add → SideWord
+    → Extent
     → Option State
 side_beginning src st lv None x s e =
     Some (left_beginning st lv (side_of s (before src x e)) (side_place s))
@@ -114,7 +115,7 @@ disjunction_beginning src st lv m e =
 
 -- accesses
 
-abbrev pub access_beginning : List Frame → Levels → Operand → Access → Extent → State
+abbrev pub access_beginning : List Frame → Levels → Operand → AccessStart → Extent → State
 access_beginning st lv m opens.Dot e = state st lv (mode.Have m (Some e))
 access_beginning st lv m opens.Paren e =
     opening (frame.Call record {
@@ -206,24 +207,24 @@ record_ending src st f (Some k) x c m = value_ending src st f k x c m
 abbrev pub guard_ending : List ℕ → List Frame → Guard → Ranged Expr → Closing → Extent
     → Option State
 guard_ending src st f x closing.Then m = Some
-    (opening (frame.Yes record {
+    (opening (frame.Then record {
       branches = f.branches;
       guard = node_of src x;
       extent = joint_extent (joint_extent f.opened x.extent) (Some m);
     } ∷ st) [] place.Expr)
 guard_ending src st f x _ m = None
 
-abbrev pub branch_of : List ℕ → Yes → Ranged Expr → Extent → Branch
+abbrev pub branch_of : List ℕ → Then → Ranged Expr → Extent → Branch
 branch_of src f x m = record {
   guard = f.guard;
   yes = node_of src x;
   extent = joint_extent (joint_extent f.extent x.extent) (Some m);
 }
 
-abbrev pub yes_ending : List ℕ → List Frame → Yes → Ranged Expr → Closing → Extent → Option State
-yes_ending src st f x closing.Else m =
+abbrev pub then_ending : List ℕ → List Frame → Then → Ranged Expr → Closing → Extent → Option State
+then_ending src st f x closing.Else m =
     Some (opening st (branch_of src f x m ∷ f.branches) place.Expr)
-yes_ending src st f x _ m = None
+then_ending src st f x _ m = None
 
 abbrev pub frame_ending : List ℕ → List Frame → Ranged Expr → Closing → Extent → Option State
 frame_ending src [] x c m = None
@@ -233,7 +234,7 @@ frame_ending src (frame.Call f ∷ st) x c m = call_ending src st f x c m
 frame_ending src (frame.Index f ∷ st) x c m = index_ending src st f x c m
 frame_ending src (frame.Record f ∷ st) x c m = record_ending src st f f.key x c m
 frame_ending src (frame.Guard f ∷ st) x c m = guard_ending src st f x c m
-frame_ending src (frame.Yes f ∷ st) x c m = yes_ending src st f x c m
+frame_ending src (frame.Then f ∷ st) x c m = then_ending src st f x c m
 
 -- what is done with a token behind an operand
 abbrev pub follow_act : List ℕ → List Frame → Levels → Operand → Operator → Extent → Option State

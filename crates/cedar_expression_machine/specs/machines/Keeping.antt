@@ -1,4 +1,4 @@
--- A form whose trees are some of another's.
+-- A form that is read as another one, of which it keeps some trees alone: names, of the paths.
 use Rattle.std.specs.Prelude.{ℕ, List, Bool, Option, Some, None}
 use Rattle.cedar_grammar.specs.machines.Door.{Reader, Outline}
 

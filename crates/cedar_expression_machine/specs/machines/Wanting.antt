@@ -30,8 +30,8 @@ use Rattle.cedar_expression_machine.specs.declared.expression.state.Key.{Key}
 use Rattle.cedar_expression_machine.specs.declared.expression.state.Record.{Record}
 use Rattle.cedar_expression_machine.specs.declared.expression.state.Frame.{Frame}
 use Rattle.cedar_expression_machine.specs.declared.expression.state.Frame.TheVariants as frame
-use Rattle.cedar_expression_machine.specs.declared.expression.state.Place.{Place}
-use Rattle.cedar_expression_machine.specs.declared.expression.state.Place.TheVariants as place
+use Rattle.cedar_expression_machine.specs.declared.expression.state.OperandPlace.{OperandPlace}
+use Rattle.cedar_expression_machine.specs.declared.expression.state.OperandPlace.TheVariants as place
 use Rattle.cedar_expression_machine.specs.declared.expression.state.Mode.TheVariants as mode
 use Rattle.cedar_expression_machine.specs.declared.expression.state.State.{State}
 use Rattle.cedar_grammar.specs.declared.reading.extent.Extent.{Extent}
@@ -121,7 +121,7 @@ abbrev pub first_words : List ℕ → Reader WordsState WordsAct NameOrEntity �
     → Option WordsState
 first_words src names t = first_act src names t (names.plan names.start t.kind)
 
-abbrev pub word_held : List Frame → Levels → Place → Signs → WordsState → State
+abbrev pub word_held : List Frame → Levels → OperandPlace → Signs → WordsState → State
 word_held st lv p sg w = state st lv (mode.Word p sg w)
 
 -- a number, unless it doesn't fit
@@ -133,7 +133,7 @@ number_reading src st lv sg false t = None
 
 -- what is done with a token where an operand is wanted
 abbrev pub begin_act : List ℕ → Reader WordsState WordsAct NameOrEntity → List Frame → Levels
-    → Place → Signs → Begin → Lexeme → Option State
+    → OperandPlace → Signs → Begin → Lexeme → Option State
 begin_act src names st lv p sg begin.Word t =
     option_image (λ w. word_held st lv p sg w) (first_words src names t)
 begin_act src names st lv p sg begin.Number t = number_reading src st lv sg (fits t.text) t

@@ -9,7 +9,6 @@ use Rattle.cedar_syntax.specs.declared.cst.Ref.TheVariants as ref
 use Rattle.cedar_syntax.specs.declared.cst.RefInit.{RefInit}
 use Rattle.cedar_syntax.specs.declared.cst.Literal.{Literal}
 use Rattle.cedar_syntax.specs.declared.cst.Literal.TheVariants as literal
-use Rattle.cedar_syntax.specs.declared.cst.Str.{Str}
 use Rattle.cedar_grammar.specs.declared.reading.extent.Extent.{Extent}
 use Rattle.cedar_expression_machine.specs.declared.words.state.Word.{Word}
 use Rattle.cedar_expression_machine.specs.declared.words.state.Path.{Path}

@@ -3,7 +3,7 @@ ghost use Rattle.std.specs.Prelude.{◌≡◌, Some, IfOk, OnOk, IsTrue};
 ghost use Rattle.cedar_expression_machine.specs.machines.ExpressionModes.{IsSettled};
 ghost use Rattle.cedar_expression_machine.specs.machines.WholeExpressions.{state_ends, whole_expression_reader, whole_primary_reader, whole_sum_reader};
 
-use crate::expression::state::{Mode, Place, State};
+use crate::expression::state::{Mode, OperandPlace, State};
 use crate::ground::Ground;
 use cedar_syntax::cst::{Add, Expr, Primary};
 use cedar_syntax::node::Node;
@@ -29,7 +29,7 @@ impl State {
             self.old ≡ Some tree) }
     {
         self.settle_last(ground)?;
-        self.close_node(ground, Place::Operand)
+        self.close_node(ground, OperandPlace::Operand)
     }
 
     /// The sum that has ended. Nothing is said of the state behind it.
@@ -40,7 +40,7 @@ impl State {
             ≡ Some tree) }
     {
         self.settle_last(ground)?;
-        let operand = self.take_operand(Place::Operand);
+        let operand = self.take_operand(OperandPlace::Operand);
         let item = self.levels.close_add(ground, operand)?;
         ground.node_of(item)
     }
@@ -55,7 +55,7 @@ impl State {
             ≡ Some tree) }
     {
         self.settle_last(ground)?;
-        let operand = self.take_operand(Place::Operand);
+        let operand = self.take_operand(OperandPlace::Operand);
         Ok(operand.item)
     }
 }

@@ -1,23 +1,23 @@
 //! What is done with a token, by its kind and the shape of the state alone: nothing is built.
 ghost use Rattle.std.specs.Prelude.{◌≡◌, [], ◌∷◌, None};
 ghost use Rattle.cedar_grammar.specs.machines.Door.{option_image};
-ghost use Rattle.cedar_expression_machine.specs.declared.expression.state.Place.TheVariants as places;
+ghost use Rattle.cedar_expression_machine.specs.declared.expression.state.OperandPlace.TheVariants as places;
 ghost use Rattle.cedar_expression_machine.specs.machines.ExpressionPlans.{alone_reach, edge, reach_of, has_access, has_sum, has_relation, has_and, may_compare, may_side, may_end, stack_may_end, may_follow, may_sign, sign_may_stand, begin_plan, list_may_end, operand_plan, if_follows, behind_plan, settle_plan, key_plan, if_plan, ended_words_plan, word_plan, shape_plan, ends, if_ends, words_can_end};
 ghost use Rattle.cedar_expression_machine.specs.machines.ExpressionShapes.{left_shape, frame_shape, stack_shape, op_sign, mode_shape};
 ghost use Rattle.cedar_expression_machine.specs.machines.NamedShapes.{named_outline};
 ghost use Rattle.cedar_expression_machine.specs.machines.WholeExpressions.{state_ends, state_shape};
 ghost use Rattle.cedar_expression_machine.specs.machines.WordShapes.{words_shape};
 
-use crate::expression::operand::words;
+use crate::expression::operand::begun_words;
 use crate::expression::state::{
-    Act, Begin, Frame, Gap, Left, Mode, Place, Reach, Record, State, Wanted,
+    Act, Begin, Frame, Gap, Left, Mode, OperandPlace, Reach, Record, State, Wanted,
 };
 use crate::words::state::WordsState;
 use cedar_expressions::Boxed;
 use cedar_grammar::reading::class::{
-    Beginning, Closing, Operator, Side, Sign, as_beginning, as_operator,
+    Beginning, Closing, Operator, SideWord, Sign, as_beginning, as_operator,
 };
-use cedar_grammar::reading::tokens::if_any;
+use cedar_grammar::reading::tokens::if_ident;
 use cedar_lexer::token::TokenKind;
 use cedar_syntax::cst::{NegOp, RelOp};
 
@@ -110,18 +110,18 @@ impl Frame {
                 Some(_) => matches!(closing, Closing::Comma | Closing::Brace),
             },
             Frame::Guard(_) => matches!(closing, Closing::Then),
-            Frame::Yes(_) => matches!(closing, Closing::Else),
+            Frame::Then(_) => matches!(closing, Closing::Else),
         }
     }
 
     /// Whether this ends its list where an item may begin.
-    fn may_end_list(&self, place: Place, closing: Closing) -> bool
+    fn may_end_list(&self, place: OperandPlace, closing: Closing) -> bool
         ensures { (st : _) → result ≡ list_may_end (frame_shape self.now ∷ st) place closing }
     {
         match (place, closing) {
-            (Place::Item, Closing::Bracket) => matches!(self, Frame::Set(_)),
-            (Place::Item, Closing::Paren) => matches!(self, Frame::Call(_)),
-            (Place::Key, Closing::Brace) => {
+            (OperandPlace::Item, Closing::Bracket) => matches!(self, Frame::Set(_)),
+            (OperandPlace::Item, Closing::Paren) => matches!(self, Frame::Call(_)),
+            (OperandPlace::Key, Closing::Brace) => {
                 matches!(self, Frame::Record(Record { key: None, .. }))
             }
             _ => false,
@@ -147,10 +147,12 @@ fn may_sign(gap: Gap, sign: Sign) -> bool
     ensures { result ≡ sign_may_stand gap.place (op_sign gap.signs.op) sign }
 {
     match gap.place {
-        Place::Primary => false,
-        Place::Expr | Place::Item | Place::Key | Place::Has | Place::Operand => {
-            may_sign_behind(gap.signs.op, sign)
-        }
+        OperandPlace::Primary => false,
+        OperandPlace::Expr
+        | OperandPlace::Item
+        | OperandPlace::Key
+        | OperandPlace::Has
+        | OperandPlace::Operand => { may_sign_behind(gap.signs.op, sign) }
     }
 }
 
@@ -257,7 +259,7 @@ impl State {
     }
 
     /// Whether this ends the list of the newest bracket, where an item may begin.
-    fn may_end_list(&self, place: Place, closing: Closing) -> bool
+    fn may_end_list(&self, place: OperandPlace, closing: Closing) -> bool
         ensures { result ≡ list_may_end (stack_shape self.now.stack) place closing }
     {
         match self.stack.top() {
@@ -287,6 +289,7 @@ impl State {
     }
 
     /// What is done with a token of this kind behind an operand.
+    #[inline(always)]
     fn plan_behind(&self, wanted: Wanted, is_if: bool, kind: TokenKind) -> Option<Operator>
         ensures { result ≡ behind_plan wanted (stack_shape self.now.stack)
             (left_shape self.now.levels.relation) is_if kind }
@@ -334,15 +337,15 @@ impl State {
     }
 
     /// What is done with it behind the word `if` alone.
-    fn plan_if(&self, wanted: Wanted, place: Place, kind: TokenKind) -> Option<Act>
+    fn plan_if(&self, wanted: Wanted, place: OperandPlace, kind: TokenKind) -> Option<Act>
         ensures { result ≡ if_plan wanted (stack_shape self.now.stack)
             (left_shape self.now.levels.relation) place kind }
     {
         match place {
-            Place::Expr | Place::Item => guard_with(plan_begin(kind)),
-            Place::Key => self.plan_key(kind),
-            Place::Has => settle_with(self.plan_behind(wanted, true, kind)),
-            Place::Operand | Place::Primary => None,
+            OperandPlace::Expr | OperandPlace::Item => guard_with(plan_begin(kind)),
+            OperandPlace::Key => self.plan_key(kind),
+            OperandPlace::Has => settle_with(self.plan_behind(wanted, true, kind)),
+            OperandPlace::Operand | OperandPlace::Primary => None,
         }
     }
 
@@ -350,7 +353,7 @@ impl State {
     fn plan_ended(
         &self,
         wanted: Wanted,
-        place: Place,
+        place: OperandPlace,
         words: &WordsState,
         kind: TokenKind,
     ) -> Option<Act>
@@ -358,7 +361,7 @@ impl State {
             (left_shape self.now.levels.relation) place (option_image named_outline.is_if
             (named_outline.outline.finish (words_shape words.now))) kind }
     {
-        match words::ends(words) {
+        match begun_words::ends(words) {
             Some(true) => self.plan_if(wanted, place, kind),
             Some(false) => settle_with(self.plan_behind(wanted, false, kind)),
             None => None,
@@ -369,7 +372,7 @@ impl State {
     fn plan_words(
         &self,
         wanted: Wanted,
-        place: Place,
+        place: OperandPlace,
         words: &WordsState,
         kind: TokenKind,
     ) -> Option<Act>
@@ -395,7 +398,7 @@ impl State {
             Mode::Have { operand, dot: None } => {
                 follow_with(self.plan_behind(wanted, operand.is_if, kind))
             }
-            Mode::Have { .. } => if_any(kind, Act::Field),
+            Mode::Have { .. } => if_ident(kind, Act::Field),
         }
     }
 
@@ -421,21 +424,25 @@ fn follow_with(operator: Option<Operator>) -> Option<Act>
 }
 
 /// Whether words may end a tree: the word `if` alone is an operand right of `has`.
-fn if_ends(place: Place, is_if: bool) -> bool
+fn if_ends(place: OperandPlace, is_if: bool) -> bool
     ensures { result ≡ if_ends place is_if }
 {
     match place {
-        Place::Has => true,
-        Place::Expr | Place::Item | Place::Key | Place::Operand | Place::Primary => !is_if,
+        OperandPlace::Has => true,
+        OperandPlace::Expr
+        | OperandPlace::Item
+        | OperandPlace::Key
+        | OperandPlace::Operand
+        | OperandPlace::Primary => !is_if,
     }
 }
 
 /// Whether words that are begun may end a tree.
-fn words_end(place: Place, words: &WordsState) -> bool
+fn words_end(place: OperandPlace, words: &WordsState) -> bool
     ensures { result ≡ words_can_end named_outline place
         (named_outline.outline.finish (words_shape words.now)) }
 {
-    match words::ends(words) {
+    match begun_words::ends(words) {
         None => false,
         Some(is_if) => if_ends(place, is_if),
     }

@@ -28,14 +28,14 @@ pub struct Chain<T, I> {
 
 /// A chain with the operator that goes it on.
 #[derive(Drop)]
-pub struct Pending<T, O> {
+pub struct PendingChain<T, O> {
     pub chain: Chain<T, (O, Node<Option<T>>)>,
     pub op: O,
 }
 
 /// An operator, or what ends an expression, and its bytes.
 #[derive(Drop, Clone, Copy)]
-pub struct Mark<O> {
+pub struct OperatorAt<O> {
     pub op: O,
     pub extent: Extent,
 }
@@ -53,7 +53,7 @@ pub struct Branch {
 #[derive(Drop)]
 pub enum Left {
     /// A chain of comparisons.
-    Common(Pending<Add, RelOp>),
+    Common(PendingChain<Add, RelOp>),
     Has(Ranged<Node<Option<Add>>>),
     Like(Ranged<Node<Option<Add>>>),
     Is(Ranged<Node<Option<Add>>>),
@@ -73,8 +73,8 @@ pub struct Levels {
     pub or: Option<Boxed<Chain<And, Node<Option<And>>>>>,
     pub and: Option<Boxed<Chain<Relation, Node<Option<Relation>>>>>,
     pub relation: Option<Boxed<Left>>,
-    pub add: Option<Boxed<Pending<Mult, AddOp>>>,
-    pub mult: Option<Boxed<Pending<Unary, MultOp>>>,
+    pub add: Option<Boxed<PendingChain<Mult, AddOp>>>,
+    pub mult: Option<Boxed<PendingChain<Unary, MultOp>>>,
 }
 
 /// The signs before an operand.
@@ -158,7 +158,7 @@ pub struct Guard {
 
 /// `if`, its guard and `then`.
 #[derive(Drop)]
-pub struct Yes {
+pub struct Then {
     pub branches: Stack<Branch>,
     pub guard: Node<Option<Expr>>,
     pub extent: Option<Extent>,
@@ -174,13 +174,13 @@ pub enum Frame {
     Index(Index),
     Record(Record),
     Guard(Guard),
-    Yes(Yes),
+    Then(Then),
 }
 
 /// Where an operand is wanted: this says what the word `if` alone is there, and what else may
 /// stand there.
 #[derive(Drop, Clone, Copy)]
-pub enum Place {
+pub enum OperandPlace {
     /// First in an expression: `if` begins a conditional.
     Expr,
     /// The same, and the list may end.
@@ -198,7 +198,7 @@ pub enum Place {
 /// Where an operand is wanted, and the signs before it.
 #[derive(Drop, Clone, Copy)]
 pub struct Gap {
-    pub place: Place,
+    pub place: OperandPlace,
     pub signs: Signs,
 }
 
@@ -206,12 +206,12 @@ pub struct Gap {
 #[derive(Drop)]
 pub enum Mode {
     Want {
-        place: Place,
+        place: OperandPlace,
         signs: Signs,
     },
     /// Words are begun, which may go on.
     Word {
-        place: Place,
+        place: OperandPlace,
         signs: Signs,
         words: WordsState,
     },

@@ -4,18 +4,18 @@ ghost use Rattle.cedar_expression_machine.specs.machines.ExpressionStates.{openi
 ghost use Rattle.cedar_expression_machine.specs.machines.ExpressionShapes.{start_place};
 
 use crate::expression::levels::begin::{fresh_levels, want_at};
-use crate::expression::state::{Place, State, Wanted};
+use crate::expression::state::{OperandPlace, State, Wanted};
 use cedar_grammar::reading::stack::Stack;
 use std::alloc::Global;
 
 /// Where the first operand is wanted.
-fn start_place(wanted: Wanted) -> Place
+fn start_place(wanted: Wanted) -> OperandPlace
     ensures { result ≡ start_place wanted }
 {
     match wanted {
-        Wanted::Expr => Place::Expr,
-        Wanted::Sum => Place::Operand,
-        Wanted::Primary => Place::Primary,
+        Wanted::Expr => OperandPlace::Expr,
+        Wanted::Sum => OperandPlace::Operand,
+        Wanted::Primary => OperandPlace::Primary,
     }
 }
 

@@ -23,7 +23,7 @@ use cedar_grammar::reading::extent::Extent;
 use cedar_grammar::reading::literal::as_number;
 use cedar_grammar::reading::place::{node_at, token_extent};
 use cedar_grammar::reading::put::put;
-use cedar_grammar::reading::tokens::{if_any, string_node};
+use cedar_grammar::reading::tokens::{if_ident, string_node};
 use cedar_lexer::token::{Token, TokenKind};
 use cedar_syntax::cst::{Literal, Ref, RefInit};
 use cedar_syntax::node::Node;
@@ -86,7 +86,7 @@ fn plan_more(kind: TokenKind) -> Option<WordsAct>
     match kind {
         TokenKind::StringLit => Some(WordsAct::Eid),
         TokenKind::OpenBrace => Some(WordsAct::Open),
-        _ => if_any(kind, WordsAct::Path(PathAct::More)),
+        _ => if_ident(kind, WordsAct::Path(PathAct::More)),
     }
 }
 
@@ -96,7 +96,7 @@ fn plan_item(kind: TokenKind) -> Option<InitAct>
 {
     match kind {
         TokenKind::CloseBrace => Some(InitAct::Close),
-        _ => if_any(kind, InitAct::Key),
+        _ => if_ident(kind, InitAct::Key),
     }
 }
 
@@ -264,7 +264,7 @@ impl WordsState {
         ensures { result ≡ words_plan (words_shape self.now) kind }
     {
         match self {
-            WordsState::Path(PathState::Start) => if_any(kind, WordsAct::Path(PathAct::First)),
+            WordsState::Path(PathState::Start) => if_ident(kind, WordsAct::Path(PathAct::First)),
             WordsState::Path(PathState::Have(_)) => match kind {
                 TokenKind::ColonColon => Some(WordsAct::Path(PathAct::Colons)),
                 _ => None,
@@ -279,6 +279,7 @@ impl WordsState {
     }
 
     /// A string behind `::`.
+    #[inline(never)]
     fn name(&mut self, alloc: Global, source: &Source, token: &Token<'_>) -> Result<(), AllocError>
         requires written { IsWritten (lexeme_of token.now) }
         requires is_planned { words_plan (words_shape self.old) token.now.kind
@@ -299,6 +300,7 @@ impl WordsState {
     }
 
     /// `{` behind `::`.
+    #[inline(never)]
     fn open(&mut self, alloc: Global, source: &Source) -> Result<(), AllocError>
         requires { words_plan (words_shape self.old) kind.OpenBrace ≡ Some WordsAct.Open }
         ensures { OnOk result (Some self.new ≡ words_opened source.now self.old) }
@@ -317,6 +319,7 @@ impl WordsState {
     }
 
     /// A token in braces.
+    #[inline(never)]
     fn list(
         &mut self,
         alloc: Global,
@@ -389,7 +392,7 @@ impl Entry<Node<Option<Ref>>> for WordsState {
     }
 
     fn first(kind: TokenKind) -> Option<WordsAct> {
-        if_any(kind, WordsAct::Path(PathAct::First))
+        if_ident(kind, WordsAct::Path(PathAct::First))
     }
 
     fn plan(&self, kind: TokenKind) -> Option<WordsAct> {

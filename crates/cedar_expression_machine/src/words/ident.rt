@@ -4,7 +4,7 @@ use crate::words::nodes::{word_node, word_of};
 use crate::words::state::IdentState;
 use cedar_expressions::Source;
 use cedar_grammar::reading::driver::Entry;
-use cedar_grammar::reading::tokens::if_any;
+use cedar_grammar::reading::tokens::if_ident;
 use cedar_lexer::token::{Token, TokenKind};
 use cedar_syntax::cst::Ident;
 use cedar_syntax::node::Node;
@@ -23,12 +23,12 @@ impl Entry<Node<Option<Ident>>> for IdentState {
     }
 
     fn first(kind: TokenKind) -> Option<()> {
-        if_any(kind, ())
+        if_ident(kind, ())
     }
 
     fn plan(&self, kind: TokenKind) -> Option<()> {
         match self {
-            IdentState::Start => if_any(kind, ()),
+            IdentState::Start => if_ident(kind, ()),
             IdentState::Have(_) => None,
         }
     }

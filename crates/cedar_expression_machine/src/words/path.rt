@@ -16,7 +16,7 @@ use cedar_grammar::reading::driver::Entry;
 use cedar_grammar::reading::extent::Extent;
 use cedar_grammar::reading::place::node_at;
 use cedar_grammar::reading::put::put;
-use cedar_grammar::reading::tokens::if_any;
+use cedar_grammar::reading::tokens::if_ident;
 use cedar_lexer::token::{Token, TokenKind};
 use cedar_syntax::cst::{Ident, Name};
 use cedar_syntax::node::Node;
@@ -91,12 +91,12 @@ impl PathState {
         ensures { result ≡ path_plan (path_shape self.now) kind }
     {
         match self {
-            PathState::Start => if_any(kind, PathAct::First),
+            PathState::Start => if_ident(kind, PathAct::First),
             PathState::Have(_) => match kind {
                 TokenKind::ColonColon => Some(PathAct::Colons),
                 _ => None,
             },
-            PathState::Behind(_) => if_any(kind, PathAct::More),
+            PathState::Behind(_) => if_ident(kind, PathAct::More),
         }
     }
 
@@ -176,7 +176,7 @@ impl Entry<Node<Option<Name>>> for PathState {
     }
 
     fn first(kind: TokenKind) -> Option<PathAct> {
-        if_any(kind, PathAct::First)
+        if_ident(kind, PathAct::First)
     }
 
     fn plan(&self, kind: TokenKind) -> Option<PathAct> {

@@ -1,4 +1,5 @@
--- Rows of parts behind operators, and lists of items: what their words are read as, and what they print.
+-- Rows of parts behind operators, and lists of items: what their words are read as, and what they
+-- print.
 use Rattle.std.proofs.Common.{◌≡◌, ℕ, zero, suc, ◌+◌, List, [], ◌∷◌, ◌++◌, map, None, codes, refl, sym, ap, ap₂, ◌∙◌, subst, append_assoc, append-nil, arith}
 use Rattle.std.specs.Prelude.{replicate}
 use Rattle.std.proofs.lemmas.List.{replicate_more}

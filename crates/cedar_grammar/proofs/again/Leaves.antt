@@ -1,4 +1,5 @@
--- Words, literals, names and entity literals that are read are read again from their printed words.
+-- Words, literals, names and entity literals that are read are read again from their printed
+-- words.
 use Rattle.std.proofs.Common.{◌≡◌, ℕ, ◌<◌, true, List, [], ◌∷◌, ◌++◌, map, Option, Some, codes, refl, sym, ap, ap₂, ◌∙◌, subst, append_assoc, append-nil, arith}
 use Rattle.cedar_lexer.specs.Spelling.{Spells, IsNumber, IsStringText, IsStringTail, closing, plain, escaped}
 use Rattle.cedar_lexer.specs.Token.{Lexeme}

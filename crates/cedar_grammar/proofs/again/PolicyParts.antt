@@ -1,5 +1,5 @@
--- The parts of a policy that are read are read again from their printed words: annotations, elements
--- of the scope, conditions; and items one behind the other.
+-- The parts of a policy that are read are read again from their printed words: annotations,
+-- elements of the scope, conditions; and items one behind the other.
 use Rattle.std.proofs.Common.{◌≡◌, ℕ, List, [], ◌∷◌, ◌++◌, Option, Some, None, codes, refl, sym, ap, ap₂, ◌∙◌, subst, append_assoc, append-nil}
 use Rattle.cedar_lexer.specs.Token.{Lexeme}
 use Rattle.cedar_lexer.specs.declared.token.TokenKind.TheVariants as kind

@@ -12,7 +12,8 @@ use Rattle.cedar_grammar.specs.SameWords.{Again}
 abbrev pub AllSpelled : List Lexeme → Type 0
 AllSpelled ts = AreSpelled (words_of ts)
 
--- a tree's printed words are spellings, and tokens with these words have a tree that is the same up to places
+-- a tree's printed words are spellings, and tokens with these words have a tree that is the same
+-- up to places
 pub record PrintsAgain {X F : Type 0} (R : Rule X) (bare : X → F) (tree : X → Tree) (x : X) : Type 0 where
   pub words : List TokenText
   pub spelled : AreSpelled words

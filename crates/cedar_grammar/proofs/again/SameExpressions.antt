@@ -1,4 +1,5 @@
--- What tokens are read as by the rules of expressions, others with the same words are read as too: the induction.
+-- What tokens are read as by the rules of expressions, others with the same words are read as too:
+-- the induction.
 use Rattle.std.proofs.Common.{◌≡◌, ℕ, ◌+◌, List, [], ◌∷◌, ◌++◌, Option, Some, None, refl, sym, ap, ap₂, ◌∙◌, subst}
 use Rattle.cedar_lexer.specs.Token.{Lexeme}
 use Rattle.cedar_lexer.specs.declared.token.TokenKind.{TokenKind}

@@ -1,4 +1,5 @@
--- What tokens are read as, others with the same words are read as too: the forms that rules have in common, and words, literals, names and entity literals.
+-- What tokens are read as, others with the same words are read as too: the forms that rules have
+-- in common, and words, literals, names and entity literals.
 use Rattle.std.proofs.Common.{◌≡◌, ℕ, List, [], ◌∷◌, ◌++◌, Some, refl, sym, ap, ap₂, ◌∙◌, subst, append_assoc}
 use Rattle.std.specs.Prelude.{IsTrue}
 use Rattle.std.proofs.lemmas.List.{map-append}

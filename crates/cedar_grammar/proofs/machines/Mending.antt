@@ -6,12 +6,12 @@ use Rattle.cedar_lexer.specs.Token.{Lexeme, lexeme_of}
 use Rattle.cedar_lexer.specs.LexerState.{LexerState, LexerAnswers, fresh_lexer, IsCutOrStop}
 use Rattle.cedar_lexer.specs.declared.token.Token.{Token}
 use Rattle.cedar_lexer.specs.declared.token.TokenKind.{TokenKind}
-use Rattle.cedar_grammar.specs.declared.reading.mending.Doing.{Doing}
-use Rattle.cedar_grammar.specs.declared.reading.mending.Doing.TheVariants as doing
+use Rattle.cedar_grammar.specs.declared.reading.mending.Phase.{Phase}
+use Rattle.cedar_grammar.specs.declared.reading.mending.Phase.TheVariants as phase
 use Rattle.cedar_grammar.specs.declared.reading.mending.Refusal.{Refusal}
 use Rattle.cedar_grammar.specs.declared.reading.mending.Refusal.TheVariants as refusal
 use Rattle.cedar_grammar.specs.declared.reading.mending.Run.{Run}
-use Rattle.cedar_grammar.specs.declared.reading.recovery.Way.{Way}
+use Rattle.cedar_grammar.specs.declared.reading.recovery.RecoveryWay.{RecoveryWay}
 use Rattle.cedar_grammar.specs.MendedFaults.{faults_with_last}
 use Rattle.cedar_grammar.specs.WrittenTokens.{IsWritten}
 use Rattle.cedar_grammar.specs.machines.Door.{Machine, Answer, next, ended, refused, too_large, answer_state, steps}
@@ -33,9 +33,9 @@ pub record Met {S T F : Type 0} (m : Machine Lexeme S T) (p : S → Option Token
 
 -- ---- the beginning
 
-pub begun_stage : {S F : Type 0} (run : Run S F) (s : S) → run.doing ≡ doing.Reading → run.mended ≡ [] → run.end ≡ 0 → s ≡ run.state → stage_of run ≡ reading [] 0 s
+pub begun_stage : {S F : Type 0} (run : Run S F) (s : S) → run.phase ≡ phase.Reading → run.mended ≡ [] → run.end ≡ 0 → s ≡ run.state → stage_of run ≡ reading [] 0 s
 begun_stage run s h i j k =
-    ap (λ d. stage d run.mended run.end run.state) h ∙ (ap (λ xs. stage doing.Reading xs run.end run.state) i ∙ (ap (λ n. stage doing.Reading [] n run.state) j ∙ ap (λ s. stage doing.Reading [] 0 s) (sym k)))
+    ap (λ d. stage d run.mended run.end run.state) h ∙ (ap (λ xs. stage phase.Reading xs run.end run.state) i ∙ (ap (λ n. stage phase.Reading [] n run.state) j ∙ ap (λ s. stage phase.Reading [] 0 s) (sym k)))
 
 pub at_start : {S T F : Type 0} (m : Machine Lexeme S T) (p : S → Option TokenKind → Bool) (r : Recovers S F) (text : List ℕ) (q : Recovery S F) (l : LexerState) → IsUtf8 text → q ≡ reading [] 0 m.start → l ≡ fresh_lexer text → Met m p r text q l
 at_start m p r text q l w e g = record { utf8 = w; before = []; is = e; stands = begun text l g }
@@ -83,7 +83,7 @@ snoc_spoilt : {S F : Type 0} (xs : List F) (x : F) (l : ℕ) (s : S) → Spoilt 
 snoc_spoilt [] x l s = tt
 snoc_spoilt (y ∷ xs) x l s = tt
 
-skip_spoilt : {S F : Type 0} (xs : List F) (w : Way) (x : F) (t : Lexeme) (k : Skipped S) → Spoilt (behind_skip xs w x t k)
+skip_spoilt : {S F : Type 0} (xs : List F) (w : RecoveryWay) (x : F) (t : Lexeme) (k : Skipped S) → Spoilt (behind_skip xs w x t k)
 skip_spoilt xs w x t (on s) = tt
 skip_spoilt xs w x t (over s) = snoc_spoilt xs x t.end s
 skip_spoilt xs w x t stop = tt
@@ -149,10 +149,10 @@ clean_at p r b (skipping xs w s x) None e = absurd (more_none x xs e)
 clean_at p r b (skipping xs w s x) (Some place) e = absurd (more_none (b place) xs e)
 clean_at p r b (stopped xs x) bad e = absurd (more_none x xs e)
 
-stage_state : {S F : Type 0} (d : Doing F) (xs : List F) (l n : ℕ) (s q : S) → stage d xs l s ≡ reading [] n q → s ≡ q
-stage_state doing.Reading xs l n s q e = reading_is e
-stage_state (doing.Skipping w) xs l n s q e = absurd (cc)
-stage_state (doing.Stopped x) xs l n s q e = absurd (cc)
+stage_state : {S F : Type 0} (d : Phase F) (xs : List F) (l n : ℕ) (s q : S) → stage d xs l s ≡ reading [] n q → s ≡ q
+stage_state phase.Reading xs l n s q e = reading_is e
+stage_state (phase.Skipping w) xs l n s q e = absurd (cc)
+stage_state (phase.Stopped x) xs l n s q e = absurd (cc)
 
 reads_whole : {S T F : Type 0} {m : Machine Lexeme S T} (p : S → Option TokenKind → Bool) (r : Recovers S F) (b : ℕ → F) {text : List ℕ} (run : Run S F) {l : LexerState} (u : LexerState) (bad : Option ℕ) (x : T) → Met m p r text (stage_of run) l → LexerAnswers l (answer_as None bad) u →
     m.finish run.state ≡ Some x → met_faults p r b (stage_of run) bad ≡ [] → IsRead m text x
@@ -163,7 +163,7 @@ reads_whole {m = m} p r b {text = text} run u bad x w a f e =
       cut = subst (λ o. IsCutOrStop text 0 w.before o) c.goes (ends_there u bad w a);
       runs = record {
         last = run.state;
-        goes = clean_run m p r 0 c.end m.start c.state w.before (sym w.is ∙ c.is) ∙ ap (λ s. Some s) (sym (stage_state run.doing run.mended run.end c.end run.state c.state c.is));
+        goes = clean_run m p r 0 c.end m.start c.state w.before (sym w.is ∙ c.is) ∙ ap (λ s. Some s) (sym (stage_state run.phase run.mended run.end c.end run.state c.state c.is));
         ends = f;
       };
     }

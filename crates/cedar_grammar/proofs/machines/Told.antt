@@ -1,4 +1,5 @@
--- What a machine tells where it stops is the first fault by its rule, and what it reads is the tree.
+-- What a machine tells where it stops is the first fault by its rule, and what it reads is the
+-- tree.
 use Rattle.std.specs.Prelude.{IsTrue, ◌↔◌, cond, ◌⊎◌, MatchResult, IfOk, IfErr}
 use Rattle.std.proofs.Common.{◌≡◌, ℕ, List, [], ◌∷◌, ◌++◌, Option, Some, None, Bool, true, false, Result, Ok, Err, refl, sym, ◌∙◌, ap, subst, inl, inr, append_assoc}
 use Rattle.std.proofs.lemmas.List.{append-nil}

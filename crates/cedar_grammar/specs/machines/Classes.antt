@@ -15,8 +15,8 @@ use Rattle.cedar_grammar.specs.declared.reading.class.SlotToken.TheVariants as s
 use Rattle.cedar_grammar.specs.declared.reading.class.Beginning.{Beginning}
 use Rattle.cedar_grammar.specs.declared.reading.class.Beginning.TheVariants as beginning
 use Rattle.cedar_grammar.specs.declared.reading.class.Closing.TheVariants as closing
-use Rattle.cedar_grammar.specs.declared.reading.class.Access.TheVariants as opens
-use Rattle.cedar_grammar.specs.declared.reading.class.Side.TheVariants as side
+use Rattle.cedar_grammar.specs.declared.reading.class.AccessStart.TheVariants as opens
+use Rattle.cedar_grammar.specs.declared.reading.class.SideWord.TheVariants as side
 use Rattle.cedar_grammar.specs.declared.reading.class.Operator.{Operator}
 use Rattle.cedar_grammar.specs.declared.reading.class.Operator.TheVariants as operator
 use Rattle.cedar_syntax.specs.Tokens.{any_of}

@@ -1,4 +1,5 @@
--- What parts the forms of a policy: each kind is one mark, or none.
+-- The kinds of token that part the forms of a policy, each as its mark, and all others as `Other`;
+-- and which operator of a relation a kind is.
 use Rattle.std.specs.Prelude.{Option, Some, None}
 use Rattle.cedar_lexer.specs.declared.token.TokenKind.{TokenKind}
 use Rattle.cedar_lexer.specs.declared.token.TokenKind.TheVariants as kind

@@ -14,12 +14,12 @@ use Rattle.cedar_syntax.specs.declared.err.faults.ParseError.{ParseError}
 use Rattle.cedar_syntax.specs.declared.err.to_cst.RawFault.{RawFault}
 use Rattle.cedar_syntax.specs.declared.err.to_cst.RawFault.TheVariants as fault
 use Rattle.cedar_grammar.specs.declared.reading.expected.Narrowing.TheVariants as narrowing
-use Rattle.cedar_grammar.specs.declared.reading.mending.Doing.{Doing}
-use Rattle.cedar_grammar.specs.declared.reading.mending.Doing.TheVariants as doing
+use Rattle.cedar_grammar.specs.declared.reading.mending.Phase.{Phase}
+use Rattle.cedar_grammar.specs.declared.reading.mending.Phase.TheVariants as phase
 use Rattle.cedar_grammar.specs.declared.reading.mending.Refusal.{Refusal}
 use Rattle.cedar_grammar.specs.declared.reading.mending.Refusal.TheVariants as refusal
 use Rattle.cedar_grammar.specs.declared.reading.mending.Run.{Run}
-use Rattle.cedar_grammar.specs.declared.reading.recovery.Way.{Way}
+use Rattle.cedar_grammar.specs.declared.reading.recovery.RecoveryWay.{RecoveryWay}
 use Rattle.cedar_grammar.specs.FirstFault.{unexpected_fault, early_at, large_at}
 use Rattle.cedar_grammar.specs.MendedFaults.{fault_of, faults_with_last}
 use Rattle.cedar_grammar.specs.machines.Door.{Machine, Answer, next, ended, refused, too_large}
@@ -48,7 +48,8 @@ refused_fault o p src l None = o src (early_at l (wanted_kinds p narrowing.Token
 
 -- `p` says what a state allows, `w` how a fault is left in it, and `c` and `e` what a `}` and a
 -- `;` make of it that end skipping
-abbrev pub recovers_of : {S F : Type 0} → (S → Option TokenKind → Bool) → (S → Way) → (S → S) →
+abbrev pub recovers_of : {S F : Type 0} → (S → Option TokenKind → Bool) → (S → RecoveryWay) →
+    (S → S) →
     (S → S) → (List ℕ → RawFault → F) → List ℕ → Recovers S F
 recovers_of p w c e o src = record {
   way = w;
@@ -59,13 +60,13 @@ recovers_of p w c e o src = record {
 }
 
 -- what is being done
-abbrev pub stage : {S F : Type 0} → Doing F → List F → ℕ → S → Recovery S F
-stage doing.Reading xs l s = reading xs l s
-stage (doing.Skipping w) xs l s = skipping xs w.way s w.fault
-stage (doing.Stopped x) xs l s = stopped xs x
+abbrev pub stage : {S F : Type 0} → Phase F → List F → ℕ → S → Recovery S F
+stage phase.Reading xs l s = reading xs l s
+stage (phase.Skipping w) xs l s = skipping xs w.way s w.fault
+stage (phase.Stopped x) xs l s = stopped xs x
 
 abbrev pub stage_of : {S F : Type 0} → Run S F → Recovery S F
-stage_of r = stage r.doing r.mended r.end r.state
+stage_of r = stage r.phase r.mended r.end r.state
 
 -- ---- the parser that recovers, by what its states allow
 
@@ -77,7 +78,8 @@ taken_stage r xs t (ended x) = stopped xs (r.large t)
 taken_stage r xs t refused = stopped xs (r.large t)
 taken_stage r xs t too_large = stopped xs (r.large t)
 
-abbrev pub skip_step_by : {S F : Type 0} → (S → S) → (S → S) → List F → Way → S → F → Lexeme →
+abbrev pub skip_step_by : {S F : Type 0} → (S → S) → (S → S) → List F → RecoveryWay → S → F →
+    Lexeme →
     Recovery S F
 skip_step_by c e xs w s x t = behind_skip xs w x t (skip c e w s (mark_of t.kind))
 
@@ -153,31 +155,31 @@ IsTold m p r text (Errors errors) =
 -- ---- what a token makes of a run that is skipping
 
 -- a fault is in hand, which is told behind the first token that ends skipping
-abbrev pub IsSkipping : {F : Type 0} → Doing F → Type 0
-IsSkipping (doing.Skipping w) = Unit {0}
-IsSkipping doing.Reading = ⊥
-IsSkipping (doing.Stopped x) = ⊥
+abbrev pub IsSkipping : {F : Type 0} → Phase F → Type 0
+IsSkipping (phase.Skipping w) = Unit {0}
+IsSkipping phase.Reading = ⊥
+IsSkipping (phase.Stopped x) = ⊥
 
 -- and it is left by this way
-abbrev pub IsSkippingBy : {F : Type 0} → Way → Doing F → Type 0
-IsSkippingBy way (doing.Skipping w) = w.way ≡ way
-IsSkippingBy way doing.Reading = ⊥
-IsSkippingBy way (doing.Stopped x) = ⊥
+abbrev pub IsSkippingBy : {F : Type 0} → RecoveryWay → Phase F → Type 0
+IsSkippingBy way (phase.Skipping w) = w.way ≡ way
+IsSkippingBy way phase.Reading = ⊥
+IsSkippingBy way (phase.Stopped x) = ⊥
 
 -- where skipping is over, reading goes on behind this place, and the fault in hand is mended
-abbrev pub mended_doing : {S F : Type 0} → Doing F → List F → ℕ → S → Recovery S F
-mended_doing (doing.Skipping w) xs l s = reading (xs ++ w.fault ∷ []) l s
-mended_doing doing.Reading xs l s = reading xs l s
-mended_doing (doing.Stopped x) xs l s = stopped xs x
+abbrev pub mended_phase : {S F : Type 0} → Phase F → List F → ℕ → S → Recovery S F
+mended_phase (phase.Skipping w) xs l s = reading (xs ++ w.fault ∷ []) l s
+mended_phase phase.Reading xs l s = reading xs l s
+mended_phase (phase.Stopped x) xs l s = stopped xs x
 
 abbrev pub mended_stage : {S F : Type 0} → Run S F → ℕ → Recovery S F
-mended_stage r l = mended_doing r.doing r.mended l r.state
+mended_stage r l = mended_phase r.phase r.mended l r.state
 
 -- where skipping stops, the fault in hand is the last
-abbrev pub stopped_doing : {S F : Type 0} → Doing F → List F → ℕ → S → Recovery S F
-stopped_doing (doing.Skipping w) xs l s = stopped xs w.fault
-stopped_doing doing.Reading xs l s = reading xs l s
-stopped_doing (doing.Stopped x) xs l s = stopped xs x
+abbrev pub stopped_phase : {S F : Type 0} → Phase F → List F → ℕ → S → Recovery S F
+stopped_phase (phase.Skipping w) xs l s = stopped xs w.fault
+stopped_phase phase.Reading xs l s = reading xs l s
+stopped_phase (phase.Stopped x) xs l s = stopped xs x
 
 abbrev pub stopped_stage : {S F : Type 0} → Run S F → Recovery S F
-stopped_stage r = stopped_doing r.doing r.mended r.end r.state
+stopped_stage r = stopped_phase r.phase r.mended r.end r.state

@@ -1,17 +1,19 @@
--- The parser that recovers in place, over any machine.
+-- A machine that goes on behind a fault, over any machine that reads: it skips to the `}` or `;`
+-- that ends what is faulty, closes the braces or ends the policy that is begun, and reads on from
+-- that state. The rule that it follows is that of `Mended`.
 use Rattle.std.specs.Prelude.{ℕ, List, [], ◌∷◌, ◌++◌, Option, Some, None}
 use Rattle.cedar_lexer.specs.Token.{Lexeme}
 use Rattle.cedar_grammar.specs.declared.reading.mark.Mark.{Mark}
 use Rattle.cedar_grammar.specs.declared.reading.mark.Mark.TheVariants as mark
-use Rattle.cedar_grammar.specs.declared.reading.recovery.Way.{Way}
-use Rattle.cedar_grammar.specs.declared.reading.recovery.Way.TheVariants as way
+use Rattle.cedar_grammar.specs.declared.reading.recovery.RecoveryWay.{RecoveryWay}
+use Rattle.cedar_grammar.specs.declared.reading.recovery.RecoveryWay.TheVariants as way
 use Rattle.cedar_grammar.specs.machines.Door.{Machine, Answer, next, ended, refused, too_large}
 use Rattle.cedar_grammar.specs.machines.Marks.{mark_of}
 
 -- what a state does with a fault
 pub record Recovers (S F : Type 0) : Type 0 where
   -- how it is left
-  pub way : S → Way
+  pub way : S → RecoveryWay
   -- the state with its condition's braces closed, and with its policy ended
   pub close : S → S
   pub end : S → S
@@ -19,14 +21,15 @@ pub record Recovers (S F : Type 0) : Type 0 where
   pub tell : S → ℕ → Option Lexeme → F
   pub large : Lexeme → F
 
--- the faults so far, and what is done: reading behind the last token's end; skipping with a fault
--- in hand; nothing more
+-- the faults so far, and what is done: tokens are read, the last of which ends there; tokens are
+-- skipped, with the fault in hand that is told once they are; nothing is done any more
 pub data Recovery (S F : Type 0) : Type 0 where
   reading : List F → ℕ → S → Recovery S F
-  skipping : List F → Way → S → F → Recovery S F
+  skipping : List F → RecoveryWay → S → F → Recovery S F
   stopped : List F → F → Recovery S F
 
-abbrev pub skip_step : {S F : Type 0} → Recovers S F → List F → Way → S → F → Lexeme → Mark →
+abbrev pub skip_step : {S F : Type 0} → Recovers S F → List F → RecoveryWay → S → F → Lexeme →
+    Mark →
     Recovery S F
 skip_step r xs way.ToBrace s x t mark.CloseBrace = reading (xs ++ x ∷ []) t.end (r.close s)
 skip_step r xs way.ToBrace s x t mark.Semicolon = reading (xs ++ x ∷ []) t.end (r.end s)

@@ -3,8 +3,8 @@ use Rattle.std.specs.Prelude.{List, [], ◌∷◌, ◌++◌}
 use Rattle.cedar_lexer.specs.Token.{Lexeme}
 use Rattle.cedar_grammar.specs.declared.reading.mark.Mark.{Mark}
 use Rattle.cedar_grammar.specs.declared.reading.mark.Mark.TheVariants as mark
-use Rattle.cedar_grammar.specs.declared.reading.recovery.Way.{Way}
-use Rattle.cedar_grammar.specs.declared.reading.recovery.Way.TheVariants as way
+use Rattle.cedar_grammar.specs.declared.reading.recovery.RecoveryWay.{RecoveryWay}
+use Rattle.cedar_grammar.specs.declared.reading.recovery.RecoveryWay.TheVariants as way
 use Rattle.cedar_grammar.specs.declared.reading.recovery.Skipping.{Skipping}
 use Rattle.cedar_grammar.specs.declared.reading.recovery.Skipping.TheVariants as skipping
 use Rattle.cedar_grammar.specs.machines.Recovery as recovery
@@ -18,7 +18,7 @@ pub data Skipped (S : Type 0) : Type 0 where
   stop : Skipped S
 
 -- `c` closes the condition's braces, `e` ends the policy
-abbrev pub skip : {S : Type 0} → (S → S) → (S → S) → Way → S → Mark → Skipped S
+abbrev pub skip : {S : Type 0} → (S → S) → (S → S) → RecoveryWay → S → Mark → Skipped S
 skip c e way.ToBrace s mark.CloseBrace = over (c s)
 skip c e way.ToBrace s mark.Semicolon = over (e s)
 skip c e way.ToBrace s _ = on s
@@ -33,7 +33,8 @@ skip_answer skipping.Over s = over s
 skip_answer skipping.Stop s = stop
 
 -- what the parser that recovers is then at, with the faults so far and the one in hand
-abbrev pub behind_skip : {S F : Type 0} → List F → Way → F → Lexeme → Skipped S → Recovery S F
+abbrev pub behind_skip : {S F : Type 0} → List F → RecoveryWay → F → Lexeme → Skipped S
+    → Recovery S F
 behind_skip xs w x t (on s) = recovery.skipping xs w s x
 behind_skip xs w x t (over s) = recovery.reading (xs ++ x ∷ []) t.end s
 behind_skip xs w x t stop = recovery.stopped xs x

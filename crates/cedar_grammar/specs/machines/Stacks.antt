@@ -1,4 +1,4 @@
--- What a stack ends as when what it lent is written.
+-- What a stack holds once the loan of its newest element ends.
 use Rattle.std.specs.Prelude.{List, [], ◌∷◌, Option}
 use Rattle.std.specs.Borrow.{LendsIf, RattleType, MutBor, Fml}
 use Rattle.cedar_grammar.specs.contracts.reading.stack.Stack as stack

@@ -3,7 +3,7 @@
 ghost use Rattle.std.specs.Prelude.{◌≡◌};
 ghost use Rattle.cedar_grammar.specs.machines.Classes.{beginning_of, operator_of, with_sign};
 
-use crate::reading::words::is_any;
+use crate::reading::identifier::is_ident;
 use cedar_lexer::token::TokenKind;
 use cedar_syntax::cst::{AddOp, MultOp, NegOp, RelOp, SIGN_LIMIT};
 
@@ -59,7 +59,7 @@ pub enum Closing {
 
 /// What begins an access.
 #[derive(Drop, Clone, Copy)]
-pub enum Access {
+pub enum AccessStart {
     /// `.`
     Dot,
     /// `(`
@@ -70,7 +70,7 @@ pub enum Access {
 
 /// A word behind whose left side stands one right side.
 #[derive(Drop, Clone, Copy)]
-pub enum Side {
+pub enum SideWord {
     Has,
     Like,
     Is,
@@ -79,11 +79,11 @@ pub enum Side {
 /// What a token can be behind an operand.
 #[derive(Drop, Clone, Copy)]
 pub enum Operator {
-    Access(Access),
+    Access(AccessStart),
     Multiply(MultOp),
     Sum(AddOp),
     Compare(RelOp),
-    Side(Side),
+    Side(SideWord),
     And,
     Or,
     Ends(Closing),
@@ -109,7 +109,7 @@ pub fn as_beginning(kind: TokenKind) -> Beginning
         TokenKind::CloseBracket => Beginning::Ends(Closing::Bracket),
         TokenKind::CloseBrace => Beginning::Ends(Closing::Brace),
         _ => {
-            if is_any(kind) {
+            if is_ident(kind) {
                 Beginning::Word
             } else {
                 Beginning::Other
@@ -123,9 +123,9 @@ pub fn as_operator(kind: TokenKind) -> Operator
     ensures { result ≡ operator_of kind }
 {
     match kind {
-        TokenKind::Dot => Operator::Access(Access::Dot),
-        TokenKind::OpenParen => Operator::Access(Access::Paren),
-        TokenKind::OpenBracket => Operator::Access(Access::Bracket),
+        TokenKind::Dot => Operator::Access(AccessStart::Dot),
+        TokenKind::OpenParen => Operator::Access(AccessStart::Paren),
+        TokenKind::OpenBracket => Operator::Access(AccessStart::Bracket),
         TokenKind::Star => Operator::Multiply(MultOp::Times),
         TokenKind::Slash => Operator::Multiply(MultOp::Divide),
         TokenKind::Percent => Operator::Multiply(MultOp::Mod),
@@ -139,9 +139,9 @@ pub fn as_operator(kind: TokenKind) -> Operator
         TokenKind::EqEq => Operator::Compare(RelOp::Eq),
         TokenKind::In => Operator::Compare(RelOp::In),
         TokenKind::Eq => Operator::Compare(RelOp::InvalidSingleEq),
-        TokenKind::Has => Operator::Side(Side::Has),
-        TokenKind::Like => Operator::Side(Side::Like),
-        TokenKind::Is => Operator::Side(Side::Is),
+        TokenKind::Has => Operator::Side(SideWord::Has),
+        TokenKind::Like => Operator::Side(SideWord::Like),
+        TokenKind::Is => Operator::Side(SideWord::Is),
         TokenKind::AndAnd => Operator::And,
         TokenKind::OrOr => Operator::Or,
         TokenKind::CloseParen => Operator::Ends(Closing::Paren),
@@ -156,7 +156,7 @@ pub fn as_operator(kind: TokenKind) -> Operator
 }
 
 /// One sign more before an operand, or `None` where the other sign stands before it.
-pub fn signed(op: Option<NegOp>, sign: Sign) -> Option<NegOp>
+pub fn add_sign(op: Option<NegOp>, sign: Sign) -> Option<NegOp>
     ensures { result ≡ with_sign op sign }
 {
     match (op, sign) {

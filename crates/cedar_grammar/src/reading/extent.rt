@@ -10,7 +10,7 @@ pub struct Extent {
 }
 
 /// From the start of the first to the end of the second.
-pub fn joined(first: Option<Extent>, second: Option<Extent>) -> Option<Extent>
+pub fn join_extents(first: Option<Extent>, second: Option<Extent>) -> Option<Extent>
     ensures { result ≡ joint_extent first second }
 {
     match (first, second) {

@@ -3,7 +3,7 @@ ghost use Rattle.std.specs.Prelude.{◌≡◌, ℕ, List, [], Some, None, false,
 ghost use Rattle.cedar_lexer.specs.LexerState.{LexerAnswers};
 ghost use Rattle.cedar_lexer.specs.Token.{lexeme_of};
 ghost use Rattle.cedar_syntax.specs.NonEmpty.{list_of};
-ghost use Rattle.cedar_grammar.specs.declared.reading.mending.Doing.TheVariants as doing;
+ghost use Rattle.cedar_grammar.specs.declared.reading.mending.Phase.TheVariants as phase;
 ghost use Rattle.cedar_grammar.specs.MendedFaults.{fault_of, faults_with_last};
 ghost use Rattle.cedar_grammar.specs.WrittenTokens.{IsWritten};
 ghost use Rattle.cedar_grammar.specs.machines.Judged.{IsRead};
@@ -17,7 +17,7 @@ ghost use Rattle.cedar_grammar.specs.machines.Mending.{IsSkipping, IsSkippingBy,
 use crate::reading::driver::{Entry, early, large_number, unexpected};
 use crate::reading::expected::Narrowing;
 use crate::reading::mark::as_mark;
-use crate::reading::recovery::{Recovering, Skipping, Way, skip};
+use crate::reading::recovery::{Recovering, RecoveryWay, Skipping, skip};
 use cedar_expressions::{Items, Source};
 use cedar_lexer::lexer::Lexer;
 use cedar_lexer::token::{InvalidToken, Token};
@@ -51,18 +51,18 @@ impl Telling for ParseError {
 
 /// A fault, and how it is left.
 #[derive(Drop)]
-pub struct Pending<F> {
-    pub way: Way,
+pub struct FaultInHand<F> {
+    pub way: RecoveryWay,
     pub fault: F,
 }
 
 /// What is done with the next token.
 #[derive(Drop)]
-pub enum Doing<F> {
+pub enum Phase<F> {
     /// It is read.
     Reading,
     /// It is skipped, to leave a fault.
-    Skipping(Pending<F>),
+    Skipping(FaultInHand<F>),
     /// Nothing more: the parse has stopped at this fault.
     Stopped(F),
 }
@@ -75,7 +75,7 @@ pub struct Run<E, F> {
     pub end: usize,
     /// The faults behind which reading went on.
     pub mended: Items<F>,
-    pub doing: Doing<F>,
+    pub phase: Phase<F>,
 }
 
 /// Why a text has no tree: there was no memory, or it has these faults.
@@ -99,13 +99,13 @@ impl<F: Drop> From<AllocError> for Refusal<F> {
 /// Before the first token.
 fn begin<T: Drop, E: Entry<T>, F: Telling>(alloc: Global) -> Run<E, F>
     ensures state { E.reader.start ≡ result.state }
-    ensures rest { (result.end ≡ 0) × (result.mended ≡ []) × (result.doing ≡ doing.Reading) }
+    ensures rest { (result.end ≡ 0) × (result.mended ≡ []) × (result.phase ≡ phase.Reading) }
 {
     Run {
         state: E::start(alloc),
         end: 0,
         mended: Items::new(alloc),
-        doing: Doing::Reading,
+        phase: Phase::Reading,
     }
 }
 
@@ -113,13 +113,13 @@ fn begin<T: Drop, E: Entry<T>, F: Telling>(alloc: Global) -> Run<E, F>
 fn leave_by<E: Recovering, F: Telling>(
     alloc: Global,
     run: &mut Run<E, F>,
-    way: Way,
+    way: RecoveryWay,
     token: &Token<'_>,
 ) -> Skipping
     ensures answer { skip_answer result run.new.state ≡ skip E.closed E.over way run.old.state
         (mark_of token.now.kind) }
     ensures rest { (run.new.end ≡ run.old.end) × (run.new.mended ≡ run.old.mended) ×
-        (run.new.doing ≡ run.old.doing) }
+        (run.new.phase ≡ run.old.phase) }
 {
     skip(alloc, &mut run.state, way, as_mark(token.kind))
 }
@@ -129,7 +129,7 @@ fn leave_by<E: Recovering, F: Telling>(
 fn leave<E: Recovering, F: Telling>(
     alloc: Global,
     run: &mut Run<E, F>,
-    pending: Pending<F>,
+    pending: FaultInHand<F>,
     token: &Token<'_>,
 ) -> Result<(), AllocError>
     ensures { IfOk result
@@ -137,13 +137,13 @@ fn leave<E: Recovering, F: Telling>(
         run.old.state pending.fault (lexeme_of token.now)) }
 {
     match leave_by(alloc, run, pending.way, token) {
-        Skipping::On => run.doing = Doing::Skipping(pending),
+        Skipping::On => run.phase = Phase::Skipping(pending),
         Skipping::Over => {
             run.mended.push(pending.fault)?;
             run.end = token.end;
-            run.doing = Doing::Reading;
+            run.phase = Phase::Reading;
         }
-        Skipping::Stop => run.doing = Doing::Stopped(pending.fault),
+        Skipping::Stop => run.phase = Phase::Stopped(pending.fault),
     }
     Ok(())
 }
@@ -151,27 +151,27 @@ fn leave<E: Recovering, F: Telling>(
 /// Behind the last token that is skipped: reading goes on.
 #[cold]
 fn mend<E: Recovering, F: Telling>(run: &mut Run<E, F>, end: usize) -> Result<(), AllocError>
-    requires { IsSkipping run.old.doing }
+    requires { IsSkipping run.old.phase }
     ensures { IfOk result (λ _. stage_of run.new ≡ mended_stage run.old end) }
 {
-    match mem::replace(&mut run.doing, Doing::Reading) {
-        Doing::Skipping(pending) => {
+    match mem::replace(&mut run.phase, Phase::Reading) {
+        Phase::Skipping(pending) => {
             run.end = end;
             run.mended.push(pending.fault)
         }
-        Doing::Reading | Doing::Stopped(_) => unreachable!(),
+        Phase::Reading | Phase::Stopped(_) => unreachable!(),
     }
 }
 
 /// Behind a token at which skipping stops: nothing more is read.
 #[cold]
 fn stop<E: Recovering, F: Telling>(run: &mut Run<E, F>)
-    requires { IsSkipping run.old.doing }
+    requires { IsSkipping run.old.phase }
     ensures { stage_of run.new ≡ stopped_stage run.old }
 {
-    match mem::replace(&mut run.doing, Doing::Reading) {
-        Doing::Skipping(pending) => run.doing = Doing::Stopped(pending.fault),
-        Doing::Reading | Doing::Stopped(_) => unreachable!(),
+    match mem::replace(&mut run.phase, Phase::Reading) {
+        Phase::Skipping(pending) => run.phase = Phase::Stopped(pending.fault),
+        Phase::Reading | Phase::Stopped(_) => unreachable!(),
     }
 }
 
@@ -179,12 +179,12 @@ fn stop<E: Recovering, F: Telling>(run: &mut Run<E, F>)
 fn skip_on<E: Recovering, F: Telling>(
     alloc: Global,
     run: &mut Run<E, F>,
-    way: Way,
+    way: RecoveryWay,
     token: &Token<'_>,
 ) -> Result<(), AllocError>
-    requires { IsSkippingBy way run.old.doing }
+    requires { IsSkippingBy way run.old.phase }
     ensures { IfOk result
-        (λ _. (pending : _) → run.old.doing ≡ doing.Skipping pending →
+        (λ _. (pending : _) → run.old.phase ≡ phase.Skipping pending →
         stage_of run.new ≡ skip_step_by E.closed E.over run.old.mended way run.old.state
         pending.fault (lexeme_of token.now)) }
 {
@@ -216,7 +216,7 @@ fn refuse<T: Drop, E: Entry<T> + Recovering, F: Telling>(
     let raw = unexpected::<T, E>(alloc, &run.state, Narrowing::Tokens, token)?;
     let fault = F::tell(source, raw)?;
     let way = run.state.way();
-    leave(alloc, run, Pending { way, fault }, token)
+    leave(alloc, run, FaultInHand { way, fault }, token)
 }
 
 /// A number past 64 bits, where a number may stand: nothing more is read.
@@ -232,7 +232,7 @@ fn refuse_number<E: Recovering, F: Telling>(
         (F.told source.now (large_at source.now (lexeme_of token.now)))) }
 {
     let raw = large_number(alloc, source, token)?;
-    run.doing = Doing::Stopped(F::tell(source, raw)?);
+    run.phase = Phase::Stopped(F::tell(source, raw)?);
     Ok(())
 }
 
@@ -245,7 +245,7 @@ fn judge<T: Drop, E: Entry<T> + Recovering, F: Telling>(
     token: &Token<'_>,
 ) -> Result<(), AllocError>
     requires written { IsWritten (lexeme_of token.now) }
-    requires reading { run.old.doing ≡ doing.Reading }
+    requires reading { run.old.phase ≡ phase.Reading }
     ensures { IfOk result
         (λ _. stage_of run.new ≡ judgment_by
         (allowed_by E.reader run.old.state (Some token.now.kind))
@@ -278,13 +278,13 @@ fn step<T: Drop, E: Entry<T> + Recovering, F: Telling>(
         (recovers_of (allowed_by E.reader) E.left E.closed E.over F.told source.now)
         (stage_of run.old) (lexeme_of token.now)) }
 {
-    match &run.doing {
-        Doing::Reading => judge::<T, E, F>(alloc, source, run, token),
-        Doing::Skipping(pending) => {
+    match &run.phase {
+        Phase::Reading => judge::<T, E, F>(alloc, source, run, token),
+        Phase::Skipping(pending) => {
             let way = pending.way;
             skip_on(alloc, run, way, token)
         }
-        Doing::Stopped(_) => Ok(()),
+        Phase::Stopped(_) => Ok(()),
     }
 }
 
@@ -330,13 +330,13 @@ fn last_fault<T: Drop, E: Entry<T> + Recovering, F: Telling>(
     ensures state { run.new.state ≡ run.old.state }
     ensures mended { run.new.mended ≡ run.old.mended }
 {
-    match mem::replace(&mut run.doing, Doing::Reading) {
-        Doing::Reading => match bad {
+    match mem::replace(&mut run.phase, Phase::Reading) {
+        Phase::Reading => match bad {
             Some(location) => { Ok(Some(F::tell(source, RawFault::InvalidToken { location })?)) }
             None => end_fault::<T, E, F>(alloc, source, run),
         },
-        Doing::Skipping(pending) => Ok(Some(bad_or(source, bad, pending.fault)?)),
-        Doing::Stopped(fault) => Ok(Some(fault)),
+        Phase::Skipping(pending) => Ok(Some(bad_or(source, bad, pending.fault)?)),
+        Phase::Stopped(fault) => Ok(Some(fault)),
     }
 }
 

@@ -7,7 +7,7 @@ use std::alloc::Global;
 
 /// How a fault is left: tokens are skipped, or the parse stops.
 #[derive(Drop, Clone, Copy)]
-pub enum Way {
+pub enum RecoveryWay {
     /// The parse stops.
     Stop,
     /// To the first `;`.
@@ -19,10 +19,10 @@ pub enum Way {
 /// A form in which reading goes on behind a fault.
 pub trait Recovering: Drop {
     ghost use Rattle.std.specs.Prelude.{◌≡◌};
-    ghost use Rattle.cedar_grammar.specs.declared.reading.recovery.Way.{Way};
+    ghost use Rattle.cedar_grammar.specs.declared.reading.recovery.RecoveryWay.{RecoveryWay};
 
     // how a fault is left in a state
-    ghost left: { Self → Way };
+    ghost left: { Self → RecoveryWay };
 
     // the state with its condition's braces closed, and with its policy ended
     ghost closed: { Self → Self };
@@ -30,7 +30,7 @@ pub trait Recovering: Drop {
     ghost over: { Self → Self };
 
     /// How a fault is left.
-    fn way(&self) -> Way
+    fn way(&self) -> RecoveryWay
         ensures { result ≡ left self.now };
 
     /// Behind a `}` that ends skipping.
@@ -54,19 +54,19 @@ pub enum Skipping {
 }
 
 /// Skips a token, the refused one or one behind it.
-pub fn skip<S: Recovering>(alloc: Global, state: &mut S, way: Way, mark: Mark) -> Skipping
+pub fn skip<S: Recovering>(alloc: Global, state: &mut S, way: RecoveryWay, mark: Mark) -> Skipping
     ensures { skip_answer result state.new ≡ skip S.closed S.over way state.old mark }
 {
     match way {
-        Way::Stop => Skipping::Stop,
-        Way::ToEnd => match mark {
+        RecoveryWay::Stop => Skipping::Stop,
+        RecoveryWay::ToEnd => match mark {
             Mark::Semicolon => {
                 state.end(alloc);
                 Skipping::Over
             }
             _ => Skipping::On,
         },
-        Way::ToBrace => match mark {
+        RecoveryWay::ToBrace => match mark {
             Mark::CloseBrace => {
                 state.close();
                 Skipping::Over

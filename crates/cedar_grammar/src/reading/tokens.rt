@@ -7,9 +7,9 @@ ghost use Rattle.cedar_grammar.specs.WrittenTokens.{Written};
 ghost use Rattle.cedar_grammar.specs.machines.Door.{is_some};
 ghost use Rattle.cedar_grammar.specs.machines.SingleTokens.{if_any, token_node, string_node};
 
+use crate::reading::identifier::{as_ident, is_ident};
 use crate::reading::literal::between_quotes;
 use crate::reading::place::{node_at, token_extent};
-use crate::reading::words::{as_ident, is_any};
 use cedar_expressions::{Source, Text};
 use cedar_lexer::token::{Token, TokenKind};
 use cedar_syntax::cst::{Ident, Str};
@@ -18,13 +18,14 @@ use std::alloc::{AllocError, Global};
 
 /// This act, where a token of this kind is an identifier.
 #[inline(always)]
-pub fn if_any<A: Drop>(kind: TokenKind, act: A) -> Option<A>
+pub fn if_ident<A: Drop>(kind: TokenKind, act: A) -> Option<A>
     ensures { result ≡ if_any kind act }
 {
-    if is_any(kind) { Some(act) } else { None }
+    if is_ident(kind) { Some(act) } else { None }
 }
 
 /// The identifier that a token is.
+#[inline(always)]
 pub fn ident_of(alloc: Global, token: &Token<'_>) -> Result<Ident, AllocError>
     requires { IsTrue (is_some (any_of token.now.kind [])) }
     ensures { IfOk result (λ ident. Some ident ≡ any_of token.now.kind token.now.text.now) }

@@ -1,5 +1,5 @@
 -- Maps that private functions fill: what an annotation's key is given, policies by their names.
-use Rattle.std.specs.Prelude.{◌≡◌, ℕ, List, Option, Ok, Err, Result}
+use Rattle.std.specs.Prelude.{◌≡◌, ◌≢◌, ℕ, List, Option, Ok, Err, IfOk, Result, false}
 use denote.Ref.{Bor}
 use denote.Param.Members.{Shared}
 use Rattle.either.specs.declared.Either.{Either}
@@ -7,10 +7,12 @@ use Rattle.either.specs.declared.Either.TheVariants.{Left, Right}
 use Rattle.std.specs.declared.alloc.Global.{Global}
 use Rattle.std.specs.declared.string.String.{String}
 use Rattle.std.specs.FinMap.{FinMap, contains_key, insert}
+use Rattle.cedar_policy_store.specs.declared.policy_set.PolicySetError.{PolicySetError}
+use Rattle.cedar_policy_store.specs.declared.policy_set.PolicySetError.TheVariants as refusals
 use Rattle.cedar_policy_store.specs.declared.template.Template.{Template}
 use Rattle.cedar_policy_store.specs.PlaceFree as free
 use Rattle.cedar_policy_store.specs.PlaceFree.{set_meaning}
-use Rattle.cedar_policy_store.specs.PolicyMaps.{PolicyMaps}
+use Rattle.cedar_policy_store.specs.PolicyMaps.{PolicyMaps, holds_id}
 use Rattle.cedar_policy_store.specs.TextMap.{text_order}
 use Rattle.cedar_syntax.specs.declared.err.faults.Failure.{Failure}
 use Rattle.cedar_syntax.specs.declared.err.faults.Failure.TheVariants.{Memory, Errors}
@@ -52,6 +54,27 @@ maps_with_policy set (Right t) = record set { templates = insert set.templates t
 
 abbrev pub IsAdded : PolicyMaps → Either Template Template → PolicyMaps → Type 0
 IsAdded before policy after = after ≡ maps_with_policy before policy
+
+-- the name of a policy, or of a template
+abbrev pub id_of : Either Template Template → List ℕ
+id_of (Left t) = t.id
+id_of (Right t) = t.id
+
+-- the name of the next policy, if there is one, is free
+abbrev pub IsFreeFor : PolicyMaps → Result (Either Template Template) Failure → Type 0
+IsFreeFor set next = IfOk next (λ policy. holds_id set (id_of policy) ≡ false)
+
+-- a name that was free is free, unless the next policy has it
+abbrev pub AddsAtMost : Result (Either Template Template) Failure → PolicyMaps → PolicyMaps
+    → Type 0
+AddsAtMost next before after =
+    (id : List ℕ) → holds_id before id ≡ false → IfOk next (λ policy. id ≢ id_of policy)
+    → holds_id after id ≡ false
+
+-- where the name is free, memory alone may be wanting
+abbrev pub WantsMemoryAlone : PolicySetError → Type 0
+WantsMemoryAlone (refusals.Memory error) = Unit {0}
+WantsMemoryAlone (refusals.Occupied id) = ⊥
 
 -- the set so far, if all of it is given
 abbrev pub set_view : PolicyMaps → Unit {0} → free.Policies

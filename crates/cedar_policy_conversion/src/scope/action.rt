@@ -7,15 +7,16 @@ ghost use Rattle.cedar_conversion.specs.Table.{table_of};
 ghost use Rattle.cedar_conversion.specs.machines.Views.{TellsAlone, empty_view};
 
 use crate::cst_to_ast::ExtStyles;
-use crate::scope::element::{is_inverted, no_type_name, scope_variable};
+use crate::scope::element::{is_inverted, refuse_type_name, scope_variable};
 use crate::to_ref_or_refs::{OneOrMultipleRefs, SingleEntity, to_ref_or_refs};
-use cedar_conversion::methods::Site;
-use cedar_conversion::special::{refusal, unreached};
+use cedar_conversion::answer::failure::Failure;
+use cedar_conversion::answer::special::{empty_node, refusal};
+use cedar_conversion::primaries::methods::Site;
 use cedar_expressions::{EntityUID, Items, Var};
 use cedar_policy_store::ActionConstraint;
 use cedar_syntax::cst::{self, Add, RelOp, VariableDef};
 use cedar_syntax::err::parse_errors::InvalidActionType;
-use cedar_syntax::err::{Failure, NonEmpty, ToASTErrorKind};
+use cedar_syntax::err::{NonEmpty, ToASTErrorKind};
 use cedar_syntax::loc::Loc;
 use cedar_syntax::node::Node;
 use std::alloc::{AllocError, Global};
@@ -37,7 +38,7 @@ fn action_alone(alloc: Global, loc: &Option<Loc>, got: Var) -> Result<(), Failur
 }
 
 /// Refuses a type behind `is`.
-fn no_entity_type(
+fn refuse_entity_type(
     alloc: Global,
     loc: &Option<Loc>,
     node: &Option<Node<Option<Add>>>,
@@ -50,12 +51,12 @@ fn no_entity_type(
     }
 }
 
-fn action_begun(alloc: Global, loc: &Option<Loc>, element: &VariableDef) -> Result<(), Failure>
+fn action_variable(alloc: Global, loc: &Option<Loc>, element: &VariableDef) -> Result<(), Failure>
     ensures { Gives empty_view result (s.action_variable loc.now element.now) }
 {
     action_alone(alloc, loc, scope_variable(alloc, &element.variable)?)?;
-    no_type_name(alloc, &element.unused_type_name)?;
-    no_entity_type(alloc, loc, &element.entity_type)
+    refuse_type_name(alloc, &element.unused_type_name)?;
+    refuse_entity_type(alloc, loc, &element.entity_type)
 }
 
 /// `in` one entity is a list of one.
@@ -76,11 +77,15 @@ fn action_in(site: Site<'_>, right: &Node<Option<cst::Expr>>) -> Result<ActionCo
     ensures { Gives itself result (s.action_in (table_of site.entry.styles.now) site.entry.loc.now
         right.now) }
 {
-    if is_inverted(site, RelOp::In, right)? {
-        return Err(refusal(site.alloc, ToASTErrorKind::IsInActionScope, site.loc));
+    match to_ref_or_refs::<OneOrMultipleRefs>(site.alloc, Var::Action, right) {
+        Ok(refs) => Ok(within(site.alloc, refs)?),
+        Err(failure) => {
+            if is_inverted(site, RelOp::In, right)? {
+                return Err(refusal(site.alloc, ToASTErrorKind::IsInActionScope, site.loc));
+            }
+            Err(failure)
+        }
     }
-    let refs = to_ref_or_refs::<OneOrMultipleRefs>(site.alloc, Var::Action, right)?;
-    Ok(within(site.alloc, refs)?)
 }
 
 fn action_eq(alloc: Global, right: &Node<Option<cst::Expr>>) -> Result<ActionConstraint, Failure>
@@ -152,7 +157,7 @@ fn action_beside(
     only_actions(site.alloc, &ineq.1.loc, constraint)
 }
 
-fn action_asked(
+fn action_constraint(
     site: Site<'_>,
     ineq: &Option<(RelOp, Node<Option<cst::Expr>>)>,
 ) -> Result<ActionConstraint, Failure>
@@ -169,8 +174,8 @@ fn action_of(site: Site<'_>, element: &VariableDef) -> Result<ActionConstraint, 
     ensures { Gives itself result (s.action_of (table_of site.entry.styles.now) site.entry.loc.now
         element.now) }
 {
-    action_begun(site.alloc, site.loc, element)?;
-    action_asked(site, &element.ineq)
+    action_variable(site.alloc, site.loc, element)?;
+    action_constraint(site, &element.ineq)
 }
 
 /// The element of the action.
@@ -190,6 +195,6 @@ pub(crate) fn action(
             };
             action_of(site, inner)
         }
-        None => Err(unreached(alloc, &node.loc)),
+        None => Err(empty_node(alloc, &node.loc)),
     }
 }

@@ -1,4 +1,5 @@
-//! An element of a scope that asks of the principal or the resource; what both kinds of elements begin with.
+//! An element of a scope that asks of the principal or the resource; what both kinds of elements
+//! begin with.
 ghost use Rattle.std.specs.Prelude.{◌≡◌, Some, IfOk};
 ghost use Rattle.cedar_expressions.specs.Meaning.{expr_meaning};
 ghost use Rattle.cedar_expressions.specs.Value.{Value};
@@ -13,19 +14,21 @@ ghost use Rattle.cedar_conversion.specs.Seen.{Gives, Refuses, itself};
 ghost use Rattle.cedar_conversion.specs.Table.{table_of};
 ghost use Rattle.cedar_conversion.specs.machines.Views.{TellsAlone, empty_view};
 
-use crate::cst_to_ast::{ExprAst, ExtStyles};
+use crate::cst_to_ast::ExtStyles;
+use crate::expressions::expression;
 use crate::to_ref_or_refs::to_ref_or_refs;
-use cedar_conversion::answer::{Converted, unanswered};
+use cedar_conversion::answer::failure::Failure;
+use cedar_conversion::answer::special::{empty_node, refusal};
+use cedar_conversion::answer::wanted::into_entity_type;
+use cedar_conversion::answer::{Converted, placeholder};
 use cedar_conversion::convert::add;
-use cedar_conversion::methods::Site;
-use cedar_conversion::special::{refusal, unreached};
-use cedar_conversion::wanted::into_entity_type;
+use cedar_conversion::primaries::methods::Site;
 use cedar_expressions::{EntityType, Expr, ExprBuilder, ExprKind, TryClone, UnaryCall, Var};
 use cedar_policy_store::{
     EntityReference, PrincipalConstraint, PrincipalOrResourceConstraint, ResourceConstraint,
 };
 use cedar_syntax::cst::{self, Add, Ident, Name, RelOp, VariableDef};
-use cedar_syntax::err::{Failure, ToASTErrorKind};
+use cedar_syntax::err::{self, ToASTErrorKind};
 use cedar_syntax::loc::Loc;
 use cedar_syntax::node::Node;
 use std::alloc::{AllocError, Global};
@@ -38,7 +41,7 @@ fn other_word(alloc: Global, loc: &Option<Loc>, word: &Ident) -> Failure
 {
     match word.try_clone() {
         Ok(word) => refusal(alloc, ToASTErrorKind::InvalidScopeVariable(word), loc),
-        Err(error) => Failure::Memory(error),
+        Err(error) => Failure::from(error),
     }
 }
 
@@ -51,12 +54,15 @@ pub(crate) fn scope_variable(alloc: Global, node: &Node<Option<Ident>>) -> Resul
         Some(Ident::Action) => Ok(Var::Action),
         Some(Ident::Resource) => Ok(Var::Resource),
         Some(word) => Err(other_word(alloc, &node.loc, word)),
-        None => Err(unreached(alloc, &node.loc)),
+        None => Err(empty_node(alloc, &node.loc)),
     }
 }
 
 /// Refuses a name behind `:`.
-pub(crate) fn no_type_name(alloc: Global, name: &Option<Node<Option<Name>>>) -> Result<(), Failure>
+pub(crate) fn refuse_type_name(
+    alloc: Global,
+    name: &Option<Node<Option<Name>>>,
+) -> Result<(), Failure>
     ensures { Gives empty_view result (s.no_type_name name.now) }
 {
     match name {
@@ -73,7 +79,7 @@ fn element_variable(alloc: Global, element: &VariableDef) -> Result<Var, Failure
     ensures { Gives itself result (s.element_variable element.now) }
 {
     let var = scope_variable(alloc, &element.variable)?;
-    no_type_name(alloc, &element.unused_type_name)?;
+    refuse_type_name(alloc, &element.unused_type_name)?;
     Ok(var)
 }
 
@@ -112,12 +118,12 @@ fn made_by_is(expr: &Expr) -> bool
 }
 
 /// A right side that doesn't convert isn't made by `is`: its faults are told elsewhere.
-fn not_converted(failure: Failure) -> Result<bool, AllocError>
+fn not_made_by_is(failure: Failure) -> Result<bool, AllocError>
     ensures { (o : Outcome Value) → Refuses failure o → IfOk result (λ b. b ≡ s.is_made_by_is o) }
 {
-    match failure {
-        Failure::Memory(error) => Err(error),
-        Failure::Errors(_) => Ok(false),
+    match err::Failure::from(failure) {
+        err::Failure::Memory(error) => Err(error),
+        err::Failure::Errors(_) => Ok(false),
     }
 }
 
@@ -126,13 +132,13 @@ fn right_by_is(site: Site<'_>, right: &Node<Option<cst::Expr>>) -> Result<bool, 
     ensures { IfOk result (λ b. b ≡ s.is_made_by_is
         (value_outcome (table_of site.entry.styles.now) (located expr_form right.now))) }
 {
-    match right.to_expr::<ExprBuilder<()>>(site.alloc, site.styles) {
+    match expression::<ExprBuilder<()>>(site.alloc, site.styles, right) {
         Ok(expr) => {
             let is_made = made_by_is(&expr);
             drop(expr);
             Ok(is_made)
         }
-        Err(failure) => not_converted(failure),
+        Err(failure) => not_made_by_is(failure),
     }
 }
 
@@ -166,7 +172,7 @@ fn type_of(
 ) -> Result<EntityType, Failure>
     ensures { Gives itself result (s.type_outcome (table_of site.entry.styles.now) node.now) }
 {
-    let mut right: Converted<Expr> = unanswered();
+    let mut right: Converted<Expr> = placeholder();
     add::<ExprBuilder<()>>(site.alloc, site.styles, node, &mut right);
     into_entity_type::<ExprBuilder<()>>(site.alloc, left.as_ref(), right?)
 }
@@ -215,7 +221,7 @@ fn by_in(
 }
 
 /// What an operator asks with an entity or a slot, beside a type if there is one.
-fn asked_by(
+fn operator_constraint(
     site: Site<'_>,
     op: RelOp,
     element: &VariableDef,
@@ -241,7 +247,7 @@ fn asked_by(
 }
 
 /// A type alone, or nothing.
-fn asked_type(
+fn type_constraint(
     site: Site<'_>,
     element: &VariableDef,
 ) -> Result<PrincipalOrResourceConstraint, Failure>
@@ -257,8 +263,9 @@ fn asked_type(
     }
 }
 
-/// What an operator and its right side ask of an element's variable.
-fn asked_beside(
+/// What an operator and its right side ask of an element's variable. What `is` makes refers to
+/// nothing, so only a right side that is refused is looked at for it.
+fn constraint_beside(
     site: Site<'_>,
     var: Var,
     element: &VariableDef,
@@ -267,15 +274,19 @@ fn asked_beside(
     ensures { Gives itself result (s.constraint_outcome (table_of site.entry.styles.now)
         site.entry.loc.now var element.now.entity_type (Some ineq.now)) }
 {
-    if is_inverted(site, ineq.0, &ineq.1)? {
-        return Err(refusal(site.alloc, ToASTErrorKind::InvertedIsIn, site.loc));
+    match to_ref_or_refs::<EntityReference>(site.alloc, var, &ineq.1) {
+        Ok(reference) => operator_constraint(site, ineq.0, element, reference),
+        Err(failure) => {
+            if is_inverted(site, ineq.0, &ineq.1)? {
+                return Err(refusal(site.alloc, ToASTErrorKind::InvertedIsIn, site.loc));
+            }
+            Err(failure)
+        }
     }
-    let reference = to_ref_or_refs::<EntityReference>(site.alloc, var, &ineq.1)?;
-    asked_by(site, ineq.0, element, reference)
 }
 
 /// What an element asks of its variable.
-fn asked(
+fn element_constraint(
     site: Site<'_>,
     var: Var,
     element: &VariableDef,
@@ -284,8 +295,8 @@ fn asked(
         site.entry.loc.now var element.now.entity_type element.now.ineq) }
 {
     match &element.ineq {
-        Some(ineq) => asked_beside(site, var, element, ineq),
-        None => asked_type(site, element),
+        Some(ineq) => constraint_beside(site, var, element, ineq),
+        None => type_constraint(site, element),
     }
 }
 
@@ -327,7 +338,7 @@ fn element_of(
         site.entry.loc.now element.now) }
 {
     let got = element_variable(site.alloc, element)?;
-    let constraint = asked(site, got, element)?;
+    let constraint = element_constraint(site, got, element)?;
     if stands_there(expected, got) {
         Ok(constraint)
     } else {
@@ -356,7 +367,7 @@ fn element(
             };
             element_of(site, expected, inner)
         }
-        None => Err(unreached(alloc, &node.loc)),
+        None => Err(empty_node(alloc, &node.loc)),
     }
 }
 

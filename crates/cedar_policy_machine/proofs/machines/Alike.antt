@@ -4,8 +4,8 @@ use Rattle.cedar_lexer.specs.Token.{Lexeme}
 use Rattle.cedar_lexer.specs.declared.token.TokenKind.{TokenKind}
 use Rattle.cedar_grammar.specs.declared.reading.mark.Mark.{Mark}
 use Rattle.cedar_grammar.specs.declared.reading.mark.Mark.TheVariants as mark
-use Rattle.cedar_grammar.specs.declared.reading.recovery.Way.{Way}
-use Rattle.cedar_grammar.specs.declared.reading.recovery.Way.TheVariants as way
+use Rattle.cedar_grammar.specs.declared.reading.recovery.RecoveryWay.{RecoveryWay}
+use Rattle.cedar_grammar.specs.declared.reading.recovery.RecoveryWay.TheVariants as way
 use Rattle.cedar_grammar.specs.machines.Door.{Machine, Answer, next, ended, refused, too_large, AnswersRightly, Door, is_some, is_taken, Shapes, no_tree}
 use Rattle.cedar_grammar.specs.machines.Marks.{mark_of}
 use Rattle.cedar_grammar.specs.machines.Recovery.{Recovers, Recovery, reading, skipping, stopped, skip_step, judgment, recovery_step, run_faults, told_reading, told_end, told_all}
@@ -21,10 +21,10 @@ pub record IsByShape {S F V : Type 0} (r : Recovers S F) (f : S → V) : Type 0 
 
 data Alike {S F V : Type 0} (f : S → V) : Recovery S F → Recovery S F → Type 0 where
   reads : {xs : List F} {l : ℕ} {s q : S} → f s ≡ f q → Alike f (reading xs l s) (reading xs l q)
-  skips : {xs : List F} {w : Way} {x : F} {s q : S} → f s ≡ f q → Alike f (skipping xs w s x) (skipping xs w q x)
+  skips : {xs : List F} {w : RecoveryWay} {x : F} {s q : S} → f s ≡ f q → Alike f (skipping xs w s x) (skipping xs w q x)
   stops : {xs : List F} {x : F} → Alike f (stopped xs x) (stopped xs x)
 
-skipped_alike : {S F V : Type 0} (r : Recovers S F) (f : S → V) → IsByShape r f → (xs : List F) (w : Way) (s q : S) (x : F) (t : Lexeme) (c : Mark) → f s ≡ f q → Alike f (skip_step r xs w s x t c) (skip_step r xs w q x t c)
+skipped_alike : {S F V : Type 0} (r : Recovers S F) (f : S → V) → IsByShape r f → (xs : List F) (w : RecoveryWay) (s q : S) (x : F) (t : Lexeme) (c : Mark) → f s ≡ f q → Alike f (skip_step r xs w s x t c) (skip_step r xs w q x t c)
 skipped_alike r f h xs way.ToBrace s q x t mark.CloseBrace e = reads (h.closes s q e)
 skipped_alike r f h xs way.ToBrace s q x t mark.Semicolon e = reads (h.ends s q e)
 skipped_alike r f h xs way.ToBrace s q x t _ e = skips e

@@ -1,12 +1,13 @@
--- Recovery in place tells the faults of the mended tokens, and no others; and each list of tokens has its faults.
+-- Recovery in place tells the faults of the mended tokens, and no others; and each list of tokens
+-- has its faults.
 use Rattle.std.specs.Prelude.{◌↔◌}
 use Rattle.std.proofs.lemmas.List.{append-nil}
 use Rattle.std.proofs.Common.{◌≡◌, ℕ, List, [], ◌∷◌, ◌++◌, Option, Some, None, Bool, true, false, refl, sym, ◌∙◌, ap, subst}
 use Rattle.cedar_lexer.specs.Token.{Lexeme}
 use Rattle.cedar_lexer.specs.declared.token.TokenKind.{TokenKind}
 use Rattle.cedar_lexer.specs.declared.token.TokenKind.TheVariants as kind
-use Rattle.cedar_grammar.specs.declared.reading.recovery.Way.{Way}
-use Rattle.cedar_grammar.specs.declared.reading.recovery.Way.TheVariants as way
+use Rattle.cedar_grammar.specs.declared.reading.recovery.RecoveryWay.{RecoveryWay}
+use Rattle.cedar_grammar.specs.declared.reading.recovery.RecoveryWay.TheVariants as way
 use Rattle.cedar_syntax.specs.Tokens.{fits}
 use Rattle.cedar_grammar.specs.Sentences.{kinds, Allowed, IsFirstRefused, first}
 use Rattle.cedar_grammar.specs.Mended.{Mended, head, Faults, no_fault, too_large, last_fault, more_faults}
@@ -38,7 +39,7 @@ large_told r f xs l s t refused c o i e h k g = absurd (false_true (ap (λ c. is
 large_told r f xs l s t door.too_large c o i e h k g = refl
 
 skipped_last : {S T F V : Type 0} {src : List ℕ} {m : Machine Lexeme S T} {R : List Lexeme → T → Type 0} {W : List Lexeme → Type 0} {U : List Lexeme → Option Lexeme → F → Type 0} {L : Lexeme → F → Type 0} {r : Recovers S F} {n : Machine TokenKind V (Unit {0})} {f : S → V} →
-    Recoverable src m R W U L r n f → (before : List Lexeme) (s : S) (xs : List F) (x : F) (w : Way) (b : Bool) → r.way s ≡ w → skips_on w ≡ b → Comes m before s → {us : List Lexeme} → Search (braced w) us → ((vs : List Lexeme) → ¬ (Mended src W before us vs)) →
+    Recoverable src m R W U L r n f → (before : List Lexeme) (s : S) (xs : List F) (x : F) (w : RecoveryWay) (b : Bool) → r.way s ≡ w → skips_on w ≡ b → Comes m before s → {us : List Lexeme} → Search (braced w) us → ((vs : List Lexeme) → ¬ (Mended src W before us vs)) →
     told_all m r (skipping xs w s x) us ≡ run_faults xs (Some x)
 skipped_last {m = m} {r = r} d before s xs x w true h i c (found_none {ts = us} k) none = skips_out m r xs w s x us i k
 skipped_last {src = src} {W = W} {r = r} d before s xs x w true h i c (found vs t ws k j) none =
@@ -46,7 +47,7 @@ skipped_last {src = src} {W = W} {r = r} d before s xs x w true h i c (found vs 
     absurd (none (g.front ++ ws) g.mended)
 skipped_last {m = m} {r = r} d before s xs x w false h i c {us = us} k none = never w i us
   where
-    never : (w : Way) → skips_on w ≡ false → (us : List Lexeme) → told_all m r (skipping xs w s x) us ≡ run_faults xs (Some x)
+    never : (w : RecoveryWay) → skips_on w ≡ false → (us : List Lexeme) → told_all m r (skipping xs w s x) us ≡ run_faults xs (Some x)
     never way.ToBrace e us = absurd (cc)
     never way.ToEnd e us = absurd (cc)
     never way.Stop e [] = refl

@@ -1,5 +1,6 @@
--- The leftmost fault: the mended tokens up to the one behind which reading goes on begin a sentence, so each fault that is told of them stands behind it, and the
--- one that was mended before.
+-- The leftmost fault: the mended tokens up to the one behind which reading goes on begin a
+-- sentence, so each fault that is told of them stands behind it, and the one that was mended
+-- before.
 use Rattle.std.specs.Prelude.{◌⊎◌}
 use Rattle.std.specs.List.{AllByRecursion}
 use Rattle.std.specs.Str.{IsUtf8}

@@ -11,8 +11,8 @@ use Rattle.cedar_syntax.specs.declared.cst.Cond.{Cond}
 use Rattle.cedar_grammar.specs.declared.reading.extent.Extent.{Extent}
 use Rattle.cedar_policy_machine.specs.declared.condition.ConditionState.{ConditionState}
 use Rattle.cedar_policy_machine.specs.declared.condition.ConditionPart.TheVariants as part
-use Rattle.cedar_grammar.specs.declared.reading.recovery.Way.{Way}
-use Rattle.cedar_grammar.specs.declared.reading.recovery.Way.TheVariants as way
+use Rattle.cedar_grammar.specs.declared.reading.recovery.RecoveryWay.{RecoveryWay}
+use Rattle.cedar_grammar.specs.declared.reading.recovery.RecoveryWay.TheVariants as way
 use Rattle.cedar_policy_machine.specs.declared.sequence.Spanned.{Spanned}
 use Rattle.cedar_syntax.specs.Tokens.{Spot, one}
 use Rattle.cedar_grammar.specs.Place.{joint_extent, extent, placed}
@@ -26,7 +26,7 @@ use Rattle.cedar_grammar.specs.machines.Door.{Machine, answer_state, steps, Come
 use Rattle.cedar_policy_machine.specs.machines.Placing.{AsNode, as_node, spanned_state, placing_reader, placing}
 use Rattle.cedar_policy_machine.specs.machines.Sequences.{sequence, many}
 use Rattle.cedar_policy_machine.specs.machines.Scope.{PartReaders}
-use Rattle.cedar_policy_machine.specs.machines.Condition.{condition_of, condition_reader, conditions}
+use Rattle.cedar_policy_machine.specs.machines.Condition.{condition_state, condition_reader, conditions}
 use Rattle.cedar_policy_machine.specs.machines.Policy.{policy_reader, policies}
 use Rattle.cedar_policy_machine.specs.machines.Policies.{ConditionsState, OnePolicy, SpannedPolicy, sections, policy_machine, condition_way, begun_condition_way, policy_way}
 use Rattle.cedar_grammar.proofs.machines.Laws.{then_steps, starts_from, comes}
@@ -48,7 +48,7 @@ one_condition src e = placing src (condition_reader e)
 -- in braces: where a condition may stand, its word and brace have been read
 record Braces {E C : Type 0} (src : List ℕ) (m : Reader E C (Cell Expr)) (last : ConditionsState E) (zs : List (Cell Cond)) (ws : List Lexeme) (l : Spot) (i : Cell Ident) : Type 0 where
   span : Option Extent
-  goes : steps (many src (placing_reader (condition_reader m))) (Some last) (ws ++ one kind.OpenBrace l) ≡ Some (item_at zs (spanned_state span (condition_of i part.Opened)))
+  goes : steps (many src (placing_reader (condition_reader m))) (Some last) (ws ++ one kind.OpenBrace l) ≡ Some (item_at zs (spanned_state span (condition_state i part.Opened)))
 
 braces_run : {E C : Type 0} (src : List ℕ) (m : Reader E C (Cell Expr)) (last : ConditionsState E) (zs : List (Cell Cond)) → (many src (placing_reader (condition_reader m))).finish last ≡ Some zs → {ws : List Lexeme} {i : Ident} (l : Spot) → ReadsAny ws i →
     Braces src m last zs ws l (placed src ws i)
@@ -61,14 +61,14 @@ braces_run src m last zs e l (any {k = k} {i = i} q w) =
       span = extent (one k q ++ one kind.OpenBrace l);
       goes = entered n (many src p) (λ s. item_at zs s) (many_holds src p r zs) last t
           (λ s h. many_next src p r (placed_ends src (condition_reader m) (Begins n) (condition_ends_at src m (Begins n))) last zs e t s h)
-          (one kind.OpenBrace l) (spanned_state (extent (one k q ++ one kind.OpenBrace l)) (condition_of (placed src (one k q) i) part.Opened))
-          (forth src (condition_reader m) None (conditions src m).start (condition_of (placed src (one k q) i) part.Opened) (one k q ++ one kind.OpenBrace l) (opened src m l (any q w)));
+          (one kind.OpenBrace l) (spanned_state (extent (one k q ++ one kind.OpenBrace l)) (condition_state (placed src (one k q) i) part.Opened))
+          (forth src (condition_reader m) None (conditions src m).start (condition_state (placed src (one k q) i) part.Opened) (one k q ++ one kind.OpenBrace l) (opened src m l (any q w)));
     }
 
 -- what stands in them
 record BodyBegun {E C : Type 0} (src : List ℕ) (m : Reader E C (Cell Expr)) (i : Cell Ident) (vs : List Lexeme) : Type 0 where
   state : ConditionState E
-  goes : steps (conditions src m) (Some (condition_of i part.Opened)) vs ≡ Some state
+  goes : steps (conditions src m) (Some (condition_state i part.Opened)) vs ≡ Some state
   is : condition_way state.part ≡ way.ToBrace
 
 expression_starts : {src : List ℕ} (t : Lexeme) (ts more us : List Lexeme) {x : Option (Cell Expr)} → ReadsBody src us x → us ≡ (t ∷ ts) ++ more → Starts (AsNode src (ReadsExpr src)) (t ∷ ts)
@@ -79,10 +79,10 @@ expression_starts t ts more us no_body e = absurd (nothing e)
 expression_starts {src = src} t ts more us (body {x = x} r) e = (more, (placed src ((t ∷ ts) ++ more) x, as_node (subst (λ us. ReadsExpr src us x) e r)))
 
 body_begun : {E C : Type 0} (src : List ℕ) (m : Reader E C (Cell Expr)) → Door (machine_of src m) (AsNode src (ReadsExpr src)) → (i : Cell Ident) (vs : List Lexeme) → Starts (ReadsBody src) vs → BodyBegun src m i vs
-body_begun src m d i [] h = record { state = condition_of i part.Opened; goes = refl; is = refl }
+body_begun src m d i [] h = record { state = condition_state i part.Opened; goes = refl; is = refl }
 body_begun src m d i (t ∷ ts) h =
     let c = comes d (t ∷ ts) (expression_starts t ts h.0 ((t ∷ ts) ++ h.0) h.1.1 refl) in
-    record { state = condition_of i (part.Body c.0); goes = entered (machine_of src m) (conditions src m) (λ q. condition_of i (part.Body q)) (holds_body src m i) (condition_of i part.Opened) t (λ q w. enters_body src m i t q w) ts c.0 c.1; is = refl }
+    record { state = condition_state i (part.Body c.0); goes = entered (machine_of src m) (conditions src m) (λ q. condition_state i (part.Body q)) (holds_body src m i) (condition_state i part.Opened) t (λ q w. enters_body src m i t q w) ts c.0 c.1; is = refl }
 
 -- one policy
 
@@ -97,7 +97,7 @@ record PolicyBraces {N S E A B C : Type 0} (src : List ℕ) (m : PartReaders N S
   ys : List (Cell VariableDef)
   zs : List (Cell Cond)
   span : Option Extent
-  goes : Comes (policies src (sections m)) ts (with_condition xs effect ys zs span (condition_of w part.Opened))
+  goes : Comes (policies src (sections m)) ts (with_condition xs effect ys zs span (condition_state w part.Opened))
 
 policy_braces : {N S E A B C : Type 0} (src : List ℕ) (m : PartReaders N S E A B C) → Grounds src m → {ts us : List Lexeme} {i : Ident} (l : Spot) → OpenPolicy src ts → ReadsAny us i → PolicyBraces src m (ts ++ us ++ one kind.OpenBrace l) (placed src us i)
 policy_braces src m g {us = es} {i = j} l (open_policy {ts = ts} {us = us} {vs = vs} {ws = ws} {xs = xs} {i = i} {ys = ys} {zs = zs} p q r w v c) a =
@@ -113,11 +113,11 @@ policy_braces src m g {us = es} {i = j} l (open_policy {ts = ts} {us = us} {vs =
       ys = ys;
       zs = zs;
       span = b.span;
-      goes = subst (λ ts. Comes n ts (with_condition xs (placed src us i) ys zs b.span (condition_of (placed src es j) part.Opened))) (assoc (before ++ ws) es (one kind.OpenBrace l))
+      goes = subst (λ ts. Comes n ts (with_condition xs (placed src us i) ys zs b.span (condition_state (placed src es j) part.Opened))) (assoc (before ++ ws) es (one kind.OpenBrace l))
           (then_steps n (Some n.start) (Some (conditions_at xs (placed src us i) ys h.last)) _ (before ++ ws) (es ++ one kind.OpenBrace l)
           (then_steps n (Some n.start) _ _ before ws (head_runs src (sections m) d p q r w v)
           (held s n (λ q. conditions_at xs (placed src us i) ys q) (holds_conditions src (sections m) d (sequence xs None) (placed src us i) (sequence ys None)) ws s.start h.last h.goes))
-          (held s n (λ q. conditions_at xs (placed src us i) ys q) (holds_conditions src (sections m) d (sequence xs None) (placed src us i) (sequence ys None)) (es ++ one kind.OpenBrace l) h.last (item_at zs (spanned_state b.span (condition_of (placed src es j) part.Opened))) b.goes));
+          (held s n (λ q. conditions_at xs (placed src us i) ys q) (holds_conditions src (sections m) d (sequence xs None) (placed src us i) (sequence ys None)) (es ++ one kind.OpenBrace l) h.last (item_at zs (spanned_state b.span (condition_state (placed src es j) part.Opened))) b.goes));
     }
   where
     assoc : (ts us vs : List Lexeme) → ts ++ (us ++ vs) ≡ ts ++ us ++ vs
@@ -143,17 +143,17 @@ placed_at src m ts s P c p = record { state = spanned_state (extent ts) s; comes
 
 -- with a beginning of a body in braces
 pub in_body : {N S E A B C : Type 0} (src : List ℕ) (m : PartReaders N S E A B C) → Grounds src m → {ts us : List Lexeme} {i : Ident} (vs : List Lexeme) (l : Spot) → OpenPolicy src ts → ReadsAny us i → Starts (ReadsBody src) vs →
-    At src m (ts ++ us ++ one kind.OpenBrace l ++ vs) (λ s. (w : Way) → policy_way w s ≡ way.ToBrace)
+    At src m (ts ++ us ++ one kind.OpenBrace l ++ vs) (λ s. (w : RecoveryWay) → policy_way w s ≡ way.ToBrace)
 in_body src m g {ts = ts} {us = us} {i = i} vs l o a h =
     let b = policy_braces src m g l o a in
     let c = body_begun src m.expression g.parts.expression (placed src us i) vs h in
     let n = policies src (sections m) in
-    placed_at src m (ts ++ us ++ one kind.OpenBrace l ++ vs) (with_condition b.xs b.effect b.ys b.zs (joint_extent b.span (extent vs)) c.state) (λ s. (w : Way) → policy_way w s ≡ way.ToBrace)
-    (then_steps n (Some n.start) _ _ (ts ++ us ++ one kind.OpenBrace l) vs b.goes (lifted src m g b.xs b.effect b.ys b.zs b.span vs (condition_of (placed src us i) part.Opened) c.state c.goes)) (λ w. c.is)
+    placed_at src m (ts ++ us ++ one kind.OpenBrace l ++ vs) (with_condition b.xs b.effect b.ys b.zs (joint_extent b.span (extent vs)) c.state) (λ s. (w : RecoveryWay) → policy_way w s ≡ way.ToBrace)
+    (then_steps n (Some n.start) _ _ (ts ++ us ++ one kind.OpenBrace l) vs b.goes (lifted src m g b.xs b.effect b.ys b.zs b.span vs (condition_state (placed src us i) part.Opened) c.state c.goes)) (λ w. c.is)
 
 -- what follows the closing brace
 pub data IsClosed {N S E : Type 0} : OnePolicy N S E → Type 0 where
-  closed : (xs : List (Cell Annotation)) (i : Cell Ident) (ys : List (Cell VariableDef)) (zs : List (Cell Cond)) (e : Option Extent) (w : Cell Ident) (x : Option (Cell Expr)) → IsClosed (with_condition xs i ys zs e (condition_of w (part.Closed x)))
+  closed : (xs : List (Cell Annotation)) (i : Cell Ident) (ys : List (Cell VariableDef)) (zs : List (Cell Cond)) (e : Option Extent) (w : Cell Ident) (x : Option (Cell Expr)) → IsClosed (with_condition xs i ys zs e (condition_state w (part.Closed x)))
 
 -- with an empty body
 pub behind_brace : {N S E A B C : Type 0} (src : List ℕ) (m : PartReaders N S E A B C) → Grounds src m → {ts us : List Lexeme} {i : Ident} (l e : Spot) → OpenPolicy src ts → ReadsAny us i →
@@ -163,9 +163,9 @@ behind_brace src m g {ts = ts} {us = us} {i = i} l e o a =
     let c = body_runs src m.expression g.parts.expression g.behind_body g.parts.expression_right (placed src us i) no_body in
     let n = policies src (sections m) in
     let vs = one kind.CloseBrace e in
-    placed_at src m (ts ++ us ++ one kind.OpenBrace l ++ vs) (with_condition b.xs b.effect b.ys b.zs (joint_extent b.span (extent vs)) (condition_of (placed src us i) (part.Closed None))) (λ s. IsClosed s)
+    placed_at src m (ts ++ us ++ one kind.OpenBrace l ++ vs) (with_condition b.xs b.effect b.ys b.zs (joint_extent b.span (extent vs)) (condition_state (placed src us i) (part.Closed None))) (λ s. IsClosed s)
     (then_steps n (Some n.start) _ _ (ts ++ us ++ one kind.OpenBrace l) vs b.goes
-    (lifted src m g b.xs b.effect b.ys b.zs b.span vs (condition_of (placed src us i) part.Opened) (condition_of (placed src us i) (part.Closed None)) (then_steps (conditions src m.expression) (Some (condition_of (placed src us i) part.Opened)) _ _ [] vs c.goes (ap (λ a. answer_state a) (c.closes e)))))
+    (lifted src m g b.xs b.effect b.ys b.zs b.span vs (condition_state (placed src us i) part.Opened) (condition_state (placed src us i) (part.Closed None)) (then_steps (conditions src m.expression) (Some (condition_state (placed src us i) part.Opened)) _ _ [] vs c.goes (ap (λ a. answer_state a) (c.closes e)))))
     (closed b.xs b.effect b.ys b.zs (joint_extent b.span (extent vs)) (placed src us i) None)
 
 -- and back: the tokens that end in braces
@@ -204,7 +204,7 @@ condition_open src m d (is_opened {ts = ts} {i = i} l a) e = record { word = ts;
 condition_open src m d (is_body {ts = ts} {i = i} {s = s} l us a c) e = record { word = ts; ident = i; brace = l; body = us; reads = a; starts = body_of src m d us s c; is = refl }
 condition_open src m d (is_closed l n us a r) e = absurd (cc)
 
-open_tokens : {N S E A B C : Type 0} (src : List ℕ) (m : PartReaders N S E A B C) → Grounds src m → (w : Way) → (w ≡ way.ToBrace → ⊥) → {ts : List Lexeme} {s : OnePolicy N S E} → PolicyRead src (sections m) ts s → policy_way w s ≡ way.ToBrace → OpenTokens src ts
+open_tokens : {N S E A B C : Type 0} (src : List ℕ) (m : PartReaders N S E A B C) → Grounds src m → (w : RecoveryWay) → (w ≡ way.ToBrace → ⊥) → {ts : List Lexeme} {s : OnePolicy N S E} → PolicyRead src (sections m) ts s → policy_way w s ≡ way.ToBrace → OpenTokens src ts
 open_tokens src m g w h (is_annotated c) e = absurd (cc)
 open_tokens src m g w h (is_effect r a) e = absurd (cc)
 open_tokens src m g w h (is_scope l vs r a c) e = absurd (cc)
@@ -235,7 +235,7 @@ open_tokens {E = E} src m g w h (is_conditions {ts = ts} {us = us} {vs = vs} {s 
         }
 open_tokens src m g w h (read.is_closed r) e = absurd (h e)
 
-pub opened_by : {N S E A B C : Type 0} (src : List ℕ) (m : PartReaders N S E A B C) → Grounds src m → (w : Way) → (w ≡ way.ToBrace → ⊥) → (ts : List Lexeme) (s : SpannedPolicy N S E) → Comes (policy_machine src m) ts s → policy_way w s.state ≡ way.ToBrace → OpenTokens src ts
+pub opened_by : {N S E A B C : Type 0} (src : List ℕ) (m : PartReaders N S E A B C) → Grounds src m → (w : RecoveryWay) → (w ≡ way.ToBrace → ⊥) → (ts : List Lexeme) (s : SpannedPolicy N S E) → Comes (policy_machine src m) ts s → policy_way w s.state ≡ way.ToBrace → OpenTokens src ts
 opened_by src m g w h ts s c e =
     let b = back src (policy_reader (sections m)) None (policies src (sections m)).start ts s c in
     open_tokens src m g w h (policy_read src (sections m) (section_doors src m g) ts s.state b.goes) e

@@ -18,8 +18,8 @@ use Rattle.cedar_policy_machine.specs.declared.condition.ConditionAct.{Condition
 use Rattle.cedar_syntax.specs.Trees.{Cell}
 use Rattle.cedar_grammar.specs.machines.Door.{Reader, Outline, IsOutline, option_image, is_some, ends_with, no_tree}
 use Rattle.cedar_policy_machine.specs.machines.Annotation.{any_node, annotation_shape, annotation_ends, annotation_act, annotation_finish, annotation_reader}
-use Rattle.cedar_policy_machine.specs.machines.Scope.{PartReaders, with_part, type_name_plan, entity_type_plan, constraint_plan, reader_plans, element_plan, element_ends, element_act, with_variable, element_tree, element_reader}
-use Rattle.cedar_policy_machine.specs.machines.Condition.{condition_of, opened_plan, body_plan, condition_plan, condition_act, condition_ends, condition_tree, condition_reader}
+use Rattle.cedar_policy_machine.specs.machines.Scope.{PartReaders, element_with_part, type_name_plan, entity_type_plan, constraint_plan, reader_plans, element_plan, element_ends, element_act, with_variable, finished_element, element_reader}
+use Rattle.cedar_policy_machine.specs.machines.Condition.{condition_state, opened_plan, body_plan, condition_plan, condition_act, condition_ends, finished_condition, condition_reader}
 use Rattle.cedar_policy_machine.specs.machines.PartOutlines.{annotation_shape_act, annotation_outline, PartOutlines, outline_plans, element_part_shape, element_shape, element_shape_act, element_shape_finish, element_outline, condition_part_shape, condition_shape, condition_shape_act, condition_outline}
 use Rattle.cedar_grammar.proofs.machines.Laws.{some_is}
 use Rattle.cedar_policy_machine.proofs.machines.Annotation.{AnnotationPlanned, marks, keys, opens, fills, closes, annotation_planned, annotation_does}
@@ -91,7 +91,7 @@ element_plans src m n f g h i (part.EntityType s) k = ap (λ o. entity_type_plan
 element_plans src m n f g h i (part.Constraint o s) k = ap (λ o. constraint_plan o) (i.expression.plans s k)
 
 element_acts : {N S E A B C L M F : Type 0} (src : List ℕ) (m : PartReaders N S E A B C) (n : PartOutlines L M F A B C) (f : N → L) (g : S → M) (h : E → F) → PartsOutlined src m n f g h → (s : ElementState N S E) (u : ElementPart N S E) (q : ElementState N S E)
-    (k : TokenKind) (a : ElementAct A B C) (t : Lexeme) → t.kind ≡ k → ElementPlanned (reader_plans m) u k a → element_act m src (with_part s u) a t ≡ Some q → element_shape f g h q ≡ element_shape_act n (element_part_shape f g h u) a t.kind
+    (k : TokenKind) (a : ElementAct A B C) (t : Lexeme) → t.kind ≡ k → ElementPlanned (reader_plans m) u k a → element_act m src (element_with_part s u) a t ≡ Some q → element_shape f g h q ≡ element_shape_act n (element_part_shape f g h u) a t.kind
 element_acts src m n f g h i s u q k a t w (names p) e = image_shaped (λ v. with_variable s v) (λ q. element_shape f g h q) _ (λ v. refl) (any_node src t) q e
 element_acts src m n f g h i s u q k a t w colon e = ap (λ q. element_shape f g h q) (sym (some_is e)) ∙ ap (λ u. part.TypeName u) i.name.starts
 element_acts src m n f g h i s u q k a t w (behind_variable the_word) e = ap (λ q. element_shape f g h q) (sym (some_is e)) ∙ ap (λ u. part.EntityType u) i.sum.starts
@@ -100,15 +100,15 @@ element_acts src m n f g h i s u q k a t w (behind_type v the_word) e = ap (λ q
 element_acts src m n f g h i s u q k a t w (behind_type v (the_operator {o = o} r)) e = ap (λ q. element_shape f g h q) (sym (some_is e)) ∙ ap (λ u. part.Constraint o u) i.expression.starts
 element_acts src m n f g h i s u q k a t w (behind_sum {o = o} v r) e = ap (λ q. element_shape f g h q) (sym (some_is e)) ∙ ap (λ u. part.Constraint o u) i.expression.starts
 element_acts src m n f g h i s u q k a t w (type_goes {s = p} {a = b} v) e =
-    let d = image_of (λ u. with_part s u) (option_image (λ q. part.TypeName q) (m.name.act src p b t)) q e in
+    let d = image_of (λ u. element_with_part s u) (option_image (λ q. part.TypeName q) (m.name.act src p b t)) q e in
     let c = image_of (λ q. part.TypeName q) (m.name.act src p b t) d.0 d.1 in
     ap (λ q. element_shape f g h q) (sym d.2) ∙ ap (λ u. element_part_shape f g h u) (sym c.2) ∙ ap (λ u. part.TypeName u) (i.name.acts p c.0 b t (ap (λ k. m.name.plan p k) w ∙ v) c.1)
 element_acts src m n f g h i s u q k a t w (sum_goes {s = p} {a = b} v) e =
-    let d = image_of (λ u. with_part s u) (option_image (λ q. part.EntityType q) (m.sum.act src p b t)) q e in
+    let d = image_of (λ u. element_with_part s u) (option_image (λ q. part.EntityType q) (m.sum.act src p b t)) q e in
     let c = image_of (λ q. part.EntityType q) (m.sum.act src p b t) d.0 d.1 in
     ap (λ q. element_shape f g h q) (sym d.2) ∙ ap (λ u. element_part_shape f g h u) (sym c.2) ∙ ap (λ u. part.EntityType u) (i.sum.acts p c.0 b t (ap (λ k. m.sum.plan p k) w ∙ v) c.1)
 element_acts src m n f g h i s u q k a t w (expression_goes {o = o} {s = p} {a = b} v) e =
-    let d = image_of (λ u. with_part s u) (option_image (λ q. part.Constraint o q) (m.expression.act src p b t)) q e in
+    let d = image_of (λ u. element_with_part s u) (option_image (λ q. part.Constraint o q) (m.expression.act src p b t)) q e in
     let c = image_of (λ q. part.Constraint o q) (m.expression.act src p b t) d.0 d.1 in
     ap (λ q. element_shape f g h q) (sym d.2) ∙ ap (λ u. element_part_shape f g h u) (sym c.2) ∙ ap (λ u. part.Constraint o u) (i.expression.acts p c.0 b t (ap (λ k. m.expression.plan p k) w ∙ v) c.1)
 
@@ -121,7 +121,7 @@ element_ended src m n f g h i (part.EntityType s) = i.sum.ends s
 element_ended src m n f g h i (part.Constraint o s) = i.expression.ends s
 
 element_finishes : {N S E A B C L M F : Type 0} (src : List ℕ) (m : PartReaders N S E A B C) (n : PartOutlines L M F A B C) (f : N → L) (g : S → M) (h : E → F) → PartsOutlined src m n f g h → (s : ElementState N S E) (u : ElementPart N S E) →
-    element_shape_finish n (element_part_shape f g h u) ≡ option_image no_tree (element_tree src m s u)
+    element_shape_finish n (element_part_shape f g h u) ≡ option_image no_tree (finished_element src m s u)
 element_finishes src m n f g h i s part.Start = refl
 element_finishes src m n f g h i s part.Nothing = refl
 element_finishes src m n f g h i s (part.TypeName q) = i.name.finishes q ∙ no_trees _ (m.name.finish src q)
@@ -150,15 +150,15 @@ condition_plans src e n f i (inner.Body s) k = ap (λ o. body_plan o (e.ends s) 
 condition_plans src e n f i (inner.Closed x) k = refl
 
 condition_acts : {E C F : Type 0} (src : List ℕ) (e : Reader E C (Cell Expr)) (n : Outline F C (Unit {0})) (f : E → F) → IsOutline src e n f no_tree → (v : Cell Ident) (u : ConditionPart E) (q : ConditionState E) (k : TokenKind) (a : ConditionAct C) (t : Lexeme) → t.kind ≡ k →
-    ConditionPlanned e u k a → condition_act e src (condition_of v u) a t ≡ Some q → condition_shape f q ≡ condition_shape_act n (condition_part_shape f u) a t.kind
-condition_acts src e n f i v u q k a t w (words h) d = image_shaped (λ x. condition_of x inner.Word) (λ q. condition_shape f q) _ (λ x. refl) (any_node src t) q d
+    ConditionPlanned e u k a → condition_act e src (condition_state v u) a t ≡ Some q → condition_shape f q ≡ condition_shape_act n (condition_part_shape f u) a t.kind
+condition_acts src e n f i v u q k a t w (words h) d = image_shaped (λ x. condition_state x inner.Word) (λ q. condition_shape f q) _ (λ x. refl) (any_node src t) q d
 condition_acts src e n f i v u q k a t w brace d = ap (λ q. condition_shape f q) (sym (some_is d))
 condition_acts src e n f i v u q k a t w (first_goes {a = b} h) d =
-    let c = image_of (λ q. condition_of v (inner.Body q)) (e.act src e.start b t) q d in
+    let c = image_of (λ q. condition_state v (inner.Body q)) (e.act src e.start b t) q d in
     ap (λ q. condition_shape f q) (sym c.2) ∙ ap (λ u. inner.Body u) (i.acts e.start c.0 b t (ap (λ k. e.plan e.start k) w ∙ h) c.1 ∙ ap (λ u. n.act u b t.kind) i.starts)
 condition_acts src e n f i v u q k a t w empty d = ap (λ q. condition_shape f q) (sym (some_is d))
 condition_acts src e n f i v u q k a t w (body_goes {s = p} {a = b} h) d =
-    let c = image_of (λ q. condition_of v (inner.Body q)) (e.act src p b t) q d in
+    let c = image_of (λ q. condition_state v (inner.Body q)) (e.act src p b t) q d in
     ap (λ q. condition_shape f q) (sym c.2) ∙ ap (λ u. inner.Body u) (i.acts p c.0 b t (ap (λ k. e.plan p k) w ∙ h) c.1)
 condition_acts src e n f i v u q k a t w (body_ends h) d = ap (λ q. condition_shape f q) (sym (some_is d))
 
@@ -169,7 +169,7 @@ condition_ended f inner.Opened = refl
 condition_ended f (inner.Body s) = refl
 condition_ended f (inner.Closed x) = refl
 
-condition_finishes : {E F : Type 0} (f : E → F) (v : Cell Ident) (u : ConditionPart E) → ends_with (condition_ends (condition_part_shape f u)) ≡ option_image no_tree (condition_tree v u)
+condition_finishes : {E F : Type 0} (f : E → F) (v : Cell Ident) (u : ConditionPart E) → ends_with (condition_ends (condition_part_shape f u)) ≡ option_image no_tree (finished_condition v u)
 condition_finishes f v inner.Start = refl
 condition_finishes f v inner.Word = refl
 condition_finishes f v inner.Opened = refl

@@ -29,7 +29,7 @@ use Rattle.cedar_grammar.specs.machines.Marks.{mark_of}
 use Rattle.cedar_policy_machine.specs.machines.Annotation.{any_node}
 use Rattle.cedar_policy_machine.specs.machines.Sequences.{sequence}
 use Rattle.cedar_grammar.specs.machines.SingleTokens.{token_node}
-use Rattle.cedar_policy_machine.specs.machines.Policy.{is_word, PolicyOf, policy_state, Sections, annotations_plan, open_plan, close_plan, scope_plan, shut_plan, conditions_plan, with_annotations, with_scope, with_conditions, behind_effect, behind_scope, behind_conditions, effect_read, policy_act, policy_tree, policy_finish, policies}
+use Rattle.cedar_policy_machine.specs.machines.Policy.{is_word, PolicyOf, policy_state, Sections, annotations_plan, open_plan, close_plan, scope_plan, shut_plan, conditions_plan, with_annotations, with_scope, with_conditions, behind_effect, behind_scope, behind_conditions, effect_read, policy_act, finished_policy, policy_finish, policies}
 use Rattle.cedar_grammar.proofs.machines.Laws.{some_is, then_steps, some_token}
 use Rattle.cedar_grammar.proofs.machines.Holding.{Holds, held, one_more, kept}
 use Rattle.cedar_grammar.proofs.machines.Ending.{EndsAt, IsWord, IsKind, spot_of, token_at}
@@ -435,7 +435,7 @@ conditions_answers s t (ended zs) o h = shut_answers s zs t (mark_of t.kind) ref
 conditions_answers s t refused o h = refl
 conditions_answers s t too_large o h = h
 
-step_answers : {A V C X Y Z : Type 0} (src : List ℕ) (m : Sections A V C X Y Z) → SectionDoors src m → (n : Section) (s : PolicyOf A V C) (t : Lexeme) → AnswersRightly t (policy_step src m n s t) (policy_tree n s)
+step_answers : {A V C X Y Z : Type 0} (src : List ℕ) (m : Sections A V C X Y Z) → SectionDoors src m → (n : Section) (s : PolicyOf A V C) (t : Lexeme) → AnswersRightly t (policy_step src m n s t) (finished_policy n s)
 step_answers src m d section.Annotations s t = annotated_answers src s t ((machine_of src m.annotations).step s.annotations t) (m.annotations.finish src s.annotations) (d.annotations.answers s.annotations t)
 step_answers src m d section.Effect s t = open_answers s t (mark_of t.kind) refl
 step_answers src m d section.Scope s t = scope_answers s t ((machine_of src m.scope).step s.scope t) (m.scope.finish src s.scope) (d.scope.answers s.scope t)
@@ -455,7 +455,7 @@ policy_door src m d = record {
 pub policy_ends : {A V C X Y Z : Type 0} (src : List ℕ) (m : Sections A V C X Y Z) (P : Lexeme → Type 0) → EndsAt (policies src m) P
 policy_ends {A = A} {V = V} {C = C} src m P s p t h e = go s.section s.annotations s.effect s.scope s.conditions e
   where
-    go : (n : Section) (a : Sequence A (Cell Annotation)) (i : Cell Ident) (v : Sequence V (Cell VariableDef)) (c : Sequence C (Cell Cond)) → policy_tree n (policy_state n a i v c) ≡ Some p → (policies src m).step (policy_state n a i v c) t ≡ ended p
+    go : (n : Section) (a : Sequence A (Cell Annotation)) (i : Cell Ident) (v : Sequence V (Cell VariableDef)) (c : Sequence C (Cell Cond)) → finished_policy n (policy_state n a i v c) ≡ Some p → (policies src m).step (policy_state n a i v c) t ≡ ended p
     go section.Annotations a i v c e = absurd (cc)
     go section.Effect a i v c e = absurd (cc)
     go section.Scope a i v c e = absurd (cc)

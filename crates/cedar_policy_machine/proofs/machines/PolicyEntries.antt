@@ -6,7 +6,7 @@ use Rattle.cedar_syntax.specs.declared.cst.Policy.{Policy}
 use Rattle.cedar_syntax.specs.declared.cst.Policies.{Policies}
 use Rattle.cedar_syntax.specs.declared.err.faults.ParseError.{ParseError}
 use Rattle.cedar_grammar.specs.declared.reading.expected.Narrowing.TheVariants as narrowing
-use Rattle.cedar_grammar.specs.declared.reading.recovery.Way.TheVariants as way
+use Rattle.cedar_grammar.specs.declared.reading.recovery.RecoveryWay.TheVariants as way
 use Rattle.cedar_policy_machine.specs.declared.sequence.Spanned.{Spanned}
 use Rattle.cedar_policy_machine.specs.declared.sequence.SequenceAct.{SequenceAct}
 use Rattle.cedar_grammar.specs.FirstFault.{large_at}

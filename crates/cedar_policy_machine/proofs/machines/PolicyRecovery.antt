@@ -14,8 +14,8 @@ use Rattle.cedar_policy_machine.specs.declared.condition.ConditionPart.{Conditio
 use Rattle.cedar_policy_machine.specs.declared.condition.ConditionPart.TheVariants as part
 use Rattle.cedar_policy_machine.specs.declared.policy.Section.{Section}
 use Rattle.cedar_policy_machine.specs.declared.policy.Section.TheVariants as section
-use Rattle.cedar_grammar.specs.declared.reading.recovery.Way.{Way}
-use Rattle.cedar_grammar.specs.declared.reading.recovery.Way.TheVariants as way
+use Rattle.cedar_grammar.specs.declared.reading.recovery.RecoveryWay.{RecoveryWay}
+use Rattle.cedar_grammar.specs.declared.reading.recovery.RecoveryWay.TheVariants as way
 use Rattle.cedar_policy_machine.specs.declared.sequence.Spanned.{Spanned}
 use Rattle.cedar_syntax.specs.Tokens.{Spot, one}
 use Rattle.cedar_grammar.specs.Place.{placed}
@@ -31,7 +31,7 @@ use Rattle.cedar_policy_machine.specs.machines.Sequences.{many}
 use Rattle.cedar_policy_machine.specs.machines.Annotation.{annotation_shape}
 use Rattle.cedar_policy_machine.specs.machines.Scope.{PartReaders}
 use Rattle.cedar_policy_machine.specs.machines.PartOutlines.{PartOutlines, element_shape, condition_part_shape, condition_shape}
-use Rattle.cedar_policy_machine.specs.machines.Policy.{policy_state, policy_tree, policy_finish, policy_reader, policies}
+use Rattle.cedar_policy_machine.specs.machines.Policy.{policy_state, finished_policy, policy_finish, policy_reader, policies}
 use Rattle.cedar_policy_machine.specs.machines.SequenceShapes.{spanned_shape, sequence_shape}
 use Rattle.cedar_policy_machine.specs.machines.PolicyShapes.{in_head, has_effect, in_parens, behind_parens, whole_policy, section_shape}
 use Rattle.cedar_policy_machine.specs.machines.Policies.{AnnotationsState, ScopeState, ConditionsState, OnePolicy, SpannedPolicy, PoliciesState, sections, one_policy_reader, policy_machine, policies_machine, OnePolicyShape, one_policy_outline, all_policies_outline, one_policy_shape, all_policies_shape, condition_way, begun_condition_way, section_way, policy_way, begun_policy_way, closed_part, condition_closing, closed_policy, policy_closing, policies_closing, policy_recovers, policies_recover}
@@ -48,11 +48,11 @@ use Rattle.cedar_policy_machine.proofs.machines.Recovery.{end_from, Split, Compa
 
 -- how a fault is left is told by the shape
 
-abbrev condition_shape_way : {E : Type 0} → Option (ConditionPart E) → Way
+abbrev condition_shape_way : {E : Type 0} → Option (ConditionPart E) → RecoveryWay
 condition_shape_way None = way.ToEnd
 condition_shape_way (Some u) = condition_way u
 
-abbrev shape_way : {N S E : Type 0} → Way → OnePolicyShape N S E → Way
+abbrev shape_way : {N S E : Type 0} → RecoveryWay → OnePolicyShape N S E → RecoveryWay
 shape_way w (in_head u v c) = way.ToEnd
 shape_way w (has_effect v c) = way.ToEnd
 shape_way w (in_parens v c) = way.ToEnd
@@ -70,7 +70,7 @@ condition_way_by : {E F : Type 0} (h : E → F) (b : Option (Spanned (ConditionS
 condition_way_by h None = refl
 condition_way_by h (Some s) = part_way_by h s.state.part
 
-way_by_shape : {N S E L M F : Type 0} (f : N → L) (g : S → M) (h : E → F) (w : Way) (s : SpannedPolicy N S E) → policy_way w s.state ≡ shape_way w (one_policy_shape f g h s)
+way_by_shape : {N S E L M F : Type 0} (f : N → L) (g : S → M) (h : E → F) (w : RecoveryWay) (s : SpannedPolicy N S E) → policy_way w s.state ≡ shape_way w (one_policy_shape f g h s)
 way_by_shape {N = N} {S = S} {E = E} {L = L} {M = M} {F = F} f g h w s = go s.state.section s.state
   where
     go : (n : Section) (s : OnePolicy N S E) → section_way w n s ≡ shape_way {N = L} {S = M} {E = F} w (section_shape (sequence_shape (spanned_shape annotation_shape)) (sequence_shape (spanned_shape (element_shape f g h))) (sequence_shape (spanned_shape (condition_shape h))) n s)
@@ -123,7 +123,7 @@ part_closed part.Opened e = refl
 part_closed (part.Body s) e = refl
 part_closed (part.Closed x) e = absurd (cc)
 
-closed_in_braces : {L M F : Type 0} (w : Way) (u : OnePolicyShape L M F) → (w ≡ way.ToBrace → ⊥) → shape_way w u ≡ way.ToBrace → closed_shape u ≡ behind_parens (Some (part.Closed None))
+closed_in_braces : {L M F : Type 0} (w : RecoveryWay) (u : OnePolicyShape L M F) → (w ≡ way.ToBrace → ⊥) → shape_way w u ≡ way.ToBrace → closed_shape u ≡ behind_parens (Some (part.Closed None))
 closed_in_braces w (in_head u v c) h e = absurd (cc)
 closed_in_braces w (has_effect v c) h e = absurd (cc)
 closed_in_braces w (in_parens v c) h e = absurd (cc)
@@ -131,7 +131,7 @@ closed_in_braces w (behind_parens None) h e = absurd (cc)
 closed_in_braces w (behind_parens (Some u)) h e = ap (λ u. behind_parens (Some u)) (part_closed u e)
 closed_in_braces w whole_policy h e = absurd (h e)
 
-close_shape : {N S E L M F : Type 0} (f : N → L) (g : S → M) (h : E → F) (w : Way) (s : SpannedPolicy N S E) → (w ≡ way.ToBrace → ⊥) → policy_way w s.state ≡ way.ToBrace → one_policy_shape f g h (policy_closing s) ≡ behind_parens (Some (part.Closed None))
+close_shape : {N S E L M F : Type 0} (f : N → L) (g : S → M) (h : E → F) (w : RecoveryWay) (s : SpannedPolicy N S E) → (w ≡ way.ToBrace → ⊥) → policy_way w s.state ≡ way.ToBrace → one_policy_shape f g h (policy_closing s) ≡ behind_parens (Some (part.Closed None))
 close_shape f g h w s n e = closed_by_shape f g h s.extent s.state ∙ closed_in_braces w (one_policy_shape f g h s) n (sym (way_by_shape f g h w s) ∙ e)
 
 closed_shape_is : {N S E L M F : Type 0} (f : N → L) (g : S → M) (h : E → F) (e : Option Extent) {s : OnePolicy N S E} → IsClosed s → one_policy_shape f g h (spanned_state e s) ≡ behind_parens (Some (part.Closed None))
@@ -207,7 +207,7 @@ stopped_whole {N = N} {S = S} {E = E} src m s e t = go s.section s.annotations s
 not_stopped : {N S E : Type 0} (s : OnePolicy N S E) → (policy_way way.Stop s ≡ way.Stop → ⊥) → policy_finish s ≡ None
 not_stopped {N = N} {S = S} {E = E} s e = go s.section s e
   where
-    go : (n : Section) (s : OnePolicy N S E) → (section_way way.Stop n s ≡ way.Stop → ⊥) → policy_tree n s ≡ None
+    go : (n : Section) (s : OnePolicy N S E) → (section_way way.Stop n s ≡ way.Stop → ⊥) → finished_policy n s ≡ None
     go section.Annotations s e = refl
     go section.Effect s e = refl
     go section.Scope s e = refl
@@ -217,7 +217,7 @@ not_stopped {N = N} {S = S} {E = E} s e = go s.section s e
 whole_shape : {N S E L M F : Type 0} (f : N → L) (g : S → M) (h : E → F) (src : List ℕ) (s : SpannedPolicy N S E) (x : Cell Policy) → node_if src s.extent (policy_finish s.state) ≡ Some x → one_policy_shape f g h s ≡ whole_policy
 whole_shape {N = N} {S = S} {E = E} {L = L} {M = M} {F = F} f g h src s x e = go s.state.section s.state e
   where
-    go : (n : Section) (q : OnePolicy N S E) → node_if src s.extent (policy_tree n q) ≡ Some x →
+    go : (n : Section) (q : OnePolicy N S E) → node_if src s.extent (finished_policy n q) ≡ Some x →
         ◌≡◌ {A = OnePolicyShape L M F} (section_shape (sequence_shape (spanned_shape annotation_shape)) (sequence_shape (spanned_shape (element_shape f g h))) (sequence_shape (spanned_shape (condition_shape h))) n q) whole_policy
     go section.Annotations q e = absurd (cc)
     go section.Effect q e = absurd (cc)

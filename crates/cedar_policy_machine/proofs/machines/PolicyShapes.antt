@@ -17,7 +17,7 @@ use Rattle.cedar_syntax.specs.Tokens.{any_of, fits}
 use Rattle.cedar_syntax.specs.Trees.{Cell}
 use Rattle.cedar_grammar.specs.machines.Door.{is_some, option_image, IsDone, no_tree}
 use Rattle.cedar_policy_machine.specs.machines.Annotation.{any_node}
-use Rattle.cedar_policy_machine.specs.machines.Policy.{is_word, PolicyOf, Sections, annotations_plan, open_plan, close_plan, scope_plan, shut_plan, conditions_plan, policy_plan, with_annotations, with_scope, with_conditions, behind_effect, behind_scope, behind_conditions, effect_read, policy_act, policy_ends, policy_tree, policy_reader}
+use Rattle.cedar_policy_machine.specs.machines.Policy.{is_word, PolicyOf, Sections, annotations_plan, open_plan, close_plan, scope_plan, shut_plan, conditions_plan, policy_plan, with_annotations, with_scope, with_conditions, behind_effect, behind_scope, behind_conditions, effect_read, policy_act, policy_ends, finished_policy, policy_reader}
 use Rattle.cedar_policy_machine.specs.machines.PolicyShapes.{section_shape, policy_shape, SectionOutlines, policy_shape_plan, policy_shape_act, policy_shape_finish, policy_outline, in_head, has_effect, in_parens, behind_parens}
 use Rattle.cedar_grammar.specs.machines.SingleTokens.{token_node}
 use Rattle.cedar_grammar.proofs.machines.Laws.{some_is, false_true}
@@ -199,7 +199,7 @@ policy_ends_shaped f g h section.Scope s = refl
 policy_ends_shaped f g h section.Conditions s = refl
 policy_ends_shaped f g h section.Closed s = refl
 
-policy_finishes : {A V C L M F : Type 0} (f : Sequence A (Cell Annotation) → L) (g : Sequence V (Cell VariableDef) → M) (h : Sequence C (Cell Cond) → F) (c : Section) (s : PolicyOf A V C) → policy_shape_finish (section_shape f g h c s) ≡ option_image no_tree (policy_tree c s)
+policy_finishes : {A V C L M F : Type 0} (f : Sequence A (Cell Annotation) → L) (g : Sequence V (Cell VariableDef) → M) (h : Sequence C (Cell Cond) → F) (c : Section) (s : PolicyOf A V C) → policy_shape_finish (section_shape f g h c s) ≡ option_image no_tree (finished_policy c s)
 policy_finishes f g h section.Annotations s = refl
 policy_finishes f g h section.Effect s = refl
 policy_finishes f g h section.Scope s = refl
@@ -220,7 +220,7 @@ policy_outlined src m n f g h i = record {
 pub policy_right : {A V C X Y Z : Type 0} (src : List ℕ) (m : Sections A V C X Y Z) → EndsRightly src (policy_reader m)
 policy_right {A = A} {V = V} {C = C} src m s = go s.section s
   where
-    go : (c : Section) (s : PolicyOf A V C) → policy_ends c ≡ is_some (policy_tree c s)
+    go : (c : Section) (s : PolicyOf A V C) → policy_ends c ≡ is_some (finished_policy c s)
     go section.Annotations s = refl
     go section.Effect s = refl
     go section.Scope s = refl

@@ -5,8 +5,8 @@ use Rattle.cedar_lexer.specs.Token.{Lexeme}
 use Rattle.cedar_lexer.specs.declared.token.TokenKind.{TokenKind}
 use Rattle.cedar_lexer.specs.declared.token.TokenKind.TheVariants as kind
 use Rattle.cedar_grammar.specs.declared.reading.mark.Mark.TheVariants as mark
-use Rattle.cedar_grammar.specs.declared.reading.recovery.Way.{Way}
-use Rattle.cedar_grammar.specs.declared.reading.recovery.Way.TheVariants as way
+use Rattle.cedar_grammar.specs.declared.reading.recovery.RecoveryWay.{RecoveryWay}
+use Rattle.cedar_grammar.specs.declared.reading.recovery.RecoveryWay.TheVariants as way
 use Rattle.cedar_syntax.specs.Tokens.{Spot, one}
 use Rattle.cedar_grammar.specs.Sentences.{first}
 use Rattle.cedar_grammar.specs.Mended.{InBraces, EndsInBraces, BegunPolicy, NoneIs, short_policy, Mended, to_brace, to_end, head}
@@ -87,17 +87,17 @@ abbrev pub Skips : Bool → List Lexeme → Type 0
 Skips b [] = Unit {0}
 Skips b (t ∷ ts) = (is_stop b t.kind ≡ false) × Skips b ts
 
-abbrev pub braced : Way → Bool
+abbrev pub braced : RecoveryWay → Bool
 braced way.ToBrace = true
 braced way.ToEnd = false
 braced way.Stop = false
 
-abbrev pub skips_on : Way → Bool
+abbrev pub skips_on : RecoveryWay → Bool
 skips_on way.ToBrace = true
 skips_on way.ToEnd = true
 skips_on way.Stop = false
 
-skip_one : {S F : Type 0} (r : Recovers S F) (xs : List F) (w : Way) (s : S) (x : F) (t : Lexeme) (k : TokenKind) → skips_on w ≡ true → is_stop (braced w) k ≡ false → skip_step r xs w s x t (mark_of k) ≡ skipping xs w s x
+skip_one : {S F : Type 0} (r : Recovers S F) (xs : List F) (w : RecoveryWay) (s : S) (x : F) (t : Lexeme) (k : TokenKind) → skips_on w ≡ true → is_stop (braced w) k ≡ false → skip_step r xs w s x t (mark_of k) ≡ skipping xs w s x
 skip_one r xs way.ToBrace s x t kind.CloseBrace h e = absurd (cc)
 skip_one r xs way.ToBrace s x t kind.Semicolon h e = absurd (cc)
 skip_one r xs way.ToBrace s x t _ h e = refl
@@ -105,12 +105,12 @@ skip_one r xs way.ToEnd s x t kind.Semicolon h e = absurd (cc)
 skip_one r xs way.ToEnd s x t _ h e = refl
 skip_one r xs way.Stop s x t k h e = absurd (cc)
 
-pub skips : {S T F : Type 0} (m : Machine Lexeme S T) (r : Recovers S F) (xs : List F) (w : Way) (s : S) (x : F) (ts us : List Lexeme) → skips_on w ≡ true → Skips (braced w) ts →
+pub skips : {S T F : Type 0} (m : Machine Lexeme S T) (r : Recovers S F) (xs : List F) (w : RecoveryWay) (s : S) (x : F) (ts us : List Lexeme) → skips_on w ≡ true → Skips (braced w) ts →
     told_all m r (skipping xs w s x) (ts ++ us) ≡ told_all m r (skipping xs w s x) us
 skips m r xs w s x [] us h i = refl
 skips m r xs w s x (t ∷ ts) us h i = ap (λ q. told_all m r q (ts ++ us)) (skip_one r xs w s x t t.kind h i.0) ∙ skips m r xs w s x ts us h i.1
 
-pub skips_out : {S T F : Type 0} (m : Machine Lexeme S T) (r : Recovers S F) (xs : List F) (w : Way) (s : S) (x : F) (ts : List Lexeme) → skips_on w ≡ true → Skips (braced w) ts → told_all m r (skipping xs w s x) ts ≡ run_faults xs (Some x)
+pub skips_out : {S T F : Type 0} (m : Machine Lexeme S T) (r : Recovers S F) (xs : List F) (w : RecoveryWay) (s : S) (x : F) (ts : List Lexeme) → skips_on w ≡ true → Skips (braced w) ts → told_all m r (skipping xs w s x) ts ≡ run_faults xs (Some x)
 skips_out m r xs w s x [] h i = refl
 skips_out m r xs w s x (t ∷ ts) h i = ap (λ q. told_all m r q ts) (skip_one r xs w s x t t.kind h i.0) ∙ skips_out m r xs w s x ts h i.1
 
@@ -213,29 +213,29 @@ at_brace {src = src} {m = m} {W = W} {r = r} {f = f} d before s vs ws e c h k =
       resumes = λ xs x. ap (λ w. skip_step r xs w s x (token_at kind.CloseBrace e) mark.CloseBrace) h;
     }
 
-way_apart : {w : Way} → w ≡ way.ToBrace → w ≡ way.ToEnd → ⊥
+way_apart : {w : RecoveryWay} → w ≡ way.ToBrace → w ≡ way.ToEnd → ⊥
 way_apart e f = cc
 
-not_stopped : (w : Way) → skips_on w ≡ true → w ≡ way.Stop → ⊥
+not_stopped : (w : RecoveryWay) → skips_on w ≡ true → w ≡ way.Stop → ⊥
 not_stopped way.ToBrace h e = cc
 not_stopped way.ToEnd h e = cc
 not_stopped way.Stop h e = absurd (cc)
 
 -- behind tokens that end in braces, what is skipped has no closing brace
 brace_behind : {S T F V : Type 0} {src : List ℕ} {m : Machine Lexeme S T} {R : List Lexeme → T → Type 0} {W : List Lexeme → Type 0} {U : List Lexeme → Option Lexeme → F → Type 0} {L : Lexeme → F → Type 0} {r : Recovers S F} {n : Machine TokenKind V (Unit {0})} {f : S → V} →
-    Recoverable src m R W U L r n f → (before : List Lexeme) (s : S) (w : Way) → Comes m before s → r.way s ≡ w → skips_on w ≡ true → (vs : List Lexeme) → Skips (braced w) vs → EndsInBraces src W before → NoneIs kind.CloseBrace vs
+    Recoverable src m R W U L r n f → (before : List Lexeme) (s : S) (w : RecoveryWay) → Comes m before s → r.way s ≡ w → skips_on w ≡ true → (vs : List Lexeme) → Skips (braced w) vs → EndsInBraces src W before → NoneIs kind.CloseBrace vs
 brace_behind d before s way.ToBrace c h i vs k j = none_stops true kind.CloseBrace refl vs k
 brace_behind {m = m} d before s way.ToEnd c h i vs k j = absurd (way_apart (d.braces j.opened j.within s j.braces (subst (λ ts. Comes m ts s) (sym j.is) c)) h)
 brace_behind d before s way.Stop c h i vs k j = absurd (cc)
 
 -- and what has none, where they do, is skipped
 skipped_behind : {S T F V : Type 0} {src : List ℕ} {m : Machine Lexeme S T} {R : List Lexeme → T → Type 0} {W : List Lexeme → Type 0} {U : List Lexeme → Option Lexeme → F → Type 0} {L : Lexeme → F → Type 0} {r : Recovers S F} {n : Machine TokenKind V (Unit {0})} {f : S → V} →
-    Recoverable src m R W U L r n f → (before : List Lexeme) (s : S) (w : Way) → Comes m before s → r.way s ≡ w → (vs : List Lexeme) → (EndsInBraces src W before → NoneIs kind.CloseBrace vs) → NoneIs kind.Semicolon vs → Skips (braced w) vs
+    Recoverable src m R W U L r n f → (before : List Lexeme) (s : S) (w : RecoveryWay) → Comes m before s → r.way s ≡ w → (vs : List Lexeme) → (EndsInBraces src W before → NoneIs kind.CloseBrace vs) → NoneIs kind.Semicolon vs → Skips (braced w) vs
 skipped_behind d before s way.ToBrace c h vs k j = skips_within vs (k (d.inside before s c h)) j
 skipped_behind d before s way.ToEnd c h vs k j = skips_outside vs j
 skipped_behind d before s way.Stop c h vs k j = skips_outside vs j
 
-end_resumes : {S F : Type 0} (r : Recovers S F) (xs : List F) (w : Way) (s : S) (x : F) (e : Spot) → skips_on w ≡ true → skip_step r xs w s x (token_at kind.Semicolon e) mark.Semicolon ≡ reading (xs ++ x ∷ []) e.end (r.end s)
+end_resumes : {S F : Type 0} (r : Recovers S F) (xs : List F) (w : RecoveryWay) (s : S) (x : F) (e : Spot) → skips_on w ≡ true → skip_step r xs w s x (token_at kind.Semicolon e) mark.Semicolon ≡ reading (xs ++ x ∷ []) e.end (r.end s)
 end_resumes r xs way.ToBrace s x e h = refl
 end_resumes r xs way.ToEnd s x e h = refl
 end_resumes r xs way.Stop s x e h = absurd (cc)
@@ -260,7 +260,7 @@ at_semicolon {src = src} {m = m} {W = W} {r = r} {f = f} d before s vs ws e c h 
     }
 
 stop_kind : {S T F V : Type 0} {src : List ℕ} {m : Machine Lexeme S T} {R : List Lexeme → T → Type 0} {W : List Lexeme → Type 0} {U : List Lexeme → Option Lexeme → F → Type 0} {L : Lexeme → F → Type 0} {r : Recovers S F} {n : Machine TokenKind V (Unit {0})} {f : S → V} →
-    Recoverable src m R W U L r n f → (before : List Lexeme) (s : S) (vs ws : List Lexeme) (w : Way) (k : TokenKind) (e : Spot) → Comes m before s → r.way s ≡ w → skips_on w ≡ true → Skips (braced w) vs → is_stop (braced w) k ≡ true →
+    Recoverable src m R W U L r n f → (before : List Lexeme) (s : S) (vs ws : List Lexeme) (w : RecoveryWay) (k : TokenKind) (e : Spot) → Comes m before s → r.way s ≡ w → skips_on w ≡ true → Skips (braced w) vs → is_stop (braced w) k ≡ true →
     StopAt src m R W r f before s vs ws (token_at k e)
 stop_kind d before s vs ws way.ToBrace kind.CloseBrace e c h i k j = at_brace d before s vs ws e c h k
 stop_kind d before s vs ws w kind.Semicolon e c h i k j =
@@ -293,7 +293,7 @@ pub record Resumed {S T F V : Type 0} (m : Machine Lexeme S T) (r : Recovers S F
   pub alike : f to ≡ f state
   pub resumes : (xs : List F) (x : F) → skip_step r xs (r.way s) s x stop (mark_of stop.kind) ≡ reading (xs ++ x ∷ []) stop.end to
 
-goes_on_by : (w : Way) → (w ≡ way.Stop → ⊥) → skips_on w ≡ true
+goes_on_by : (w : RecoveryWay) → (w ≡ way.Stop → ⊥) → skips_on w ≡ true
 goes_on_by way.ToBrace h = refl
 goes_on_by way.ToEnd h = refl
 goes_on_by way.Stop h = absurd (h refl)

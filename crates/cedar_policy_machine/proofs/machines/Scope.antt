@@ -1,4 +1,5 @@
--- The door of the machine of an element of the scope, from the doors of the machines of its parts. Nothing here knows which machines those are.
+-- The door of the machine of an element of the scope, from the doors of the machines of its parts.
+-- Nothing here knows which machines those are.
 use Rattle.std.proofs.Common.{◌≡◌, ℕ, List, [], ◌∷◌, ◌++◌, Option, Some, None, refl, sym, ◌∙◌, ap, subst, append_assoc, IfSome}
 use Rattle.std.proofs.lemmas.List.{append-nil}
 use Rattle.cedar_lexer.specs.Token.{Lexeme}
@@ -26,7 +27,7 @@ use Rattle.cedar_grammar.specs.machines.Marks.{relation_of}
 use Rattle.cedar_policy_machine.specs.machines.Placing.{AsNode, as_node}
 use Rattle.cedar_policy_machine.specs.machines.Following.{IsParting, comma, close_paren, FollowsSum, operator, parting, FollowsName, is_word, as_sum}
 use Rattle.cedar_grammar.specs.machines.SingleTokens.{if_any}
-use Rattle.cedar_policy_machine.specs.machines.Scope.{PartReaders, element_of, with_part, behind_part, compare_plan, narrow_plan, bare_plan, type_name_plan, entity_type_plan, constraint_plan, reader_plans, element_plan, element_ends, element_act, going_on, with_variable, with_type_name, with_entity_type, with_constraint, element_tree, element_finish, element_reader, elements}
+use Rattle.cedar_policy_machine.specs.machines.Scope.{PartReaders, element_state, element_with_part, behind_part, compare_plan, narrow_plan, bare_plan, type_name_plan, entity_type_plan, constraint_plan, reader_plans, element_plan, element_ends, element_act, going_on, with_variable, with_type_name, with_entity_type, with_constraint, finished_element, element_finish, element_reader, elements}
 use Rattle.cedar_grammar.proofs.machines.ByActs.{keeps}
 use Rattle.cedar_grammar.proofs.machines.Laws.{some_is, then_steps, some_token}
 use Rattle.cedar_grammar.proofs.machines.Holding.{Holds, held, one_more}
@@ -52,22 +53,22 @@ pub record PartDoors {N S E A B C : Type 0} (src : List ℕ) (m : PartReaders N 
 
 -- ---- what the element does while a part goes on
 
-holds_name : {N S E A B C : Type 0} (src : List ℕ) (m : PartReaders N S E A B C) (s : ElementState N S E) → Holds (machine_of src m.name) (elements src m) (λ q. with_part s (part.TypeName q))
+holds_name : {N S E A B C : Type 0} (src : List ℕ) (m : PartReaders N S E A B C) (s : ElementState N S E) → Holds (machine_of src m.name) (elements src m) (λ q. element_with_part s (part.TypeName q))
 holds_name src m s q r t e =
     let h = taken_by src m.name q r t e in
-    takes src (element_reader m) (with_part s (part.TypeName q)) (with_part s (part.TypeName r)) (act.TypeName h.what) t (ap (λ o. type_name_plan o (m.name.ends q) t.kind) h.planned)
+    takes src (element_reader m) (element_with_part s (part.TypeName q)) (element_with_part s (part.TypeName r)) (act.TypeName h.what) t (ap (λ o. type_name_plan o (m.name.ends q) t.kind) h.planned)
     (ap (λ o. going_on s (option_image (λ q. part.TypeName q) o)) h.made)
 
-holds_sum : {N S E A B C : Type 0} (src : List ℕ) (m : PartReaders N S E A B C) (s : ElementState N S E) → Holds (machine_of src m.sum) (elements src m) (λ q. with_part s (part.EntityType q))
+holds_sum : {N S E A B C : Type 0} (src : List ℕ) (m : PartReaders N S E A B C) (s : ElementState N S E) → Holds (machine_of src m.sum) (elements src m) (λ q. element_with_part s (part.EntityType q))
 holds_sum src m s q r t e =
     let h = taken_by src m.sum q r t e in
-    takes src (element_reader m) (with_part s (part.EntityType q)) (with_part s (part.EntityType r)) (act.EntityType h.what) t (ap (λ o. entity_type_plan o (m.sum.ends q) t.kind) h.planned)
+    takes src (element_reader m) (element_with_part s (part.EntityType q)) (element_with_part s (part.EntityType r)) (act.EntityType h.what) t (ap (λ o. entity_type_plan o (m.sum.ends q) t.kind) h.planned)
     (ap (λ o. going_on s (option_image (λ q. part.EntityType q) o)) h.made)
 
-holds_expression : {N S E A B C : Type 0} (src : List ℕ) (m : PartReaders N S E A B C) (s : ElementState N S E) (o : RelOp) → Holds (machine_of src m.expression) (elements src m) (λ q. with_part s (part.Constraint o q))
+holds_expression : {N S E A B C : Type 0} (src : List ℕ) (m : PartReaders N S E A B C) (s : ElementState N S E) (o : RelOp) → Holds (machine_of src m.expression) (elements src m) (λ q. element_with_part s (part.Constraint o q))
 holds_expression src m s o q r t e =
     let h = taken_by src m.expression q r t e in
-    takes src (element_reader m) (with_part s (part.Constraint o q)) (with_part s (part.Constraint o r)) (act.Constraint h.what) t (ap (λ o. constraint_plan o) h.planned)
+    takes src (element_reader m) (element_with_part s (part.Constraint o q)) (element_with_part s (part.Constraint o r)) (act.Constraint h.what) t (ap (λ o. constraint_plan o) h.planned)
     (ap (λ q. going_on s (option_image (λ q. part.Constraint o q) q)) h.made)
 
 -- behind a part that ends there
@@ -119,12 +120,12 @@ record Typed {N S E A B C : Type 0} (src : List ℕ) (m : PartReaders N S E A B 
   last : ElementState N S E
   goes : Comes (elements src m) ts last
   ends : element_finish m src last ≡ Some (variable_def_of i x None None)
-  narrows : (p : Spot) → (elements src m).step last (token_at kind.Is p) ≡ next (element_of i x None (part.EntityType m.sum.start))
-  compares : (k : TokenKind) (p : Spot) (o : RelOp) → ReadsRelOp k o → (elements src m).step last (token_at k p) ≡ next (element_of i x None (part.Constraint o m.expression.start))
+  narrows : (p : Spot) → (elements src m).step last (token_at kind.Is p) ≡ next (element_state i x None (part.EntityType m.sum.start))
+  compares : (k : TokenKind) (p : Spot) (o : RelOp) → ReadsRelOp k o → (elements src m).step last (token_at k p) ≡ next (element_state i x None (part.Constraint o m.expression.start))
 
 -- a variable alone
 abbrev bare : {N S E : Type 0} → Cell Ident → ElementState N S E
-bare i = element_of i None None part.Nothing
+bare i = element_state i None None part.Nothing
 
 variable_runs : {N S E A B C : Type 0} (src : List ℕ) (m : PartReaders N S E A B C) {ts : List Lexeme} {i : Ident} → ReadsAny ts i → Comes (elements src m) ts (bare (placed src ts i))
 variable_runs src m (any {k = k} {i = i} q e) =
@@ -138,21 +139,21 @@ type_runs {src = src} {m = m} d {ts = ts} {i = i} w no_type_name = record {
   goes = ap (λ ts. steps (elements src m) (Some (element_reader m).start) ts) (append-nil ts) ∙ variable_runs src m w;
   ends = refl;
   narrows = λ p. refl;
-  compares = λ k p o h. takes src (element_reader m) (bare (placed src ts i)) (with_part (bare (placed src ts i)) (part.Constraint o m.expression.start)) (act.Compare o) (token_at k p) (bare_compares h) refl;
+  compares = λ k p o h. takes src (element_reader m) (bare (placed src ts i)) (element_with_part (bare (placed src ts i)) (part.Constraint o m.expression.start)) (act.Compare o) (token_at k p) (bare_compares h) refl;
 }
 type_runs {src = src} {m = m} d {ts = ts} {i = i} w (type_name {ts = us} {x = x} p r) =
     let c = d.name.complete us (placed src us x) (as_node r) in
     let v = bare (placed src ts i) in
-    let last = with_part v (part.TypeName c.last) in
+    let last = element_with_part v (part.TypeName c.last) in
     record {
       last = last;
       goes = then_steps (elements src m) (Some (element_reader m).start) (Some v) _ ts (one kind.Colon p ++ us) (variable_runs src m w)
-          (held (machine_of src m.name) (elements src m) (λ q. with_part v (part.TypeName q)) (holds_name src m v) us m.name.start c.last c.goes);
+          (held (machine_of src m.name) (elements src m) (λ q. element_with_part v (part.TypeName q)) (holds_name src m v) us m.name.start c.last c.goes);
       ends = ap (λ o. with_type_name last o) c.ends;
-      narrows = λ p. takes src (element_reader m) last (element_of (placed src ts i) (Some (placed src us x)) None (part.EntityType m.sum.start)) act.Is (token_at kind.Is p)
-          (type_leaves src m d c.last (placed src us x) (token_at kind.Is p) is_word c.ends) (ap (λ o. Some (element_of (placed src ts i) o None (part.EntityType m.sum.start))) c.ends);
-      compares = λ k p o h. takes src (element_reader m) last (element_of (placed src ts i) (Some (placed src us x)) None (part.Constraint o m.expression.start)) (act.Compare o) (token_at k p)
-          (type_leaves src m d c.last (placed src us x) (token_at k p) (as_sum (operator o h)) c.ends ∙ narrow_compares h) (ap (λ n. Some (element_of (placed src ts i) n None (part.Constraint o m.expression.start))) c.ends);
+      narrows = λ p. takes src (element_reader m) last (element_state (placed src ts i) (Some (placed src us x)) None (part.EntityType m.sum.start)) act.Is (token_at kind.Is p)
+          (type_leaves src m d c.last (placed src us x) (token_at kind.Is p) is_word c.ends) (ap (λ o. Some (element_state (placed src ts i) o None (part.EntityType m.sum.start))) c.ends);
+      compares = λ k p o h. takes src (element_reader m) last (element_state (placed src ts i) (Some (placed src us x)) None (part.Constraint o m.expression.start)) (act.Compare o) (token_at k p)
+          (type_leaves src m d c.last (placed src us x) (token_at k p) (as_sum (operator o h)) c.ends ∙ narrow_compares h) (ap (λ n. Some (element_state (placed src ts i) n None (part.Constraint o m.expression.start))) c.ends);
     }
 
 -- behind the entity type
@@ -160,7 +161,7 @@ record EntityTyped {N S E A B C : Type 0} (src : List ℕ) (m : PartReaders N S 
   last : ElementState N S E
   goes : Comes (elements src m) ts last
   ends : element_finish m src last ≡ Some (variable_def_of i x y None)
-  compares : (k : TokenKind) (p : Spot) (o : RelOp) → ReadsRelOp k o → (elements src m).step last (token_at k p) ≡ next (element_of i x y (part.Constraint o m.expression.start))
+  compares : (k : TokenKind) (p : Spot) (o : RelOp) → ReadsRelOp k o → (elements src m).step last (token_at k p) ≡ next (element_state i x y (part.Constraint o m.expression.start))
 
 entity_runs : {N S E A B C : Type 0} {src : List ℕ} {m : PartReaders N S E A B C} → PartDoors src m → {ts vs : List Lexeme} {i : Cell Ident} {x : Option (Cell Name)} {y : Option (Cell Add)} → Typed src m ts i x → ReadsEntityType src vs y →
     EntityTyped src m (ts ++ vs) i x y
@@ -172,16 +173,16 @@ entity_runs {src = src} {m = m} d {ts = ts} {i = i} {x = x} g no_entity_type = r
 }
 entity_runs {src = src} {m = m} d {ts = ts} {i = i} {x = x} g (entity_type {ts = us} {x = y} p r) =
     let c = d.sum.complete us (placed src us y) (as_node r) in
-    let v = element_of i x None (part.EntityType m.sum.start) in
-    let last = with_part v (part.EntityType c.last) in
+    let v = element_state i x None (part.EntityType m.sum.start) in
+    let last = element_with_part v (part.EntityType c.last) in
     record {
       last = last;
       goes = then_steps (elements src m) (Some (element_reader m).start) (Some g.last) _ ts (one kind.Is p ++ us) g.goes
-          (ap (λ a. steps (elements src m) (answer_state a) us) (g.narrows p) ∙ held (machine_of src m.sum) (elements src m) (λ q. with_part v (part.EntityType q)) (holds_sum src m v) us m.sum.start c.last c.goes);
+          (ap (λ a. steps (elements src m) (answer_state a) us) (g.narrows p) ∙ held (machine_of src m.sum) (elements src m) (λ q. element_with_part v (part.EntityType q)) (holds_sum src m v) us m.sum.start c.last c.goes);
       ends = ap (λ o. with_entity_type last o) c.ends;
-      compares = λ k p o h. takes src (element_reader m) last (element_of i x (Some (placed src us y)) (part.Constraint o m.expression.start)) (act.Compare o) (token_at k p)
+      compares = λ k p o h. takes src (element_reader m) last (element_state i x (Some (placed src us y)) (part.Constraint o m.expression.start)) (act.Compare o) (token_at k p)
           (sum_leaves src m d c.last (placed src us y) (token_at k p) (operator o h) c.ends ∙ ap (λ o. option_image (λ o. act.Compare o) o) (an_operator h))
-          (ap (λ n. Some (element_of i x n (part.Constraint o m.expression.start))) c.ends);
+          (ap (λ n. Some (element_state i x n (part.Constraint o m.expression.start))) c.ends);
     }
 
 constraint_runs : {N S E A B C : Type 0} {src : List ℕ} {m : PartReaders N S E A B C} → PartDoors src m → {ts ws : List Lexeme} {i : Cell Ident} {x : Option (Cell Name)} {y : Option (Cell Add)} {z : Option (RelOp × Cell Expr)} → EntityTyped src m ts i x y →
@@ -189,12 +190,12 @@ constraint_runs : {N S E A B C : Type 0} {src : List ℕ} {m : PartReaders N S E
 constraint_runs {src = src} {m = m} d {ts = ts} g no_constraint = record { last = g.last; goes = ap (λ ts. steps (elements src m) (Some (element_reader m).start) ts) (append-nil ts) ∙ g.goes; ends = g.ends }
 constraint_runs {src = src} {m = m} d {ts = ts} {i = i} {x = x} {y = y} g (constraint {ts = us} {k = k} {o = o} {x = z} p h r) =
     let c = d.expression.complete us (placed src us z) (as_node r) in
-    let v = element_of i x y (part.Constraint o m.expression.start) in
+    let v = element_state i x y (part.Constraint o m.expression.start) in
     record {
-      last = with_part v (part.Constraint o c.last);
+      last = element_with_part v (part.Constraint o c.last);
       goes = then_steps (elements src m) (Some (element_reader m).start) (Some g.last) _ ts (one k p ++ us) g.goes
           (ap (λ a. steps (elements src m) (answer_state a) us) (g.compares k p o h)
-          ∙ held (machine_of src m.expression) (elements src m) (λ q. with_part v (part.Constraint o q)) (holds_expression src m v o) us m.expression.start c.last c.goes);
+          ∙ held (machine_of src m.expression) (elements src m) (λ q. element_with_part v (part.Constraint o q)) (holds_expression src m v o) us m.expression.start c.last c.goes);
       ends = ap (λ z. with_constraint v o z) c.ends;
     }
 
@@ -210,39 +211,39 @@ element_complete {src = src} {m = m} d (variable_def {ts = ts} {us = us} {vs = v
 data ElementRead {N S E A B C : Type 0} (src : List ℕ) (m : PartReaders N S E A B C) : List Lexeme → ElementState N S E → Type 0 where
   at_start : ElementRead src m [] (element_reader m).start
   at_word : {ts : List Lexeme} {i : Ident} → ReadsAny ts i → ElementRead src m ts (bare (placed src ts i))
-  at_name : {ts : List Lexeme} {i : Ident} {s : N} (p : Spot) (us : List Lexeme) → ReadsAny ts i → Comes (machine_of src m.name) us s → ElementRead src m (ts ++ one kind.Colon p ++ us) (element_of (placed src ts i) None None (part.TypeName s))
+  at_name : {ts : List Lexeme} {i : Ident} {s : N} (p : Spot) (us : List Lexeme) → ReadsAny ts i → Comes (machine_of src m.name) us s → ElementRead src m (ts ++ one kind.Colon p ++ us) (element_state (placed src ts i) None None (part.TypeName s))
   at_type : {ts us : List Lexeme} {i : Ident} {x : Option (Cell Name)} {s : S} (p : Spot) (vs : List Lexeme) → ReadsAny ts i → ReadsTypeName src us x → Comes (machine_of src m.sum) vs s →
-      ElementRead src m (ts ++ us ++ one kind.Is p ++ vs) (element_of (placed src ts i) x None (part.EntityType s))
+      ElementRead src m (ts ++ us ++ one kind.Is p ++ vs) (element_state (placed src ts i) x None (part.EntityType s))
   at_operator : {ts us vs : List Lexeme} {i : Ident} {x : Option (Cell Name)} {y : Option (Cell Add)} {k : TokenKind} {o : RelOp} {s : E} (p : Spot) (ws : List Lexeme) →
       ReadsAny ts i → ReadsTypeName src us x → ReadsEntityType src vs y → ReadsRelOp k o → Comes (machine_of src m.expression) ws s →
-      ElementRead src m (ts ++ us ++ vs ++ one k p ++ ws) (element_of (placed src ts i) x y (part.Constraint o s))
+      ElementRead src m (ts ++ us ++ vs ++ one k p ++ ws) (element_state (placed src ts i) x y (part.Constraint o s))
 
 snoc : (ts us : List Lexeme) (t : Lexeme) → ts ++ (us ++ t ∷ []) ≡ ts ++ us ++ t ∷ []
 snoc ts us t = simp append_assoc
 
 -- where a part begins
 
-name_begins : {N S E A B C : Type 0} (src : List ℕ) (m : PartReaders N S E A B C) {ts : List Lexeme} {i : Ident} → ReadsAny ts i → (p : Spot) → ElementRead src m (ts ++ one kind.Colon p) (element_of (placed src ts i) None None (part.TypeName m.name.start))
-name_begins src m {ts = ts} {i = i} w p = subst (λ ts'. ElementRead src m ts' (element_of (placed src ts i) None None (part.TypeName m.name.start))) (append-nil (ts ++ one kind.Colon p)) (at_name p [] w refl)
+name_begins : {N S E A B C : Type 0} (src : List ℕ) (m : PartReaders N S E A B C) {ts : List Lexeme} {i : Ident} → ReadsAny ts i → (p : Spot) → ElementRead src m (ts ++ one kind.Colon p) (element_state (placed src ts i) None None (part.TypeName m.name.start))
+name_begins src m {ts = ts} {i = i} w p = subst (λ ts'. ElementRead src m ts' (element_state (placed src ts i) None None (part.TypeName m.name.start))) (append-nil (ts ++ one kind.Colon p)) (at_name p [] w refl)
 
 sum_begins : {N S E A B C : Type 0} (src : List ℕ) (m : PartReaders N S E A B C) {ts us : List Lexeme} {i : Ident} {x : Option (Cell Name)} → ReadsAny ts i → ReadsTypeName src us x → (p : Spot) →
-    ElementRead src m (ts ++ us ++ one kind.Is p) (element_of (placed src ts i) x None (part.EntityType m.sum.start))
+    ElementRead src m (ts ++ us ++ one kind.Is p) (element_state (placed src ts i) x None (part.EntityType m.sum.start))
 sum_begins src m {ts = ts} {us = us} {i = i} {x = x} w n p =
-    subst (λ ts'. ElementRead src m ts' (element_of (placed src ts i) x None (part.EntityType m.sum.start))) (append-nil (ts ++ us ++ one kind.Is p)) (at_type p [] w n refl)
+    subst (λ ts'. ElementRead src m ts' (element_state (placed src ts i) x None (part.EntityType m.sum.start))) (append-nil (ts ++ us ++ one kind.Is p)) (at_type p [] w n refl)
 
 constraint_begins : {N S E A B C : Type 0} (src : List ℕ) (m : PartReaders N S E A B C) {ts us vs : List Lexeme} {i : Ident} {x : Option (Cell Name)} {y : Option (Cell Add)} → ReadsAny ts i → ReadsTypeName src us x → ReadsEntityType src vs y →
-    (k : TokenKind) (p : Spot) (o : RelOp) → ReadsRelOp k o → ElementRead src m (ts ++ us ++ vs ++ one k p) (element_of (placed src ts i) x y (part.Constraint o m.expression.start))
+    (k : TokenKind) (p : Spot) (o : RelOp) → ReadsRelOp k o → ElementRead src m (ts ++ us ++ vs ++ one k p) (element_state (placed src ts i) x y (part.Constraint o m.expression.start))
 constraint_begins src m {ts = ts} {us = us} {vs = vs} {i = i} {x = x} {y = y} w n f k p o r =
-    subst (λ ts'. ElementRead src m ts' (element_of (placed src ts i) x y (part.Constraint o m.expression.start))) (append-nil (ts ++ us ++ vs ++ one k p)) (at_operator p [] w n f r refl)
+    subst (λ ts'. ElementRead src m ts' (element_state (placed src ts i) x y (part.Constraint o m.expression.start))) (append-nil (ts ++ us ++ vs ++ one k p)) (at_operator p [] w n f r refl)
 
 -- behind a variable and its type name, where another part begins
 narrow_kept : {N S E A B C : Type 0} (src : List ℕ) (m : PartReaders N S E A B C) {ts us : List Lexeme} {i : Ident} {x : Option (Cell Name)} → ReadsAny ts i → ReadsTypeName src us x → (s : ElementState N S E) →
-    ((u : ElementPart N S E) → behind_part src m s s.part u ≡ element_of (placed src ts i) x None u) → (k : TokenKind) (a : ElementAct A B C) (p : Spot) → NarrowPlanned k a →
+    ((u : ElementPart N S E) → behind_part src m s s.part u ≡ element_state (placed src ts i) x None u) → (k : TokenKind) (a : ElementAct A B C) (p : Spot) → NarrowPlanned k a →
     IfSome (element_act m src s a (token_at k p)) (λ q. ElementRead src m (ts ++ us ++ one k p) q)
 narrow_kept src m {ts = ts} {us = us} w n s b k a p the_word = subst (λ q. ElementRead src m (ts ++ us ++ one kind.Is p) q) (sym (b (part.EntityType m.sum.start))) (sum_begins src m w n p)
 narrow_kept src m {ts = ts} {us = us} {i = i} {x = x} w n s b k a p (the_operator {o = o} r) =
     subst (λ q. ElementRead src m (ts ++ us ++ one k p) q) (sym (b (part.Constraint o m.expression.start)))
-    (subst (λ ts'. ElementRead src m (ts' ++ one k p) (element_of (placed src ts i) x None (part.Constraint o m.expression.start))) (append-nil (ts ++ us)) (constraint_begins src m w n no_entity_type k p o r))
+    (subst (λ ts'. ElementRead src m (ts' ++ one k p) (element_state (placed src ts i) x None (part.Constraint o m.expression.start))) (append-nil (ts ++ us)) (constraint_begins src m w n no_entity_type k p o r))
 
 -- what a part makes of its tokens
 
@@ -268,25 +269,25 @@ one_kept {src = src} {m = m} d ts s k a p (at_word w) colon = name_begins src m 
 one_kept {src = src} {m = m} d ts s k a p (at_word {ts = us} {i = i} w) (behind_variable h) =
     subst (λ us'. IfSome (element_act m src (bare (placed src us i)) a (token_at k p)) (λ q. ElementRead src m (us' ++ one k p) q)) (append-nil us) (narrow_kept src m w no_type_name (bare (placed src us i)) (λ u. refl) k a p h)
 one_kept {src = src} {m = m} d ts s k a p (at_name {ts = vs} {i = i} {s = q} l us w c) (type_goes {a = b} h) =
-    images_kept (λ u. with_part (bare (placed src vs i)) u) (λ q. part.TypeName q) (λ q. ElementRead src m (vs ++ one kind.Colon l ++ us ++ one k p) q) (m.name.act src q b (token_at k p))
-    (λ r f. subst (λ ts'. ElementRead src m ts' (element_of (placed src vs i) None None (part.TypeName r))) (snoc (vs ++ one kind.Colon l) us (token_at k p))
+    images_kept (λ u. element_with_part (bare (placed src vs i)) u) (λ q. part.TypeName q) (λ q. ElementRead src m (vs ++ one kind.Colon l ++ us ++ one k p) q) (m.name.act src q b (token_at k p))
+    (λ r f. subst (λ ts'. ElementRead src m ts' (element_state (placed src vs i) None None (part.TypeName r))) (snoc (vs ++ one kind.Colon l) us (token_at k p))
     (at_name l (us ++ one k p) w (one_more (machine_of src m.name) us q r (token_at k p) c (takes src m.name q r b (token_at k p) h f))))
 one_kept {src = src} {m = m} d ts s k a p (at_name {ts = vs} {i = i} {s = q} l us w c) (behind_type g h) =
     let f = has_tree src m.name d.name_right q g in
-    let v = element_of (placed src vs i) None None (part.TypeName q) in
+    let v = element_state (placed src vs i) None None (part.TypeName q) in
     subst (λ ts'. IfSome (element_act m src v a (token_at k p)) (λ q. ElementRead src m (ts' ++ one k p) q)) (behind_colon vs us l)
-    (narrow_kept src m w (type_of l (d.name.sound us q f.0 c f.1)) v (λ u. ap (λ o. element_of (placed src vs i) o None u) f.1) k a p h)
+    (narrow_kept src m w (type_of l (d.name.sound us q f.0 c f.1)) v (λ u. ap (λ o. element_state (placed src vs i) o None u) f.1) k a p h)
 one_kept {src = src} {m = m} d ts s k a p (at_type {ts = ws} {us = us} {i = i} {x = x} {s = q} l vs w n c) (sum_goes {a = b} h) =
-    images_kept (λ u. element_of (placed src ws i) x None u) (λ q. part.EntityType q) (λ q. ElementRead src m (ws ++ us ++ one kind.Is l ++ vs ++ one k p) q) (m.sum.act src q b (token_at k p))
-    (λ r f. subst (λ ts'. ElementRead src m ts' (element_of (placed src ws i) x None (part.EntityType r))) (snoc (ws ++ us ++ one kind.Is l) vs (token_at k p))
+    images_kept (λ u. element_state (placed src ws i) x None u) (λ q. part.EntityType q) (λ q. ElementRead src m (ws ++ us ++ one kind.Is l ++ vs ++ one k p) q) (m.sum.act src q b (token_at k p))
+    (λ r f. subst (λ ts'. ElementRead src m ts' (element_state (placed src ws i) x None (part.EntityType r))) (snoc (ws ++ us ++ one kind.Is l) vs (token_at k p))
     (at_type l (vs ++ one k p) w n (one_more (machine_of src m.sum) vs q r (token_at k p) c (takes src m.sum q r b (token_at k p) h f))))
 one_kept {src = src} {m = m} d ts s k a p (at_type {ts = ws} {us = us} {i = i} {x = x} {s = q} l vs w n c) (behind_sum {o = o} g r) =
     let f = has_tree src m.sum d.sum_right q g in
-    subst (λ y. ElementRead src m (ws ++ us ++ one kind.Is l ++ vs ++ one k p) (element_of (placed src ws i) x y (part.Constraint o m.expression.start))) (sym f.1)
-    (subst (λ ts'. ElementRead src m (ts' ++ one k p) (element_of (placed src ws i) x (Some f.0) (part.Constraint o m.expression.start))) (behind_is (ws ++ us) vs l) (constraint_begins src m w n (entity_of l (d.sum.sound vs q f.0 c f.1)) k p o r))
+    subst (λ y. ElementRead src m (ws ++ us ++ one kind.Is l ++ vs ++ one k p) (element_state (placed src ws i) x y (part.Constraint o m.expression.start))) (sym f.1)
+    (subst (λ ts'. ElementRead src m (ts' ++ one k p) (element_state (placed src ws i) x (Some f.0) (part.Constraint o m.expression.start))) (behind_is (ws ++ us) vs l) (constraint_begins src m w n (entity_of l (d.sum.sound vs q f.0 c f.1)) k p o r))
 one_kept {src = src} {m = m} d ts s k a p (at_operator {ts = os} {us = us} {vs = vs} {i = i} {x = x} {y = y} {k = j} {o = o} {s = q} l ws w n f h c) (expression_goes {a = b} g) =
-    images_kept (λ u. element_of (placed src os i) x y u) (λ q. part.Constraint o q) (λ q. ElementRead src m (os ++ us ++ vs ++ one j l ++ ws ++ one k p) q) (m.expression.act src q b (token_at k p))
-    (λ r e. subst (λ ts'. ElementRead src m ts' (element_of (placed src os i) x y (part.Constraint o r))) (snoc (os ++ us ++ vs ++ one j l) ws (token_at k p))
+    images_kept (λ u. element_state (placed src os i) x y u) (λ q. part.Constraint o q) (λ q. ElementRead src m (os ++ us ++ vs ++ one j l ++ ws ++ one k p) q) (m.expression.act src q b (token_at k p))
+    (λ r e. subst (λ ts'. ElementRead src m ts' (element_state (placed src os i) x y (part.Constraint o r))) (snoc (os ++ us ++ vs ++ one j l) ws (token_at k p))
     (at_operator l (ws ++ one k p) w n f h (one_more (machine_of src m.expression) ws q r (token_at k p) c (takes src m.expression q r b (token_at k p) g e))))
 
 element_kept : {N S E A B C : Type 0} {src : List ℕ} {m : PartReaders N S E A B C} → PartDoors src m → (ts : List Lexeme) (s : ElementState N S E) → Comes (elements src m) ts s → ElementRead src m ts s
@@ -322,34 +323,34 @@ element_sound {src = src} {m = m} d v (at_operator {ts = ts} {us = us} {vs = vs}
 
 -- ---- viable
 
-viable_at : {N S E A B C : Type 0} {src : List ℕ} {m : PartReaders N S E A B C} → PartDoors src m → (s : ElementState N S E) (u : ElementPart N S E) → Completed (elements src m) (with_part s u)
+viable_at : {N S E A B C : Type 0} {src : List ℕ} {m : PartReaders N S E A B C} → PartDoors src m → (s : ElementState N S E) (u : ElementPart N S E) → Completed (elements src m) (element_with_part s u)
 viable_at d s part.Start = record { more = some_token kind.Identifier ∷ []; last = _; tree = _; goes = refl; ends = refl }
-viable_at d s part.Nothing = record { more = []; last = with_part s part.Nothing; tree = variable_def_of s.variable s.unused_type_name s.entity_type None; goes = refl; ends = refl }
+viable_at d s part.Nothing = record { more = []; last = element_with_part s part.Nothing; tree = variable_def_of s.variable s.unused_type_name s.entity_type None; goes = refl; ends = refl }
 viable_at {src = src} {m = m} d s (part.TypeName q) =
     let c = d.name.viable q in
     record {
       more = c.more;
-      last = with_part s (part.TypeName c.last);
+      last = element_with_part s (part.TypeName c.last);
       tree = variable_def_of s.variable (Some c.tree) s.entity_type None;
-      goes = held (machine_of src m.name) (elements src m) (λ q. with_part s (part.TypeName q)) (holds_name src m s) c.more q c.last c.goes;
+      goes = held (machine_of src m.name) (elements src m) (λ q. element_with_part s (part.TypeName q)) (holds_name src m s) c.more q c.last c.goes;
       ends = ap (λ o. with_type_name s o) c.ends;
     }
 viable_at {src = src} {m = m} d s (part.EntityType q) =
     let c = d.sum.viable q in
     record {
       more = c.more;
-      last = with_part s (part.EntityType c.last);
+      last = element_with_part s (part.EntityType c.last);
       tree = variable_def_of s.variable s.unused_type_name (Some c.tree) None;
-      goes = held (machine_of src m.sum) (elements src m) (λ q. with_part s (part.EntityType q)) (holds_sum src m s) c.more q c.last c.goes;
+      goes = held (machine_of src m.sum) (elements src m) (λ q. element_with_part s (part.EntityType q)) (holds_sum src m s) c.more q c.last c.goes;
       ends = ap (λ o. with_entity_type s o) c.ends;
     }
 viable_at {src = src} {m = m} d s (part.Constraint o q) =
     let c = d.expression.viable q in
     record {
       more = c.more;
-      last = with_part s (part.Constraint o c.last);
+      last = element_with_part s (part.Constraint o c.last);
       tree = variable_def_of s.variable s.unused_type_name s.entity_type (Some (o, c.tree));
-      goes = held (machine_of src m.expression) (elements src m) (λ q. with_part s (part.Constraint o q)) (holds_expression src m s o) c.more q c.last c.goes;
+      goes = held (machine_of src m.expression) (elements src m) (λ q. element_with_part s (part.Constraint o q)) (holds_expression src m s o) c.more q c.last c.goes;
       ends = ap (λ z. with_constraint s o z) c.ends;
     }
 
@@ -362,7 +363,7 @@ pub record PartsDo {N S E A B C : Type 0} (src : List ℕ) (m : PartReaders N S 
   pub expression : DoesRightly src m.expression
 
 ends_at : {N S E A B C : Type 0} (src : List ℕ) (m : PartReaders N S E A B C) → EndsRightly src m.name → EndsRightly src m.sum → EndsRightly src m.expression → (s : ElementState N S E) (u : ElementPart N S E) →
-    element_ends (reader_plans m) u ≡ is_some (element_tree src m s u)
+    element_ends (reader_plans m) u ≡ is_some (finished_element src m s u)
 ends_at src m f g h s part.Start = refl
 ends_at src m f g h s part.Nothing = refl
 ends_at src m f g h s (part.TypeName q) = f q ∙ sym (image_some (λ x. variable_def_of s.variable (Some x) s.entity_type None) (m.name.finish src q))
@@ -377,16 +378,16 @@ narrow_does src m s k a p the_word = λ e. absurd (cc)
 narrow_does src m s k a p (the_operator {o = o} r) = related_fits (token_at k p) o (an_operator r)
 
 does_at : {N S E A B C : Type 0} (src : List ℕ) (m : PartReaders N S E A B C) → PartsDo src m → (s : ElementState N S E) (u : ElementPart N S E) (k : TokenKind) (a : ElementAct A B C) (p : Spot) → ElementPlanned (reader_plans m) u k a →
-    IsDone (token_at k p) (element_act m src (with_part s u) a (token_at k p))
+    IsDone (token_at k p) (element_act m src (element_with_part s u) a (token_at k p))
 does_at src m d s u k a p (names h) = word_does src (token_at k p) (λ i. with_variable s i) act.Variable act.Variable h
 does_at src m d s u k a p colon = λ e. absurd (cc)
-does_at src m d s u k a p (behind_variable h) = narrow_does src m (with_part s part.Nothing) k a p h
-does_at src m d s u k a p (type_goes {s = q} {a = b} h) = images_done (λ u. with_part s u) (λ q. part.TypeName q) (token_at k p) (m.name.act src q b (token_at k p)) (d.name q b (token_at k p) h)
-does_at src m d s u k a p (behind_type {s = q} g h) = narrow_does src m (with_part s (part.TypeName q)) k a p h
-does_at src m d s u k a p (sum_goes {s = q} {a = b} h) = images_done (λ u. with_part s u) (λ q. part.EntityType q) (token_at k p) (m.sum.act src q b (token_at k p)) (d.sum q b (token_at k p) h)
+does_at src m d s u k a p (behind_variable h) = narrow_does src m (element_with_part s part.Nothing) k a p h
+does_at src m d s u k a p (type_goes {s = q} {a = b} h) = images_done (λ u. element_with_part s u) (λ q. part.TypeName q) (token_at k p) (m.name.act src q b (token_at k p)) (d.name q b (token_at k p) h)
+does_at src m d s u k a p (behind_type {s = q} g h) = narrow_does src m (element_with_part s (part.TypeName q)) k a p h
+does_at src m d s u k a p (sum_goes {s = q} {a = b} h) = images_done (λ u. element_with_part s u) (λ q. part.EntityType q) (token_at k p) (m.sum.act src q b (token_at k p)) (d.sum q b (token_at k p) h)
 does_at src m d s u k a p (behind_sum {o = o} g r) = related_fits (token_at k p) o (an_operator r)
 does_at src m d s u k a p (expression_goes {o = o} {s = q} {a = b} h) =
-    images_done (λ u. with_part s u) (λ q. part.Constraint o q) (token_at k p) (m.expression.act src q b (token_at k p)) (d.expression q b (token_at k p) h)
+    images_done (λ u. element_with_part s u) (λ q. part.Constraint o q) (token_at k p) (m.expression.act src q b (token_at k p)) (d.expression q b (token_at k p) h)
 
 pub element_does : {N S E A B C : Type 0} (src : List ℕ) (m : PartReaders N S E A B C) → PartsDo src m → DoesRightly src (element_reader m)
 element_does src m d s a t e = does_at src m d s s.part t.kind a (spot_of t) (element_planned (reader_plans m) s.part t.kind a e)
@@ -424,7 +425,7 @@ variable_parted : {A B C : Type 0} (k : TokenKind) → IsParting k → if_any {A
 variable_parted k comma = refl
 variable_parted k close_paren = refl
 
-parted_at : {N S E A B C : Type 0} (src : List ℕ) (m : PartReaders N S E A B C) → PartDoors src m → (s : ElementState N S E) (u : ElementPart N S E) (v : VariableDef) (t : Lexeme) → IsParting t.kind → element_tree src m s u ≡ Some v →
+parted_at : {N S E A B C : Type 0} (src : List ℕ) (m : PartReaders N S E A B C) → PartDoors src m → (s : ElementState N S E) (u : ElementPart N S E) (v : VariableDef) (t : Lexeme) → IsParting t.kind → finished_element src m s u ≡ Some v →
     element_plan (reader_plans m) u t.kind ≡ None
 parted_at src m d s part.Start v t h e = absurd (cc)
 parted_at src m d s part.Nothing v t h e = bare_parted t.kind h

@@ -1,5 +1,5 @@
--- How an annotation is read: `@`, a key, and possibly a string in parentheses (`ReadsAnnotation` of
--- `LoosePolicies`).
+-- How an annotation is read: `@`, a key, and possibly a string in parentheses (`ReadsAnnotation`
+-- of `LoosePolicies`).
 use Rattle.std.specs.Prelude.{ℕ, List, Bool, true, false, Option, Some, None}
 use Rattle.cedar_lexer.specs.Token.{Lexeme}
 use Rattle.cedar_lexer.specs.declared.token.TokenKind.{TokenKind}

@@ -18,8 +18,8 @@ use Rattle.cedar_policy_machine.specs.machines.Annotation.{any_node}
 use Rattle.cedar_grammar.specs.machines.SingleTokens.{if_any}
 
 -- the word, and what stands behind it
-abbrev pub condition_of : {E : Type 0} → Cell Ident → ConditionPart E → ConditionState E
-condition_of i p = record { word = i; part = p }
+abbrev pub condition_state : {E : Type 0} → Cell Ident → ConditionPart E → ConditionState E
+condition_state i p = record { word = i; part = p }
 
 -- ---- plans, by the part that is begun, for any plan of the body
 
@@ -62,7 +62,7 @@ condition_plan first on ends (part.Closed x) k = None
 
 -- a token of the body, whose state that makes
 abbrev pub body_going : {E : Type 0} → ConditionState E → Option E → Option (ConditionState E)
-body_going s o = option_image (λ q. condition_of s.word (part.Body q)) o
+body_going s o = option_image (λ q. condition_state s.word (part.Body q)) o
 
 -- of the body that is begun
 abbrev pub in_body : {E C : Type 0} → List ℕ → Reader E C (Cell Expr) → ConditionState E →
@@ -74,18 +74,18 @@ in_body src e s _ a t = None
 abbrev pub behind_body : {E C : Type 0} → List ℕ → Reader E C (Cell Expr) → ConditionState E →
     ConditionPart E → Option (ConditionState E)
 behind_body src e s (part.Body q) =
-    Some (condition_of s.word (part.Closed (e.finish src q)))
+    Some (condition_state s.word (part.Closed (e.finish src q)))
 behind_body src e s _ = None
 
 -- what each act makes
 abbrev pub condition_act : {E C : Type 0} → Reader E C (Cell Expr) → List ℕ → ConditionState E →
     ConditionAct C → Lexeme → Option (ConditionState E)
-condition_act e src s act.Word t = option_image (λ i. condition_of i part.Word) (any_node src t)
-condition_act e src s act.Open t = Some (condition_of s.word part.Opened)
+condition_act e src s act.Word t = option_image (λ i. condition_state i part.Word) (any_node src t)
+condition_act e src s act.Open t = Some (condition_state s.word part.Opened)
 condition_act e src s (act.First a) t = body_going s (e.act src e.start a t)
 condition_act e src s (act.Body a) t = in_body src e s s.part a t
 condition_act e src s act.Close t = behind_body src e s s.part
-condition_act e src s act.CloseEmpty t = Some (condition_of s.word (part.Closed None))
+condition_act e src s act.CloseEmpty t = Some (condition_state s.word (part.Closed None))
 
 -- ---- the tree
 
@@ -97,22 +97,22 @@ condition_ends part.Opened = false
 condition_ends (part.Body s) = false
 condition_ends (part.Closed x) = true
 
-abbrev pub condition_tree : {E : Type 0} → Cell Ident → ConditionPart E → Option Cond
-condition_tree i part.Start = None
-condition_tree i part.Word = None
-condition_tree i part.Opened = None
-condition_tree i (part.Body s) = None
-condition_tree i (part.Closed x) = Some (cond_of i x)
+abbrev pub finished_condition : {E : Type 0} → Cell Ident → ConditionPart E → Option Cond
+finished_condition i part.Start = None
+finished_condition i part.Word = None
+finished_condition i part.Opened = None
+finished_condition i (part.Body s) = None
+finished_condition i (part.Closed x) = Some (cond_of i x)
 
 abbrev pub condition_finish : {E : Type 0} → ConditionState E → Option Cond
-condition_finish s = condition_tree s.word s.part
+condition_finish s = finished_condition s.word s.part
 
 -- the reader, and its machine
 
 abbrev pub condition_reader : {E C : Type 0} → Reader E C (Cell Expr) →
     Reader (ConditionState E) (ConditionAct C) Cond
 condition_reader e = record {
-  start = condition_of record { node = None; loc = None } part.Start;
+  start = condition_state record { node = None; loc = None } part.Start;
   plan = λ s k. condition_plan (λ k. e.plan e.start k) e.plan e.ends s.part k;
   act = λ src s a t. condition_act e src s a t;
   ends = λ s. condition_ends s.part;

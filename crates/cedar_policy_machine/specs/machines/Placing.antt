@@ -56,7 +56,7 @@ abbrev pub loc_or_start : List ℕ → Option Loc → Option Loc
 loc_or_start src None = loc_at src (Some record { start = 0; end = 0 })
 loc_or_start src (Some l) = Some l
 
--- policies at their place
+-- policies at their place, or as a tree without a node where the list has none
 abbrev pub policies_node : List ℕ → Cell (List (Cell Policy)) → Cell Policies
 policies_node src x = record {
   node = option_image (λ xs. policies_of xs) x.node;

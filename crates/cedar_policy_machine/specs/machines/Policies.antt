@@ -18,8 +18,8 @@ use Rattle.cedar_policy_machine.specs.declared.condition.ConditionAct.{Condition
 use Rattle.cedar_policy_machine.specs.declared.policy.PolicyAct.{PolicyAct}
 use Rattle.cedar_policy_machine.specs.declared.policy.Section.{Section}
 use Rattle.cedar_policy_machine.specs.declared.policy.Section.TheVariants as section
-use Rattle.cedar_grammar.specs.declared.reading.recovery.Way.{Way}
-use Rattle.cedar_grammar.specs.declared.reading.recovery.Way.TheVariants as way
+use Rattle.cedar_grammar.specs.declared.reading.recovery.RecoveryWay.{RecoveryWay}
+use Rattle.cedar_grammar.specs.declared.reading.recovery.RecoveryWay.TheVariants as way
 use Rattle.cedar_policy_machine.specs.declared.sequence.Spanned.{Spanned}
 use Rattle.cedar_policy_machine.specs.declared.sequence.Sequence.{Sequence}
 use Rattle.cedar_policy_machine.specs.declared.sequence.SequenceAct.{SequenceAct}
@@ -29,7 +29,7 @@ use Rattle.cedar_policy_machine.specs.machines.Placing.{spanned_state, placing_r
 use Rattle.cedar_policy_machine.specs.machines.Sequences.{sequence, many_reader, list_reader}
 use Rattle.cedar_policy_machine.specs.machines.Annotation.{annotation_reader, AnnotationShape, annotation_shape}
 use Rattle.cedar_policy_machine.specs.machines.Scope.{PartReaders, element_reader}
-use Rattle.cedar_policy_machine.specs.machines.Condition.{condition_of, condition_reader}
+use Rattle.cedar_policy_machine.specs.machines.Condition.{condition_state, condition_reader}
 use Rattle.cedar_policy_machine.specs.machines.PartOutlines.{annotation_outline, PartOutlines, element_shape, element_outline, condition_shape, condition_outline}
 use Rattle.cedar_policy_machine.specs.machines.Policy.{PolicyOf, policy_state, Sections, with_conditions, policy_reader}
 use Rattle.cedar_policy_machine.specs.machines.SequenceShapes.{spanned_shape, sequence_shape, many_outline, list_outline}
@@ -127,29 +127,29 @@ all_policies_shape f g h s = sequence_shape (one_policy_shape f g h) s
 -- how a fault is left: in the braces of a condition to their end or the policy's, else to the
 -- policy's
 
-abbrev pub condition_way : {E : Type 0} → ConditionPart E → Way
+abbrev pub condition_way : {E : Type 0} → ConditionPart E → RecoveryWay
 condition_way part.Start = way.ToEnd
 condition_way part.Word = way.ToEnd
 condition_way part.Opened = way.ToBrace
 condition_way (part.Body s) = way.ToBrace
 condition_way (part.Closed x) = way.ToEnd
 
-abbrev pub begun_condition_way : {E : Type 0} → Option (Spanned (ConditionState E)) → Way
+abbrev pub begun_condition_way : {E : Type 0} → Option (Spanned (ConditionState E)) → RecoveryWay
 begun_condition_way None = way.ToEnd
 begun_condition_way (Some s) = condition_way s.state.part
 
 -- `w` is the way behind a whole policy
-abbrev pub section_way : {N S E : Type 0} → Way → Section → OnePolicy N S E → Way
+abbrev pub section_way : {N S E : Type 0} → RecoveryWay → Section → OnePolicy N S E → RecoveryWay
 section_way w section.Annotations s = way.ToEnd
 section_way w section.Effect s = way.ToEnd
 section_way w section.Scope s = way.ToEnd
 section_way w section.Conditions s = begun_condition_way s.conditions.begun
 section_way w section.Closed s = w
 
-abbrev pub policy_way : {N S E : Type 0} → Way → OnePolicy N S E → Way
+abbrev pub policy_way : {N S E : Type 0} → RecoveryWay → OnePolicy N S E → RecoveryWay
 policy_way w s = section_way w s.section s
 
-abbrev pub begun_policy_way : {N S E : Type 0} → Option (SpannedPolicy N S E) → Way
+abbrev pub begun_policy_way : {N S E : Type 0} → Option (SpannedPolicy N S E) → RecoveryWay
 begun_policy_way None = way.ToEnd
 begun_policy_way (Some s) = policy_way way.ToEnd s.state
 
@@ -163,7 +163,7 @@ closed_part (part.Body s) = part.Closed None
 closed_part (part.Closed x) = part.Closed x
 
 abbrev pub closed_condition : {E : Type 0} → ConditionState E → ConditionState E
-closed_condition s = condition_of s.word (closed_part s.part)
+closed_condition s = condition_state s.word (closed_part s.part)
 
 abbrev pub condition_closing : {E : Type 0} → List (Cell Cond)
     → Option (Spanned (ConditionState E)) → ConditionsState E

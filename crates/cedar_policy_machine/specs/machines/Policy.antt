@@ -147,16 +147,16 @@ policy_ends section.Scope = false
 policy_ends section.Conditions = false
 policy_ends section.Closed = true
 
-abbrev pub policy_tree : {A V C : Type 0} → Section → PolicyOf A V C → Option Policy
-policy_tree section.Annotations s = None
-policy_tree section.Effect s = None
-policy_tree section.Scope s = None
-policy_tree section.Conditions s = None
-policy_tree section.Closed s =
+abbrev pub finished_policy : {A V C : Type 0} → Section → PolicyOf A V C → Option Policy
+finished_policy section.Annotations s = None
+finished_policy section.Effect s = None
+finished_policy section.Scope s = None
+finished_policy section.Conditions s = None
+finished_policy section.Closed s =
     Some (policy_of s.annotations.done s.effect s.scope.done s.conditions.done)
 
 abbrev pub policy_finish : {A V C : Type 0} → PolicyOf A V C → Option Policy
-policy_finish s = policy_tree s.section s
+policy_finish s = finished_policy s.section s
 
 abbrev pub policy_reader : {A V C X Y Z : Type 0} → Sections A V C X Y Z →
     Reader (PolicyOf A V C) (PolicyAct X Y Z) Policy

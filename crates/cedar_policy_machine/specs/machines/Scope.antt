@@ -33,15 +33,15 @@ abbrev pub readers_of : {N S E A B C : Type 0} → Reader N A (Cell Name) → Re
 readers_of n s e = record { name = n; sum = s; expression = e }
 
 -- what has been read, and the part that is begun
-abbrev pub element_of : {N S E : Type 0} → Cell Ident → Option (Cell Name) → Option (Cell Add) →
+abbrev pub element_state : {N S E : Type 0} → Cell Ident → Option (Cell Name) → Option (Cell Add) →
     ElementPart N S E → ElementState N S E
-element_of i x y p =
+element_state i x y p =
     record { variable = i; unused_type_name = x; entity_type = y; part = p }
 
 -- the same, with another part begun
-abbrev pub with_part : {N S E : Type 0} → ElementState N S E → ElementPart N S E →
+abbrev pub element_with_part : {N S E : Type 0} → ElementState N S E → ElementPart N S E →
     ElementState N S E
-with_part s p = element_of s.variable s.unused_type_name s.entity_type p
+element_with_part s p = element_state s.variable s.unused_type_name s.entity_type p
 
 -- ---- plans, by the part that is begun, for any plans of the parts
 
@@ -119,13 +119,13 @@ element_ends p (part.Constraint o s) = p.expression_ends s
 -- this part begins; a type name or an entity type that has ended is put where it stays
 abbrev pub behind_part : {N S E A B C : Type 0} → List ℕ → PartReaders N S E A B C →
     ElementState N S E → ElementPart N S E → ElementPart N S E → ElementState N S E
-behind_part src m s part.Start u = with_part s u
-behind_part src m s part.Nothing u = with_part s u
+behind_part src m s part.Start u = element_with_part s u
+behind_part src m s part.Nothing u = element_with_part s u
 behind_part src m s (part.TypeName q) u =
-    element_of s.variable (m.name.finish src q) s.entity_type u
+    element_state s.variable (m.name.finish src q) s.entity_type u
 behind_part src m s (part.EntityType q) u =
-    element_of s.variable s.unused_type_name (m.sum.finish src q) u
-behind_part src m s (part.Constraint o q) u = with_part s u
+    element_state s.variable s.unused_type_name (m.sum.finish src q) u
+behind_part src m s (part.Constraint o q) u = element_with_part s u
 
 -- a token of the part that is begun
 
@@ -148,11 +148,11 @@ in_expression src m _ a t = None
 -- the part that is begun goes on
 abbrev pub going_on : {N S E : Type 0} → ElementState N S E → Option (ElementPart N S E) →
     Option (ElementState N S E)
-going_on s o = option_image (λ p. with_part s p) o
+going_on s o = option_image (λ p. element_with_part s p) o
 
 -- the variable
 abbrev pub with_variable : {N S E : Type 0} → ElementState N S E → Cell Ident → ElementState N S E
-with_variable s i = element_of i s.unused_type_name s.entity_type part.Nothing
+with_variable s i = element_state i s.unused_type_name s.entity_type part.Nothing
 
 -- an entity type or a constraint begins, behind a part that ends
 abbrev pub sum_beginning : {N S E A B C : Type 0} → List ℕ → PartReaders N S E A B C →
@@ -168,7 +168,7 @@ constraint_beginning src m s o =
 abbrev pub element_act : {N S E A B C : Type 0} → PartReaders N S E A B C → List ℕ →
     ElementState N S E → ElementAct A B C → Lexeme → Option (ElementState N S E)
 element_act m src s act.Variable t = option_image (λ i. with_variable s i) (any_node src t)
-element_act m src s act.Colon t = Some (with_part s (part.TypeName m.name.start))
+element_act m src s act.Colon t = Some (element_with_part s (part.TypeName m.name.start))
 element_act m src s (act.TypeName a) t = going_on s (in_name src m.name s.part a t)
 element_act m src s act.Is t = Some (sum_beginning src m s)
 element_act m src s (act.EntityType a) t = going_on s (in_sum src m.sum s.part a t)
@@ -192,25 +192,25 @@ with_constraint s r o =
     option_image
     (λ z. variable_def_of s.variable s.unused_type_name s.entity_type (Some (r, z))) o
 
-abbrev pub element_tree : {N S E A B C : Type 0} → List ℕ → PartReaders N S E A B C →
+abbrev pub finished_element : {N S E A B C : Type 0} → List ℕ → PartReaders N S E A B C →
     ElementState N S E → ElementPart N S E → Option VariableDef
-element_tree src m s part.Start = None
-element_tree src m s part.Nothing =
+finished_element src m s part.Start = None
+finished_element src m s part.Nothing =
     Some (variable_def_of s.variable s.unused_type_name s.entity_type None)
-element_tree src m s (part.TypeName q) = with_type_name s (m.name.finish src q)
-element_tree src m s (part.EntityType q) = with_entity_type s (m.sum.finish src q)
-element_tree src m s (part.Constraint o q) = with_constraint s o (m.expression.finish src q)
+finished_element src m s (part.TypeName q) = with_type_name s (m.name.finish src q)
+finished_element src m s (part.EntityType q) = with_entity_type s (m.sum.finish src q)
+finished_element src m s (part.Constraint o q) = with_constraint s o (m.expression.finish src q)
 
 abbrev pub element_finish : {N S E A B C : Type 0} → PartReaders N S E A B C → List ℕ →
     ElementState N S E → Option VariableDef
-element_finish m src s = element_tree src m s s.part
+element_finish m src s = finished_element src m s s.part
 
 -- the reader, and its machine
 
 abbrev pub element_reader : {N S E A B C : Type 0} → PartReaders N S E A B C →
     Reader (ElementState N S E) (ElementAct A B C) VariableDef
 element_reader m = record {
-  start = element_of record { node = None; loc = None } None None part.Start;
+  start = element_state record { node = None; loc = None } None None part.Start;
   plan = λ s k. element_plan (reader_plans m) s.part k;
   act = λ src s a t. element_act m src s a t;
   ends = λ s. element_ends (reader_plans m) s.part;

@@ -1,4 +1,5 @@
--- Accesses, one more or two at the end: what they give of a primary is what they give of its value so far.
+-- Accesses, one more or two at the end: what they give of a primary is what they give of its value
+-- so far.
 use Rattle.std.proofs.Common.{◌≡◌, ℕ, List, [], ◌∷◌, ◌++◌, Option, Ok, Err, refl, sym, ap, ◌∙◌}
 use Rattle.cedar_expressions.specs.Path.{Path}
 use Rattle.cedar_expressions.specs.Value as v

@@ -1,4 +1,5 @@
--- A primary alone as a sum and as an expression: a name, a string, a key, a type, a pattern, an attribute.
+-- A primary alone as a sum and as an expression: a name, a string, a key, a type, a pattern, an
+-- attribute.
 use Rattle.std.proofs.Common.{◌≡◌, ℕ, List, [], ◌∷◌, ◌++◌, append-nil, append_assoc, map, Option, Ok, Err, refl, sym, ap, ◌∙◌}
 use Rattle.cedar_lexer.specs.Token.{Lexeme}
 use Rattle.cedar_lexer.specs.declared.token.TokenKind.TheVariants as kind

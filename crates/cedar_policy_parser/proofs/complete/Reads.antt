@@ -1,4 +1,5 @@
--- What is to be found for tokens that mean something: a tree that they are read as, and that gives the value wherever it stands.
+-- What is to be found for tokens that mean something: a tree that they are read as, and that gives
+-- the value wherever it stands.
 use Rattle.std.proofs.Common.{◌≡◌, ℕ, List, [], ◌∷◌, ◌++◌, map, Option, Ok, refl, ap}
 use Rattle.cedar_lexer.specs.Token.{Lexeme}
 use Rattle.cedar_expressions.specs.declared.operators.AddOp.{AddOp}

@@ -1,4 +1,5 @@
--- Tokens that mean something are read as a tree that is converted to it: the induction over the strict grammar.
+-- Tokens that mean something are read as a tree that is converted to it: the induction over the
+-- strict grammar.
 use Rattle.std.proofs.Common.{ℕ, List, refl}
 use Rattle.cedar_lexer.specs.Token.{Lexeme}
 use Rattle.cedar_lexer.specs.declared.token.TokenKind.{TokenKind}

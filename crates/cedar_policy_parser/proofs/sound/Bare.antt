@@ -1,4 +1,5 @@
--- What a node gives while it is converted, held against its tokens: an expression means something, and what is bare is one word, name or string.
+-- What a node gives while it is converted, held against its tokens: an expression means something,
+-- and what is bare is one word, name or string.
 use Rattle.std.proofs.Common.{◌≡◌, ℕ, List, [], ◌∷◌, Option, Ok, refl, sym, ap, ◌∙◌}
 use Rattle.cedar_lexer.specs.Token.{Lexeme}
 use Rattle.cedar_lexer.specs.declared.token.TokenKind.{TokenKind}

@@ -5,8 +5,8 @@ use Rattle.cedar_expressions.specs.Path.{Path}
 use Rattle.cedar_expressions.specs.Value as v
 use Rattle.cedar_expressions.specs.Value.{Value, values}
 use Rattle.cedar_syntax.specs.declared.loc.Loc.{Loc}
-use Rattle.cedar_conversion.specs.declared.methods.Standard.{Standard}
-use Rattle.cedar_conversion.specs.declared.methods.Standard.TheVariants as standard
+use Rattle.cedar_conversion.specs.declared.primaries.methods.Standard.{Standard}
+use Rattle.cedar_conversion.specs.declared.primaries.methods.Standard.TheVariants as standard
 use Rattle.cedar_conversion.specs.Extensions.{Extensions}
 use Rattle.cedar_conversion.specs.Members as g
 use Rattle.cedar_conversion.specs.Members.{takes_one, with_arguments, method_outcome, method_by, function_outcome}

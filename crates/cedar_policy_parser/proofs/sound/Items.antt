@@ -1,4 +1,5 @@
--- Accesses and a record's pairs, one more at the end, and what is made of the items of a set or a record.
+-- Accesses and a record's pairs, one more at the end, and what is made of the items of a set or a
+-- record.
 use Rattle.std.proofs.Common.{◌≡◌, ℕ, List, [], ◌∷◌, ◌++◌, Option, Ok, refl, sym, ap, ◌∙◌}
 use Rattle.std.specs.Map.{keys_of}
 use Rattle.cedar_lexer.specs.Token.{Lexeme}

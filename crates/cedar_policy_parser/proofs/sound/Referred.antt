@@ -1,4 +1,5 @@
--- What stands right of a scope's operator is held of its tokens: an entity, a slot, or entities of a set.
+-- What stands right of a scope's operator is held of its tokens: an entity, a slot, or entities of
+-- a set.
 use Rattle.std.proofs.Common.{◌≡◌, ℕ, List, [], ◌∷◌, ◌++◌, map, Option, Ok, Err, sym, ap, ◌∙◌}
 use Rattle.cedar_lexer.specs.Token.{Lexeme}
 use Rattle.cedar_lexer.specs.declared.token.TokenKind.{TokenKind}

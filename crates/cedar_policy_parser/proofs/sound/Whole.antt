@@ -1,4 +1,5 @@
--- What the tree of some tokens gives is held of them, and so what it is converted to is what they mean: the induction over the loose grammar.
+-- What the tree of some tokens gives is held of them, and so what it is converted to is what they
+-- mean: the induction over the loose grammar.
 use Rattle.std.proofs.Common.{◌≡◌, ℕ, List, [], ◌∷◌, ◌++◌, map, Option, Some, None, Ok, refl, sym, ap, ◌∙◌}
 use Rattle.cedar_lexer.specs.Token.{Lexeme}
 use Rattle.cedar_lexer.specs.declared.token.TokenKind.{TokenKind}

@@ -3,7 +3,7 @@ ghost use Rattle.std.specs.Prelude.{◌≡◌, IfOk, string_bytes};
 ghost use Rattle.std.specs.Option.{option_map};
 ghost use Rattle.std.proofs.Common.{Some};
 
-use crate::copy::beside;
+use crate::copy::expressions::beside;
 use crate::cst::{Ident, RelOp, VariableDef};
 use crate::err::UnescapeError;
 use crate::err::parse_errors::{

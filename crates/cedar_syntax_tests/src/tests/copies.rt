@@ -1,4 +1,5 @@
-//! Trees made by hand: a copy of each type equals its source, and its text under `{:#}` is that under `{}`.
+//! Trees made by hand: a copy of each type equals its source, and its text under `{:#}` is that
+//! under `{}`.
 use super::held::{agrees, made, shows_alike_and_copies};
 use super::names::text;
 use cedar_expressions::{AddOp, TryClone};

@@ -1,12 +1,14 @@
-//! Calls over values of any type: in them the proof doesn't see what is dropped, which is dear where it is a tree. Each ends the test
-//! where something isn't as it has to be. What a test holds to its end it gives to `drop` for the same reason.
+//! Calls over values of any type: in them the proof doesn't see what is dropped, which is dear
+//! where it is a tree. Each ends the test where something isn't as it has to be. What a test holds
+//! to its end it gives to `drop` for the same reason.
 ghost use Rattle.std.specs.Prelude.{◌≡◌, IfOk, IsOkAnd};
 
 use cedar_expressions::TryClone;
 use std::fmt;
 use std::process::Abort;
 
-/// Ends the test unless this holds. (An `assert!` is dear to prove where much is held, a call isn't.)
+/// Ends the test unless this holds. (An `assert!` is dear to prove where much is held, a call
+/// isn't.)
 pub(super) fn holds(rt: &impl Abort, is_so: bool) {
     assert!(rt; is_so);
 }

@@ -1,4 +1,5 @@
-//! Names, entities, words and wrappers: what is refused, how they are written, and that a copy equals its source.
+//! Names, entities, words and wrappers: what is refused, how they are written, and that a copy
+//! equals its source.
 use super::held::{
     agrees, copies, copies_of, holds, is_copied, list_of_two, made, refusal, says, says_and_copies,
     shows,

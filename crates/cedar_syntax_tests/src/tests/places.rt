@@ -69,7 +69,8 @@ fn a_place_that_is_no_range_has_no_snippet(rt: HostRuntime) {
     drop((long, cut, whole));
 }
 
-/// Three lines, of which the second begins with a character of two bytes and ends with a carriage return.
+/// Three lines, of which the second begins with a character of two bytes and ends with a carriage
+/// return.
 const LINES: &str = "a\né\r\nb";
 
 /// An offset in these lines, its line and its column.

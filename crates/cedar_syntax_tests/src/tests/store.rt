@@ -1,4 +1,5 @@
-//! Templates and static policies: their parts, their slots in order, what is refused, and that a copy equals its source.
+//! Templates and static policies: their parts, their slots in order, what is refused, and that a
+//! copy equals its source.
 use super::builder::build;
 use super::held::{
     agrees, copies, copies_of, equal, holds, holds_for, made, refusal, says, says_and_copies, shows,
@@ -292,7 +293,8 @@ fn one_action_or_none(rt: HostRuntime) {
     agrees(&rt, first, entity(&rt, "User"), "the user");
 }
 
-/// The principal's constraint, the resource's, whether the condition is a slot, and the offsets of all slots in order.
+/// The principal's constraint, the resource's, whether the condition is a slot, and the offsets of
+/// all slots in order.
 const SLOTS: [(Asked, Asked, bool, &[usize]); 6] = [
     (Asked::Any, Asked::Is, false, &[]),
     (Asked::EqSlot, Asked::EqUser, false, &[10]),

@@ -1,5 +1,5 @@
--- A text that is laid out into tokens with which a sentence begins goes on behind a line feed, with spellings of the kinds with
--- which the sentence does.
+-- A text that is laid out into tokens with which a sentence begins goes on behind a line feed,
+-- with spellings of the kinds with which the sentence does.
 use Rattle.std.proofs.Common.{◌≡◌, ℕ, ◌+◌, List, [], ◌∷◌, ◌++◌, Option, Some, length, drop, take, refl, sym, ◌∙◌, ap, subst, arith}
 use Rattle.std.specs.Str.{IsUtf8}
 use Rattle.std.proofs.lemmas.List.{length-append, drop-drop, drop_at, take_at}

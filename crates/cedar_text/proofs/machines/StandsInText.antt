@@ -1,5 +1,5 @@
--- Whether tokens have a tree depends on their kinds alone, where the numbers among them fit. So each sentence of a rule
--- whose machine has shapes stands in a text.
+-- Whether tokens have a tree depends on their kinds alone, where the numbers among them fit. So
+-- each sentence of a rule whose machine has shapes stands in a text.
 use Rattle.std.proofs.Common.{◌≡◌, ℕ, List, [], ◌∷◌, Option, Some, None, true, refl, sym, ◌∙◌, ap, subst, arith}
 use Rattle.cedar_lexer.specs.Token.{Lexeme}
 use Rattle.cedar_lexer.specs.declared.token.TokenKind.{TokenKind}
@@ -61,7 +61,8 @@ has_tree {m = m} {n = n} f g d i ts fit h =
     let c = comes_as f g d i ts m.start h.last fit (ap (λ u. steps n (Some u) (kinds ts)) i.starts ∙ h.goes) in
     tree_at d ts c.last (m.finish c.last) c.goes refl (sym (ends_alike f g i c.last) ∙ ap (λ u. is_some (n.finish u)) c.alike ∙ h.ends)
 
--- each sentence of a rule stands in a text, where the rule's machines have the same shapes for each source
+-- each sentence of a rule stands in a text, where the rule's machines have the same shapes for
+-- each source
 pub stands : {S T U V : Type 0} {R : Rule T} (m : List ℕ → Machine Lexeme S (Cell T)) (n : Machine TokenKind U V) (f : S → U) (g : Cell T → V) → ((src : List ℕ) → Door (m src) (IsNodeOf R src)) →
     ((src : List ℕ) → Shapes (m src) n f g) → StandsInText R
 stands {R = R} m n f g d i src ks h =

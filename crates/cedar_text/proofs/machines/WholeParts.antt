@@ -1,4 +1,5 @@
--- The parts that a policy holds: names, sums and expressions as nodes, what ends each, and their outlines.
+-- The parts that a policy holds: names, sums and expressions as nodes, what ends each, and their
+-- outlines.
 use Rattle.std.proofs.Common.{◌≡◌, ℕ, List, [], ◌∷◌, Option, Some, None, Bool, true, false, refl, sym, ◌∙◌, ap, subst}
 use Rattle.cedar_lexer.specs.Token.{Lexeme}
 use Rattle.cedar_lexer.specs.declared.token.TokenKind.{TokenKind}
@@ -7,24 +8,24 @@ use Rattle.cedar_syntax.specs.declared.cst.RelOp.{RelOp}
 use Rattle.cedar_syntax.specs.declared.cst.Add.{Add}
 use Rattle.cedar_syntax.specs.declared.cst.Name.{Name}
 use Rattle.cedar_expression_machine.specs.declared.expression.state.Act.TheVariants as act
-use Rattle.cedar_expression_machine.specs.declared.expression.state.Place.{Place}
-use Rattle.cedar_expression_machine.specs.declared.expression.state.Place.TheVariants as place
+use Rattle.cedar_expression_machine.specs.declared.expression.state.OperandPlace.{OperandPlace}
+use Rattle.cedar_expression_machine.specs.declared.expression.state.OperandPlace.TheVariants as place
 use Rattle.cedar_expression_machine.specs.declared.expression.state.Wanted.{Wanted}
 use Rattle.cedar_expression_machine.specs.declared.expression.state.Wanted.TheVariants as form
 use Rattle.cedar_grammar.specs.Grammar.{IsNodeOf, Rule}
 use Rattle.cedar_grammar.specs.LooseWords.{ReadsName}
 use Rattle.cedar_grammar.specs.LooseExpressions.{ReadsRelOp, less, less_eq, greater_eq, greater, not_eq, equal, within, single_eq, ReadsExpr, ReadsAdd}
 use Rattle.cedar_syntax.specs.Trees.{Cell}
-use Rattle.cedar_grammar.specs.machines.Door.{refused, Door, IsOutside, machine_of, is_some, option_image, ends_with}
+use Rattle.cedar_grammar.specs.machines.Door.{refused, Door, IsOutside, is_some, option_image, ends_with}
 use Rattle.cedar_policy_machine.specs.machines.Following.{IsParting, comma, close_paren, FollowsSum, operator, parting, FollowsName, is_word, as_sum}
 use Rattle.cedar_expression_machine.specs.machines.Closing.{node_of}
-use Rattle.cedar_expression_machine.specs.machines.ExpressionPlans.{behind_plan, settle_plan, or_else, ended_words_plan, if_ends, words_can_end, ends, mode_plan, shape_plan}
+use Rattle.cedar_expression_machine.specs.machines.ExpressionPlans.{behind_plan, settle_plan, or_else, ended_words_plan, if_ends, words_can_end, ends, mode_plan}
 use Rattle.cedar_expression_machine.specs.machines.ExpressionShapes.{LeftShape, free, comparing, sided_once, typed, FrameShape, ModeShape}
 use Rattle.cedar_expression_machine.specs.machines.ExpressionShapes as shaped
 use Rattle.cedar_expression_machine.specs.machines.NamedShapes.{named_outline, is_if_alone}
 use Rattle.cedar_policy_machine.specs.machines.Placing.{AsNode, as_node}
 use Rattle.cedar_text.specs.machines.PolicyParts.{policy_parts, policy_part_outlines}
-use Rattle.cedar_expression_machine.specs.machines.WholeExpressions.{StateShape, state_shape, whole_outline, whole_expression_reader, whole_sum_reader, whole_expressions, whole_sums}
+use Rattle.cedar_expression_machine.specs.machines.WholeExpressions.{StateShape, state_shape, whole_outline, whole_expression_reader, whole_expressions, whole_sums}
 use Rattle.cedar_expression_machine.specs.machines.Words.{names}
 use Rattle.cedar_expression_machine.specs.machines.WordShapes.{WordsShape, WordsKind, path_shape}
 use Rattle.cedar_grammar.proofs.ExpressionTokens.{expr_some}
@@ -84,7 +85,7 @@ abbrev NoColons : TokenKind → Type 0
 NoColons k = k ≡ kind.ColonColon → ⊥
 
 -- behind words that have ended
-words_stay : (w : Wanted) (k : TokenKind) → Behind w k → (l : LeftShape) (p : Place) (b : Bool) → if_ends p b ≡ true → ended_words_plan w [] l p (Some b) k ≡ None
+words_stay : (w : Wanted) (k : TokenKind) → Behind w k → (l : LeftShape) (p : OperandPlace) (b : Bool) → if_ends p b ≡ true → ended_words_plan w [] l p (Some b) k ≡ None
 words_stay w k h l p false e = ap (λ o. settle_plan o) (h l false)
 words_stay w k h l place.Has true e = ap (λ o. settle_plan o) (h l true)
 words_stay w k h l place.Expr true e = absurd (cc)
@@ -93,7 +94,7 @@ words_stay w k h l place.Key true e = absurd (cc)
 words_stay w k h l place.Operand true e = absurd (cc)
 words_stay w k h l place.Primary true e = absurd (cc)
 
-named_stay : (w : Wanted) (k : TokenKind) → Behind w k → NoColons k → (l : LeftShape) (p : Place) (s : WordsShape) (o : Option WordsKind) → named_outline.outline.finish s ≡ o → words_can_end named_outline p o ≡ true →
+named_stay : (w : Wanted) (k : TokenKind) → Behind w k → NoColons k → (l : LeftShape) (p : OperandPlace) (s : WordsShape) (o : Option WordsKind) → named_outline.outline.finish s ≡ o → words_can_end named_outline p o ≡ true →
     mode_plan w named_outline [] l (shaped.worded p s) k ≡ None
 named_stay w k h n l p s None f e = absurd (cc)
 named_stay w k h n l p s (Some x) f e =

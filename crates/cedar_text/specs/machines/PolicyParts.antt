@@ -7,7 +7,7 @@ use Rattle.cedar_syntax.specs.declared.cst.Policies.{Policies}
 use Rattle.cedar_expression_machine.specs.declared.expression.state.Act.{Act}
 use Rattle.cedar_expression_machine.specs.declared.expression.state.State.{State}
 use Rattle.cedar_expression_machine.specs.declared.expression.state.Wanted.TheVariants as form
-use Rattle.cedar_text.specs.declared.text_to_cst.policy_entries.AllState.{AllState}
+use Rattle.cedar_text.specs.declared.text_to_cst.policy_entries.WholePoliciesState.{WholePoliciesState}
 use Rattle.cedar_policy_machine.specs.declared.sequence.SequenceAct.{SequenceAct}
 use Rattle.cedar_policy_machine.specs.declared.sequence.Spanned.{Spanned}
 use Rattle.cedar_expression_machine.specs.declared.words.state.PathAct.{PathAct}
@@ -36,13 +36,13 @@ policy_part_outlines = record {
 
 -- one policy as a whole text
 
-abbrev pub OneState : Type 0
-OneState = SpannedPolicy PathState State State
+abbrev pub WholePolicyState : Type 0
+WholePolicyState = SpannedPolicy PathState State State
 
-abbrev pub whole_policy_reader : Reader OneState (OneAct PathAct Act Act) (Cell Policy)
+abbrev pub whole_policy_reader : Reader WholePolicyState (OneAct PathAct Act Act) (Cell Policy)
 whole_policy_reader = one_policy_reader policy_parts
 
-abbrev pub whole_policy : List ℕ → Machine Lexeme OneState (Cell Policy)
+abbrev pub whole_policy : List ℕ → Machine Lexeme WholePolicyState (Cell Policy)
 whole_policy src = machine_of src whole_policy_reader
 
 -- and policies
@@ -50,17 +50,17 @@ whole_policy src = machine_of src whole_policy_reader
 abbrev pub TextState : Type 0
 TextState = Spanned (PoliciesState PathState State State)
 
-abbrev pub text_of : AllState → TextState
-text_of s = s.text
+abbrev pub inner_state : WholePoliciesState → TextState
+inner_state s = s.text
 
-abbrev pub of_text : TextState → AllState
-of_text s = record { text = s }
+abbrev pub whole_state : TextState → WholePoliciesState
+whole_state s = record { text = s }
 
-abbrev pub whole_policies_reader : Reader AllState (SequenceAct (OneAct PathAct Act Act))
+abbrev pub whole_policies_reader : Reader WholePoliciesState (SequenceAct (OneAct PathAct Act Act))
     (Cell Policies)
 whole_policies_reader =
-    mapped_reader text_of of_text (λ src x. policies_node src x)
+    mapped_reader inner_state whole_state (λ src x. policies_node src x)
     (placing_reader (all_policies_reader policy_parts))
 
-abbrev pub whole_policies : List ℕ → Machine Lexeme AllState (Cell Policies)
+abbrev pub whole_policies : List ℕ → Machine Lexeme WholePoliciesState (Cell Policies)
 whole_policies src = machine_of src whole_policies_reader

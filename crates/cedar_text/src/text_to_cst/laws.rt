@@ -107,8 +107,8 @@ pub fn single_policies()
     ensures one_list { HasOneFaultList ReadsPolicy NothingBefore }
 {}
 
-/// The printed text of a tree that a text has cuts into tokens that have a tree by the same rule which is the same up to places,
-/// and no other. So do policies in lines, a line feed behind each.
+/// The printed text of a tree that a text has cuts into tokens that have a tree by the same rule
+/// which is the same up to places, and no other. So do policies in lines, a line feed behind each.
 pub fn printed_texts()
     ensures policies { PrintLaw ReadsPolicies unlocated_policies policies_tree }
     ensures single_policies { PrintLaw ReadsPolicy unlocated_policy policy_tree }

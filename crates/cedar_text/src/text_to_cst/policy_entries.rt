@@ -5,9 +5,9 @@ use cedar_expressions::{Items, Source};
 use cedar_grammar::reading::driver::Entry;
 use cedar_grammar::reading::extent::Extent;
 use cedar_grammar::reading::place::node_at;
-use cedar_grammar::reading::recovery::{Recovering, Way};
+use cedar_grammar::reading::recovery::{Recovering, RecoveryWay};
 use cedar_lexer::token::{Token, TokenKind};
-use cedar_policy_machine::policies::{Text, Whole};
+use cedar_policy_machine::policies::{PolicySequence, SpannedSequence};
 use cedar_policy_machine::policy::Begun;
 use cedar_policy_machine::sequence::Spanned;
 use cedar_syntax::cst::{Policies, Policy};
@@ -15,29 +15,29 @@ use cedar_syntax::node::Node;
 use std::alloc::{AllocError, Global};
 
 /// One policy that is read as a whole text.
-pub type OneState = Spanned<Begun<PathState, SumState, ExprState>>;
+pub type WholePolicyState = Spanned<Begun<PathState, SumState, ExprState>>;
 
 /// Policies that are.
-type Many = Whole<PathState, SumState, ExprState>;
+type Many = PolicySequence<PathState, SumState, ExprState>;
 
 /// Their trees.
-type Listed = Items<Node<Option<Policy>>>;
+type PolicyNodes = Items<Node<Option<Policy>>>;
 
 /// Policies that are read as a whole text: without any, they stand at its beginning.
 #[derive(Drop)]
-pub struct AllState {
-    text: Text<PathState, SumState, ExprState>,
+pub struct WholePoliciesState {
+    text: SpannedSequence<PathState, SumState, ExprState>,
 }
 
-impl Entry<Node<Option<Policies>>> for AllState {
+impl Entry<Node<Option<Policies>>> for WholePoliciesState {
     ghost use Rattle.cedar_text.specs.machines.PolicyParts.{whole_policies_reader};
 
-    type Act = <Many as Entry<Listed>>::Act;
+    type Act = <Many as Entry<PolicyNodes>>::Act;
 
     ghost reader = { whole_policies_reader };
 
-    fn start(alloc: Global) -> AllState {
-        AllState {
+    fn start(alloc: Global) -> WholePoliciesState {
+        WholePoliciesState {
             text: Spanned {
                 extent: None,
                 state: Many::start(alloc),
@@ -45,11 +45,11 @@ impl Entry<Node<Option<Policies>>> for AllState {
         }
     }
 
-    fn first(kind: TokenKind) -> Option<<Many as Entry<Listed>>::Act> {
+    fn first(kind: TokenKind) -> Option<<Many as Entry<PolicyNodes>>::Act> {
         Many::first(kind)
     }
 
-    fn plan(&self, kind: TokenKind) -> Option<<Many as Entry<Listed>>::Act> {
+    fn plan(&self, kind: TokenKind) -> Option<<Many as Entry<PolicyNodes>>::Act> {
         self.text.plan(kind)
     }
 
@@ -62,7 +62,7 @@ impl Entry<Node<Option<Policies>>> for AllState {
         &mut self,
         alloc: Global,
         source: &Source,
-        act: <Many as Entry<Listed>>::Act,
+        act: <Many as Entry<PolicyNodes>>::Act,
         token: &Token<'_>,
     ) -> Result<bool, AllocError> {
         self.text.act(alloc, source, act, token)
@@ -82,17 +82,17 @@ impl Entry<Node<Option<Policies>>> for AllState {
     }
 }
 
-impl Recovering for AllState {
+impl Recovering for WholePoliciesState {
     ghost use Rattle.cedar_policy_machine.specs.machines.Policies.{begun_policy_way, text_closing, text_ending};
-    ghost use Rattle.cedar_text.specs.machines.PolicyParts.{of_text};
+    ghost use Rattle.cedar_text.specs.machines.PolicyParts.{whole_state};
 
     ghost left = { λ s. begun_policy_way s.text.state.begun };
 
-    ghost closed = { λ s. of_text (text_closing s.text) };
+    ghost closed = { λ s. whole_state (text_closing s.text) };
 
-    ghost over = { λ s. of_text (text_ending s.text) };
+    ghost over = { λ s. whole_state (text_ending s.text) };
 
-    fn way(&self) -> Way {
+    fn way(&self) -> RecoveryWay {
         self.text.way()
     }
 

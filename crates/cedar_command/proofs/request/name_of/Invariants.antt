@@ -6,7 +6,8 @@ use Rattle.cedar_expressions.specs.Path.{namespace_text, is_unreserved_identifie
 use Rattle.cedar_command.specs.Request.{SpellsName}
 use Rattle.cedar_command.proofs.request.name_of.Given as goal
 
--- the text spells a name exactly if what is left of it does, and the identifiers so far stand before that
+-- the text spells a name exactly if what is left of it does, and the identifiers so far stand
+-- before that
 abbrev pub invariant-loop-part : goal.invariant-loop-part
 invariant-loop-part l =
     shadow (Utf8 l.rest) × (SpellsName l.text ↔ SpellsName l.rest)

@@ -8,7 +8,7 @@ use Rattle.cedar_syntax.specs.declared.cst.MemAccess.TheVariants as access
 use Rattle.cedar_syntax.specs.declared.cst.Primary.TheVariants as primary
 use Rattle.cedar_syntax.specs.declared.cst.RecInit.{RecInit}
 use Rattle.cedar_grammar.specs.declared.reading.class.Closing.TheVariants as closing
-use Rattle.cedar_grammar.specs.declared.reading.class.Access.TheVariants as opens
+use Rattle.cedar_grammar.specs.declared.reading.class.AccessStart.TheVariants as opens
 use Rattle.cedar_expression_machine.specs.declared.expression.state.Levels.{Levels}
 use Rattle.cedar_expression_machine.specs.declared.expression.state.Signs.{Signs}
 use Rattle.cedar_expression_machine.specs.declared.expression.state.Operand.{Operand}
@@ -17,8 +17,8 @@ use Rattle.cedar_expression_machine.specs.declared.expression.state.Record.{Reco
 use Rattle.cedar_expression_machine.specs.declared.expression.state.Key.{Key}
 use Rattle.cedar_expression_machine.specs.declared.expression.state.Frame.{Frame}
 use Rattle.cedar_expression_machine.specs.declared.expression.state.Frame.TheVariants as frame
-use Rattle.cedar_expression_machine.specs.declared.expression.state.Place.{Place}
-use Rattle.cedar_expression_machine.specs.declared.expression.state.Place.TheVariants as place
+use Rattle.cedar_expression_machine.specs.declared.expression.state.OperandPlace.{OperandPlace}
+use Rattle.cedar_expression_machine.specs.declared.expression.state.OperandPlace.TheVariants as place
 use Rattle.cedar_expression_machine.specs.declared.expression.state.Mode.{Mode}
 use Rattle.cedar_expression_machine.specs.declared.expression.state.Mode.TheVariants as mode
 use Rattle.cedar_expression_machine.specs.declared.expression.state.State.{State}
@@ -43,7 +43,7 @@ use Rattle.cedar_expression_machine.proofs.expressions.complete.Levels.{ExprAt}
 abbrev pub paren_frame : Levels → Signs → Spot → Frame
 paren_frame lv sg l = frame.Paren record { outer = lv; signs = sg; opened = at l }
 
-pub paren_runs : {src : List ℕ} (c : Setting src) (st : List Frame) (lv : Levels) (pl : Place) (sg : Signs) (ts : List Lexeme) (l m : Spot) (x : Expr) → ExprAt c (paren_frame lv sg l ∷ st) [] place.Expr ts x →
+pub paren_runs : {src : List ℕ} (c : Setting src) (st : List Frame) (lv : Levels) (pl : OperandPlace) (sg : Signs) (ts : List Lexeme) (l m : Spot) (x : Expr) → ExprAt c (paren_frame lv sg l ∷ st) [] place.Expr ts x →
     PrimaryAt c st lv pl sg (one kind.OpenParen l ++ ts ++ one kind.CloseParen m) (primary.Expr (placed src ts x))
 paren_runs {src = src} c st lv pl sg ts l m x h =
     let inside = paren_frame lv sg l ∷ st in
@@ -126,7 +126,7 @@ set_done {src = src} c st lv sg l xs m = set_closing src st (set_with lv sg (at 
 pub set_list : {src : List ℕ} (c : Setting src) (st : List Frame) (lv : Levels) (sg : Signs) (l : Spot) → IsList c st (set_frame lv sg l) kind.CloseBracket (set_done c st lv sg l)
 set_list c st lv sg l = record { comma = λ xs w m p. refl; closes = λ xs w m p. refl; empty = λ xs p. refl; apart = refl }
 
-pub set_runs : {src : List ℕ} (c : Setting src) (st : List Frame) (lv : Levels) (pl : Place) (sg : Signs) (ts : List Lexeme) (l m : Spot) (xs : List (Cell Expr)) → ListRuns c st (set_frame lv sg l) kind.CloseBracket (set_done c st lv sg l) ts xs →
+pub set_runs : {src : List ℕ} (c : Setting src) (st : List Frame) (lv : Levels) (pl : OperandPlace) (sg : Signs) (ts : List Lexeme) (l m : Spot) (xs : List (Cell Expr)) → ListRuns c st (set_frame lv sg l) kind.CloseBracket (set_done c st lv sg l) ts xs →
     PrimaryAt c st lv pl sg (one kind.OpenBracket l ++ ts ++ one kind.CloseBracket m) (primary.EList xs)
 set_runs {src = src} c st lv pl sg ts l m xs h =
     had_at c st lv pl sg (one kind.OpenBracket l ++ ts ++ one kind.CloseBracket m) (primary.EList xs)
@@ -251,7 +251,7 @@ pairs_close {src = src} c st lv sg l ts xs h p =
 pub pairs_comma_close : {src : List ℕ} (c : Setting src) (st : List Frame) (lv : Levels) (sg : Signs) (l : Spot) (ts : List Lexeme) (xs : List (Cell RecInit)) (q : Spot) → PairsAt c st lv sg l ts xs → RecordRuns c st lv sg l (ts ++ one kind.Comma q) xs
 pairs_comma_close c st lv sg l ts xs q h p = ap (λ s. run c s (one kind.CloseBrace p)) (pair_comma c st lv sg l ts xs q h)
 
-pub braces_run : {src : List ℕ} (c : Setting src) (st : List Frame) (lv : Levels) (pl : Place) (sg : Signs) (ts : List Lexeme) (l m : Spot) (xs : List (Cell RecInit)) → RecordRuns c st lv sg l ts xs →
+pub braces_run : {src : List ℕ} (c : Setting src) (st : List Frame) (lv : Levels) (pl : OperandPlace) (sg : Signs) (ts : List Lexeme) (l m : Spot) (xs : List (Cell RecInit)) → RecordRuns c st lv sg l ts xs →
     PrimaryAt c st lv pl sg (one kind.OpenBrace l ++ ts ++ one kind.CloseBrace m) (primary.RInits xs)
 braces_run {src = src} c st lv pl sg ts l m xs h =
     had_at c st lv pl sg (one kind.OpenBrace l ++ ts ++ one kind.CloseBrace m) (primary.RInits xs)

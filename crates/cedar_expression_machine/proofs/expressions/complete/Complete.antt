@@ -18,7 +18,7 @@ use Rattle.cedar_syntax.specs.declared.cst.Member.{Member}
 use Rattle.cedar_syntax.specs.declared.cst.MemAccess.{MemAccess}
 use Rattle.cedar_syntax.specs.declared.cst.Primary.{Primary}
 use Rattle.cedar_syntax.specs.declared.cst.RecInit.{RecInit}
-use Rattle.cedar_grammar.specs.declared.reading.class.Side.TheVariants as side
+use Rattle.cedar_grammar.specs.declared.reading.class.SideWord.TheVariants as side
 use Rattle.cedar_expression_machine.specs.machines.Named.{NameOrEntity, IsWords}
 use Rattle.cedar_expression_machine.specs.declared.words.state.WordsState.{WordsState}
 use Rattle.cedar_expression_machine.specs.declared.expression.state.Branch.{Branch}
@@ -27,8 +27,8 @@ use Rattle.cedar_expression_machine.specs.declared.expression.state.Signs.{Signs
 use Rattle.cedar_expression_machine.specs.declared.expression.state.Record.{Record}
 use Rattle.cedar_expression_machine.specs.declared.expression.state.Frame.{Frame}
 use Rattle.cedar_expression_machine.specs.declared.expression.state.Frame.TheVariants as frame
-use Rattle.cedar_expression_machine.specs.declared.expression.state.Place.{Place}
-use Rattle.cedar_expression_machine.specs.declared.expression.state.Place.TheVariants as place
+use Rattle.cedar_expression_machine.specs.declared.expression.state.OperandPlace.{OperandPlace}
+use Rattle.cedar_expression_machine.specs.declared.expression.state.OperandPlace.TheVariants as place
 use Rattle.cedar_expression_machine.specs.declared.expression.state.Mode.{Mode}
 use Rattle.cedar_expression_machine.specs.declared.expression.state.State.{State}
 use Rattle.cedar_expression_machine.specs.declared.expression.state.Wanted.TheVariants as form
@@ -63,26 +63,26 @@ whole_sums : {src : List ℕ} (c : Setting src) (st : List Frame) → Whole c st
 whole_sums c st e = subst (λ r. Sums r) (sym e) a_whole
 
 mutual
-  pub expr_runs : {src : List ℕ} (c : Setting src) {ts : List Lexeme} {x : Expr} → ReadsExpr src ts x → (st : List Frame) (bs : List Branch) (pl : Place) → is_first pl ≡ true → Whole c st → ExprAt c st bs pl ts x
+  pub expr_runs : {src : List ℕ} (c : Setting src) {ts : List Lexeme} {x : Expr} → ReadsExpr src ts x → (st : List Frame) (bs : List Branch) (pl : OperandPlace) → is_first pl ≡ true → Whole c st → ExprAt c st bs pl ts x
   expr_runs c (or_expr {ts = ts} {x = x} r) st bs pl f e = or_exprs c st bs pl ts x (or_runs c r st (fresh bs) pl (not_alone pl f) e)
   expr_runs c (if_expr {ts = ts} {us = us} {vs = vs} {c = x} {x = y} {y = z} l m n r s t) st bs pl f e =
       if_exprs c st bs pl ts us vs l m n x y z f (λ g. expr_runs c r (g ∷ st) [] place.Expr refl refl) (λ g. expr_runs c s (g ∷ st) [] place.Expr refl refl) (λ b. expr_runs c t st (b ∷ bs) place.Expr refl e)
 
-  or_runs : {src : List ℕ} (c : Setting src) {ts : List Lexeme} {x : Or} → ReadsOr src ts x → (st : List Frame) (lv : Levels) (pl : Place) → is_alone pl ≡ false → Whole c st → OrAt c st lv pl ts (λ q. made_or q ≡ closed ts x)
+  or_runs : {src : List ℕ} (c : Setting src) {ts : List Lexeme} {x : Or} → ReadsOr src ts x → (st : List Frame) (lv : Levels) (pl : OperandPlace) → is_alone pl ≡ false → Whole c st → OrAt c st lv pl ts (λ q. made_or q ≡ closed ts x)
   or_runs c (or {ts = ts} {x = x} {xs = xs} r) st lv pl f e = or_made c st lv pl ts x xs (ands_run c r st lv pl f e)
 
-  ands_run : {src : List ℕ} (c : Setting src) {ts : List Lexeme} {x : Cell And} {xs : List (Cell And)} → ReadsAnds src ts x xs → (st : List Frame) (lv : Levels) (pl : Place) → is_alone pl ≡ false → Whole c st → OrAt c st lv pl ts (λ q. q ≡ chain ts x xs)
+  ands_run : {src : List ℕ} (c : Setting src) {ts : List Lexeme} {x : Cell And} {xs : List (Cell And)} → ReadsAnds src ts x xs → (st : List Frame) (lv : Levels) (pl : OperandPlace) → is_alone pl ≡ false → Whole c st → OrAt c st lv pl ts (λ q. q ≡ chain ts x xs)
   ands_run c (one_and {ts = ts} {x = x} r) st lv pl f e = one_ands c st lv pl ts x (and_runs c r st _ pl f e)
   ands_run c (more_and {ts = ts} {us = us} {x = x} {y = y} {xs = xs} p r s) st lv pl f e = more_ands c st lv pl ts us p x y xs (ands_run c r st lv pl f e) (λ w. and_runs c s st w place.Operand refl e)
 
-  and_runs : {src : List ℕ} (c : Setting src) {ts : List Lexeme} {x : And} → ReadsAnd src ts x → (st : List Frame) (lv : Levels) (pl : Place) → is_alone pl ≡ false → Whole c st → AndAt c st lv pl ts (λ q. made_and q ≡ closed ts x)
+  and_runs : {src : List ℕ} (c : Setting src) {ts : List Lexeme} {x : And} → ReadsAnd src ts x → (st : List Frame) (lv : Levels) (pl : OperandPlace) → is_alone pl ≡ false → Whole c st → AndAt c st lv pl ts (λ q. made_and q ≡ closed ts x)
   and_runs c (and {ts = ts} {x = x} {xs = xs} r) st lv pl f e = and_made c st lv pl ts x xs (relations_run c r st lv pl f e)
 
-  relations_run : {src : List ℕ} (c : Setting src) {ts : List Lexeme} {x : Cell Relation} {xs : List (Cell Relation)} → ReadsRelations src ts x xs → (st : List Frame) (lv : Levels) (pl : Place) → is_alone pl ≡ false → Whole c st → AndAt c st lv pl ts (λ q. q ≡ chain ts x xs)
+  relations_run : {src : List ℕ} (c : Setting src) {ts : List Lexeme} {x : Cell Relation} {xs : List (Cell Relation)} → ReadsRelations src ts x xs → (st : List Frame) (lv : Levels) (pl : OperandPlace) → is_alone pl ≡ false → Whole c st → AndAt c st lv pl ts (λ q. q ≡ chain ts x xs)
   relations_run c (one_relation {ts = ts} {x = x} r) st lv pl f e = one_relations c st lv pl ts x (relation_runs c r st _ pl f e)
   relations_run c (more_relation {ts = ts} {us = us} {x = x} {y = y} {xs = xs} p r s) st lv pl f e = more_relations c st lv pl ts us p x y xs (relations_run c r st lv pl f e) (λ w. relation_runs c s st w place.Operand refl e)
 
-  relation_runs : {src : List ℕ} (c : Setting src) {ts : List Lexeme} {x : Relation} → ReadsRelation src ts x → (st : List Frame) (lv : Levels) (pl : Place) → is_alone pl ≡ false → Whole c st → RelationAt c st lv pl ts x
+  relation_runs : {src : List ℕ} (c : Setting src) {ts : List Lexeme} {x : Relation} → ReadsRelation src ts x → (st : List Frame) (lv : Levels) (pl : OperandPlace) → is_alone pl ≡ false → Whole c st → RelationAt c st lv pl ts x
   relation_runs c (common {ts = ts} {x = x} {xs = xs} r) st lv pl f e = commons c st lv pl ts x xs e (adds_run c r st lv pl f e)
   relation_runs c (has {ts = ts} {us = us} {x = x} {y = y} p r s) st lv pl f e = sides c st lv pl ts us x y side.Has p e (add_runs c r st _ pl f (whole_sums c st e)) (λ w. add_runs c s st w place.Has refl (whole_sums c st e))
   relation_runs {src = src} c (has_if {ts = ts} {us = us} {x = x} {xs = xs} p q r s) st lv pl f e =
@@ -92,32 +92,32 @@ mutual
   relation_runs c (is_in {ts = ts} {us = us} {vs = vs} {x = x} {y = y} {z = z} p q r s t) st lv pl f e =
       is_ins c st lv pl ts us vs x y z p q e (add_runs c r st _ pl f (whole_sums c st e)) (λ w. add_runs c s st w place.Operand refl (whole_sums c st e)) (λ w. add_runs c t st w place.Operand refl (whole_sums c st e))
 
-  adds_run : {src : List ℕ} (c : Setting src) {ts : List Lexeme} {x : Cell Add} {xs : List (RelOp × Cell Add)} → ReadsAdds src ts x xs → (st : List Frame) (lv : Levels) (pl : Place) → is_alone pl ≡ false → Whole c st → CommonAt c st lv pl ts (λ q. q ≡ chain ts x xs)
+  adds_run : {src : List ℕ} (c : Setting src) {ts : List Lexeme} {x : Cell Add} {xs : List (RelOp × Cell Add)} → ReadsAdds src ts x xs → (st : List Frame) (lv : Levels) (pl : OperandPlace) → is_alone pl ≡ false → Whole c st → CommonAt c st lv pl ts (λ q. q ≡ chain ts x xs)
   adds_run c (one_add {ts = ts} {x = x} r) st lv pl f e = one_adds c st lv pl ts x (add_runs c r st _ pl f (whole_sums c st e))
   adds_run c (more_add {ts = ts} {us = us} {k = k} {o = o} {x = x} {y = y} {xs = xs} p r q s) st lv pl f e = more_adds c st lv pl ts us k o p x y xs e (adds_run c r st lv pl f e) q (λ w. add_runs c s st w place.Operand refl (whole_sums c st e))
 
-  add_runs : {src : List ℕ} (c : Setting src) {ts : List Lexeme} {x : Add} → ReadsAdd src ts x → (st : List Frame) (lv : Levels) (pl : Place) → is_alone pl ≡ false → Sums (edge c.wanted st) → AddAt c st lv pl ts (λ q. made_add q ≡ closed ts x)
+  add_runs : {src : List ℕ} (c : Setting src) {ts : List Lexeme} {x : Add} → ReadsAdd src ts x → (st : List Frame) (lv : Levels) (pl : OperandPlace) → is_alone pl ≡ false → Sums (edge c.wanted st) → AddAt c st lv pl ts (λ q. made_add q ≡ closed ts x)
   add_runs c (add {ts = ts} {x = x} {xs = xs} r) st lv pl f e = add_made c st lv pl ts x xs (mults_run c r st lv pl f e)
 
-  mults_run : {src : List ℕ} (c : Setting src) {ts : List Lexeme} {x : Cell Mult} {xs : List (AddOp × Cell Mult)} → ReadsMults src ts x xs → (st : List Frame) (lv : Levels) (pl : Place) → is_alone pl ≡ false → Sums (edge c.wanted st) → AddAt c st lv pl ts (λ q. q ≡ chain ts x xs)
+  mults_run : {src : List ℕ} (c : Setting src) {ts : List Lexeme} {x : Cell Mult} {xs : List (AddOp × Cell Mult)} → ReadsMults src ts x xs → (st : List Frame) (lv : Levels) (pl : OperandPlace) → is_alone pl ≡ false → Sums (edge c.wanted st) → AddAt c st lv pl ts (λ q. q ≡ chain ts x xs)
   mults_run c (one_mult {ts = ts} {x = x} r) st lv pl f e = one_mults c st lv pl ts x (mult_runs c r st _ pl f e)
   mults_run c (more_mult {ts = ts} {us = us} {k = k} {o = o} {x = x} {y = y} {xs = xs} p r q s) st lv pl f e = more_mults c st lv pl ts us k o p x y xs e (mults_run c r st lv pl f e) q (λ w. mult_runs c s st w place.Operand refl e)
 
-  mult_runs : {src : List ℕ} (c : Setting src) {ts : List Lexeme} {x : Mult} → ReadsMult src ts x → (st : List Frame) (lv : Levels) (pl : Place) → is_alone pl ≡ false → Sums (edge c.wanted st) → MultAt c st lv pl ts (λ q. made_mult q ≡ closed ts x)
+  mult_runs : {src : List ℕ} (c : Setting src) {ts : List Lexeme} {x : Mult} → ReadsMult src ts x → (st : List Frame) (lv : Levels) (pl : OperandPlace) → is_alone pl ≡ false → Sums (edge c.wanted st) → MultAt c st lv pl ts (λ q. made_mult q ≡ closed ts x)
   mult_runs c (mult {ts = ts} {x = x} {xs = xs} r) st lv pl f e = mult_made c st lv pl ts x xs (unaries_run c r st lv pl f e)
 
-  unaries_run : {src : List ℕ} (c : Setting src) {ts : List Lexeme} {x : Cell Unary} {xs : List (MultOp × Cell Unary)} → ReadsUnaries src ts x xs → (st : List Frame) (lv : Levels) (pl : Place) → is_alone pl ≡ false → Sums (edge c.wanted st) → MultAt c st lv pl ts (λ q. q ≡ chain ts x xs)
+  unaries_run : {src : List ℕ} (c : Setting src) {ts : List Lexeme} {x : Cell Unary} {xs : List (MultOp × Cell Unary)} → ReadsUnaries src ts x xs → (st : List Frame) (lv : Levels) (pl : OperandPlace) → is_alone pl ≡ false → Sums (edge c.wanted st) → MultAt c st lv pl ts (λ q. q ≡ chain ts x xs)
   unaries_run c (one_unary {ts = ts} {x = x} r) st lv pl f e = one_unaries c st lv pl ts x (unary_runs c r st _ pl f e)
   unaries_run c (more_unary {ts = ts} {us = us} {k = k} {o = o} {x = x} {y = y} {xs = xs} p r q s) st lv pl f e = more_unaries c st lv pl ts us k o p x y xs e (unaries_run c r st lv pl f e) q (λ w. unary_runs c s st w place.Operand refl e)
 
-  unary_runs : {src : List ℕ} (c : Setting src) {ts : List Lexeme} {x : Unary} → ReadsUnary src ts x → (st : List Frame) (lv : Levels) (pl : Place) → is_alone pl ≡ false → Sums (edge c.wanted st) → UnaryAt c st lv pl ts x
+  unary_runs : {src : List ℕ} (c : Setting src) {ts : List Lexeme} {x : Unary} → ReadsUnary src ts x → (st : List Frame) (lv : Levels) (pl : OperandPlace) → is_alone pl ≡ false → Sums (edge c.wanted st) → UnaryAt c st lv pl ts x
   unary_runs c (plain {ts = ts} {x = x} r) st lv pl f e = plains c st lv pl ts x (member_runs c r st lv pl no_signs e)
   unary_runs c (banged {ts = ts} {us = us} {n = n} {x = x} b r) st lv pl f e =
       signeds c st lv pl ts us (bangs_of n) x (bangs_run c b st lv pl f) (member_runs c r st lv place.Operand (signs_of (Some (bangs_of n)) (extent ts)) e)
   unary_runs c (dashed {ts = ts} {us = us} {n = n} {x = x} b r) st lv pl f e =
       signeds c st lv pl ts us (dashes_of n) x (dashes_run c b st lv pl f) (member_runs c r st lv place.Operand (signs_of (Some (dashes_of n)) (extent ts)) e)
 
-  member_runs : {src : List ℕ} (c : Setting src) {ts : List Lexeme} {x : Member} → ReadsMember src ts x → (st : List Frame) (lv : Levels) (pl : Place) (sg : Signs) → Sums (edge c.wanted st) → MemberAt c st lv pl sg ts x
+  member_runs : {src : List ℕ} (c : Setting src) {ts : List Lexeme} {x : Member} → ReadsMember src ts x → (st : List Frame) (lv : Levels) (pl : OperandPlace) (sg : Signs) → Sums (edge c.wanted st) → MemberAt c st lv pl sg ts x
   member_runs {src = src} c (member {ts = ts} {us = us} {x = x} {xs = xs} r s) st lv pl sg e =
       let h = primary_runs c r st lv pl sg in
       members c st lv pl sg ts us x xs h (accesses_run c s st lv h.md sg (placed src ts x) (extent ts) false (sums_accessed e) h.at_it)
@@ -132,7 +132,7 @@ mutual
   access_runs c (call {ts = ts} {xs = xs} l m r) = call_runs c ts l m xs (λ st lv u. exprs_run c r st _ _ _ (call_list c st lv u l))
   access_runs c (index {ts = ts} {x = x} l m r) = index_runs c ts l m x (λ g st. expr_runs c r (g ∷ st) [] place.Expr refl refl)
 
-  primary_runs : {src : List ℕ} (c : Setting src) {ts : List Lexeme} {x : Primary} → ReadsPrimary src ts x → (st : List Frame) (lv : Levels) (pl : Place) (sg : Signs) → PrimaryAt c st lv pl sg ts x
+  primary_runs : {src : List ℕ} (c : Setting src) {ts : List Lexeme} {x : Primary} → ReadsPrimary src ts x → (st : List Frame) (lv : Levels) (pl : OperandPlace) (sg : Signs) → PrimaryAt c st lv pl sg ts x
   primary_runs c (literally r) st lv pl sg = literal_runs c r st lv pl sg
   primary_runs c (referred r) st lv pl sg = ref_runs c r st lv pl sg
   primary_runs c (named r) st lv pl sg = name_runs c r st lv pl sg

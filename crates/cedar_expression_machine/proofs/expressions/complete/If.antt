@@ -16,8 +16,8 @@ use Rattle.cedar_expression_machine.specs.declared.expression.state.Operand.{Ope
 use Rattle.cedar_expression_machine.specs.declared.expression.state.Record.{Record}
 use Rattle.cedar_expression_machine.specs.declared.expression.state.Frame.{Frame}
 use Rattle.cedar_expression_machine.specs.declared.expression.state.Frame.TheVariants as frame
-use Rattle.cedar_expression_machine.specs.declared.expression.state.Place.{Place}
-use Rattle.cedar_expression_machine.specs.declared.expression.state.Place.TheVariants as place
+use Rattle.cedar_expression_machine.specs.declared.expression.state.OperandPlace.{OperandPlace}
+use Rattle.cedar_expression_machine.specs.declared.expression.state.OperandPlace.TheVariants as place
 use Rattle.cedar_expression_machine.specs.declared.expression.state.Mode.{Mode}
 use Rattle.cedar_expression_machine.specs.declared.expression.state.Mode.TheVariants as mode
 use Rattle.cedar_expression_machine.specs.declared.expression.state.State.{State}
@@ -46,10 +46,10 @@ use Rattle.cedar_expression_machine.proofs.expressions.complete.Words.{closed, i
 abbrev pub if_path : {src : List ℕ} → Setting src → Spot → Ranged Name
 if_path {src = src} c p = closed (one kind.If p) (name_of [] (placed src (one kind.If p) ident.If))
 
-abbrev pub IfAt : {src : List ℕ} → Setting src → List Frame → Levels → Place → Spot → Type 0
+abbrev pub IfAt : {src : List ℕ} → Setting src → List Frame → Levels → OperandPlace → Spot → Type 0
 IfAt c st lv pl p = WordsAt c st lv pl no_signs (one kind.If p) (named_as.path (if_path c p))
 
-pub if_runs : {src : List ℕ} (c : Setting src) (st : List Frame) (lv : Levels) (pl : Place) (p : Spot) → IfAt c st lv pl p
+pub if_runs : {src : List ℕ} (c : Setting src) (st : List Frame) (lv : Levels) (pl : OperandPlace) (p : Spot) → IfAt c st lv pl p
 if_runs c st lv pl p = words_run c st lv pl no_signs (one kind.If p) (named_as.path (if_path c p)) (a_path (one_word (any p refl)))
 
 -- right of `has`
@@ -88,7 +88,7 @@ is_no_key : (st : List FrameShape) (k : TokenKind) → begins_guard k ≡ true �
 is_no_key st kind.Colon e = absurd (cc)
 is_no_key st _ e = refl
 
-if_begins : (w : Wanted) (st : List FrameShape) (l : LeftShape) (k : TokenKind) (pl : Place) → is_first pl ≡ true → begins_guard k ≡ true → if_plan w st l pl k ≡ guard_plan k
+if_begins : (w : Wanted) (st : List FrameShape) (l : LeftShape) (k : TokenKind) (pl : OperandPlace) → is_first pl ≡ true → begins_guard k ≡ true → if_plan w st l pl k ≡ guard_plan k
 if_begins w st l k place.Expr e f = refl
 if_begins w st l k place.Item e f = refl
 if_begins w st l k place.Key e f = is_no_key st k f
@@ -96,12 +96,12 @@ if_begins w st l k place.Has e f = absurd (cc)
 if_begins w st l k place.Operand e f = absurd (cc)
 if_begins w st l k place.Primary e f = absurd (cc)
 
-guarded : {src : List ℕ} (c : Setting src) (st : List Frame) (lv : Levels) (pl : Place) (s : WordsState) (x : NameOrEntity) (t : Lexeme) (o : Option Begin) →
+guarded : {src : List ℕ} (c : Setting src) (st : List Frame) (lv : Levels) (pl : OperandPlace) (s : WordsState) (x : NameOrEntity) (t : Lexeme) (o : Option Begin) →
     planned (option_image (λ b. act.Guard b) o) (λ a. word_by c st lv pl no_signs s (Some x) a t) ≡ planned o (λ b. guard_beginning src c.names st lv (named_extent x) b t)
 guarded c st lv pl s x t (Some b) = refl
 guarded c st lv pl s x t None = refl
 
-begun_as : {src : List ℕ} (c : Setting src) (st : List Frame) (lv : Levels) (pl : Place) (sg : Signs) (t : Lexeme) (o : Option Begin) →
+begun_as : {src : List ℕ} (c : Setting src) (st : List Frame) (lv : Levels) (pl : OperandPlace) (sg : Signs) (t : Lexeme) (o : Option Begin) →
     planned (option_image (λ b. act.Begin b) o) (λ a. want_act src c.names st lv pl sg a t) ≡ planned o (λ b. begin_act src c.names st lv pl sg b t)
 begun_as c st lv pl sg t (Some b) = refl
 begun_as c st lv pl sg t None = refl
@@ -120,7 +120,7 @@ abbrev end_of : {src : List ℕ} → Setting src → Option State → Option Ope
 end_of c None = None
 end_of {src = src} c (Some s) = last_operand src c.names [] s.mode
 
-guard_on : {src : List ℕ} (c : Setting src) (st : List Frame) (lv : Levels) (pl : Place) (p : Spot) (h : IfAt c st lv pl p) (t : Lexeme) → is_first pl ≡ true → begins_guard t.kind ≡ true →
+guard_on : {src : List ℕ} (c : Setting src) (st : List Frame) (lv : Levels) (pl : OperandPlace) (p : Spot) (h : IfAt c st lv pl p) (t : Lexeme) → is_first pl ≡ true → begins_guard t.kind ≡ true →
     from c (in_words st lv pl no_signs h.last) t ≡ from c (Some (opening (guard_frame lv.branches p ∷ st) [] place.Expr)) t
 guard_on {src = src} c st lv pl p h t e f =
     words_end_so c st lv pl no_signs h.last (named_as.path (if_path c p)) t (is_no_join t.kind f) h.ends
@@ -130,7 +130,7 @@ guard_on {src = src} c st lv pl p h t e f =
     ∙ sym (begun_as c (guard_frame lv.branches p ∷ st) (fresh []) place.Expr no_signs t (operand_plan (stack_shape (guard_frame lv.branches p ∷ st)) place.Expr None t.kind))
 
 -- the tokens of a guard go on behind `if` as they do where it begins
-pub guard_runs : {src : List ℕ} (c : Setting src) (st : List Frame) (lv : Levels) (pl : Place) (p : Spot) (h : IfAt c st lv pl p) → is_first pl ≡ true → (ts : List Lexeme) (st' : List Frame) (lv' : Levels) (md : Mode) (m : Operand) →
+pub guard_runs : {src : List ℕ} (c : Setting src) (st : List Frame) (lv : Levels) (pl : OperandPlace) (p : Spot) (h : IfAt c st lv pl p) → is_first pl ≡ true → (ts : List Lexeme) (st' : List Frame) (lv' : Levels) (md : Mode) (m : Operand) →
     StandsAt c st' lv' md m → run c (Some (opening (guard_frame lv.branches p ∷ st) [] place.Expr)) ts ≡ Some (state st' lv' md) → run c (in_words st lv pl no_signs h.last) ts ≡ Some (state st' lv' md)
 guard_runs c st lv pl p h e [] st' lv' md m g r = absurd (none_some refl (ap (λ o. end_of c o) r ∙ g.ends))
 guard_runs c st lv pl p h e (t ∷ ts) st' lv' md m g r =

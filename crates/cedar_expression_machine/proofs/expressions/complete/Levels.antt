@@ -10,16 +10,16 @@ use Rattle.cedar_syntax.specs.declared.cst.Relation.{Relation}
 use Rattle.cedar_syntax.specs.declared.cst.MultOp.{MultOp}
 use Rattle.cedar_syntax.specs.declared.cst.Mult.{Mult}
 use Rattle.cedar_syntax.specs.declared.cst.Unary.{Unary}
-use Rattle.cedar_expression_machine.specs.declared.expression.state.Pending.{Pending}
+use Rattle.cedar_expression_machine.specs.declared.expression.state.PendingChain.{PendingChain}
 use Rattle.cedar_expression_machine.specs.declared.expression.state.Branch.{Branch}
 use Rattle.cedar_expression_machine.specs.declared.expression.state.Left.{Left}
-use Rattle.cedar_expression_machine.specs.declared.expression.state.Yes.{Yes}
+use Rattle.cedar_expression_machine.specs.declared.expression.state.Then.{Then}
 use Rattle.cedar_expression_machine.specs.declared.expression.state.Levels.{Levels}
 use Rattle.cedar_expression_machine.specs.declared.expression.state.Operand.{Operand}
 use Rattle.cedar_expression_machine.specs.declared.expression.state.Frame.{Frame}
 use Rattle.cedar_expression_machine.specs.declared.expression.state.Frame.TheVariants as frame
-use Rattle.cedar_expression_machine.specs.declared.expression.state.Place.{Place}
-use Rattle.cedar_expression_machine.specs.declared.expression.state.Place.TheVariants as place
+use Rattle.cedar_expression_machine.specs.declared.expression.state.OperandPlace.{OperandPlace}
+use Rattle.cedar_expression_machine.specs.declared.expression.state.OperandPlace.TheVariants as place
 use Rattle.cedar_expression_machine.specs.declared.expression.state.Mode.{Mode}
 use Rattle.cedar_expression_machine.specs.declared.expression.state.Reach.{Reach}
 use Rattle.cedar_grammar.specs.declared.reading.extent.Extent.{Extent}
@@ -38,17 +38,17 @@ use Rattle.cedar_expression_machine.proofs.expressions.complete.If.{if_runs, gua
 use Rattle.cedar_expression_machine.proofs.expressions.complete.Sums.{chain, linked_more, begin_at, Goes}
 use Rattle.cedar_expression_machine.proofs.expressions.complete.Relations.{RelationAt}
 
-abbrev pub at_and : Levels → Option (Plain Relation) → Option Left → Option (Pending Mult AddOp) → Option (Pending Unary MultOp) → Levels
+abbrev pub at_and : Levels → Option (Plain Relation) → Option Left → Option (PendingChain Mult AddOp) → Option (PendingChain Unary MultOp) → Levels
 at_and lv a r s m = levels_of lv.branches lv.or a r s m
 
-abbrev pub at_or : Levels → Option (Plain And) → Option (Plain Relation) → Option Left → Option (Pending Mult AddOp) → Option (Pending Unary MultOp) → Levels
+abbrev pub at_or : Levels → Option (Plain And) → Option (Plain Relation) → Option Left → Option (PendingChain Mult AddOp) → Option (PendingChain Unary MultOp) → Levels
 at_or lv o a r s m = levels_of lv.branches o a r s m
 
-pub record AndAt {src : List ℕ} (c : Setting src) (st : List Frame) (lv : Levels) (pl : Place) (ts : List Lexeme) (P : Plain Relation → Type 0) : Type 0 where
+pub record AndAt {src : List ℕ} (c : Setting src) (st : List Frame) (lv : Levels) (pl : OperandPlace) (ts : List Lexeme) (P : Plain Relation → Type 0) : Type 0 where
   pub a : Option (Plain Relation)
   pub r : Option Left
-  pub s : Option (Pending Mult AddOp)
-  pub m : Option (Pending Unary MultOp)
+  pub s : Option (PendingChain Mult AddOp)
+  pub m : Option (PendingChain Unary MultOp)
   pub md : Mode
   pub last : Operand
   pub is : P (plain_chain src a (relation_with_sum src r (made_add (marked_chain src s (made_mult (marked_chain src m (unary_at src last)))))))
@@ -56,12 +56,12 @@ pub record AndAt {src : List ℕ} (c : Setting src) (st : List Frame) (lv : Leve
   pub at_it : StandsAt c st (at_and lv a r s m) md last
   pub goes : Goes c st (at_and lv None None None None) pl ts (at_and lv a r s m) md
 
-pub record OrAt {src : List ℕ} (c : Setting src) (st : List Frame) (lv : Levels) (pl : Place) (ts : List Lexeme) (P : Plain And → Type 0) : Type 0 where
+pub record OrAt {src : List ℕ} (c : Setting src) (st : List Frame) (lv : Levels) (pl : OperandPlace) (ts : List Lexeme) (P : Plain And → Type 0) : Type 0 where
   pub o : Option (Plain And)
   pub a : Option (Plain Relation)
   pub r : Option Left
-  pub s : Option (Pending Mult AddOp)
-  pub m : Option (Pending Unary MultOp)
+  pub s : Option (PendingChain Mult AddOp)
+  pub m : Option (PendingChain Unary MultOp)
   pub md : Mode
   pub last : Operand
   pub is : P (plain_chain src o (made_and (plain_chain src a (relation_with_sum src r (made_add (marked_chain src s (made_mult (marked_chain src m (unary_at src last)))))))))
@@ -69,7 +69,7 @@ pub record OrAt {src : List ℕ} (c : Setting src) (st : List Frame) (lv : Level
   pub at_it : StandsAt c st (at_or lv o a r s m) md last
   pub goes : Goes c st (at_or lv None None None None None) pl ts (at_or lv o a r s m) md
 
-pub record ExprAt {src : List ℕ} (c : Setting src) (st : List Frame) (bs : List Branch) (pl : Place) (ts : List Lexeme) (x : Expr) : Type 0 where
+pub record ExprAt {src : List ℕ} (c : Setting src) (st : List Frame) (bs : List Branch) (pl : OperandPlace) (ts : List Lexeme) (x : Expr) : Type 0 where
   pub levels : Levels
   pub md : Mode
   pub last : Operand
@@ -83,11 +83,11 @@ conjoins : (src : List ℕ) (st : List Frame) (lv : Levels) (u : Operand) (e : E
 conjoins src st lv u e an_if = refl
 conjoins src st lv u e all_joins = refl
 
-pub one_relations : {src : List ℕ} (c : Setting src) (st : List Frame) (lv : Levels) (pl : Place) (ts : List Lexeme) (x : Relation) →
+pub one_relations : {src : List ℕ} (c : Setting src) (st : List Frame) (lv : Levels) (pl : OperandPlace) (ts : List Lexeme) (x : Relation) →
     RelationAt c st (at_and lv None None None None) pl ts x → AndAt c st lv pl ts (λ q. q ≡ chain ts (placed src ts x) [])
 one_relations {src = src} c st lv pl ts x h = record { a = None; r = h.r; s = h.s; m = h.m; md = h.md; last = h.last; is = ap (λ y. plain_chain src None y) h.is; joins = h.joins; at_it = h.at_it; goes = h.goes }
 
-pub more_relations : {src : List ℕ} (c : Setting src) (st : List Frame) (lv : Levels) (pl : Place) (ts us : List Lexeme) (p : Spot) (x : Cell Relation) (y : Relation) (xs : List (Cell Relation)) →
+pub more_relations : {src : List ℕ} (c : Setting src) (st : List Frame) (lv : Levels) (pl : OperandPlace) (ts us : List Lexeme) (p : Spot) (x : Cell Relation) (y : Relation) (xs : List (Cell Relation)) →
     AndAt c st lv pl ts (λ q. q ≡ chain ts x xs) → ((w : Levels) → RelationAt c st w place.Operand us y) →
     AndAt c st lv pl (ts ++ one kind.AndAnd p ++ us) (λ q. q ≡ chain (ts ++ one kind.AndAnd p ++ us) x (xs ++ placed src us y ∷ []))
 more_relations {src = src} c st lv pl ts us p x y xs h g =
@@ -115,11 +115,11 @@ disjoins : (src : List ℕ) (st : List Frame) (lv : Levels) (u : Operand) (e : E
 disjoins src st lv u e an_if = refl
 disjoins src st lv u e all_joins = refl
 
-pub one_ands : {src : List ℕ} (c : Setting src) (st : List Frame) (lv : Levels) (pl : Place) (ts : List Lexeme) (x : And) →
+pub one_ands : {src : List ℕ} (c : Setting src) (st : List Frame) (lv : Levels) (pl : OperandPlace) (ts : List Lexeme) (x : And) →
     AndAt c st (at_or lv None None None None None) pl ts (λ q. made_and q ≡ closed ts x) → OrAt c st lv pl ts (λ q. q ≡ chain ts (placed src ts x) [])
 one_ands {src = src} c st lv pl ts x h = record { o = None; a = h.a; r = h.r; s = h.s; m = h.m; md = h.md; last = h.last; is = ap (λ y. plain_chain src None y) h.is; joins = h.joins; at_it = h.at_it; goes = h.goes }
 
-pub more_ands : {src : List ℕ} (c : Setting src) (st : List Frame) (lv : Levels) (pl : Place) (ts us : List Lexeme) (p : Spot) (x : Cell And) (y : And) (xs : List (Cell And)) →
+pub more_ands : {src : List ℕ} (c : Setting src) (st : List Frame) (lv : Levels) (pl : OperandPlace) (ts us : List Lexeme) (p : Spot) (x : Cell And) (y : And) (xs : List (Cell And)) →
     OrAt c st lv pl ts (λ q. q ≡ chain ts x xs) → ((w : Levels) → AndAt c st w place.Operand us (λ q. made_and q ≡ closed us y)) →
     OrAt c st lv pl (ts ++ one kind.OrOr p ++ us) (λ q. q ≡ chain (ts ++ one kind.OrOr p ++ us) x (xs ++ placed src us y ∷ []))
 more_ands {src = src} c st lv pl ts us p x y xs h g =
@@ -144,7 +144,7 @@ more_ands {src = src} c st lv pl ts us p x y xs h g =
 
 -- expressions
 
-pub or_exprs : {src : List ℕ} (c : Setting src) (st : List Frame) (bs : List Branch) (pl : Place) (ts : List Lexeme) (x : Or) →
+pub or_exprs : {src : List ℕ} (c : Setting src) (st : List Frame) (bs : List Branch) (pl : OperandPlace) (ts : List Lexeme) (x : Or) →
     OrAt c st (fresh bs) pl ts (λ q. made_or q ≡ closed ts x) → ExprAt c st bs pl ts (expr_of (placed src ts x))
 or_exprs {src = src} c st bs pl ts x h = record {
   levels = at_or (fresh bs) h.o h.a h.r h.s h.m;
@@ -161,23 +161,23 @@ if_extent ts us vs l m n =
     rw (extent-append (one kind.If l ++ ts ++ one kind.Then m ++ us ++ one kind.Else n) vs, extent-append (one kind.If l ++ ts ++ one kind.Then m ++ us) (one kind.Else n), extent-append (one kind.If l ++ ts ++ one kind.Then m) us, extent-append (one kind.If l ++ ts) (one kind.Then m), extent-append (one kind.If l) ts)
 
 -- the guard of a conditional
-guard_at : {src : List ℕ} (c : Setting src) (st : List Frame) (bs : List Branch) (pl : Place) (ts : List Lexeme) (l : Spot) (x : Expr) → is_first pl ≡ true → (h : ExprAt c (guard_frame bs l ∷ st) [] place.Expr ts x) →
+guard_at : {src : List ℕ} (c : Setting src) (st : List Frame) (bs : List Branch) (pl : OperandPlace) (ts : List Lexeme) (l : Spot) (x : Expr) → is_first pl ≡ true → (h : ExprAt c (guard_frame bs l ∷ st) [] place.Expr ts x) →
     run c (Some (opening st bs pl)) (one kind.If l ++ ts) ≡ Some (state (guard_frame bs l ∷ st) h.levels h.md)
 guard_at c st bs pl ts l x e h =
     let i = if_runs c st (fresh bs) pl l in
     two c (Some (opening st bs pl)) _ _ (one kind.If l) ts i.goes (guard_runs c st (fresh bs) pl l i e ts (guard_frame bs l ∷ st) h.levels h.md h.last h.at_it h.goes)
 
-pub if_exprs : {src : List ℕ} (c : Setting src) (st : List Frame) (bs : List Branch) (pl : Place) (ts us vs : List Lexeme) (l m n : Spot) (x y z : Expr) → is_first pl ≡ true →
+pub if_exprs : {src : List ℕ} (c : Setting src) (st : List Frame) (bs : List Branch) (pl : OperandPlace) (ts us vs : List Lexeme) (l m n : Spot) (x y z : Expr) → is_first pl ≡ true →
     ((f : Frame) → ExprAt c (f ∷ st) [] place.Expr ts x) → ((f : Frame) → ExprAt c (f ∷ st) [] place.Expr us y) → ((b : Branch) → ExprAt c st (b ∷ bs) place.Expr vs z) →
     ExprAt c st bs pl (one kind.If l ++ ts ++ one kind.Then m ++ us ++ one kind.Else n ++ vs) (if_of (placed src ts x) (placed src us y) (placed src vs z))
 if_exprs {src = src} c st bs pl ts us vs l m n x y z e g h k =
     let q : Option Extent = joint_extent (joint_extent (Some (at l)) (extent ts)) (Some (at m)) in
-    let yes : Yes = record { branches = bs; guard = placed src ts x; extent = q } in
+    let yes : Then = record { branches = bs; guard = placed src ts x; extent = q } in
     let b : Branch = branch_of src yes (closed us y) (at n) in
     let in_guard = guard_frame bs l ∷ st in
-    let in_yes = frame.Yes yes ∷ st in
+    let in_then = frame.Then yes ∷ st in
     let i = g (guard_frame bs l) in
-    let j = h (frame.Yes yes) in
+    let j = h (frame.Then yes) in
     let w = k b in
     record {
       levels = w.levels;
@@ -186,17 +186,17 @@ if_exprs {src = src} c st bs pl ts us vs l m n x y z e g h k =
       is = w.is ∙ ap (λ q. with_branches src bs (ranged_tree q (if_of (placed src ts x) (placed src us y) (placed src vs z)))) (if_extent ts us vs l m n);
       at_it = w.at_it;
       goes = three c (Some (opening st bs pl)) _ (Some (opening st (b ∷ bs) place.Expr)) _ (one kind.If l ++ ts ++ one kind.Then m ++ us) (one kind.Else n) vs
-          (three c (Some (opening st bs pl)) _ (Some (opening in_yes [] place.Expr)) _ (one kind.If l ++ ts) (one kind.Then m) us (guard_at c st bs pl ts l x e i)
+          (three c (Some (opening st bs pl)) _ (Some (opening in_then [] place.Expr)) _ (one kind.If l ++ ts) (one kind.Then m) us (guard_at c st bs pl ts l x e i)
           (met c in_guard i.levels i.md i.last kind.Then m i.at_it refl ∙ ap (λ o. (frame_ending src in_guard o closing.Then (at m))) i.is) j.goes)
-          (met c in_yes j.levels j.md j.last kind.Else n j.at_it refl ∙ ap (λ o. (frame_ending src in_yes o closing.Else (at n))) j.is) w.goes;
+          (met c in_then j.levels j.md j.last kind.Else n j.at_it refl ∙ ap (λ o. (frame_ending src in_then o closing.Else (at n))) j.is) w.goes;
     }
 
 -- the tree of a chain
 
-pub and_made : {src : List ℕ} (c : Setting src) (st : List Frame) (lv : Levels) (pl : Place) (ts : List Lexeme) (x : Cell Relation) (xs : List (Cell Relation)) →
+pub and_made : {src : List ℕ} (c : Setting src) (st : List Frame) (lv : Levels) (pl : OperandPlace) (ts : List Lexeme) (x : Cell Relation) (xs : List (Cell Relation)) →
     AndAt c st lv pl ts (λ q. q ≡ chain ts x xs) → AndAt c st lv pl ts (λ q. made_and q ≡ closed ts (and_of x xs))
 and_made c st lv pl ts x xs h = record { a = h.a; r = h.r; s = h.s; m = h.m; md = h.md; last = h.last; is = ap (λ q. made_and q) h.is; joins = h.joins; at_it = h.at_it; goes = h.goes }
 
-pub or_made : {src : List ℕ} (c : Setting src) (st : List Frame) (lv : Levels) (pl : Place) (ts : List Lexeme) (x : Cell And) (xs : List (Cell And)) →
+pub or_made : {src : List ℕ} (c : Setting src) (st : List Frame) (lv : Levels) (pl : OperandPlace) (ts : List Lexeme) (x : Cell And) (xs : List (Cell And)) →
     OrAt c st lv pl ts (λ q. q ≡ chain ts x xs) → OrAt c st lv pl ts (λ q. made_or q ≡ closed ts (or_of x xs))
 or_made c st lv pl ts x xs h = record { o = h.o; a = h.a; r = h.r; s = h.s; m = h.m; md = h.md; last = h.last; is = ap (λ q. made_or q) h.is; joins = h.joins; at_it = h.at_it; goes = h.goes }

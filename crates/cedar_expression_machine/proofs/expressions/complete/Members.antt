@@ -13,14 +13,14 @@ use Rattle.cedar_syntax.specs.declared.cst.Primary.{Primary}
 use Rattle.cedar_syntax.specs.declared.cst.Ident.{Ident}
 use Rattle.cedar_grammar.specs.declared.reading.class.Sign.{Sign}
 use Rattle.cedar_grammar.specs.declared.reading.class.Sign.TheVariants as sign
-use Rattle.cedar_grammar.specs.declared.reading.class.Access.{Access}
-use Rattle.cedar_grammar.specs.declared.reading.class.Access.TheVariants as opens
+use Rattle.cedar_grammar.specs.declared.reading.class.AccessStart.{AccessStart}
+use Rattle.cedar_grammar.specs.declared.reading.class.AccessStart.TheVariants as opens
 use Rattle.cedar_expression_machine.specs.declared.expression.state.Levels.{Levels}
 use Rattle.cedar_expression_machine.specs.declared.expression.state.Signs.{Signs}
 use Rattle.cedar_expression_machine.specs.declared.expression.state.Operand.{Operand}
 use Rattle.cedar_expression_machine.specs.declared.expression.state.Frame.{Frame}
-use Rattle.cedar_expression_machine.specs.declared.expression.state.Place.{Place}
-use Rattle.cedar_expression_machine.specs.declared.expression.state.Place.TheVariants as place
+use Rattle.cedar_expression_machine.specs.declared.expression.state.OperandPlace.{OperandPlace}
+use Rattle.cedar_expression_machine.specs.declared.expression.state.OperandPlace.TheVariants as place
 use Rattle.cedar_expression_machine.specs.declared.expression.state.Mode.{Mode}
 use Rattle.cedar_expression_machine.specs.declared.expression.state.Mode.TheVariants as mode
 use Rattle.cedar_expression_machine.specs.declared.expression.state.Reach.{Reach}
@@ -76,7 +76,7 @@ more_accesses {src = src} c st lv md sg x e b ts us xs y a h g =
           ∙ ap (λ q. Some (has_operand st lv (operand_with sg x (xs ++ placed src us y ∷ []) q b))) (join-assoc e (extent ts) (extent us) ∙ ap (λ q. joint_extent e q) (sym (extent-append ts us)));
     }
 
-pub begins_access : (src : List ℕ) (st : List Frame) (lv : Levels) (m : Operand) (a : Access) (e : Extent) {r : Reach} → Accesses r → had src st lv m r (operator.Access a) e ≡ Some (access_beginning st lv m a e)
+pub begins_access : (src : List ℕ) (st : List Frame) (lv : Levels) (m : Operand) (a : AccessStart) (e : Extent) {r : Reach} → Accesses r → had src st lv m r (operator.Access a) e ≡ Some (access_beginning st lv m a e)
 begins_access src st lv m a e if_accessed = refl
 begins_access src st lv m a e sum_accessed = refl
 begins_access src st lv m a e all_accessed = refl
@@ -104,7 +104,7 @@ around_is ts j k l m = inside (extent ts) ∙ sym (extent-append (one j l ++ ts)
 
 -- a member: a primary and its accesses
 
-pub record MemberAt {src : List ℕ} (c : Setting src) (st : List Frame) (lv : Levels) (pl : Place) (sg : Signs) (ts : List Lexeme) (x : Member) : Type 0 where
+pub record MemberAt {src : List ℕ} (c : Setting src) (st : List Frame) (lv : Levels) (pl : OperandPlace) (sg : Signs) (ts : List Lexeme) (x : Member) : Type 0 where
   pub md : Mode
   pub last : Operand
   pub is : unary_at src last ≡ ranged_tree (joint_extent sg.extent (extent ts)) (unary_of sg.op (placed src ts x))
@@ -112,7 +112,7 @@ pub record MemberAt {src : List ℕ} (c : Setting src) (st : List Frame) (lv : L
   pub at_it : StandsAt c st lv md last
   pub goes : run c (Some (state st lv (mode.Want pl sg))) ts ≡ Some (state st lv md)
 
-pub members : {src : List ℕ} (c : Setting src) (st : List Frame) (lv : Levels) (pl : Place) (sg : Signs) (ts us : List Lexeme) (x : Primary) (xs : List (Cell MemAccess)) (h : PrimaryAt c st lv pl sg ts x) →
+pub members : {src : List ℕ} (c : Setting src) (st : List Frame) (lv : Levels) (pl : OperandPlace) (sg : Signs) (ts us : List Lexeme) (x : Primary) (xs : List (Cell MemAccess)) (h : PrimaryAt c st lv pl sg ts x) →
     AccessesAt c st lv h.md sg (placed src ts x) (extent ts) false us xs → MemberAt c st lv pl sg (ts ++ us) (member_of (placed src ts x) xs)
 members {src = src} c st lv pl sg ts us x xs h g = record {
   md = g.after;
@@ -125,12 +125,12 @@ members {src = src} c st lv pl sg ts us x xs h g = record {
 
 -- signs
 
-sign_by : (src : List ℕ) (names : Names) (st : List Frame) (lv : Levels) (sg : Signs) (s : Sign) (t : Lexeme) (pl : Place) (b : Bool) → b ≡ true →
+sign_by : (src : List ℕ) (names : Names) (st : List Frame) (lv : Levels) (sg : Signs) (s : Sign) (t : Lexeme) (pl : OperandPlace) (b : Bool) → b ≡ true →
     planned (option_image (λ b. act.Begin b) (cond b (Some (begin.Sign s)) None)) (λ a. want_act src names st lv pl sg a t) ≡ after_signs st lv sg.extent (with_sign sg.op s) (extent_of t)
 sign_by src names st lv sg s t pl true e = refl
 sign_by src names st lv sg s t pl false e = absurd (cc)
 
-sign_stands : (pl : Place) (q : Option Sign) (s : Sign) → is_alone pl ≡ false → may_sign q s ≡ true → sign_may_stand pl q s ≡ true
+sign_stands : (pl : OperandPlace) (q : Option Sign) (s : Sign) → is_alone pl ≡ false → may_sign q s ≡ true → sign_may_stand pl q s ≡ true
 sign_stands place.Expr q s e f = f
 sign_stands place.Item q s e f = f
 sign_stands place.Key q s e f = f
@@ -138,7 +138,7 @@ sign_stands place.Has q s e f = f
 sign_stands place.Operand q s e f = f
 sign_stands place.Primary q s e f = absurd (cc)
 
-sign_taken : (src : List ℕ) (names : Names) (st : List Frame) (lv : Levels) (sg : Signs) (s : Sign) (t : Lexeme) (pl : Place) → is_alone pl ≡ false → may_sign (op_sign sg.op) s ≡ true →
+sign_taken : (src : List ℕ) (names : Names) (st : List Frame) (lv : Levels) (sg : Signs) (s : Sign) (t : Lexeme) (pl : OperandPlace) → is_alone pl ≡ false → may_sign (op_sign sg.op) s ≡ true →
     planned (option_image (λ b. act.Begin b) (cond (sign_may_stand pl (op_sign sg.op) s) (Some (begin.Sign s)) None)) (λ a. want_act src names st lv pl sg a t) ≡ after_signs st lv sg.extent (with_sign sg.op s) (extent_of t)
 sign_taken src names st lv sg s t pl e f = sign_by src names st lv sg s t pl (sign_may_stand pl (op_sign sg.op) s) (sign_stands pl (op_sign sg.op) s e f)
 
@@ -156,7 +156,7 @@ dashes_may n = go (nat_le n sign_limit)
     go true = refl
     go false = refl
 
-abbrev pub SignsAt : {src : List ℕ} → Setting src → List Frame → Levels → Place → List Lexeme → NegOp → Type 0
+abbrev pub SignsAt : {src : List ℕ} → Setting src → List Frame → Levels → OperandPlace → List Lexeme → NegOp → Type 0
 SignsAt c st lv pl ts o = run c (Some (state st lv (wants pl))) ts ≡ Some (state st lv (mode.Want place.Operand (signs_of (Some o) (extent ts))))
 
 after_sign : (st : List Frame) (lv : Levels) (ts : List Lexeme) (k : TokenKind) (p : Spot) (q : Option NegOp) (o : NegOp) → q ≡ Some o →
@@ -164,13 +164,13 @@ after_sign : (st : List Frame) (lv : Levels) (ts : List Lexeme) (k : TokenKind) 
 after_sign st lv ts k p q o e =
     ap (λ w. (after_signs st lv (extent ts) w (at p))) e ∙ ap (λ w. Some (state st lv (mode.Want place.Operand (signs_of (Some o) w)))) (sym (extent-append ts (one k p)))
 
-pub bangs_run : {src : List ℕ} (c : Setting src) {ts : List Lexeme} {n : ℕ} → ReadsSigns kind.Bang ts n → (st : List Frame) (lv : Levels) (pl : Place) → is_alone pl ≡ false → SignsAt c st lv pl ts (bangs_of n)
+pub bangs_run : {src : List ℕ} (c : Setting src) {ts : List Lexeme} {n : ℕ} → ReadsSigns kind.Bang ts n → (st : List Frame) (lv : Levels) (pl : OperandPlace) → is_alone pl ≡ false → SignsAt c st lv pl ts (bangs_of n)
 bangs_run {src = src} c (one_sign p) st lv pl e = sign_taken src c.names st lv no_signs sign.Bang (token kind.Bang p) pl e refl
 bangs_run {src = src} c (more_signs {ts = ts} {n = n} p r) st lv pl e =
     two c (Some (state st lv (wants pl))) _ _ ts (one kind.Bang p) (bangs_run c r st lv pl e)
     (sign_taken src c.names st lv (signs_of (Some (bangs_of n)) (extent ts)) sign.Bang (token kind.Bang p) place.Operand refl (bangs_may n) ∙ after_sign st lv ts kind.Bang p _ (bangs_of (n + 1)) (bang_more n))
 
-pub dashes_run : {src : List ℕ} (c : Setting src) {ts : List Lexeme} {n : ℕ} → ReadsSigns kind.Minus ts n → (st : List Frame) (lv : Levels) (pl : Place) → is_alone pl ≡ false → SignsAt c st lv pl ts (dashes_of n)
+pub dashes_run : {src : List ℕ} (c : Setting src) {ts : List Lexeme} {n : ℕ} → ReadsSigns kind.Minus ts n → (st : List Frame) (lv : Levels) (pl : OperandPlace) → is_alone pl ≡ false → SignsAt c st lv pl ts (dashes_of n)
 dashes_run {src = src} c (one_sign p) st lv pl e = sign_taken src c.names st lv no_signs sign.Dash (token kind.Minus p) pl e refl
 dashes_run {src = src} c (more_signs {ts = ts} {n = n} p r) st lv pl e =
     two c (Some (state st lv (wants pl))) _ _ ts (one kind.Minus p) (dashes_run c r st lv pl e)
@@ -178,7 +178,7 @@ dashes_run {src = src} c (more_signs {ts = ts} {n = n} p r) st lv pl e =
 
 -- an operand with its signs
 
-pub record UnaryAt {src : List ℕ} (c : Setting src) (st : List Frame) (lv : Levels) (pl : Place) (ts : List Lexeme) (x : Unary) : Type 0 where
+pub record UnaryAt {src : List ℕ} (c : Setting src) (st : List Frame) (lv : Levels) (pl : OperandPlace) (ts : List Lexeme) (x : Unary) : Type 0 where
   pub md : Mode
   pub last : Operand
   pub is : unary_at src last ≡ closed ts x
@@ -186,10 +186,10 @@ pub record UnaryAt {src : List ℕ} (c : Setting src) (st : List Frame) (lv : Le
   pub at_it : StandsAt c st lv md last
   pub goes : run c (Some (state st lv (wants pl))) ts ≡ Some (state st lv md)
 
-pub plains : {src : List ℕ} (c : Setting src) (st : List Frame) (lv : Levels) (pl : Place) (ts : List Lexeme) (x : Member) → MemberAt c st lv pl no_signs ts x → UnaryAt c st lv pl ts (unary_of None (placed src ts x))
+pub plains : {src : List ℕ} (c : Setting src) (st : List Frame) (lv : Levels) (pl : OperandPlace) (ts : List Lexeme) (x : Member) → MemberAt c st lv pl no_signs ts x → UnaryAt c st lv pl ts (unary_of None (placed src ts x))
 plains c st lv pl ts x h = record { md = h.md; last = h.last; is = h.is; free = h.free; at_it = h.at_it; goes = h.goes }
 
-pub signeds : {src : List ℕ} (c : Setting src) (st : List Frame) (lv : Levels) (pl : Place) (ts us : List Lexeme) (o : NegOp) (x : Member) → SignsAt c st lv pl ts o → MemberAt c st lv place.Operand (signs_of (Some o) (extent ts)) us x →
+pub signeds : {src : List ℕ} (c : Setting src) (st : List Frame) (lv : Levels) (pl : OperandPlace) (ts us : List Lexeme) (o : NegOp) (x : Member) → SignsAt c st lv pl ts o → MemberAt c st lv place.Operand (signs_of (Some o) (extent ts)) us x →
     UnaryAt c st lv pl (ts ++ us) (unary_of (Some o) (placed src us x))
 signeds {src = src} c st lv pl ts us o x e h = record {
   md = h.md;

@@ -14,17 +14,17 @@ use Rattle.cedar_syntax.specs.declared.cst.Mult.{Mult}
 use Rattle.cedar_syntax.specs.declared.cst.Unary.{Unary}
 use Rattle.cedar_syntax.specs.declared.cst.Member.{Member}
 use Rattle.cedar_syntax.specs.declared.cst.MemAccess.{MemAccess}
-use Rattle.cedar_grammar.specs.declared.reading.class.Side.{Side}
-use Rattle.cedar_grammar.specs.declared.reading.class.Side.TheVariants as side
+use Rattle.cedar_grammar.specs.declared.reading.class.SideWord.{SideWord}
+use Rattle.cedar_grammar.specs.declared.reading.class.SideWord.TheVariants as side
 use Rattle.cedar_expression_machine.specs.declared.expression.state.Ranged.{Ranged}
-use Rattle.cedar_expression_machine.specs.declared.expression.state.Pending.{Pending}
+use Rattle.cedar_expression_machine.specs.declared.expression.state.PendingChain.{PendingChain}
 use Rattle.cedar_expression_machine.specs.declared.expression.state.Left.{Left}
 use Rattle.cedar_expression_machine.specs.declared.expression.state.Left.TheVariants as left
 use Rattle.cedar_expression_machine.specs.declared.expression.state.Levels.{Levels}
 use Rattle.cedar_expression_machine.specs.declared.expression.state.Operand.{Operand}
 use Rattle.cedar_expression_machine.specs.declared.expression.state.Frame.{Frame}
-use Rattle.cedar_expression_machine.specs.declared.expression.state.Place.{Place}
-use Rattle.cedar_expression_machine.specs.declared.expression.state.Place.TheVariants as place
+use Rattle.cedar_expression_machine.specs.declared.expression.state.OperandPlace.{OperandPlace}
+use Rattle.cedar_expression_machine.specs.declared.expression.state.OperandPlace.TheVariants as place
 use Rattle.cedar_expression_machine.specs.declared.expression.state.Mode.{Mode}
 use Rattle.cedar_expression_machine.specs.declared.expression.state.Mode.TheVariants as mode
 use Rattle.cedar_expression_machine.specs.declared.expression.state.Reach.TheVariants as reach
@@ -47,18 +47,18 @@ use Rattle.cedar_expression_machine.proofs.expressions.complete.Members.{Accesse
 use Rattle.cedar_expression_machine.proofs.expressions.complete.Sums.{chain, marked_more, begin_at, Goes, AddAt}
 
 -- the left side that a chain of comparisons is
-abbrev pub common_left : Option (Pending Add RelOp) → Option Left
+abbrev pub common_left : Option (PendingChain Add RelOp) → Option Left
 common_left None = None
 common_left (Some p) = Some (left.Common p)
 
-abbrev pub at_relation : Levels → Option Left → Option (Pending Mult AddOp) → Option (Pending Unary MultOp) → Levels
+abbrev pub at_relation : Levels → Option Left → Option (PendingChain Mult AddOp) → Option (PendingChain Unary MultOp) → Levels
 at_relation lv r s m = levels_of lv.branches lv.or lv.and r s m
 
 -- a chain of comparisons
-pub record CommonAt {src : List ℕ} (c : Setting src) (st : List Frame) (lv : Levels) (pl : Place) (ts : List Lexeme) (P : Marked Add RelOp → Type 0) : Type 0 where
-  pub r : Option (Pending Add RelOp)
-  pub s : Option (Pending Mult AddOp)
-  pub m : Option (Pending Unary MultOp)
+pub record CommonAt {src : List ℕ} (c : Setting src) (st : List Frame) (lv : Levels) (pl : OperandPlace) (ts : List Lexeme) (P : Marked Add RelOp → Type 0) : Type 0 where
+  pub r : Option (PendingChain Add RelOp)
+  pub s : Option (PendingChain Mult AddOp)
+  pub m : Option (PendingChain Unary MultOp)
   pub md : Mode
   pub last : Operand
   pub is : P (marked_chain src r (made_add (marked_chain src s (made_mult (marked_chain src m (unary_at src last))))))
@@ -67,10 +67,10 @@ pub record CommonAt {src : List ℕ} (c : Setting src) (st : List Frame) (lv : L
   pub goes : Goes c st (at_relation lv None None None) pl ts (at_relation lv (common_left r) s m) md
 
 -- any relation
-pub record RelationAt {src : List ℕ} (c : Setting src) (st : List Frame) (lv : Levels) (pl : Place) (ts : List Lexeme) (x : Relation) : Type 0 where
+pub record RelationAt {src : List ℕ} (c : Setting src) (st : List Frame) (lv : Levels) (pl : OperandPlace) (ts : List Lexeme) (x : Relation) : Type 0 where
   pub r : Option Left
-  pub s : Option (Pending Mult AddOp)
-  pub m : Option (Pending Unary MultOp)
+  pub s : Option (PendingChain Mult AddOp)
+  pub m : Option (PendingChain Unary MultOp)
   pub md : Mode
   pub last : Operand
   pub is : relation_with_sum src r (made_add (marked_chain src s (made_mult (marked_chain src m (unary_at src last))))) ≡ closed ts x
@@ -83,7 +83,7 @@ whole_joins c st m f e = subst (λ r. Joins r) (sym (reaches c st m f ∙ e)) al
 
 -- comparisons
 
-compares_so : (src : List ℕ) (st : List Frame) (lv : Levels) (r : Option (Pending Add RelOp)) (x : Ranged Add) (o : RelOp) (e : Extent) →
+compares_so : (src : List ℕ) (st : List Frame) (lv : Levels) (r : Option (PendingChain Add RelOp)) (x : Ranged Add) (o : RelOp) (e : Extent) →
     (comparison_beginning src st lv (common_left r) x o e) ≡ Some (left_beginning st lv (left.Common (pending (marked_chain src r x) o e)) place.Operand)
 compares_so src st lv None x o e = refl
 compares_so src st lv (Some p) x o e = refl
@@ -107,19 +107,19 @@ compares : {src : List ℕ} (c : Setting src) (st : List Frame) (lv : Levels) (m
 compares {src = src} c st lv md u p {o = o} r h f e l =
     compare_runs c st lv md u p r h ∙ ap (λ q. had src st lv u q (operator.Compare o) (at p)) (reaches c st u f ∙ e) ∙ ap (λ b. cond b (comparison_beginning src st lv lv.relation (add_at src lv u) o (at p)) None) l
 
-may_go_on : (r : Option (Pending Add RelOp)) (o : RelOp) → may_compare (left_shape (common_left r)) o ≡ true
+may_go_on : (r : Option (PendingChain Add RelOp)) (o : RelOp) → may_compare (left_shape (common_left r)) o ≡ true
 may_go_on None o = refl
 may_go_on (Some p) o = refl
 
-pub one_adds : {src : List ℕ} (c : Setting src) (st : List Frame) (lv : Levels) (pl : Place) (ts : List Lexeme) (x : Add) →
+pub one_adds : {src : List ℕ} (c : Setting src) (st : List Frame) (lv : Levels) (pl : OperandPlace) (ts : List Lexeme) (x : Add) →
     AddAt c st (at_relation lv None None None) pl ts (λ q. made_add q ≡ closed ts x) → CommonAt c st lv pl ts (λ q. q ≡ chain ts (placed src ts x) [])
 one_adds {src = src} c st lv pl ts x h = record { r = None; s = h.s; m = h.m; md = h.md; last = h.last; is = ap (λ y. marked_chain src None y) h.is; free = h.free; at_it = h.at_it; goes = h.goes }
 
-pub more_adds : {src : List ℕ} (c : Setting src) (st : List Frame) (lv : Levels) (pl : Place) (ts us : List Lexeme) (k : TokenKind) (o : RelOp) (p : Spot) (x : Cell Add) (y : Add) (xs : List (RelOp × Cell Add)) → edge c.wanted st ≡ reach.Whole →
+pub more_adds : {src : List ℕ} (c : Setting src) (st : List Frame) (lv : Levels) (pl : OperandPlace) (ts us : List Lexeme) (k : TokenKind) (o : RelOp) (p : Spot) (x : Cell Add) (y : Add) (xs : List (RelOp × Cell Add)) → edge c.wanted st ≡ reach.Whole →
     CommonAt c st lv pl ts (λ q. q ≡ chain ts x xs) → ReadsRelOp k o → ((w : Levels) → AddAt c st w place.Operand us (λ q. made_add q ≡ closed us y)) →
     CommonAt c st lv pl (ts ++ one k p ++ us) (λ q. q ≡ chain (ts ++ one k p ++ us) x (xs ++ (o, placed src us y) ∷ []))
 more_adds {src = src} c st lv pl ts us k o p x y xs e h r g =
-    let begun : Option (Pending Add RelOp) = Some (pending (chain ts x xs) o (at p)) in
+    let begun : Option (PendingChain Add RelOp) = Some (pending (chain ts x xs) o (at p)) in
     let w = g (at_relation lv (common_left begun) None None) in
     let lv' = at_relation lv (common_left h.r) h.s h.m in
     record {
@@ -136,11 +136,11 @@ more_adds {src = src} c st lv pl ts us k o p x y xs e h r g =
           ∙ ap (λ q. begin_at st (at_relation lv (Some (left.Common (pending q o (at p)))) None None) place.Operand) h.is) w.goes;
     }
 
-commonly : (src : List ℕ) (r : Option (Pending Add RelOp)) (x : Ranged Add) → relation_with_sum src (common_left r) x ≡ made_common (marked_chain src r x)
+commonly : (src : List ℕ) (r : Option (PendingChain Add RelOp)) (x : Ranged Add) → relation_with_sum src (common_left r) x ≡ made_common (marked_chain src r x)
 commonly src None x = refl
 commonly src (Some p) x = refl
 
-pub commons : {src : List ℕ} (c : Setting src) (st : List Frame) (lv : Levels) (pl : Place) (ts : List Lexeme) (x : Cell Add) (xs : List (RelOp × Cell Add)) → edge c.wanted st ≡ reach.Whole →
+pub commons : {src : List ℕ} (c : Setting src) (st : List Frame) (lv : Levels) (pl : OperandPlace) (ts : List Lexeme) (x : Cell Add) (xs : List (RelOp × Cell Add)) → edge c.wanted st ≡ reach.Whole →
     CommonAt c st lv pl ts (λ q. q ≡ chain ts x xs) → RelationAt c st lv pl ts (common_of x xs)
 commons {src = src} c st lv pl ts x xs e h = record {
   r = common_left h.r;
@@ -156,28 +156,28 @@ commons {src = src} c st lv pl ts x xs e h = record {
 
 -- right sides
 
-abbrev pub side_kind : Side → TokenKind
+abbrev pub side_kind : SideWord → TokenKind
 side_kind side.Has = kind.Has
 side_kind side.Like = kind.Like
 side_kind side.Is = kind.Is
 
-abbrev pub side_tree : Side → Cell Add → Cell Add → Relation
+abbrev pub side_tree : SideWord → Cell Add → Cell Add → Relation
 side_tree side.Has x y = has_of x y
 side_tree side.Like x y = like_of x y
 side_tree side.Is x y = is_of x y None
 
 -- a left side and the word behind it
-abbrev pub left_with : List ℕ → Side → List Lexeme → Add → Spot → Left
+abbrev pub left_with : List ℕ → SideWord → List Lexeme → Add → Spot → Left
 left_with src s ts x p = side_of s (before src (closed ts x) (at p))
 
-side_runs : {src : List ℕ} (c : Setting src) (st : List Frame) (lv : Levels) (md : Mode) (u : Operand) (p : Spot) (s : Side) → StandsAt c st lv md u →
+side_runs : {src : List ℕ} (c : Setting src) (st : List Frame) (lv : Levels) (md : Mode) (u : Operand) (p : Spot) (s : SideWord) → StandsAt c st lv md u →
     run c (Some (state st lv md)) (one (side_kind s) p) ≡ had src st lv u (reach_at c.wanted st u) (operator.Side s) (at p)
 side_runs c st lv md u p side.Has h = met c st lv md u kind.Has p h refl
 side_runs c st lv md u p side.Like h = met c st lv md u kind.Like p h refl
 side_runs c st lv md u p side.Is h = met c st lv md u kind.Is p h refl
 
 -- a sum and the word behind it: the right side begins
-pub side_begins : {src : List ℕ} (c : Setting src) (st : List Frame) (lv : Levels) (pl : Place) (ts : List Lexeme) (x : Add) (s : Side) (p : Spot) → edge c.wanted st ≡ reach.Whole →
+pub side_begins : {src : List ℕ} (c : Setting src) (st : List Frame) (lv : Levels) (pl : OperandPlace) (ts : List Lexeme) (x : Add) (s : SideWord) (p : Spot) → edge c.wanted st ≡ reach.Whole →
     AddAt c st (at_relation lv None None None) pl ts (λ q. made_add q ≡ closed ts x) →
     run c (begin_at st (at_relation lv None None None) pl) (ts ++ one (side_kind s) p) ≡ begin_at st (at_relation lv (Some (left_with src s ts x p)) None None) (side_place s)
 side_begins {src = src} c st lv pl ts x s p e h =
@@ -186,13 +186,13 @@ side_begins {src = src} c st lv pl ts x s p e h =
     (side_runs c st lv' h.md h.last p s h.at_it ∙ ap (λ q. had src st lv' h.last q (operator.Side s) (at p)) (reaches c st h.last h.free ∙ e)
     ∙ ap (λ y. (side_beginning src st lv' None y s (at p))) h.is)
 
-side_closed : (src : List ℕ) (ts us : List Lexeme) (x y : Add) (s : Side) (p : Spot) →
+side_closed : (src : List ℕ) (ts us : List Lexeme) (x y : Add) (s : SideWord) (p : Spot) →
     relation_with_sum src (Some (left_with src s ts x p)) (closed us y) ≡ closed (ts ++ one (side_kind s) p ++ us) (side_tree s (placed src ts x) (placed src us y))
 side_closed src ts us x y side.Has p = ap (λ q. ranged_tree q (has_of (placed src ts x) (placed src us y))) (chain_extent ts us kind.Has p)
 side_closed src ts us x y side.Like p = ap (λ q. ranged_tree q (like_of (placed src ts x) (placed src us y))) (chain_extent ts us kind.Like p)
 side_closed src ts us x y side.Is p = ap (λ q. ranged_tree q (is_of (placed src ts x) (placed src us y) None)) (chain_extent ts us kind.Is p)
 
-pub sides : {src : List ℕ} (c : Setting src) (st : List Frame) (lv : Levels) (pl : Place) (ts us : List Lexeme) (x y : Add) (s : Side) (p : Spot) → edge c.wanted st ≡ reach.Whole →
+pub sides : {src : List ℕ} (c : Setting src) (st : List Frame) (lv : Levels) (pl : OperandPlace) (ts us : List Lexeme) (x y : Add) (s : SideWord) (p : Spot) → edge c.wanted st ≡ reach.Whole →
     AddAt c st (at_relation lv None None None) pl ts (λ q. made_add q ≡ closed ts x) → ((w : Levels) → AddAt c st w (side_place s) us (λ q. made_add q ≡ closed us y)) →
     RelationAt c st lv pl (ts ++ one (side_kind s) p ++ us) (side_tree s (placed src ts x) (placed src us y))
 sides {src = src} c st lv pl ts us x y s p e h g =
@@ -215,7 +215,7 @@ sides {src = src} c st lv pl ts us x y s p e h g =
 abbrev lone_sum : List ℕ → Option Extent → Member → Add
 lone_sum src e x = add_of (node_at src e (mult_of (node_at src e (unary_of None (node_at src e x))) [])) []
 
-pub has_ifs : {src : List ℕ} (c : Setting src) (st : List Frame) (lv : Levels) (pl : Place) (ts us : List Lexeme) (x : Add) (xs : List (Cell MemAccess)) (p q : Spot) → edge c.wanted st ≡ reach.Whole →
+pub has_ifs : {src : List ℕ} (c : Setting src) (st : List Frame) (lv : Levels) (pl : OperandPlace) (ts us : List Lexeme) (x : Add) (xs : List (Cell MemAccess)) (p q : Spot) → edge c.wanted st ≡ reach.Whole →
     AddAt c st (at_relation lv None None None) pl ts (λ q. made_add q ≡ closed ts x) →
     ((w : Levels) (md : Mode) → StandsAt c st w md (if_operand src (Some (at q))) → AccessesAt c st w md no_signs (placed src (one kind.If q) (if_name src q)) (Some (at q)) true us xs) →
     RelationAt c st lv pl (ts ++ one kind.Has p ++ (one kind.If q ++ us))
@@ -241,7 +241,7 @@ has_ifs {src = src} c st lv pl ts us x xs p q e h g =
 
 -- `is` and a type, and `in`
 
-pub is_ins : {src : List ℕ} (c : Setting src) (st : List Frame) (lv : Levels) (pl : Place) (ts us vs : List Lexeme) (x y z : Add) (p q : Spot) → edge c.wanted st ≡ reach.Whole →
+pub is_ins : {src : List ℕ} (c : Setting src) (st : List Frame) (lv : Levels) (pl : OperandPlace) (ts us vs : List Lexeme) (x y z : Add) (p q : Spot) → edge c.wanted st ≡ reach.Whole →
     AddAt c st (at_relation lv None None None) pl ts (λ q. made_add q ≡ closed ts x) → ((w : Levels) → AddAt c st w place.Operand us (λ q. made_add q ≡ closed us y)) →
     ((w : Levels) → AddAt c st w place.Operand vs (λ q. made_add q ≡ closed vs z)) →
     RelationAt c st lv pl (ts ++ one kind.Is p ++ us ++ one kind.In q ++ vs) (is_of (placed src ts x) (placed src us y) (Some (placed src vs z)))

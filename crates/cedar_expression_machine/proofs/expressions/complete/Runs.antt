@@ -1,4 +1,5 @@
--- The run of the machine of expressions over tokens, in whichever form it is wanted, and extents and signs, one step more.
+-- The run of the machine of expressions over tokens, in whichever form it is wanted, and extents
+-- and signs, one step more.
 use Rattle.std.specs.Prelude.{cond}
 use Rattle.std.proofs.Common.{◌≡◌, ℕ, List, [], ◌∷◌, ◌++◌, Option, Some, None, Bool, true, false, refl, sym, ◌∙◌, ap}
 use Rattle.cedar_lexer.specs.Token.{Lexeme}
@@ -11,8 +12,8 @@ use Rattle.cedar_expression_machine.specs.declared.words.state.WordsState.{Words
 use Rattle.cedar_expression_machine.specs.declared.expression.state.Levels.{Levels}
 use Rattle.cedar_expression_machine.specs.declared.expression.state.Operand.{Operand}
 use Rattle.cedar_expression_machine.specs.declared.expression.state.Frame.{Frame}
-use Rattle.cedar_expression_machine.specs.declared.expression.state.Place.{Place}
-use Rattle.cedar_expression_machine.specs.declared.expression.state.Place.TheVariants as place
+use Rattle.cedar_expression_machine.specs.declared.expression.state.OperandPlace.{OperandPlace}
+use Rattle.cedar_expression_machine.specs.declared.expression.state.OperandPlace.TheVariants as place
 use Rattle.cedar_expression_machine.specs.declared.expression.state.Mode.{Mode}
 use Rattle.cedar_expression_machine.specs.declared.expression.state.Mode.TheVariants as mode
 use Rattle.cedar_expression_machine.specs.declared.expression.state.State.{State}
@@ -149,18 +150,18 @@ reaches c st m e = ap (λ b. cond b reach.If (edge c.wanted st)) e
 -- places
 
 -- no sign stands there
-abbrev pub is_alone : Place → Bool
+abbrev pub is_alone : OperandPlace → Bool
 is_alone place.Primary = true
 is_alone _ = false
 
 -- `if` begins a conditional there
-abbrev pub is_first : Place → Bool
+abbrev pub is_first : OperandPlace → Bool
 is_first place.Expr = true
 is_first place.Item = true
 is_first place.Key = true
 is_first _ = false
 
-pub not_alone : (pl : Place) → is_first pl ≡ true → is_alone pl ≡ false
+pub not_alone : (pl : OperandPlace) → is_first pl ≡ true → is_alone pl ≡ false
 not_alone place.Expr e = refl
 not_alone place.Item e = refl
 not_alone place.Key e = refl

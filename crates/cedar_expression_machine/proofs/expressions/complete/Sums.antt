@@ -1,4 +1,5 @@
--- Products and sums: the machine has come to a last operand, and with it the levels begun are what is read.
+-- Products and sums: the machine has come to a last operand, and with it the levels begun are what
+-- is read.
 use Rattle.std.proofs.Common.{◌≡◌, ℕ, List, [], ◌∷◌, ◌++◌, Option, Some, None, false, refl, sym, ◌∙◌, ap, subst}
 use Rattle.cedar_lexer.specs.Token.{Lexeme}
 use Rattle.cedar_lexer.specs.declared.token.TokenKind.{TokenKind}
@@ -10,12 +11,12 @@ use Rattle.cedar_syntax.specs.declared.cst.MultOp.TheVariants as product
 use Rattle.cedar_syntax.specs.declared.cst.Mult.{Mult}
 use Rattle.cedar_syntax.specs.declared.cst.Unary.{Unary}
 use Rattle.cedar_expression_machine.specs.declared.expression.state.Chain.{Chain}
-use Rattle.cedar_expression_machine.specs.declared.expression.state.Pending.{Pending}
+use Rattle.cedar_expression_machine.specs.declared.expression.state.PendingChain.{PendingChain}
 use Rattle.cedar_expression_machine.specs.declared.expression.state.Levels.{Levels}
 use Rattle.cedar_expression_machine.specs.declared.expression.state.Operand.{Operand}
 use Rattle.cedar_expression_machine.specs.declared.expression.state.Frame.{Frame}
-use Rattle.cedar_expression_machine.specs.declared.expression.state.Place.{Place}
-use Rattle.cedar_expression_machine.specs.declared.expression.state.Place.TheVariants as place
+use Rattle.cedar_expression_machine.specs.declared.expression.state.OperandPlace.{OperandPlace}
+use Rattle.cedar_expression_machine.specs.declared.expression.state.OperandPlace.TheVariants as place
 use Rattle.cedar_expression_machine.specs.declared.expression.state.Mode.{Mode}
 use Rattle.cedar_expression_machine.specs.declared.expression.state.State.{State}
 use Rattle.cedar_expression_machine.specs.declared.expression.state.Reach.{Reach}
@@ -46,20 +47,20 @@ pub marked_more : {T O : Type 0} (src : List ℕ) (ts us : List Lexeme) (k : Tok
     marked_chain src (Some (pending (chain ts x xs) o (at p))) (closed us y) ≡ chain (ts ++ one k p ++ us) x (xs ++ (o, placed src us y) ∷ [])
 marked_more src ts us k p x o y xs = ap (λ q. record { initial = x; extended = xs ++ (o, placed src us y) ∷ []; extent = q }) (chain_extent ts us k p)
 
-abbrev pub at_mult : Levels → Option (Pending Unary MultOp) → Levels
+abbrev pub at_mult : Levels → Option (PendingChain Unary MultOp) → Levels
 at_mult lv m = levels_of lv.branches lv.or lv.and lv.relation lv.add m
 
-abbrev pub at_add : Levels → Option (Pending Mult AddOp) → Option (Pending Unary MultOp) → Levels
+abbrev pub at_add : Levels → Option (PendingChain Mult AddOp) → Option (PendingChain Unary MultOp) → Levels
 at_add lv s m = levels_of lv.branches lv.or lv.and lv.relation s m
 
-abbrev pub begin_at : List Frame → Levels → Place → Option State
+abbrev pub begin_at : List Frame → Levels → OperandPlace → Option State
 begin_at st lv pl = Some (state st lv (wants pl))
 
-abbrev pub Goes : {src : List ℕ} → Setting src → List Frame → Levels → Place → List Lexeme → Levels → Mode → Type 0
+abbrev pub Goes : {src : List ℕ} → Setting src → List Frame → Levels → OperandPlace → List Lexeme → Levels → Mode → Type 0
 Goes c st lv pl ts lv' md = run c (begin_at st lv pl) ts ≡ Some (state st lv' md)
 
-pub record MultAt {src : List ℕ} (c : Setting src) (st : List Frame) (lv : Levels) (pl : Place) (ts : List Lexeme) (P : Marked Unary MultOp → Type 0) : Type 0 where
-  pub m : Option (Pending Unary MultOp)
+pub record MultAt {src : List ℕ} (c : Setting src) (st : List Frame) (lv : Levels) (pl : OperandPlace) (ts : List Lexeme) (P : Marked Unary MultOp → Type 0) : Type 0 where
+  pub m : Option (PendingChain Unary MultOp)
   pub md : Mode
   pub last : Operand
   pub is : P (marked_chain src m (unary_at src last))
@@ -67,9 +68,9 @@ pub record MultAt {src : List ℕ} (c : Setting src) (st : List Frame) (lv : Lev
   pub at_it : StandsAt c st (at_mult lv m) md last
   pub goes : Goes c st (at_mult lv None) pl ts (at_mult lv m) md
 
-pub record AddAt {src : List ℕ} (c : Setting src) (st : List Frame) (lv : Levels) (pl : Place) (ts : List Lexeme) (P : Marked Mult AddOp → Type 0) : Type 0 where
-  pub s : Option (Pending Mult AddOp)
-  pub m : Option (Pending Unary MultOp)
+pub record AddAt {src : List ℕ} (c : Setting src) (st : List Frame) (lv : Levels) (pl : OperandPlace) (ts : List Lexeme) (P : Marked Mult AddOp → Type 0) : Type 0 where
+  pub s : Option (PendingChain Mult AddOp)
+  pub m : Option (PendingChain Unary MultOp)
   pub md : Mode
   pub last : Operand
   pub is : P (marked_chain src s (made_mult (marked_chain src m (unary_at src last))))
@@ -92,15 +93,15 @@ multiply_runs {src = src} c st lv md u p times h s = met c st lv md u kind.Star 
 multiply_runs {src = src} c st lv md u p divide h s = met c st lv md u kind.Slash p h refl ∙ multiplies src st lv u product.Divide (at p) s
 multiply_runs {src = src} c st lv md u p modulo h s = met c st lv md u kind.Percent p h refl ∙ multiplies src st lv u product.Mod (at p) s
 
-pub one_unaries : {src : List ℕ} (c : Setting src) (st : List Frame) (lv : Levels) (pl : Place) (ts : List Lexeme) (x : Unary) →
+pub one_unaries : {src : List ℕ} (c : Setting src) (st : List Frame) (lv : Levels) (pl : OperandPlace) (ts : List Lexeme) (x : Unary) →
     UnaryAt c st (at_mult lv None) pl ts x → MultAt c st lv pl ts (λ q. q ≡ chain ts (placed src ts x) [])
 one_unaries {src = src} c st lv pl ts x h = record { m = None; md = h.md; last = h.last; is = ap (λ y. marked_chain src None y) h.is; free = h.free; at_it = h.at_it; goes = h.goes }
 
-pub more_unaries : {src : List ℕ} (c : Setting src) (st : List Frame) (lv : Levels) (pl : Place) (ts us : List Lexeme) (k : TokenKind) (o : MultOp) (p : Spot) (x : Cell Unary) (y : Unary) (xs : List (MultOp × Cell Unary)) → Sums (edge c.wanted st) →
+pub more_unaries : {src : List ℕ} (c : Setting src) (st : List Frame) (lv : Levels) (pl : OperandPlace) (ts us : List Lexeme) (k : TokenKind) (o : MultOp) (p : Spot) (x : Cell Unary) (y : Unary) (xs : List (MultOp × Cell Unary)) → Sums (edge c.wanted st) →
     MultAt c st lv pl ts (λ q. q ≡ chain ts x xs) → ReadsMultOp k o → ((w : Levels) → UnaryAt c st w place.Operand us y) →
     MultAt c st lv pl (ts ++ one k p ++ us) (λ q. q ≡ chain (ts ++ one k p ++ us) x (xs ++ (o, placed src us y) ∷ []))
 more_unaries {src = src} c st lv pl ts us k o p x y xs e h r g =
-    let begun : Option (Pending Unary MultOp) = Some (pending (chain ts x xs) o (at p)) in
+    let begun : Option (PendingChain Unary MultOp) = Some (pending (chain ts x xs) o (at p)) in
     let w = g (at_mult lv begun) in
     record {
       m = begun;
@@ -124,15 +125,15 @@ sum_runs : {src : List ℕ} (c : Setting src) (st : List Frame) (lv : Levels) (m
 sum_runs {src = src} c st lv md u p plus h s = met c st lv md u kind.Plus p h refl ∙ sums_up src st lv u sum.Plus (at p) s
 sum_runs {src = src} c st lv md u p minus h s = met c st lv md u kind.Minus p h refl ∙ sums_up src st lv u sum.Minus (at p) s
 
-pub one_mults : {src : List ℕ} (c : Setting src) (st : List Frame) (lv : Levels) (pl : Place) (ts : List Lexeme) (x : Mult) →
+pub one_mults : {src : List ℕ} (c : Setting src) (st : List Frame) (lv : Levels) (pl : OperandPlace) (ts : List Lexeme) (x : Mult) →
     MultAt c st (at_add lv None None) pl ts (λ q. made_mult q ≡ closed ts x) → AddAt c st lv pl ts (λ q. q ≡ chain ts (placed src ts x) [])
 one_mults {src = src} c st lv pl ts x h = record { s = None; m = h.m; md = h.md; last = h.last; is = ap (λ y. marked_chain src None y) h.is; free = h.free; at_it = h.at_it; goes = h.goes }
 
-pub more_mults : {src : List ℕ} (c : Setting src) (st : List Frame) (lv : Levels) (pl : Place) (ts us : List Lexeme) (k : TokenKind) (o : AddOp) (p : Spot) (x : Cell Mult) (y : Mult) (xs : List (AddOp × Cell Mult)) → Sums (edge c.wanted st) →
+pub more_mults : {src : List ℕ} (c : Setting src) (st : List Frame) (lv : Levels) (pl : OperandPlace) (ts us : List Lexeme) (k : TokenKind) (o : AddOp) (p : Spot) (x : Cell Mult) (y : Mult) (xs : List (AddOp × Cell Mult)) → Sums (edge c.wanted st) →
     AddAt c st lv pl ts (λ q. q ≡ chain ts x xs) → ReadsAddOp k o → ((w : Levels) → MultAt c st w place.Operand us (λ q. made_mult q ≡ closed us y)) →
     AddAt c st lv pl (ts ++ one k p ++ us) (λ q. q ≡ chain (ts ++ one k p ++ us) x (xs ++ (o, placed src us y) ∷ []))
 more_mults {src = src} c st lv pl ts us k o p x y xs e h r g =
-    let begun : Option (Pending Mult AddOp) = Some (pending (chain ts x xs) o (at p)) in
+    let begun : Option (PendingChain Mult AddOp) = Some (pending (chain ts x xs) o (at p)) in
     let w = g (at_add lv begun None) in
     record {
       s = begun;
@@ -148,10 +149,10 @@ more_mults {src = src} c st lv pl ts us k o p x y xs e h r g =
 
 -- the tree of a chain
 
-pub mult_made : {src : List ℕ} (c : Setting src) (st : List Frame) (lv : Levels) (pl : Place) (ts : List Lexeme) (x : Cell Unary) (xs : List (MultOp × Cell Unary)) →
+pub mult_made : {src : List ℕ} (c : Setting src) (st : List Frame) (lv : Levels) (pl : OperandPlace) (ts : List Lexeme) (x : Cell Unary) (xs : List (MultOp × Cell Unary)) →
     MultAt c st lv pl ts (λ q. q ≡ chain ts x xs) → MultAt c st lv pl ts (λ q. made_mult q ≡ closed ts (mult_of x xs))
 mult_made c st lv pl ts x xs h = record { m = h.m; md = h.md; last = h.last; is = ap (λ q. made_mult q) h.is; free = h.free; at_it = h.at_it; goes = h.goes }
 
-pub add_made : {src : List ℕ} (c : Setting src) (st : List Frame) (lv : Levels) (pl : Place) (ts : List Lexeme) (x : Cell Mult) (xs : List (AddOp × Cell Mult)) →
+pub add_made : {src : List ℕ} (c : Setting src) (st : List Frame) (lv : Levels) (pl : OperandPlace) (ts : List Lexeme) (x : Cell Mult) (xs : List (AddOp × Cell Mult)) →
     AddAt c st lv pl ts (λ q. q ≡ chain ts x xs) → AddAt c st lv pl ts (λ q. made_add q ≡ closed ts (add_of x xs))
 add_made c st lv pl ts x xs h = record { s = h.s; m = h.m; md = h.md; last = h.last; is = ap (λ q. made_add q) h.is; free = h.free; at_it = h.at_it; goes = h.goes }

@@ -12,7 +12,7 @@ use Rattle.cedar_expression_machine.specs.declared.expression.state.Signs.{Signs
 use Rattle.cedar_expression_machine.specs.declared.expression.state.Operand.{Operand}
 use Rattle.cedar_expression_machine.specs.declared.expression.state.Frame.{Frame}
 use Rattle.cedar_expression_machine.specs.declared.expression.state.Frame.TheVariants as frame
-use Rattle.cedar_expression_machine.specs.declared.expression.state.Place.{Place}
+use Rattle.cedar_expression_machine.specs.declared.expression.state.OperandPlace.{OperandPlace}
 use Rattle.cedar_expression_machine.specs.declared.expression.state.Mode.{Mode}
 use Rattle.cedar_expression_machine.specs.declared.expression.state.Mode.TheVariants as mode
 use Rattle.cedar_expression_machine.specs.declared.expression.state.State.{State}
@@ -82,12 +82,13 @@ stands_ends c (frame.Record f ∷ st) lv md m h = record_ends c st f.outer f.sig
 stands_ends c (frame.Guard f ∷ st) lv md m h =
     after c _ _ (one kind.Then spot ++ (operand ++ one kind.Else spot ++ operand)) (then c (frame.Guard f ∷ st) lv md m kind.Then (operand ++ one kind.Else spot ++ operand) h refl)
     (stands_ends c st _ (mode.Have _ None) _ (stands c st _ _))
-stands_ends c (frame.Yes f ∷ st) lv md m h =
-    after c _ _ (one kind.Else spot ++ operand) (then c (frame.Yes f ∷ st) lv md m kind.Else operand h refl) (stands_ends c st _ (mode.Have _ None) _ (stands c st _ _))
+stands_ends c (frame.Then f ∷ st) lv md m h =
+    after c _ _ (one kind.Else spot ++ operand) (then c (frame.Then f ∷ st) lv md m kind.Else operand h refl) (stands_ends c st _ (mode.Have _ None) _ (stands c st _ _))
 
--- words can always come to an operand: a path goes on to one of more than one word, which is never `if` alone
+-- words can always come to an operand: a path goes on to one of more than one word, which is never
+-- `if` alone
 
-words_end : {src : List ℕ} (c : Setting src) (st : List Frame) (lv : Levels) (pl : Place) (sg : Signs) (s : WordsState) (x : NameOrEntity) → c.names.finish src s ≡ Some x → Ends c (state st lv (mode.Word pl sg s))
+words_end : {src : List ℕ} (c : Setting src) (st : List Frame) (lv : Levels) (pl : OperandPlace) (sg : Signs) (s : WordsState) (x : NameOrEntity) → c.names.finish src s ≡ Some x → Ends c (state st lv (mode.Word pl sg s))
 words_end {src = src} c st lv pl sg s (named_as.entity x) e =
     stands_ends c st lv (mode.Word pl sg s) _ (words_stand c st lv pl sg s (named_as.entity x) (operand_of src sg (ranged_tree x.extent (primary.Ref x.tree))) e refl refl refl)
 words_end {src = src} c st lv pl sg s (named_as.path x) e =

@@ -12,10 +12,10 @@ use Rattle.cedar_grammar.specs.declared.reading.class.Sign.{Sign}
 use Rattle.cedar_grammar.specs.declared.reading.class.Sign.TheVariants as sign
 use Rattle.cedar_grammar.specs.declared.reading.class.Closing.{Closing}
 use Rattle.cedar_grammar.specs.declared.reading.class.Closing.TheVariants as closing
-use Rattle.cedar_grammar.specs.declared.reading.class.Access.{Access}
-use Rattle.cedar_grammar.specs.declared.reading.class.Access.TheVariants as opens
-use Rattle.cedar_grammar.specs.declared.reading.class.Side.{Side}
-use Rattle.cedar_grammar.specs.declared.reading.class.Side.TheVariants as side
+use Rattle.cedar_grammar.specs.declared.reading.class.AccessStart.{AccessStart}
+use Rattle.cedar_grammar.specs.declared.reading.class.AccessStart.TheVariants as opens
+use Rattle.cedar_grammar.specs.declared.reading.class.SideWord.{SideWord}
+use Rattle.cedar_grammar.specs.declared.reading.class.SideWord.TheVariants as side
 use Rattle.cedar_grammar.specs.declared.reading.class.Operator.{Operator}
 use Rattle.cedar_grammar.specs.declared.reading.class.Operator.TheVariants as operator
 use Rattle.cedar_expression_machine.specs.declared.words.state.WordsState.{WordsState}
@@ -31,11 +31,11 @@ use Rattle.cedar_expression_machine.specs.declared.expression.state.Index.{Index
 use Rattle.cedar_expression_machine.specs.declared.expression.state.Key.{Key}
 use Rattle.cedar_expression_machine.specs.declared.expression.state.Record.{Record}
 use Rattle.cedar_expression_machine.specs.declared.expression.state.Guard.{Guard}
-use Rattle.cedar_expression_machine.specs.declared.expression.state.Yes.{Yes}
+use Rattle.cedar_expression_machine.specs.declared.expression.state.Then.{Then}
 use Rattle.cedar_expression_machine.specs.declared.expression.state.Frame.{Frame}
 use Rattle.cedar_expression_machine.specs.declared.expression.state.Frame.TheVariants as frame
-use Rattle.cedar_expression_machine.specs.declared.expression.state.Place.{Place}
-use Rattle.cedar_expression_machine.specs.declared.expression.state.Place.TheVariants as place
+use Rattle.cedar_expression_machine.specs.declared.expression.state.OperandPlace.{OperandPlace}
+use Rattle.cedar_expression_machine.specs.declared.expression.state.OperandPlace.TheVariants as place
 use Rattle.cedar_expression_machine.specs.declared.expression.state.Reach.{Reach}
 use Rattle.cedar_expression_machine.specs.declared.expression.state.State.{State}
 use Rattle.cedar_grammar.specs.declared.reading.extent.Extent.{Extent}
@@ -44,8 +44,8 @@ use Rattle.cedar_grammar.specs.machines.Door.{is_some}
 use Rattle.cedar_grammar.specs.machines.Classes.{with_sign}
 use Rattle.cedar_expression_machine.specs.machines.Closing.{add_at, whole}
 use Rattle.cedar_expression_machine.specs.machines.Wanting.{after_signs, list_ending}
-use Rattle.cedar_expression_machine.specs.machines.Having.{is_within, comparison_beginning, side_beginning, access_beginning, paren_ending, set_ending, call_ending, index_ending, key_ending, value_ending, record_ending, guard_ending, yes_ending, frame_ending, follow_act}
-use Rattle.cedar_expression_machine.specs.machines.ExpressionShapes.{LeftShape, in_paren, in_set, in_call, in_index, in_record, in_guard, in_yes, wants, Shape, shape, left_shape, stack_shape, op_sign, shape_of}
+use Rattle.cedar_expression_machine.specs.machines.Having.{is_within, comparison_beginning, side_beginning, access_beginning, paren_ending, set_ending, call_ending, index_ending, key_ending, value_ending, record_ending, guard_ending, then_ending, frame_ending, follow_act}
+use Rattle.cedar_expression_machine.specs.machines.ExpressionShapes.{LeftShape, in_paren, in_set, in_call, in_index, in_record, in_guard, in_then, wants, Shape, shape, left_shape, stack_shape, op_sign, shape_of}
 use Rattle.cedar_expression_machine.specs.machines.ExpressionPlans.{has_relation, may_compare, may_side, may_end, stack_may_end, may_follow, may_sign, sign_may_stand, in_a_set, in_a_call, in_a_record, list_may_end}
 use Rattle.cedar_expression_machine.specs.machines.ExpressionOutline.{opening_shape, wanted_operand, operand_had, list_end_shape, access_shape, compared, set_end_shape, call_end_shape, value_end_shape, record_end_shape, end_shape, follow_shape}
 use Rattle.cedar_grammar.proofs.machines.Laws.{false_true}
@@ -96,13 +96,13 @@ record_made w src st f None x c e h = key_made w src st f x c e h
 record_made w src st f (Some k) x c e h = value_made w src st f k x c e h
 
 guard_made : {W : Type 0} (w : WordsState → W) (src : List ℕ) (st : List Frame) (f : Guard) (x : Ranged Expr) (c : Closing) (e : Extent) → may_end in_guard c ≡ true →
-    Made w (opening_shape (in_yes ∷ stack_shape st) place.Expr) (guard_ending src st f x c e)
+    Made w (opening_shape (in_then ∷ stack_shape st) place.Expr) (guard_ending src st f x c e)
 guard_made w src st f x closing.Then e h = refl
 guard_made w src st f x _ e h = absurd (false_true refl h)
 
-yes_made : {W : Type 0} (w : WordsState → W) (src : List ℕ) (st : List Frame) (f : Yes) (x : Ranged Expr) (c : Closing) (e : Extent) → may_end in_yes c ≡ true → Made w (opening_shape (stack_shape st) place.Expr) (yes_ending src st f x c e)
-yes_made w src st f x closing.Else e h = refl
-yes_made w src st f x _ e h = absurd (false_true refl h)
+then_made : {W : Type 0} (w : WordsState → W) (src : List ℕ) (st : List Frame) (f : Then) (x : Ranged Expr) (c : Closing) (e : Extent) → may_end in_then c ≡ true → Made w (opening_shape (stack_shape st) place.Expr) (then_ending src st f x c e)
+then_made w src st f x closing.Else e h = refl
+then_made w src st f x _ e h = absurd (false_true refl h)
 
 end_made : {W : Type 0} (w : WordsState → W) (src : List ℕ) (st : List Frame) (l : LeftShape) (x : Ranged Expr) (c : Closing) (e : Extent) → stack_may_end (stack_shape st) c ≡ true → Made w (end_shape (stack_shape st) l c) (frame_ending src st x c e)
 end_made w src [] l x c e h = absurd (false_true refl h)
@@ -112,11 +112,11 @@ end_made w src (frame.Call f ∷ st) l x c e h = call_made w src st f x c e h
 end_made w src (frame.Index f ∷ st) l x c e h = index_made w src st f x c e h
 end_made w src (frame.Record f ∷ st) l x c e h = record_made w src st f f.key x c e h
 end_made w src (frame.Guard f ∷ st) l x c e h = guard_made w src st f x c e h
-end_made w src (frame.Yes f ∷ st) l x c e h = yes_made w src st f x c e h
+end_made w src (frame.Then f ∷ st) l x c e h = then_made w src st f x c e h
 
 -- ---- operators
 
-access_made : {W : Type 0} (w : WordsState → W) (st : List Frame) (lv : Levels) (m : Operand) (a : Access) (e : Extent) → Made w (access_shape (stack_shape st) (left_shape lv.relation) m.is_if a) (Some (access_beginning st lv m a e))
+access_made : {W : Type 0} (w : WordsState → W) (st : List Frame) (lv : Levels) (m : Operand) (a : AccessStart) (e : Extent) → Made w (access_shape (stack_shape st) (left_shape lv.relation) m.is_if a) (Some (access_beginning st lv m a e))
 access_made w st lv m opens.Dot e = refl
 access_made w st lv m opens.Paren e = refl
 access_made w st lv m opens.Bracket e = refl
@@ -135,7 +135,7 @@ compared_made w src st lv (Some (left.Has y)) x o e h = absurd (false_true refl 
 compared_made w src st lv (Some (left.Like y)) x o e h = absurd (false_true refl h)
 compared_made w src st lv (Some (left.IsIn y z l)) x o e h = absurd (false_true refl h)
 
-sided_made : {W : Type 0} (w : WordsState → W) (src : List ℕ) (st : List Frame) (lv : Levels) (l : Option Left) (x : Ranged Add) (s : Side) (e : Extent) → may_side (left_shape l) ≡ true →
+sided_made : {W : Type 0} (w : WordsState → W) (src : List ℕ) (st : List Frame) (lv : Levels) (l : Option Left) (x : Ranged Add) (s : SideWord) (e : Extent) → may_side (left_shape l) ≡ true →
     Made w (follow_shape (stack_shape st) (left_shape l) false (operator.Side s)) (side_beginning src st lv l x s e)
 sided_made w src st lv None x side.Has e h = refl
 sided_made w src st lv None x side.Like e h = refl
@@ -187,7 +187,7 @@ signs_made w st lv l (Some (neg.Dash n)) sign.Bang e h = absurd (false_true refl
 signs_made w st lv l (Some neg.OverDash) sign.Bang e h = absurd (false_true refl h)
 
 -- a sign that may stand in this place
-pub sign_made : {W : Type 0} (w : WordsState → W) (st : List Frame) (lv : Levels) (p : Place) (l : Option Extent) (o : Option NegOp) (s : Sign) (e : Extent) → sign_may_stand p (op_sign o) s ≡ true →
+pub sign_made : {W : Type 0} (w : WordsState → W) (st : List Frame) (lv : Levels) (p : OperandPlace) (l : Option Extent) (o : Option NegOp) (s : Sign) (e : Extent) → sign_may_stand p (op_sign o) s ≡ true →
     Made w (shape (stack_shape st) (left_shape lv.relation) (wants place.Operand (Some s))) (after_signs st lv l (with_sign o s) e)
 sign_made w st lv place.Expr l o s e h = signs_made w st lv l o s e h
 sign_made w st lv place.Item l o s e h = signs_made w st lv l o s e h
@@ -216,7 +216,7 @@ record_list_made w src (frame.Record f ∷ st) l e h = refl
 record_list_made w src [] l e h = absurd (false_true refl h)
 record_list_made w src (_ ∷ st) l e h = absurd (false_true refl h)
 
-pub list_made : {W : Type 0} (w : WordsState → W) (src : List ℕ) (st : List Frame) (l : LeftShape) (p : Place) (c : Closing) (e : Extent) → list_may_end (stack_shape st) p c ≡ true → ListMade w src st l e
+pub list_made : {W : Type 0} (w : WordsState → W) (src : List ℕ) (st : List Frame) (l : LeftShape) (p : OperandPlace) (c : Closing) (e : Extent) → list_may_end (stack_shape st) p c ≡ true → ListMade w src st l e
 list_made w src st l place.Item closing.Bracket e h = set_list_made w src st l e h
 list_made w src st l place.Item closing.Paren e h = call_list_made w src st l e h
 list_made w src st l place.Item _ e h = absurd (false_true refl h)

@@ -15,8 +15,8 @@ use Rattle.cedar_expression_machine.specs.declared.expression.state.Levels.{Leve
 use Rattle.cedar_expression_machine.specs.declared.expression.state.Signs.{Signs}
 use Rattle.cedar_expression_machine.specs.declared.expression.state.Operand.{Operand}
 use Rattle.cedar_expression_machine.specs.declared.expression.state.Frame.{Frame}
-use Rattle.cedar_expression_machine.specs.declared.expression.state.Place.{Place}
-use Rattle.cedar_expression_machine.specs.declared.expression.state.Place.TheVariants as place
+use Rattle.cedar_expression_machine.specs.declared.expression.state.OperandPlace.{OperandPlace}
+use Rattle.cedar_expression_machine.specs.declared.expression.state.OperandPlace.TheVariants as place
 use Rattle.cedar_expression_machine.specs.declared.expression.state.State.{State}
 use Rattle.cedar_expression_machine.specs.declared.expression.state.Wanted.{Wanted}
 use Rattle.cedar_grammar.specs.declared.reading.extent.Extent.{Extent}
@@ -43,8 +43,8 @@ Names = Reader WordsState WordsAct NameOrEntity
 abbrev pub BeginWithIdents : Names → Type 0
 BeginWithIdents names = (k : TokenKind) → is_some (names.plan names.start k) ≡ is_some (any_of k [])
 
--- an act is done with this token, unless it is a number that doesn't fit, and makes a state of this
--- shape
+-- an act is done with this token, unless it is a number that doesn't fit, and makes a state of
+-- this shape
 abbrev pub Acted : {W : Type 0} → (WordsState → W) → Lexeme → Shape W → Option State → Type 0
 Acted f t u o = IsDone t o × IfSome o (λ q. shape_of f q ≡ u)
 
@@ -85,24 +85,24 @@ word_kind k None e = absurd (false_true (mark_is_no_word k) (ap (λ c. is_word c
 
 -- ---- words
 
-held_acted : {W : Type 0} (f : WordsState → W) (st : List Frame) (lv : Levels) (p : Place) (sg : Signs) (t : Lexeme) (u : W) (o : Option WordsState) → IsDone t o → ((v : WordsState) → o ≡ Some v → f v ≡ u) →
+held_acted : {W : Type 0} (f : WordsState → W) (st : List Frame) (lv : Levels) (p : OperandPlace) (sg : Signs) (t : Lexeme) (u : W) (o : Option WordsState) → IsDone t o → ((v : WordsState) → o ≡ Some v → f v ≡ u) →
     Acted f t (shape (stack_shape st) (left_shape lv.relation) (worded p u)) (option_image (λ v. word_held st lv p sg v) o)
 held_acted f st lv p sg t u (Some v) d h = (d, ap (λ w. shape (stack_shape st) (left_shape lv.relation) (worded p w)) (h v refl))
 held_acted f st lv p sg t u None d h = (d, tt)
 
 -- they go on as their own reader goes
-pub words_acted : {W K : Type 0} {src : List ℕ} {names : Names} {n : WordOutline W K} {f : WordsState → W} {g : NameOrEntity → K} → Held src names n f g → (st : List Frame) (lv : Levels) (p : Place) (sg : Signs) (s : WordsState) (a : WordsAct) (t : Lexeme) → names.plan s t.kind ≡ Some a →
+pub words_acted : {W K : Type 0} {src : List ℕ} {names : Names} {n : WordOutline W K} {f : WordsState → W} {g : NameOrEntity → K} → Held src names n f g → (st : List Frame) (lv : Levels) (p : OperandPlace) (sg : Signs) (s : WordsState) (a : WordsAct) (t : Lexeme) → names.plan s t.kind ≡ Some a →
     Acted f t (shape (stack_shape st) (left_shape lv.relation) (worded p (n.outline.act (f s) a t.kind))) (option_image (λ v. word_held st lv p sg v) (names.act src s a t))
 words_acted {src = src} {names = names} {n = n} {f = f} h st lv p sg s a t e = held_acted f st lv p sg t (n.outline.act (f s) a t.kind) (names.act src s a t) (h.outlined.done s a t e) (λ v i. h.outlined.acts s v a t e i)
 
 -- an identifier is their first token
-first_acted : {W K : Type 0} {src : List ℕ} {names : Names} {n : WordOutline W K} {f : WordsState → W} {g : NameOrEntity → K} → Held src names n f g → (st : List Frame) (lv : Levels) (p : Place) (sg : Signs) (t : Lexeme) (o : Option WordsAct) → names.plan names.start t.kind ≡ o → is_some o ≡ true →
+first_acted : {W K : Type 0} {src : List ℕ} {names : Names} {n : WordOutline W K} {f : WordsState → W} {g : NameOrEntity → K} → Held src names n f g → (st : List Frame) (lv : Levels) (p : OperandPlace) (sg : Signs) (t : Lexeme) (o : Option WordsAct) → names.plan names.start t.kind ≡ o → is_some o ≡ true →
     Acted f t (shape (stack_shape st) (left_shape lv.relation) (worded p (first_shape n t.kind o))) (option_image (λ v. word_held st lv p sg v) (first_act src names t o))
 first_acted h st lv p sg t None e i = absurd (false_true refl i)
 first_acted {src = src} {names = names} {n = n} {f = f} h st lv p sg t (Some a) e i =
     subst (λ u. Acted f t (shape (stack_shape st) (left_shape lv.relation) (worded p (n.outline.act u a t.kind))) (option_image (λ v. word_held st lv p sg v) (names.act src names.start a t))) h.outlined.starts (words_acted h st lv p sg names.start a t e)
 
-begun_acted : {W K : Type 0} {src : List ℕ} {names : Names} {n : WordOutline W K} {f : WordsState → W} {g : NameOrEntity → K} → Held src names n f g → (st : List Frame) (lv : Levels) (p : Place) (sg : Signs) (t : Lexeme) → is_some (names.plan names.start t.kind) ≡ true →
+begun_acted : {W K : Type 0} {src : List ℕ} {names : Names} {n : WordOutline W K} {f : WordsState → W} {g : NameOrEntity → K} → Held src names n f g → (st : List Frame) (lv : Levels) (p : OperandPlace) (sg : Signs) (t : Lexeme) → is_some (names.plan names.start t.kind) ≡ true →
     Acted f t (begin_shape n (stack_shape st) (left_shape lv.relation) p begin.Word t.kind) (begin_act src names st lv p sg begin.Word t)
 begun_acted {src = src} {names = names} {n = n} {f = f} h st lv p sg t i =
     subst (λ o. Acted f t (shape (stack_shape st) (left_shape lv.relation) (worded p (first_shape n t.kind o))) (begin_act src names st lv p sg begin.Word t)) (h.outlined.plans names.start t.kind ∙ ap (λ u. n.outline.plan u t.kind) h.outlined.starts)
@@ -115,16 +115,16 @@ number_acted f src st lv sg t true e i = ((λ k. i), refl)
 number_acted f src st lv sg t false e i = ((e, i), tt)
 
 -- what this beginning owes
-abbrev pub Begins : {W K : Type 0} → (WordsState → W) → List ℕ → Names → WordOutline W K → List Frame → Levels → Place → Signs → Lexeme → Begin → Type 0
+abbrev pub Begins : {W K : Type 0} → (WordsState → W) → List ℕ → Names → WordOutline W K → List Frame → Levels → OperandPlace → Signs → Lexeme → Begin → Type 0
 Begins f src names n st lv p sg t b = Acted f t (begin_shape n (stack_shape st) (left_shape lv.relation) p b t.kind) (begin_act src names st lv p sg b t)
 
 -- a beginning that is planned under a condition
-may_begin : {W K : Type 0} (f : WordsState → W) (src : List ℕ) (names : Names) (n : WordOutline W K) (st : List Frame) (lv : Levels) (p : Place) (sg : Signs) (t : Lexeme) (b : Bool) (x : Begin) → (b ≡ true → Begins f src names n st lv p sg t x) →
+may_begin : {W K : Type 0} (f : WordsState → W) (src : List ℕ) (names : Names) (n : WordOutline W K) (st : List Frame) (lv : Levels) (p : OperandPlace) (sg : Signs) (t : Lexeme) (b : Bool) (x : Begin) → (b ≡ true → Begins f src names n st lv p sg t x) →
     IfSome (cond b (Some x) None) (λ x. Begins f src names n st lv p sg t x)
 may_begin f src names n st lv p sg t true x h = h refl
 may_begin f src names n st lv p sg t false x h = tt
 
-class_acted : {W K : Type 0} {src : List ℕ} {names : Names} {n : WordOutline W K} {f : WordsState → W} {g : NameOrEntity → K} → Held src names n f g → BeginWithIdents names → (st : List Frame) (lv : Levels) (p : Place) (sg : Signs) (t : Lexeme) (c : Beginning) → beginning_of t.kind ≡ c →
+class_acted : {W K : Type 0} {src : List ℕ} {names : Names} {n : WordOutline W K} {f : WordsState → W} {g : NameOrEntity → K} → Held src names n f g → BeginWithIdents names → (st : List Frame) (lv : Levels) (p : OperandPlace) (sg : Signs) (t : Lexeme) (c : Beginning) → beginning_of t.kind ≡ c →
     IfSome (operand_class_plan (stack_shape st) p (op_sign sg.op) c) (λ b. Begins f src names n st lv p sg t b)
 class_acted h i st lv p sg t beginning.Word e = begun_acted h st lv p sg t (i t.kind ∙ word_kind t.kind (any_of t.kind []) e)
 class_acted {src = src} {f = f} h i st lv p sg t beginning.Number e = number_acted f src st lv sg t (fits t.text) (number_kind t.kind e) refl
@@ -140,7 +140,7 @@ class_acted {src = src} {names = names} {n = n} {f = f} h i st lv p sg t (beginn
 class_acted h i st lv p sg t beginning.Other e = tt
 
 -- in any place, behind any signs
-pub wanted_acted : {W K : Type 0} {src : List ℕ} {names : Names} {n : WordOutline W K} {f : WordsState → W} {g : NameOrEntity → K} → Held src names n f g → BeginWithIdents names → (st : List Frame) (lv : Levels) (p : Place) (sg : Signs) (t : Lexeme) →
+pub wanted_acted : {W K : Type 0} {src : List ℕ} {names : Names} {n : WordOutline W K} {f : WordsState → W} {g : NameOrEntity → K} → Held src names n f g → BeginWithIdents names → (st : List Frame) (lv : Levels) (p : OperandPlace) (sg : Signs) (t : Lexeme) →
     IfSome (operand_plan (stack_shape st) p (op_sign sg.op) t.kind) (λ b. Begins f src names n st lv p sg t b)
 wanted_acted h i st lv p sg t = class_acted h i st lv p sg t (beginning_of t.kind) refl
 

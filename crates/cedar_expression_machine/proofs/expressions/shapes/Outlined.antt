@@ -1,5 +1,5 @@
--- The readers of expressions, of sums and of primaries have their outline, over any words that have
--- theirs.
+-- The readers of expressions, of sums and of primaries have their outline, over any words that
+-- have theirs.
 use Rattle.std.proofs.Common.{◌≡◌, ℕ, List, [], ◌∷◌, Option, Some, None, Bool, true, false, cond, refl, sym, ◌∙◌, ap, subst, IfSome}
 use Rattle.cedar_lexer.specs.Token.{Lexeme}
 use Rattle.cedar_lexer.specs.declared.token.TokenKind.{TokenKind}
@@ -19,8 +19,8 @@ use Rattle.cedar_expression_machine.specs.declared.expression.state.Frame.{Frame
 use Rattle.cedar_expression_machine.specs.declared.expression.state.Frame.TheVariants as frame
 use Rattle.cedar_expression_machine.specs.declared.expression.state.Mode.{Mode}
 use Rattle.cedar_expression_machine.specs.declared.expression.state.Mode.TheVariants as mode
-use Rattle.cedar_expression_machine.specs.declared.expression.state.Place.{Place}
-use Rattle.cedar_expression_machine.specs.declared.expression.state.Place.TheVariants as place
+use Rattle.cedar_expression_machine.specs.declared.expression.state.OperandPlace.{OperandPlace}
+use Rattle.cedar_expression_machine.specs.declared.expression.state.OperandPlace.TheVariants as place
 use Rattle.cedar_expression_machine.specs.declared.expression.state.State.{State}
 use Rattle.cedar_expression_machine.specs.declared.expression.state.Wanted.{Wanted}
 use Rattle.cedar_expression_machine.specs.declared.expression.state.Wanted.TheVariants as form
@@ -31,7 +31,7 @@ use Rattle.cedar_expression_machine.specs.machines.Closing.{fresh, no_signs, add
 use Rattle.cedar_expression_machine.specs.machines.Named.{NameOrEntity}
 use Rattle.cedar_expression_machine.specs.machines.Named as named
 use Rattle.cedar_expression_machine.specs.machines.Having.{field_reading, follow_act}
-use Rattle.cedar_expression_machine.specs.machines.Expressions.{alone_of, alone_is_if, named_is_if, alone_operand, named_operand, named_extent, with_words, guard_beginning, if_key_reading, word_act, mode_act, named_at_end, last_operand, expr_at_end, sum_at_end, primary_at_end, reader_of, expression_reader, sum_reader, primary_reader}
+use Rattle.cedar_expression_machine.specs.machines.Expressions.{alone_of, alone_is_if, named_is_if, alone_operand, named_operand, named_extent, with_words, guard_beginning, if_key_reading, word_act, mode_act, named_at_end, last_operand, expr_at_end, sum_at_end, primary_at_end, wanted_reader, expression_reader, sum_reader, primary_reader}
 use Rattle.cedar_expression_machine.specs.machines.ExpressionShapes.{in_record, worded, left_shape, stack_shape, op_sign, mode_shape, shape_of, WordOutline}
 use Rattle.cedar_expression_machine.specs.machines.ExpressionPlans.{behind_plan, begin_plan, operand_plan, guard_plan, settle_plan, colon_key_plan, key_plan, if_plan, ended_words_plan, or_else, word_plan, mode_plan, if_ends, words_can_end, ends, shape_ends}
 use Rattle.cedar_expression_machine.specs.machines.ExpressionOutline.{operand_had, follow_shape, ended_if, mode_act_shape, expression_outline}
@@ -61,7 +61,7 @@ ended_as : {W K : Type 0} {src : List ℕ} {names : Names} {n : WordOutline W K}
 ended_as {src = src} {n = n} {g = g} h sg s x e = ap (λ q. ended_if n q) (h.outlined.finishes s ∙ ap (λ o. option_image g o) e) ∙ (h.ifs x ∙ named_if src sg x)
 
 -- they are an operand
-settled : {W K : Type 0} {src : List ℕ} {names : Names} {n : WordOutline W K} {f : WordsState → W} {g : NameOrEntity → K} → Held src names n f g → (w : Wanted) (st : List Frame) (lv : Levels) (p : Place) (sg : Signs) (s : WordsState) (x : NameOrEntity) (b : Bool) (t : Lexeme) → names.finish src s ≡ Some x →
+settled : {W K : Type 0} {src : List ℕ} {names : Names} {n : WordOutline W K} {f : WordsState → W} {g : NameOrEntity → K} → Held src names n f g → (w : Wanted) (st : List Frame) (lv : Levels) (p : OperandPlace) (sg : Signs) (s : WordsState) (x : NameOrEntity) (b : Bool) (t : Lexeme) → names.finish src s ≡ Some x →
     IfSome (settle_plan (behind_plan w (stack_shape st) (left_shape lv.relation) b t.kind)) (λ a. ModeActed f src names n st lv (mode.Word p sg s) t a)
 settled {src = src} {names = names} {n = n} {f = f} h w st lv p sg s x b t e =
     planned_as (λ o. act.Settle o) (λ o. Acted f t (follow_shape (stack_shape st) (left_shape lv.relation) (named_operand src sg x).is_if o) (follow_act src st lv (named_operand src sg x) o (extent_of t)))
@@ -75,7 +75,7 @@ abbrev guard_frame : Levels → NameOrEntity → Frame
 guard_frame lv x = frame.Guard record { branches = lv.branches; opened = named_extent x }
 
 -- they are `if`, and the guard begins
-guarded : {W K : Type 0} {src : List ℕ} {names : Names} {n : WordOutline W K} {f : WordsState → W} {g : NameOrEntity → K} → Held src names n f g → BeginWithIdents names → (st : List Frame) (lv : Levels) (p : Place) (sg : Signs) (s : WordsState) (x : NameOrEntity) (t : Lexeme) → names.finish src s ≡ Some x →
+guarded : {W K : Type 0} {src : List ℕ} {names : Names} {n : WordOutline W K} {f : WordsState → W} {g : NameOrEntity → K} → Held src names n f g → BeginWithIdents names → (st : List Frame) (lv : Levels) (p : OperandPlace) (sg : Signs) (s : WordsState) (x : NameOrEntity) (t : Lexeme) → names.finish src s ≡ Some x →
     IfSome (guard_plan t.kind) (λ a. ModeActed f src names n st lv (mode.Word p sg s) t a)
 guarded {src = src} {names = names} {n = n} {f = f} h i st lv p sg s x t e =
     planned_as (λ b. act.Guard b) (λ b. Begins f src names n (guard_frame lv x ∷ st) (fresh []) place.Expr no_signs t b) (λ a. ModeActed f src names n st lv (mode.Word p sg s) t a)
@@ -83,7 +83,7 @@ guarded {src = src} {names = names} {n = n} {f = f} h i st lv p sg s x t e =
     (begin_plan t.kind) (first_wanted_acted h i (guard_frame lv x ∷ st) t)
 
 -- they are `if` as a key
-key_acted : {W K : Type 0} (f : WordsState → W) (src : List ℕ) (names : Names) (n : WordOutline W K) (st : List Frame) (lv : Levels) (p : Place) (sg : Signs) (s : WordsState) (x : NameOrEntity) (t : Lexeme) → names.finish src s ≡ Some x → t.kind ≡ kind.Colon →
+key_acted : {W K : Type 0} (f : WordsState → W) (src : List ℕ) (names : Names) (n : WordOutline W K) (st : List Frame) (lv : Levels) (p : OperandPlace) (sg : Signs) (s : WordsState) (x : NameOrEntity) (t : Lexeme) → names.finish src s ≡ Some x → t.kind ≡ kind.Colon →
     IfSome (colon_key_plan (stack_shape st)) (λ a. ModeActed f src names n st lv (mode.Word p sg s) t a)
 key_acted {W = W} f src names n (frame.Record q ∷ st) lv p sg s x t e k = go (is_some q.key)
   where
@@ -98,12 +98,12 @@ key_acted f src names n [] lv p sg s x t e k = tt
 key_acted f src names n (_ ∷ st) lv p sg s x t e k = tt
 
 -- a colon behind them ends the key, if a key may stand there
-key_or_guard : {W K : Type 0} {src : List ℕ} {names : Names} {n : WordOutline W K} {f : WordsState → W} {g : NameOrEntity → K} → Held src names n f g → BeginWithIdents names → (st : List Frame) (lv : Levels) (p : Place) (sg : Signs) (s : WordsState) (x : NameOrEntity) (t : Lexeme) → names.finish src s ≡ Some x →
+key_or_guard : {W K : Type 0} {src : List ℕ} {names : Names} {n : WordOutline W K} {f : WordsState → W} {g : NameOrEntity → K} → Held src names n f g → BeginWithIdents names → (st : List Frame) (lv : Levels) (p : OperandPlace) (sg : Signs) (s : WordsState) (x : NameOrEntity) (t : Lexeme) → names.finish src s ≡ Some x →
     (k : TokenKind) → t.kind ≡ k → IfSome (key_plan (stack_shape st) k) (λ a. ModeActed f src names n st lv (mode.Word p sg s) t a)
 key_or_guard {src = src} {names = names} {n = n} {f = f} h i st lv p sg s x t e kind.Colon j = key_acted f src names n st lv p sg s x t e j
 key_or_guard {src = src} {names = names} {n = n} {f = f} h i st lv p sg s x t e k j = subst (λ k. IfSome (guard_plan k) (λ a. ModeActed f src names n st lv (mode.Word p sg s) t a)) j (guarded h i st lv p sg s x t e)
 
-if_acted : {W K : Type 0} {src : List ℕ} {names : Names} {n : WordOutline W K} {f : WordsState → W} {g : NameOrEntity → K} → Held src names n f g → BeginWithIdents names → (w : Wanted) (st : List Frame) (lv : Levels) (p : Place) (sg : Signs) (s : WordsState) (x : NameOrEntity) (t : Lexeme) → names.finish src s ≡ Some x →
+if_acted : {W K : Type 0} {src : List ℕ} {names : Names} {n : WordOutline W K} {f : WordsState → W} {g : NameOrEntity → K} → Held src names n f g → BeginWithIdents names → (w : Wanted) (st : List Frame) (lv : Levels) (p : OperandPlace) (sg : Signs) (s : WordsState) (x : NameOrEntity) (t : Lexeme) → names.finish src s ≡ Some x →
     IfSome (if_plan w (stack_shape st) (left_shape lv.relation) p t.kind) (λ a. ModeActed f src names n st lv (mode.Word p sg s) t a)
 if_acted h i w st lv place.Expr sg s x t e = guarded h i st lv place.Expr sg s x t e
 if_acted h i w st lv place.Item sg s x t e = guarded h i st lv place.Item sg s x t e
@@ -112,7 +112,7 @@ if_acted h i w st lv place.Has sg s x t e = settled h w st lv place.Has sg s x t
 if_acted h i w st lv place.Operand sg s x t e = tt
 if_acted h i w st lv place.Primary sg s x t e = tt
 
-ended_acted : {W K : Type 0} {src : List ℕ} {names : Names} {n : WordOutline W K} {f : WordsState → W} {g : NameOrEntity → K} → Held src names n f g → BeginWithIdents names → (w : Wanted) (st : List Frame) (lv : Levels) (p : Place) (sg : Signs) (s : WordsState) (t : Lexeme) (o : Option NameOrEntity) → names.finish src s ≡ o →
+ended_acted : {W K : Type 0} {src : List ℕ} {names : Names} {n : WordOutline W K} {f : WordsState → W} {g : NameOrEntity → K} → Held src names n f g → BeginWithIdents names → (w : Wanted) (st : List Frame) (lv : Levels) (p : OperandPlace) (sg : Signs) (s : WordsState) (t : Lexeme) (o : Option NameOrEntity) → names.finish src s ≡ o →
     IfSome (ended_words_plan w (stack_shape st) (left_shape lv.relation) p (option_image n.is_if (option_image g o)) t.kind) (λ a. ModeActed f src names n st lv (mode.Word p sg s) t a)
 ended_acted h i w st lv p sg s t None e = tt
 ended_acted {src = src} {names = names} {n = n} {f = f} {g = g} h i w st lv p sg s t (Some x) e = go (n.is_if (g x))
@@ -123,7 +123,7 @@ ended_acted {src = src} {names = names} {n = n} {f = f} {g = g} h i w st lv p sg
 
 -- ---- each mode
 
-word_acted : {W K : Type 0} {src : List ℕ} {names : Names} {n : WordOutline W K} {f : WordsState → W} {g : NameOrEntity → K} → Held src names n f g → BeginWithIdents names → (w : Wanted) (st : List Frame) (lv : Levels) (p : Place) (sg : Signs) (s : WordsState) (t : Lexeme) →
+word_acted : {W K : Type 0} {src : List ℕ} {names : Names} {n : WordOutline W K} {f : WordsState → W} {g : NameOrEntity → K} → Held src names n f g → BeginWithIdents names → (w : Wanted) (st : List Frame) (lv : Levels) (p : OperandPlace) (sg : Signs) (s : WordsState) (t : Lexeme) →
     IfSome (word_plan w n (stack_shape st) (left_shape lv.relation) p (f s) t.kind) (λ a. ModeActed f src names n st lv (mode.Word p sg s) t a)
 word_acted {K = K} {src = src} {names = names} {n = n} {f = f} h i w st lv p sg s t =
     subst (λ o. IfSome (or_else (option_image (λ a. act.Words a) o) (ended_plan (n.outline.finish (f s)))) (λ a. ModeActed f src names n st lv (mode.Word p sg s) t a)) (h.outlined.plans s t.kind) (go (names.plan s t.kind) refl)
@@ -153,7 +153,7 @@ kept_if : {T : Type 0} (b : Bool) (x : T) → b ≡ is_some (cond b (Some x) Non
 kept_if true x = refl
 kept_if false x = refl
 
-words_end : {W K : Type 0} {src : List ℕ} {names : Names} {n : WordOutline W K} {f : WordsState → W} {g : NameOrEntity → K} → Held src names n f g → (p : Place) (sg : Signs) (o : Option NameOrEntity) →
+words_end : {W K : Type 0} {src : List ℕ} {names : Names} {n : WordOutline W K} {f : WordsState → W} {g : NameOrEntity → K} → Held src names n f g → (p : OperandPlace) (sg : Signs) (o : Option NameOrEntity) →
     words_can_end n p (option_image g o) ≡ is_some (with_words o (λ x. named_at_end src p sg x))
 words_end h p sg None = refl
 words_end {src = src} h p sg (Some x) = ap (λ b. if_ends p b) (h.ifs x) ∙ kept_if (if_ends p (named_is_if x)) (named_operand src sg x)
@@ -179,7 +179,7 @@ some_end false = refl
 
 -- whatever tree is made of the last operand
 pub outlined_by : {W K T : Type 0} {src : List ℕ} {names : Names} {n : WordOutline W K} {f : WordsState → W} {g : NameOrEntity → K} → Held src names n f g → BeginWithIdents names → (w : Wanted) (tree : List ℕ → State → Option T) →
-    ((s : State) → is_some (tree src s) ≡ is_some (last_operand src names s.stack s.mode)) → IsOutline src (reader_of w names n f tree) (expression_outline w n) (λ s. shape_of f s) no_tree
+    ((s : State) → is_some (tree src s) ≡ is_some (last_operand src names s.stack s.mode)) → IsOutline src (wanted_reader w names n f tree) (expression_outline w n) (λ s. shape_of f s) no_tree
 outlined_by {src = src} {names = names} {n = n} {f = f} h i w tree e = record {
   starts = refl;
   plans = λ s k. refl;

@@ -20,7 +20,7 @@ use Rattle.cedar_expression_machine.specs.declared.words.state.WordsState.{Words
 use Rattle.cedar_expression_machine.specs.declared.words.state.WordsAct.{WordsAct}
 use Rattle.cedar_expression_machine.specs.declared.expression.state.Ranged.{Ranged}
 use Rattle.cedar_expression_machine.specs.declared.expression.state.Chain.{Chain}
-use Rattle.cedar_expression_machine.specs.declared.expression.state.Pending.{Pending}
+use Rattle.cedar_expression_machine.specs.declared.expression.state.PendingChain.{PendingChain}
 use Rattle.cedar_expression_machine.specs.declared.expression.state.Branch.{Branch}
 use Rattle.cedar_expression_machine.specs.declared.expression.state.Left.{Left}
 use Rattle.cedar_expression_machine.specs.declared.expression.state.Left.TheVariants as left
@@ -29,8 +29,8 @@ use Rattle.cedar_expression_machine.specs.declared.expression.state.Signs.{Signs
 use Rattle.cedar_expression_machine.specs.declared.expression.state.Operand.{Operand}
 use Rattle.cedar_expression_machine.specs.declared.expression.state.Frame.{Frame}
 use Rattle.cedar_expression_machine.specs.declared.expression.state.Frame.TheVariants as frame
-use Rattle.cedar_expression_machine.specs.declared.expression.state.Place.{Place}
-use Rattle.cedar_expression_machine.specs.declared.expression.state.Place.TheVariants as place
+use Rattle.cedar_expression_machine.specs.declared.expression.state.OperandPlace.{OperandPlace}
+use Rattle.cedar_expression_machine.specs.declared.expression.state.OperandPlace.TheVariants as place
 use Rattle.cedar_expression_machine.specs.declared.expression.state.Mode.TheVariants as mode
 use Rattle.cedar_expression_machine.specs.declared.expression.state.State.{State}
 use Rattle.cedar_expression_machine.specs.declared.expression.state.Wanted.{Wanted}
@@ -66,12 +66,12 @@ pub data Chained {T I : Type 0} (R : List Lexeme → Cell T → List I → Type 
 
 -- the forms begun, and what they have read
 
-pub data BegunMult (src : List ℕ) : List Lexeme → Option (Pending Unary MultOp) → Type 0 where
+pub data BegunMult (src : List ℕ) : List Lexeme → Option (PendingChain Unary MultOp) → Type 0 where
   no_mult : BegunMult src [] None
   begun_mult : {ts : List Lexeme} {k : TokenKind} {o : MultOp} {x : Cell Unary} {xs : List (MultOp × Cell Unary)} (p : Spot) → ReadsUnaries src ts x xs → ReadsMultOp k o →
       BegunMult src (ts ++ one k p) (Some (pending (chain ts x xs) o (at p)))
 
-pub data BegunAdd (src : List ℕ) : List Lexeme → Option (Pending Mult AddOp) → Type 0 where
+pub data BegunAdd (src : List ℕ) : List Lexeme → Option (PendingChain Mult AddOp) → Type 0 where
   no_add : BegunAdd src [] None
   begun_add : {ts : List Lexeme} {k : TokenKind} {o : AddOp} {x : Cell Mult} {xs : List (AddOp × Cell Mult)} (p : Spot) → ReadsMults src ts x xs → ReadsAddOp k o →
       BegunAdd src (ts ++ one k p) (Some (pending (chain ts x xs) o (at p)))
@@ -106,11 +106,11 @@ pub data BegunBranches (src : List ℕ) : List Lexeme → List Branch → Type 0
 
 -- a sum alone
 pub data BegunSum (src : List ℕ) : List Lexeme → Levels → Type 0 where
-  in_sum : {ps qs : List Lexeme} {s : Option (Pending Mult AddOp)} {m : Option (Pending Unary MultOp)} → BegunAdd src ps s → BegunMult src qs m →
+  in_sum : {ps qs : List Lexeme} {s : Option (PendingChain Mult AddOp)} {m : Option (PendingChain Unary MultOp)} → BegunAdd src ps s → BegunMult src qs m →
       BegunSum src (ps ++ qs) (levels_of [] None None None s m)
 
 pub data BegunLevels (src : List ℕ) : List Lexeme → Levels → Type 0 where
-  levels : {ts us vs ws ps qs : List Lexeme} {bs : List Branch} {o : Option (Plain And)} {a : Option (Plain Relation)} {r : Option Left} {s : Option (Pending Mult AddOp)} {m : Option (Pending Unary MultOp)} →
+  levels : {ts us vs ws ps qs : List Lexeme} {bs : List Branch} {o : Option (Plain And)} {a : Option (Plain Relation)} {r : Option Left} {s : Option (PendingChain Mult AddOp)} {m : Option (PendingChain Unary MultOp)} →
       BegunBranches src ts bs → BegunOr src us o → BegunAnd src vs a → BegunLeft src ws r → BegunAdd src ps s → BegunMult src qs m →
       BegunLevels src (ts ++ (us ++ (vs ++ (ws ++ (ps ++ qs))))) (levels_of bs o a r s m)
 
@@ -187,11 +187,11 @@ pub data BegunStack (src : List ℕ) (w : Wanted) : List Lexeme → List Frame �
       BegunStack src w (ts ++ (us ++ (one kind.OpenBrace l ++ (vs ++ ws)))) (frame.Record (record_with lv sg (at l) xs (Some record { node = x; extent = extent ws })) ∷ st)
   in_guard : {ts us : List Lexeme} {st : List Frame} {bs : List Branch} (l : Spot) → edge w st ≡ reach.Whole → BegunStack src w ts st → BegunBranches src us bs →
       BegunStack src w (ts ++ (us ++ one kind.If l)) (frame.Guard record { branches = bs; opened = Some (at l) } ∷ st)
-  in_yes : {ts us vs : List Lexeme} {st : List Frame} {bs : List Branch} {c : Expr} (l m : Spot) → edge w st ≡ reach.Whole → BegunStack src w ts st → BegunBranches src us bs → ReadsExpr src vs c →
-      BegunStack src w (ts ++ (us ++ (one kind.If l ++ vs ++ one kind.Then m))) (frame.Yes record { branches = bs; guard = placed src vs c; extent = extent (one kind.If l ++ vs ++ one kind.Then m) } ∷ st)
+  in_then : {ts us vs : List Lexeme} {st : List Frame} {bs : List Branch} {c : Expr} (l m : Spot) → edge w st ≡ reach.Whole → BegunStack src w ts st → BegunBranches src us bs → ReadsExpr src vs c →
+      BegunStack src w (ts ++ (us ++ (one kind.If l ++ vs ++ one kind.Then m))) (frame.Then record { branches = bs; guard = placed src vs c; extent = extent (one kind.If l ++ vs ++ one kind.Then m) } ∷ st)
 
 -- what stands before an operand that is wanted here
-pub data Wants (src : List ℕ) (w : Wanted) : List Lexeme → List Frame → Levels → Place → Signs → Type 0 where
+pub data Wants (src : List ℕ) (w : Wanted) : List Lexeme → List Frame → Levels → OperandPlace → Signs → Type 0 where
   at_expr : {us : List Lexeme} {st : List Frame} {bs : List Branch} → edge w st ≡ reach.Whole → BegunBranches src us bs → Wants src w us st (fresh bs) place.Expr no_signs
   at_item : {f : Frame} {st : List Frame} → Wants src w [] (f ∷ st) (fresh []) place.Item no_signs
   at_key : {f : Frame} {st : List Frame} → Wants src w [] (f ∷ st) (fresh []) place.Key no_signs
@@ -200,9 +200,9 @@ pub data Wants (src : List ℕ) (w : Wanted) : List Lexeme → List Frame → Le
   at_primary : alone_reach w ≡ reach.Primary → Wants src w [] [] (fresh []) place.Primary no_signs
 
 pub data Begun (src : List ℕ) (names : Reader WordsState WordsAct NameOrEntity) (w : Wanted) : List Lexeme → State → Type 0 where
-  is_wanting : {ts us : List Lexeme} {st : List Frame} {lv : Levels} {p : Place} {sg : Signs} → BegunStack src w ts st → Wants src w us st lv p sg →
+  is_wanting : {ts us : List Lexeme} {st : List Frame} {lv : Levels} {p : OperandPlace} {sg : Signs} → BegunStack src w ts st → Wants src w us st lv p sg →
       Begun src names w (ts ++ us) (state st lv (mode.Want p sg))
-  is_worded : {ts us : List Lexeme} (vs : List Lexeme) {st : List Frame} {lv : Levels} {p : Place} {sg : Signs} {s : WordsState} → BegunStack src w ts st → Wants src w us st lv p sg → Comes (machine_of src names) vs s →
+  is_worded : {ts us : List Lexeme} (vs : List Lexeme) {st : List Frame} {lv : Levels} {p : OperandPlace} {sg : Signs} {s : WordsState} → BegunStack src w ts st → Wants src w us st lv p sg → Comes (machine_of src names) vs s →
       Begun src names w (ts ++ (us ++ vs)) (state st lv (mode.Word p sg s))
   is_dotted : {ts us : List Lexeme} {st : List Frame} {lv : Levels} {m : Operand} (d : Spot) → BegunStack src w ts st → Longer src (edge w st) us lv m →
       Begun src names w (ts ++ (us ++ one kind.Dot d)) (state st lv (mode.Have m (Some (at d))))

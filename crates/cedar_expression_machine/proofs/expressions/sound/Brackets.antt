@@ -20,8 +20,8 @@ use Rattle.cedar_expression_machine.specs.declared.expression.state.Signs.{Signs
 use Rattle.cedar_expression_machine.specs.declared.expression.state.Operand.{Operand}
 use Rattle.cedar_expression_machine.specs.declared.expression.state.Frame.{Frame}
 use Rattle.cedar_expression_machine.specs.declared.expression.state.Frame.TheVariants as frame
-use Rattle.cedar_expression_machine.specs.declared.expression.state.Place.{Place}
-use Rattle.cedar_expression_machine.specs.declared.expression.state.Place.TheVariants as place
+use Rattle.cedar_expression_machine.specs.declared.expression.state.OperandPlace.{OperandPlace}
+use Rattle.cedar_expression_machine.specs.declared.expression.state.OperandPlace.TheVariants as place
 use Rattle.cedar_expression_machine.specs.declared.expression.state.State.{State}
 use Rattle.cedar_expression_machine.specs.declared.expression.state.Wanted.{Wanted}
 use Rattle.cedar_expression_machine.specs.declared.expression.state.Reach.{Reach}
@@ -39,7 +39,7 @@ use Rattle.cedar_expression_machine.specs.machines.ExpressionShapes.{stack_shape
 use Rattle.cedar_expression_machine.specs.machines.Wanting.{record_with, list_ending}
 use Rattle.cedar_expression_machine.specs.machines.Having.{frame_ending}
 use Rattle.cedar_expression_machine.proofs.expressions.Basics.{extent-append}
-use Rattle.cedar_expression_machine.proofs.expressions.sound.Begun.{at, closed, Reading, reads, no_branch, branch, no_sign, BegunOperand, begun_operand, BegunIf, begun_if, Leads, Longer, whole_longer, sum_longer, if_longer, Holds, holds, holds_primary, BegunExprs, no_expr_yet, exprs_then, BegunInits, no_init_yet, inits_then, BegunKey, expr_key, lone_if_key, BegunStack, bottom, in_paren, in_set, in_call, in_index, in_key, in_value, in_guard, in_yes, Begun, is_had}
+use Rattle.cedar_expression_machine.proofs.expressions.sound.Begun.{at, closed, Reading, reads, no_branch, branch, no_sign, BegunOperand, begun_operand, BegunIf, begun_if, Leads, Longer, whole_longer, sum_longer, if_longer, Holds, holds, holds_primary, BegunExprs, no_expr_yet, exprs_then, BegunInits, no_init_yet, inits_then, BegunKey, expr_key, lone_if_key, BegunStack, bottom, in_paren, in_set, in_call, in_index, in_key, in_value, in_guard, in_then, Begun, is_had}
 use Rattle.cedar_expression_machine.proofs.expressions.sound.Closing.{whole_close, if_close, sum_levels, fresh_levels}
 use Rattle.cedar_expression_machine.proofs.expressions.sound.Operators.{After, moved, begun_alone, is_primary_had, opens_expr, opens_in, opens_item, opens_key}
 
@@ -115,7 +115,7 @@ key_value (lone_if_key p q) s = if_init p q s
 
 -- a list that ends before an item, where its plan has it
 
-abbrev pub list_ended : List ℕ → List Frame → Place → Closing → Extent → Option State
+abbrev pub list_ended : List ℕ → List Frame → OperandPlace → Closing → Extent → Option State
 list_ended src st pl c m = cond (list_may_end (stack_shape st) pl c) (list_ending src st m) None
 
 pub items_begun : {src : List ℕ} {w : Wanted} {ts : List Lexeme} {st : List Frame} (m : Spot) → BegunStack src w ts st → (n : Reader WordsState WordsAct NameOrEntity) →
@@ -128,7 +128,7 @@ items_begun m (in_index l a b) n = tt
 items_begun m (in_key l a b c) n = tt
 items_begun m (in_value l a b c d) n = tt
 items_begun m (in_guard l e a b) n = tt
-items_begun m (in_yes l k e a b c) n = tt
+items_begun m (in_then l k e a b c) n = tt
 
 pub call_begun : {src : List ℕ} {w : Wanted} {ts : List Lexeme} {st : List Frame} (m : Spot) → BegunStack src w ts st → (n : Reader WordsState WordsAct NameOrEntity) →
     After src n w (ts ++ one kind.CloseParen m) (list_ended src st place.Item closing.Paren (at m))
@@ -140,7 +140,7 @@ call_begun m (in_index l a b) n = tt
 call_begun m (in_key l a b c) n = tt
 call_begun m (in_value l a b c d) n = tt
 call_begun m (in_guard l e a b) n = tt
-call_begun m (in_yes l k e a b c) n = tt
+call_begun m (in_then l k e a b c) n = tt
 
 pub keys_begun : {src : List ℕ} {w : Wanted} {ts : List Lexeme} {st : List Frame} (m : Spot) → BegunStack src w ts st → (n : Reader WordsState WordsAct NameOrEntity) →
     After src n w (ts ++ one kind.CloseBrace m) (list_ended src st place.Key closing.Brace (at m))
@@ -152,7 +152,7 @@ keys_begun m (in_call l a b c) n = tt
 keys_begun m (in_index l a b) n = tt
 keys_begun m (in_value l a b c d) n = tt
 keys_begun m (in_guard l e a b) n = tt
-keys_begun m (in_yes l k e a b c) n = tt
+keys_begun m (in_then l k e a b c) n = tt
 
 -- what ends an expression in brackets
 
@@ -167,7 +167,7 @@ close_paren_begun m (in_index l a b) r n = tt
 close_paren_begun m (in_key l a b c) r n = tt
 close_paren_begun m (in_value l a b c d) r n = tt
 close_paren_begun m (in_guard l e a b) r n = tt
-close_paren_begun m (in_yes l k e a b c) r n = tt
+close_paren_begun m (in_then l k e a b c) r n = tt
 
 pub close_bracket_begun : {src : List ℕ} {w : Wanted} {ts us : List Lexeme} {st : List Frame} {x : Ranged Expr} (m : Spot) → BegunStack src w ts st → Reading (ReadsExpr src) us x → (n : Reader WordsState WordsAct NameOrEntity) →
     After src n w (ts ++ (us ++ one kind.CloseBracket m)) (frame_ending src st x closing.Bracket (at m))
@@ -180,7 +180,7 @@ close_bracket_begun m (in_call l a b c) r n = tt
 close_bracket_begun m (in_key l a b c) r n = tt
 close_bracket_begun m (in_value l a b c d) r n = tt
 close_bracket_begun m (in_guard l e a b) r n = tt
-close_bracket_begun m (in_yes l k e a b c) r n = tt
+close_bracket_begun m (in_then l k e a b c) r n = tt
 
 -- a pair of a record
 pair_made : (src : List ℕ) (ws us : List Lexeme) (x : Cell Expr) (y : Expr) (xs : List (Cell RecInit)) →
@@ -199,7 +199,7 @@ close_brace_begun m (in_call l a b c) r n = tt
 close_brace_begun m (in_index l a b) r n = tt
 close_brace_begun m (in_key l a b c) r n = tt
 close_brace_begun m (in_guard l e a b) r n = tt
-close_brace_begun m (in_yes l k e a b c) r n = tt
+close_brace_begun m (in_then l k e a b c) r n = tt
 
 pub comma_begun : {src : List ℕ} {w : Wanted} {ts us : List Lexeme} {st : List Frame} {x : Ranged Expr} (m : Spot) → BegunStack src w ts st → Reading (ReadsExpr src) us x → (n : Reader WordsState WordsAct NameOrEntity) →
     After src n w (ts ++ (us ++ one kind.Comma m)) (frame_ending src st x closing.Comma (at m))
@@ -213,7 +213,7 @@ comma_begun m (in_paren l a b) r n = tt
 comma_begun m (in_index l a b) r n = tt
 comma_begun m (in_key l a b c) r n = tt
 comma_begun m (in_guard l e a b) r n = tt
-comma_begun m (in_yes l k e a b c) r n = tt
+comma_begun m (in_then l k e a b c) r n = tt
 
 pub colon_begun : {src : List ℕ} {w : Wanted} {ts us : List Lexeme} {st : List Frame} {x : Ranged Expr} (m : Spot) → BegunStack src w ts st → Reading (ReadsExpr src) us x → (n : Reader WordsState WordsAct NameOrEntity) →
     After src n w (ts ++ (us ++ one kind.Colon m)) (frame_ending src st x closing.Colon (at m))
@@ -227,13 +227,13 @@ colon_begun m (in_call l a b c) r n = tt
 colon_begun m (in_index l a b) r n = tt
 colon_begun m (in_value l a b c d) r n = tt
 colon_begun m (in_guard l e a b) r n = tt
-colon_begun m (in_yes l k e a b c) r n = tt
+colon_begun m (in_then l k e a b c) r n = tt
 
 pub then_begun : {src : List ℕ} {w : Wanted} {ts us : List Lexeme} {st : List Frame} {x : Ranged Expr} (m : Spot) → BegunStack src w ts st → Reading (ReadsExpr src) us x → (n : Reader WordsState WordsAct NameOrEntity) →
     After src n w (ts ++ (us ++ one kind.Then m)) (frame_ending src st x closing.Then (at m))
 then_begun {src = src} {w = w} m (in_guard {ts = ts} {us = ps} {st = st} {bs = bs} l e a b) (reads {ts = us} {x = x} r) n =
-    moved (simp append_assoc) (subst (λ q. Begun src n w (ts ++ (ps ++ (one kind.If l ++ us ++ one kind.Then m))) (opening (frame.Yes record { branches = bs; guard = placed src us x; extent = q } ∷ st) [] place.Expr))
-    (extent-append (one kind.If l ++ us) (one kind.Then m) ∙ ap (λ q. joint_extent q (Some (at m))) (extent-append (one kind.If l) us)) (opens_in (in_yes l m e a b r)))
+    moved (simp append_assoc) (subst (λ q. Begun src n w (ts ++ (ps ++ (one kind.If l ++ us ++ one kind.Then m))) (opening (frame.Then record { branches = bs; guard = placed src us x; extent = q } ∷ st) [] place.Expr))
+    (extent-append (one kind.If l ++ us) (one kind.Then m) ∙ ap (λ q. joint_extent q (Some (at m))) (extent-append (one kind.If l) us)) (opens_in (in_then l m e a b r)))
 then_begun m bottom r n = tt
 then_begun m (in_paren l a b) r n = tt
 then_begun m (in_set l a b c) r n = tt
@@ -241,11 +241,11 @@ then_begun m (in_call l a b c) r n = tt
 then_begun m (in_index l a b) r n = tt
 then_begun m (in_key l a b c) r n = tt
 then_begun m (in_value l a b c d) r n = tt
-then_begun m (in_yes l k e a b c) r n = tt
+then_begun m (in_then l k e a b c) r n = tt
 
 pub else_begun : {src : List ℕ} {w : Wanted} {ts us : List Lexeme} {st : List Frame} {x : Ranged Expr} (m : Spot) → BegunStack src w ts st → Reading (ReadsExpr src) us x → (n : Reader WordsState WordsAct NameOrEntity) →
     After src n w (ts ++ (us ++ one kind.Else m)) (frame_ending src st x closing.Else (at m))
-else_begun {src = src} {w = w} j (in_yes {ts = ts} {us = ps} {vs = vs} {st = st} {bs = bs} {c = g} l m e a b c) (reads {ts = us} {x = x} r) n =
+else_begun {src = src} {w = w} j (in_then {ts = ts} {us = ps} {vs = vs} {st = st} {bs = bs} {c = g} l m e a b c) (reads {ts = us} {x = x} r) n =
     moved (simp append_assoc) (subst (λ q. Begun src n w (ts ++ (ps ++ (one kind.If l ++ vs ++ one kind.Then m ++ us ++ one kind.Else j))) (opening st (record { guard = placed src vs g; yes = placed src us x; extent = q } ∷ bs) place.Expr))
     (extent-append (one kind.If l ++ vs ++ one kind.Then m ++ us) (one kind.Else j) ∙ ap (λ q. joint_extent q (Some (at j))) (extent-append (one kind.If l ++ vs ++ one kind.Then m) us)) (opens_expr e a (branch l m j b c r)))
 else_begun m bottom r n = tt

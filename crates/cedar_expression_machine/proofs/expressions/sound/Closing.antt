@@ -17,7 +17,7 @@ use Rattle.cedar_syntax.specs.declared.cst.NegOp.{NegOp}
 use Rattle.cedar_syntax.specs.declared.cst.Unary.{Unary}
 use Rattle.cedar_syntax.specs.declared.cst.Member.{Member}
 use Rattle.cedar_expression_machine.specs.declared.expression.state.Ranged.{Ranged}
-use Rattle.cedar_expression_machine.specs.declared.expression.state.Pending.{Pending}
+use Rattle.cedar_expression_machine.specs.declared.expression.state.PendingChain.{PendingChain}
 use Rattle.cedar_expression_machine.specs.declared.expression.state.Branch.{Branch}
 use Rattle.cedar_expression_machine.specs.declared.expression.state.Left.{Left}
 use Rattle.cedar_expression_machine.specs.declared.expression.state.Left.TheVariants as left
@@ -47,7 +47,7 @@ at_extent {R = R} {ts = ts} {x = x} e q r = subst (λ z. Reading R ts (ranged_tr
 
 -- a level and one more operand
 
-pub mult_link : {src : List ℕ} {ts us : List Lexeme} {m : Option (Pending Unary MultOp)} {x : Ranged Unary} → BegunMult src ts m → Reading (ReadsUnary src) us x →
+pub mult_link : {src : List ℕ} {ts us : List Lexeme} {m : Option (PendingChain Unary MultOp)} {x : Ranged Unary} → BegunMult src ts m → Reading (ReadsUnary src) us x →
     Chained (ReadsUnaries src) (ts ++ us) (marked_chain src m x)
 mult_link no_mult (reads r) = chained (one_unary r)
 mult_link {src = src} (begun_mult {ts = ts} {k = k} {o = o} {x = x} {xs = xs} p b w) (reads {ts = us} {x = y} r) =
@@ -60,7 +60,7 @@ pub mult_onward : {src : List ℕ} {ts : List Lexeme} {c : Marked Unary MultOp} 
     BegunMult src (ts ++ one k p) (Some (pending c o (at p)))
 mult_onward p (chained r) w = begun_mult p r w
 
-pub add_link : {src : List ℕ} {ts us : List Lexeme} {s : Option (Pending Mult AddOp)} {x : Ranged Mult} → BegunAdd src ts s → Reading (ReadsMult src) us x →
+pub add_link : {src : List ℕ} {ts us : List Lexeme} {s : Option (PendingChain Mult AddOp)} {x : Ranged Mult} → BegunAdd src ts s → Reading (ReadsMult src) us x →
     Chained (ReadsMults src) (ts ++ us) (marked_chain src s x)
 add_link no_add (reads r) = chained (one_mult r)
 add_link {src = src} (begun_add {ts = ts} {k = k} {o = o} {x = x} {xs = xs} p b w) (reads {ts = us} {x = y} r) =
@@ -75,7 +75,7 @@ add_onward p (chained r) w = begun_add p r w
 
 -- relations
 
-abbrev Compared : List ℕ → List Lexeme → Option (Pending Add RelOp) → Type 0
+abbrev Compared : List ℕ → List Lexeme → Option (PendingChain Add RelOp) → Type 0
 Compared src ts q = (us : List Lexeme) (x : Ranged Add) → Reading (ReadsAdd src) us x → Chained (ReadsAdds src) (ts ++ us) (marked_chain src q x)
 
 pub compare_first : {src : List ℕ} → Compared src [] None

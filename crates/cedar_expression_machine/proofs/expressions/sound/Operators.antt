@@ -22,8 +22,8 @@ use Rattle.cedar_expression_machine.specs.declared.expression.state.Levels.{Leve
 use Rattle.cedar_expression_machine.specs.declared.expression.state.Signs.{Signs}
 use Rattle.cedar_expression_machine.specs.declared.expression.state.Operand.{Operand}
 use Rattle.cedar_expression_machine.specs.declared.expression.state.Frame.{Frame}
-use Rattle.cedar_expression_machine.specs.declared.expression.state.Place.{Place}
-use Rattle.cedar_expression_machine.specs.declared.expression.state.Place.TheVariants as place
+use Rattle.cedar_expression_machine.specs.declared.expression.state.OperandPlace.{OperandPlace}
+use Rattle.cedar_expression_machine.specs.declared.expression.state.OperandPlace.TheVariants as place
 use Rattle.cedar_expression_machine.specs.declared.expression.state.State.{State}
 use Rattle.cedar_expression_machine.specs.declared.expression.state.Wanted.{Wanted}
 use Rattle.cedar_expression_machine.specs.declared.expression.state.Reach.{Reach}
@@ -74,7 +74,7 @@ unsigned_whole {src = src} {ts = ts} {lv = lv} b = subst (λ q. Opens src reach.
 pub unsigned_sum : {src : List ℕ} {ts : List Lexeme} {lv : Levels} → BegunSum src ts lv → Opens src reach.Sum ts lv no_signs
 unsigned_sum {src = src} {ts = ts} {lv = lv} b = subst (λ q. Opens src reach.Sum q lv no_signs) (append-nil ts) (opens_sum b no_sign)
 
-pub wants_leads : {src : List ℕ} {w : Wanted} {us : List Lexeme} {st : List Frame} {lv : Levels} {p : Place} {sg : Signs} → Wants src w us st lv p sg → Leads src (edge w st) us lv sg
+pub wants_leads : {src : List ℕ} {w : Wanted} {us : List Lexeme} {st : List Frame} {lv : Levels} {p : OperandPlace} {sg : Signs} → Wants src w us st lv p sg → Leads src (edge w st) us lv sg
 wants_leads {src = src} {us = us} (at_expr {bs = bs} e b) = subst (λ r. Leads src r us (fresh bs) no_signs) (sym e) (leads (unsigned_whole (fresh_levels b)))
 wants_leads at_item = leads (unsigned_whole (fresh_levels no_branch))
 wants_leads at_key = leads (unsigned_whole (fresh_levels no_branch))

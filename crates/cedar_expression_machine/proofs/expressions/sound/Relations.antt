@@ -12,20 +12,20 @@ use Rattle.cedar_syntax.specs.declared.cst.Add.{Add}
 use Rattle.cedar_syntax.specs.declared.cst.MultOp.{MultOp}
 use Rattle.cedar_syntax.specs.declared.cst.Mult.{Mult}
 use Rattle.cedar_syntax.specs.declared.cst.Unary.{Unary}
-use Rattle.cedar_grammar.specs.declared.reading.class.Side.TheVariants as side
+use Rattle.cedar_grammar.specs.declared.reading.class.SideWord.TheVariants as side
 use Rattle.cedar_grammar.specs.declared.reading.class.Operator.TheVariants as operator
 use Rattle.cedar_expression_machine.specs.machines.Named.{NameOrEntity}
 use Rattle.cedar_expression_machine.specs.declared.words.state.WordsState.{WordsState}
 use Rattle.cedar_expression_machine.specs.declared.words.state.WordsAct.{WordsAct}
 use Rattle.cedar_expression_machine.specs.declared.expression.state.Ranged.{Ranged}
-use Rattle.cedar_expression_machine.specs.declared.expression.state.Pending.{Pending}
+use Rattle.cedar_expression_machine.specs.declared.expression.state.PendingChain.{PendingChain}
 use Rattle.cedar_expression_machine.specs.declared.expression.state.Branch.{Branch}
 use Rattle.cedar_expression_machine.specs.declared.expression.state.Left.{Left}
 use Rattle.cedar_expression_machine.specs.declared.expression.state.Left.TheVariants as left
 use Rattle.cedar_expression_machine.specs.declared.expression.state.Levels.{Levels}
 use Rattle.cedar_expression_machine.specs.declared.expression.state.Operand.{Operand}
 use Rattle.cedar_expression_machine.specs.declared.expression.state.Frame.{Frame}
-use Rattle.cedar_expression_machine.specs.declared.expression.state.Place.TheVariants as place
+use Rattle.cedar_expression_machine.specs.declared.expression.state.OperandPlace.TheVariants as place
 use Rattle.cedar_expression_machine.specs.declared.expression.state.Wanted.{Wanted}
 use Rattle.cedar_expression_machine.specs.declared.expression.state.Reach.{Reach}
 use Rattle.cedar_expression_machine.specs.declared.expression.state.Reach.TheVariants as reach
@@ -50,7 +50,7 @@ left_wants : {src : List ℕ} {names : Reader WordsState WordsAct NameOrEntity} 
 left_wants e a b = goes_on reach.Whole e a (unsigned_whole b)
 
 -- the sum that a relation's last operand ends
-last_sum : {src : List ℕ} {ps qs vs : List Lexeme} {s : Option (Pending Mult AddOp)} {m : Option (Pending Unary MultOp)} {q : Operand} → BegunAdd src ps s → BegunMult src qs m → BegunOperand src vs q →
+last_sum : {src : List ℕ} {ps qs vs : List Lexeme} {s : Option (PendingChain Mult AddOp)} {m : Option (PendingChain Unary MultOp)} {q : Operand} → BegunAdd src ps s → BegunMult src qs m → BegunOperand src vs q →
     Reading (ReadsAdd src) (ps ++ (qs ++ vs)) (made_add (marked_chain src s (made_mult (marked_chain src m (unary_at src q)))))
 last_sum f g u = add_close (add_link f (mult_close (mult_link g (operand_close u))))
 
@@ -60,7 +60,7 @@ compare_goes : {src : List ℕ} {names : Reader WordsState WordsAct NameOrEntity
 compare_goes p e a b c d f k = left_wants e a (left_levels b c d (compare_onward p f k))
 
 -- which operator stands behind `is` and its type
-within_goes : {src : List ℕ} {w : Wanted} {ts us vs ws ps qs : List Lexeme} {st : List Frame} {bs : List Branch} {o : Option (Plain And)} {a : Option (Plain Relation)} {x y : Add} {k : TokenKind} {q : RelOp} (i p : Spot) (l : Option Left) (s : Option (Pending Mult AddOp)) (m : Option (Pending Unary MultOp)) →
+within_goes : {src : List ℕ} {w : Wanted} {ts us vs ws ps qs : List Lexeme} {st : List Frame} {bs : List Branch} {o : Option (Plain And)} {a : Option (Plain Relation)} {x y : Add} {k : TokenKind} {q : RelOp} (i p : Spot) (l : Option Left) (s : Option (PendingChain Mult AddOp)) (m : Option (PendingChain Unary MultOp)) →
     edge w st ≡ reach.Whole → BegunStack src w ts st → BegunBranches src us bs → BegunOr src vs o → BegunAnd src ws a → ReadsAdd src ps x → ReadsAdd src qs y → ReadsRelOp k q → (names : Reader WordsState WordsAct NameOrEntity) →
     After src names w (ts ++ (us ++ (vs ++ (ws ++ (ps ++ one kind.Is i ++ qs ++ one k p))))) (is_within src st (levels_of bs o a l s m) (before src (closed ps x) (at i)) (closed qs y) q (at p))
 within_goes {src = src} {w = w} {ts = ts} {us = us} {vs = vs} {ws = ws} {ps = ps} {qs = qs} {st = st} {bs = bs} {o = o} {a = n} {x = x} {y = y} i p l s m e a b c d f g within names =
@@ -69,7 +69,7 @@ within_goes {src = src} {w = w} {ts = ts} {us = us} {vs = vs} {ws = ws} {ps = ps
     (left_wants e a (left_levels b c d (being_in i p f g)))
 within_goes i p l s m e a b c d f g _ names = tt
 
-is_goes : {src : List ℕ} {w : Wanted} {ts us vs ws ps qs all : List Lexeme} {st : List Frame} {bs : List Branch} {o : Option (Plain And)} {a : Option (Plain Relation)} {x : Add} {y : Ranged Add} {k : TokenKind} {q : RelOp} (i p : Spot) (l : Option Left) (s : Option (Pending Mult AddOp)) (m : Option (Pending Unary MultOp)) →
+is_goes : {src : List ℕ} {w : Wanted} {ts us vs ws ps qs all : List Lexeme} {st : List Frame} {bs : List Branch} {o : Option (Plain And)} {a : Option (Plain Relation)} {x : Add} {y : Ranged Add} {k : TokenKind} {q : RelOp} (i p : Spot) (l : Option Left) (s : Option (PendingChain Mult AddOp)) (m : Option (PendingChain Unary MultOp)) →
     edge w st ≡ reach.Whole → BegunStack src w ts st → BegunBranches src us bs → BegunOr src vs o → BegunAnd src ws a → ReadsAdd src ps x → Reading (ReadsAdd src) qs y →
     ts ++ (us ++ (vs ++ (ws ++ (ps ++ one kind.Is i ++ qs ++ one k p)))) ≡ all → ReadsRelOp k q → (names : Reader WordsState WordsAct NameOrEntity) →
     After src names w all (is_within src st (levels_of bs o a l s m) (before src (closed ps x) (at i)) y q (at p))

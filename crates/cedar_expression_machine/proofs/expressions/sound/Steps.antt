@@ -11,7 +11,7 @@ use Rattle.cedar_grammar.specs.declared.reading.class.Operator.{Operator}
 use Rattle.cedar_expression_machine.specs.declared.expression.state.Act.{Act}
 use Rattle.cedar_expression_machine.specs.declared.expression.state.Act.TheVariants as act
 use Rattle.cedar_expression_machine.specs.declared.expression.state.Begin.{Begin}
-use Rattle.cedar_expression_machine.specs.declared.expression.state.Place.TheVariants as place
+use Rattle.cedar_expression_machine.specs.declared.expression.state.OperandPlace.TheVariants as place
 use Rattle.cedar_expression_machine.specs.declared.expression.state.Frame.TheVariants as frame
 use Rattle.cedar_grammar.specs.declared.reading.extent.Extent.{Extent}
 use Rattle.cedar_expression_machine.specs.machines.Named.{NameOrEntity, ReadsNamed, a_path, a_ref}
@@ -23,7 +23,7 @@ use Rattle.cedar_expression_machine.specs.declared.expression.state.Levels.{Leve
 use Rattle.cedar_expression_machine.specs.declared.expression.state.Signs.{Signs}
 use Rattle.cedar_expression_machine.specs.declared.expression.state.Operand.{Operand}
 use Rattle.cedar_expression_machine.specs.declared.expression.state.Frame.{Frame}
-use Rattle.cedar_expression_machine.specs.declared.expression.state.Place.{Place}
+use Rattle.cedar_expression_machine.specs.declared.expression.state.OperandPlace.{OperandPlace}
 use Rattle.cedar_expression_machine.specs.declared.expression.state.State.{State}
 use Rattle.cedar_expression_machine.specs.declared.expression.state.Wanted.{Wanted}
 use Rattle.cedar_expression_machine.specs.declared.expression.state.Alone.TheVariants as alone
@@ -44,7 +44,7 @@ use Rattle.cedar_expression_machine.specs.machines.Wanting.{first_act, first_wor
 use Rattle.cedar_expression_machine.specs.machines.Having.{field_reading, follow_act}
 use Rattle.cedar_expression_machine.specs.machines.Expressions.{alone_of, alone_is_if, named_is_if, alone_operand, named_operand, named_extent, with_words, guard_beginning, if_key_reading, want_act, word_act, dot_act, have_act}
 use Rattle.cedar_expression_machine.proofs.expressions.Held.{Held}
-use Rattle.cedar_expression_machine.proofs.expressions.sound.Begun.{at, closed, BegunBranches, no_branch, begun_if, Longer, if_longer, Holds, holds, lone_if_key, BegunStack, bottom, in_paren, in_set, in_call, in_index, in_key, in_value, in_guard, in_yes, Wants, at_expr, at_item, at_key, at_has, at_operand, at_primary, Begun, is_wanting, is_worded, is_dotted, is_had}
+use Rattle.cedar_expression_machine.proofs.expressions.sound.Begun.{at, closed, BegunBranches, no_branch, begun_if, Longer, if_longer, Holds, holds, lone_if_key, BegunStack, bottom, in_paren, in_set, in_call, in_index, in_key, in_value, in_guard, in_then, Wants, at_expr, at_item, at_key, at_has, at_operand, at_primary, Begun, is_wanting, is_worded, is_dotted, is_had}
 use Rattle.cedar_expression_machine.proofs.expressions.sound.Operators.{After, moved, after_moved, leads_to, wants_leads, opens_in}
 use Rattle.cedar_expression_machine.proofs.expressions.sound.Tokens.{wanting, had_begun, wanted_begun}
 use Rattle.cedar_expression_machine.proofs.expressions.Stepping.{Names, planned, had, edge_shape, begin_as_operand, step_of}
@@ -98,7 +98,7 @@ first_by src names t s (Some a) e f = takes src names names.start s a t e f
 pub first_comes : (src : List ℕ) (names : Names) (t : Lexeme) (s : WordsState) → first_words src names t ≡ Some s → Comes (machine_of src names) (t ∷ []) s
 first_comes src names t s e = comes_on (machine_of src names) [] names.start s t refl (first_by src names t s (names.plan names.start t.kind) refl e)
 
-wanted_goes : {src : List ℕ} {w : Wanted} {ts us : List Lexeme} {st : List Frame} {lv : Levels} {pl : Place} {sg : Signs} (names : Names) (t : Lexeme) → BegunStack src w ts st → Wants src w us st lv pl sg →
+wanted_goes : {src : List ℕ} {w : Wanted} {ts us : List Lexeme} {st : List Frame} {lv : Levels} {pl : OperandPlace} {sg : Signs} (names : Names) (t : Lexeme) → BegunStack src w ts st → Wants src w us st lv pl sg →
     After src names w (ts ++ (us ++ t ∷ [])) (wanting src names st lv pl sg t)
 wanted_goes {src = src} names t a b = wanted_begun a b names t.kind record { start = t.start; end = t.end; text = t.text } (λ s e. first_comes src names t s e)
 
@@ -112,13 +112,13 @@ holds_goes {src = src} {w = w} {us = us} {st = st} {lv = lv} {m = m} names t a h
 -- words that have ended with this tree
 
 -- they are an operand
-settles : (src : List ℕ) (names : Names) (w : Wanted) (ts : List Lexeme) (st : List Frame) (lv : Levels) (pl : Place) (sg : Signs) (s : WordsState) (x : NameOrEntity) (t : Lexeme) → names.finish src s ≡ Some x → (b : Bool) (o : Operator) →
+settles : (src : List ℕ) (names : Names) (w : Wanted) (ts : List Lexeme) (st : List Frame) (lv : Levels) (pl : OperandPlace) (sg : Signs) (s : WordsState) (x : NameOrEntity) (t : Lexeme) → names.finish src s ≡ Some x → (b : Bool) (o : Operator) →
     After src names w ts (cond b (follow_act src st lv (named_operand src sg x) o (extent_of t)) None) → After src names w ts (planned (settle_plan (if_follows b o)) (λ a. word_act src names st lv pl sg s a t))
 settles src names w ts st lv pl sg s x t e true o h = subst (λ q. After src names w ts (with_words q (λ x. follow_act src st lv (named_operand src sg x) o (extent_of t)))) (sym e) h
 settles src names w ts st lv pl sg s x t e false o h = tt
 
 -- they are `if`, and the guard begins
-guards_by : (src : List ℕ) (names : Names) (w : Wanted) (ts : List Lexeme) (st : List Frame) (lv : Levels) (pl : Place) (sg : Signs) (s : WordsState) (x : NameOrEntity) (t : Lexeme) → names.finish src s ≡ Some x → (o : Option Begin) →
+guards_by : (src : List ℕ) (names : Names) (w : Wanted) (ts : List Lexeme) (st : List Frame) (lv : Levels) (pl : OperandPlace) (sg : Signs) (s : WordsState) (x : NameOrEntity) (t : Lexeme) → names.finish src s ≡ Some x → (o : Option Begin) →
     After src names w ts (planned o (λ b. guard_beginning src names st lv (named_extent x) b t)) → After src names w ts (planned (option_image (λ b. act.Guard b) o) (λ a. word_act src names st lv pl sg s a t))
 guards_by src names w ts st lv pl sg s x t e (Some b) h = subst (λ q. After src names w ts (with_words q (λ x. guard_beginning src names st lv (named_extent x) b t))) (sym e) h
 guards_by src names w ts st lv pl sg s x t e None h = tt
@@ -126,7 +126,7 @@ guards_by src names w ts st lv pl sg s x t e None h = tt
 abbrev guard_frame : List Branch → Option Extent → Frame
 guard_frame bs l = frame.Guard record { branches = bs; opened = l }
 
-guards : (src : List ℕ) (names : Names) (w : Wanted) (ts : List Lexeme) (st : List Frame) (lv : Levels) (pl : Place) (sg : Signs) (s : WordsState) (x : NameOrEntity) (t : Lexeme) → names.finish src s ≡ Some x →
+guards : (src : List ℕ) (names : Names) (w : Wanted) (ts : List Lexeme) (st : List Frame) (lv : Levels) (pl : OperandPlace) (sg : Signs) (s : WordsState) (x : NameOrEntity) (t : Lexeme) → names.finish src s ≡ Some x →
     After src names w ts (wanting src names (guard_frame lv.branches (named_extent x) ∷ st) (fresh []) place.Expr no_signs t) → After src names w ts (planned (guard_plan t.kind) (λ a. word_act src names st lv pl sg s a t))
 guards src names w ts st lv pl sg s x t e h =
     guards_by src names w _ st lv pl sg s x t e (begin_plan t.kind)
@@ -144,7 +144,7 @@ guard_goes {src = src} {w = w} {st = st} {bs = bs} names p t e a b =
     after_moved src names w (wanting src names (guard_frame bs (Some (at p)) ∷ st) (fresh []) place.Expr no_signs t) (simp append_assoc) (wanted_goes names t (in_guard p e a b) (at_expr refl no_branch))
 
 -- `if` as a key
-key_goes : {src : List ℕ} {w : Wanted} {ts : List Lexeme} {st : List Frame} (names : Names) (lv : Levels) (pl : Place) (sg : Signs) (s : WordsState) (p q : Spot) → names.finish src s ≡ Some (if_path src p) → BegunStack src w ts st →
+key_goes : {src : List ℕ} {w : Wanted} {ts : List Lexeme} {st : List Frame} (names : Names) (lv : Levels) (pl : OperandPlace) (sg : Signs) (s : WordsState) (p q : Spot) → names.finish src s ≡ Some (if_path src p) → BegunStack src w ts st →
     After src names w (ts ++ (one kind.If p ++ one kind.Colon q)) (planned (colon_key_plan (stack_shape st)) (λ a. word_act src names st lv pl sg s a record { kind = kind.Colon; start = q.start; end = q.end; text = q.text }))
 key_goes {src = src} {w = w} {ts = ts} {st = st} names lv pl sg s p q e (in_key l a b c) =
     subst (λ o. After src names w (ts ++ (one kind.If p ++ one kind.Colon q)) (with_words o (λ x. if_key_reading src st (named_extent x) (at q)))) (sym e) (moved (simp append_assoc) (opens_in (in_value l a b c (lone_if_key p q))))
@@ -155,7 +155,7 @@ key_goes names lv pl sg s p q e (in_call l a b c) = tt
 key_goes names lv pl sg s p q e (in_index l a b) = tt
 key_goes names lv pl sg s p q e (in_value l a b c d) = tt
 key_goes names lv pl sg s p q e (in_guard l f a b) = tt
-key_goes names lv pl sg s p q e (in_yes l m f a b c) = tt
+key_goes names lv pl sg s p q e (in_then l m f a b c) = tt
 
 key_if_goes : {src : List ℕ} {w : Wanted} {ts : List Lexeme} {f : Frame} {st : List Frame} (names : Names) (sg : Signs) (s : WordsState) (p : Spot) (k : TokenKind) (q : Spot) → names.finish src s ≡ Some (if_path src p) → BegunStack src w ts (f ∷ st) →
     After src names w (ts ++ (one kind.If p ++ one k q)) (planned (key_plan (stack_shape (f ∷ st)) k) (λ a. word_act src names (f ∷ st) (fresh []) place.Key sg s a record { kind = k; start = q.start; end = q.end; text = q.text }))
@@ -163,7 +163,7 @@ key_if_goes names sg s p kind.Colon q e a = key_goes names (fresh []) place.Key 
 key_if_goes {src = src} {w = w} {ts = ts} {f = f} {st = st} names sg s p k q e a =
     guards src names w (ts ++ (one kind.If p ++ one k q)) (f ∷ st) (fresh []) place.Key sg s (if_path src p) record { kind = k; start = q.start; end = q.end; text = q.text } e (guard_goes names p record { kind = k; start = q.start; end = q.end; text = q.text } refl a no_branch)
 
-if_goes : {src : List ℕ} {w : Wanted} {ts us : List Lexeme} {st : List Frame} {lv : Levels} {pl : Place} {sg : Signs} (names : Names) (s : WordsState) (p : Spot) (t : Lexeme) → names.finish src s ≡ Some (if_path src p) → BegunStack src w ts st → Wants src w us st lv pl sg →
+if_goes : {src : List ℕ} {w : Wanted} {ts us : List Lexeme} {st : List Frame} {lv : Levels} {pl : OperandPlace} {sg : Signs} (names : Names) (s : WordsState) (p : Spot) (t : Lexeme) → names.finish src s ≡ Some (if_path src p) → BegunStack src w ts st → Wants src w us st lv pl sg →
     After src names w (ts ++ (us ++ (one kind.If p ++ t ∷ []))) (planned (if_plan w (stack_shape st) (left_shape lv.relation) pl t.kind) (λ a. word_act src names st lv pl sg s a t))
 if_goes {src = src} {w = w} {st = st} {lv = lv} names s p t e a (at_expr f b) = guards src names w _ st lv place.Expr no_signs s (if_path src p) t e (guard_goes names p t f a b)
 if_goes {src = src} {w = w} {st = st} {lv = lv} names s p t e a at_item = guards src names w _ st lv place.Item no_signs s (if_path src p) t e (guard_goes names p t refl a no_branch)
@@ -177,11 +177,11 @@ if_goes names s p t e a (at_primary f) = tt
 
 -- words that ended before this token
 
-abbrev EndedGoes : List ℕ → Names → Wanted → List Lexeme → List Lexeme → List Lexeme → List Frame → Levels → Place → Signs → WordsState → NameOrEntity → Lexeme → Type 0
+abbrev EndedGoes : List ℕ → Names → Wanted → List Lexeme → List Lexeme → List Lexeme → List Frame → Levels → OperandPlace → Signs → WordsState → NameOrEntity → Lexeme → Type 0
 EndedGoes src names w ts us vs st lv pl sg s x t =
     After src names w (ts ++ (us ++ (vs ++ t ∷ []))) (planned (ended_words_plan w (stack_shape st) (left_shape lv.relation) pl (Some (named_is_if x)) t.kind) (λ a. word_act src names st lv pl sg s a t))
 
-operand_goes : {src : List ℕ} {w : Wanted} {ts us vs : List Lexeme} {st : List Frame} {lv : Levels} {pl : Place} {sg : Signs} {x : Primary} (names : Names) (s : WordsState) (y : NameOrEntity) (t : Lexeme) → names.finish src s ≡ Some y → named_operand src sg y ≡ operand_of src sg (closed vs x) →
+operand_goes : {src : List ℕ} {w : Wanted} {ts us vs : List Lexeme} {st : List Frame} {lv : Levels} {pl : OperandPlace} {sg : Signs} {x : Primary} (names : Names) (s : WordsState) (y : NameOrEntity) (t : Lexeme) → names.finish src s ≡ Some y → named_operand src sg y ≡ operand_of src sg (closed vs x) →
     BegunStack src w ts st → Wants src w us st lv pl sg → ReadsPrimary src vs x →
     After src names w (ts ++ (us ++ (vs ++ t ∷ []))) (planned (settle_plan (behind_plan w (stack_shape st) (left_shape lv.relation) false t.kind)) (λ a. word_act src names st lv pl sg s a t))
 operand_goes {src = src} {w = w} {ts = ts} {us = us} {vs = vs} {st = st} {lv = lv} {pl = pl} {sg = sg} {x = x} names s y t e i a b r =
@@ -193,10 +193,10 @@ operand_goes {src = src} {w = w} {ts = ts} {us = us} {vs = vs} {st = st} {lv = l
 abbrev pub word_path : List ℕ → TokenKind → Spot → Ident → NameOrEntity
 word_path src k p i = named_as.path (closed (one k p) (name_of [] (placed src (one k p) i)))
 
-abbrev AloneGoes : List ℕ → Names → Wanted → List Lexeme → List Lexeme → List Frame → Levels → Place → Signs → WordsState → TokenKind → Spot → Ident → Lexeme → Type 0
+abbrev AloneGoes : List ℕ → Names → Wanted → List Lexeme → List Lexeme → List Frame → Levels → OperandPlace → Signs → WordsState → TokenKind → Spot → Ident → Lexeme → Type 0
 AloneGoes src names w ts us st lv pl sg s k p i t = names.finish src s ≡ Some (word_path src k p i) → EndedGoes src names w ts us (one k p) st lv pl sg s (word_path src k p i) t
 
-alone_goes : {src : List ℕ} {w : Wanted} {ts us : List Lexeme} {st : List Frame} {lv : Levels} {pl : Place} {sg : Signs} (names : Names) (s : WordsState) (t : Lexeme) (k : TokenKind) (p : Spot) (i : Ident) → any_of k p.text ≡ Some i → BegunStack src w ts st → Wants src w us st lv pl sg →
+alone_goes : {src : List ℕ} {w : Wanted} {ts us : List Lexeme} {st : List Frame} {lv : Levels} {pl : OperandPlace} {sg : Signs} (names : Names) (s : WordsState) (t : Lexeme) (k : TokenKind) (p : Spot) (i : Ident) → any_of k p.text ≡ Some i → BegunStack src w ts st → Wants src w us st lv pl sg →
     AloneGoes src names w ts us st lv pl sg s k p i t
 alone_goes {src = src} {w = w} {ts = ts} {us = us} {st = st} {lv = lv} {pl = pl} {sg = sg} names s t k p ident.True e a b =
     subst (λ j. AloneGoes src names w ts us st lv pl sg s j p ident.True t) (sym (true_kind k p.text e)) (λ f. operand_goes names s (word_path src kind.True p ident.True) t f refl a b (literally (truth p)))
@@ -206,7 +206,7 @@ alone_goes {src = src} {w = w} {ts = ts} {us = us} {st = st} {lv = lv} {pl = pl}
     subst (λ j. AloneGoes src names w ts us st lv pl sg s j p ident.If t) (sym (if_kind k p.text e)) (λ f. if_goes names s p t f a b)
 alone_goes {src = src} names s t k p i e a b = λ f. operand_goes names s (word_path src k p i) t f refl a b (named (common_name (any p e) refl))
 
-named_goes : {src : List ℕ} {w : Wanted} {ts us vs : List Lexeme} {st : List Frame} {lv : Levels} {pl : Place} {sg : Signs} {x : NameOrEntity} (names : Names) (s : WordsState) (t : Lexeme) → names.finish src s ≡ Some x → BegunStack src w ts st → Wants src w us st lv pl sg → ReadsNamed src vs x →
+named_goes : {src : List ℕ} {w : Wanted} {ts us vs : List Lexeme} {st : List Frame} {lv : Levels} {pl : OperandPlace} {sg : Signs} {x : NameOrEntity} (names : Names) (s : WordsState) (t : Lexeme) → names.finish src s ≡ Some x → BegunStack src w ts st → Wants src w us st lv pl sg → ReadsNamed src vs x →
     EndedGoes src names w ts us vs st lv pl sg s x t
 named_goes {x = x} names s t e a b (a_ref r) = operand_goes names s x t e refl a b (referred r)
 named_goes names s t e a b (a_path (one_word (any {k = k} {i = i} p f))) = alone_goes names s t k p i f a b e
@@ -216,12 +216,12 @@ named_goes {src = src} {w = w} {ts = ts} {us = us} {vs = vs} {st = st} {lv = lv}
 
 -- words that go on, or that have ended
 
-words_go : {src : List ℕ} {w : Wanted} {ts us : List Lexeme} {st : List Frame} {lv : Levels} {pl : Place} {sg : Signs} (names : Names) (vs : List Lexeme) (s : WordsState) (t : Lexeme) (a : WordsAct) (o : Option WordsState) → names.plan s t.kind ≡ Some a → names.act src s a t ≡ o →
+words_go : {src : List ℕ} {w : Wanted} {ts us : List Lexeme} {st : List Frame} {lv : Levels} {pl : OperandPlace} {sg : Signs} (names : Names) (vs : List Lexeme) (s : WordsState) (t : Lexeme) (a : WordsAct) (o : Option WordsState) → names.plan s t.kind ≡ Some a → names.act src s a t ≡ o →
     BegunStack src w ts st → Wants src w us st lv pl sg → Comes (machine_of src names) vs s → After src names w (ts ++ (us ++ (vs ++ t ∷ []))) (option_image (λ v. word_held st lv pl sg v) o)
 words_go {src = src} names vs s t a (Some v) e f x y c = is_worded (vs ++ t ∷ []) x y (comes_on (machine_of src names) vs s v t c (takes src names s v a t e f))
 words_go names vs s t a None e f x y c = tt
 
-word_goes : {W K : Type 0} {src : List ℕ} {w : Wanted} {ts us : List Lexeme} {st : List Frame} {lv : Levels} {pl : Place} {sg : Signs} {names : Names} {n : WordOutline W K} {f : WordsState → W} {g : NameOrEntity → K} → Held src names n f g → (vs : List Lexeme) (s : WordsState) (t : Lexeme) →
+word_goes : {W K : Type 0} {src : List ℕ} {w : Wanted} {ts us : List Lexeme} {st : List Frame} {lv : Levels} {pl : OperandPlace} {sg : Signs} {names : Names} {n : WordOutline W K} {f : WordsState → W} {g : NameOrEntity → K} → Held src names n f g → (vs : List Lexeme) (s : WordsState) (t : Lexeme) →
     BegunStack src w ts st → Wants src w us st lv pl sg → Comes (machine_of src names) vs s →
     After src names w (ts ++ (us ++ (vs ++ t ∷ []))) (planned (word_plan w n (stack_shape st) (left_shape lv.relation) pl (f s) t.kind) (λ a. word_act src names st lv pl sg s a t))
 word_goes {K = K} {src = src} {w = w} {ts = ts} {us = us} {st = st} {lv = lv} {pl = pl} {sg = sg} {names = names} {n = n} {f = f} {g = g} h vs s t a b c =
@@ -262,7 +262,7 @@ follows : (src : List ℕ) (names : Names) (w : Wanted) (ts : List Lexeme) (st :
 follows src names w ts st lv m t true o h = h
 follows src names w ts st lv m t false o h = tt
 
-begins : (src : List ℕ) (names : Names) (w : Wanted) (ts : List Lexeme) (st : List Frame) (lv : Levels) (pl : Place) (sg : Signs) (t : Lexeme) (o : Option Begin) → After src names w ts (planned o (λ b. begin_act src names st lv pl sg b t)) →
+begins : (src : List ℕ) (names : Names) (w : Wanted) (ts : List Lexeme) (st : List Frame) (lv : Levels) (pl : OperandPlace) (sg : Signs) (t : Lexeme) (o : Option Begin) → After src names w ts (planned o (λ b. begin_act src names st lv pl sg b t)) →
     After src names w ts (planned (option_image (λ b. act.Begin b) o) (λ a. want_act src names st lv pl sg a t))
 begins src names w ts st lv pl sg t (Some b) h = h
 begins src names w ts st lv pl sg t None h = tt

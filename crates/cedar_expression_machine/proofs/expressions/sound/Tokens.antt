@@ -9,8 +9,8 @@ use Rattle.cedar_grammar.specs.declared.reading.class.Sign.{Sign}
 use Rattle.cedar_grammar.specs.declared.reading.class.Sign.TheVariants as sign
 use Rattle.cedar_grammar.specs.declared.reading.class.Operator.TheVariants as operator
 use Rattle.cedar_grammar.specs.declared.reading.class.Closing.TheVariants as closing
-use Rattle.cedar_grammar.specs.declared.reading.class.Access.{Access}
-use Rattle.cedar_grammar.specs.declared.reading.class.Access.TheVariants as opens
+use Rattle.cedar_grammar.specs.declared.reading.class.AccessStart.{AccessStart}
+use Rattle.cedar_grammar.specs.declared.reading.class.AccessStart.TheVariants as opens
 use Rattle.cedar_expression_machine.specs.machines.Named.{NameOrEntity}
 use Rattle.cedar_expression_machine.specs.declared.words.state.WordsState.{WordsState}
 use Rattle.cedar_expression_machine.specs.declared.words.state.WordsAct.{WordsAct}
@@ -19,7 +19,7 @@ use Rattle.cedar_expression_machine.specs.declared.expression.state.Levels.{Leve
 use Rattle.cedar_expression_machine.specs.declared.expression.state.Signs.{Signs}
 use Rattle.cedar_expression_machine.specs.declared.expression.state.Operand.{Operand}
 use Rattle.cedar_expression_machine.specs.declared.expression.state.Frame.{Frame}
-use Rattle.cedar_expression_machine.specs.declared.expression.state.Place.{Place}
+use Rattle.cedar_expression_machine.specs.declared.expression.state.OperandPlace.{OperandPlace}
 use Rattle.cedar_expression_machine.specs.declared.expression.state.State.{State}
 use Rattle.cedar_expression_machine.specs.declared.expression.state.Wanted.{Wanted}
 use Rattle.cedar_expression_machine.specs.declared.expression.state.Reach.{Reach}
@@ -50,7 +50,7 @@ use Rattle.cedar_expression_machine.proofs.expressions.sound.Brackets.{list_ende
 back : {src : List ℕ} {r : Reach} {us : List Lexeme} {lv : Levels} {m : Operand} (w : Wanted) (st : List Frame) → edge w st ≡ r → Longer src r us lv m → Longer src (edge w st) us lv m
 back {src = src} {us = us} {lv = lv} {m = m} w st e h = subst (λ q. Longer src q us lv m) (sym e) h
 
-abbrev AccessGoes : List ℕ → Reader WordsState WordsAct NameOrEntity → Wanted → List Lexeme → List Lexeme → List Frame → Levels → Operand → Access → TokenKind → Spot → Type 0
+abbrev AccessGoes : List ℕ → Reader WordsState WordsAct NameOrEntity → Wanted → List Lexeme → List Lexeme → List Frame → Levels → Operand → AccessStart → TokenKind → Spot → Type 0
 AccessGoes src names w ts us st lv m a k p = Begun src names w (ts ++ (us ++ one k p)) (access_beginning st lv m a (at p))
 
 dot_goes : {src : List ℕ} {w : Wanted} {ts us : List Lexeme} {st : List Frame} {lv : Levels} {m : Operand} (p : Spot) → BegunStack src w ts st → Longer src (edge w st) us lv m → (names : Reader WordsState WordsAct NameOrEntity) →
@@ -65,7 +65,7 @@ index_goes : {src : List ℕ} {w : Wanted} {ts us : List Lexeme} {st : List Fram
     AccessGoes src names w ts us st lv m opens.Bracket kind.OpenBracket p
 index_goes p a h names = opens_in (in_index p a h)
 
-access_had_begun : {src : List ℕ} {us : List Lexeme} {r : Reach} {lv : Levels} {m : Operand} (w : Wanted) (ts : List Lexeme) (st : List Frame) (a : Access) (k : TokenKind) (p : Spot) → edge w st ≡ r → (names : Reader WordsState WordsAct NameOrEntity) →
+access_had_begun : {src : List ℕ} {us : List Lexeme} {r : Reach} {lv : Levels} {m : Operand} (w : Wanted) (ts : List Lexeme) (st : List Frame) (a : AccessStart) (k : TokenKind) (p : Spot) → edge w st ≡ r → (names : Reader WordsState WordsAct NameOrEntity) →
     (Longer src (edge w st) us lv m → AccessGoes src names w ts us st lv m a k p) → Holds src r us lv m → After src names w (ts ++ (us ++ one k p)) (had src st lv m (cond m.is_if reach.If r) (operator.Access a) (at p))
 access_had_begun w ts st a k p e names go (holds (whole_longer b (begun_operand x y z))) = go (back w st e (whole_longer b (begun_operand x y z)))
 access_had_begun w ts st a k p e names go (holds (sum_longer b (begun_operand x y z))) = go (back w st e (sum_longer b (begun_operand x y z)))
@@ -144,10 +144,10 @@ opens_dash {sg = sg} p e a (opens_whole {ts = us} {us = vs} b c) names = after_s
 opens_dash {sg = sg} p e a (opens_sum {ts = us} {us = vs} b c) names = after_sign us vs kind.Minus reach.Sum p sg.extent (with_sign sg.op sign.Dash) e a (λ sg h. opens_sum b h) (dash_signs c p) names
 
 -- where its plan has it
-abbrev sign_read : List Frame → Levels → Place → Signs → Sign → Extent → Option State
+abbrev sign_read : List Frame → Levels → OperandPlace → Signs → Sign → Extent → Option State
 sign_read st lv pl sg s e = cond (sign_may_stand pl (op_sign sg.op) s) (sign_reading st lv sg s e) None
 
-bang_begun : {src : List ℕ} {w : Wanted} {ts us : List Lexeme} {st : List Frame} {lv : Levels} {pl : Place} {sg : Signs} (p : Spot) → BegunStack src w ts st → Wants src w us st lv pl sg → (names : Reader WordsState WordsAct NameOrEntity) →
+bang_begun : {src : List ℕ} {w : Wanted} {ts us : List Lexeme} {st : List Frame} {lv : Levels} {pl : OperandPlace} {sg : Signs} (p : Spot) → BegunStack src w ts st → Wants src w us st lv pl sg → (names : Reader WordsState WordsAct NameOrEntity) →
     After src names w (ts ++ (us ++ one kind.Bang p)) (sign_read st lv pl sg sign.Bang (at p))
 bang_begun p a (at_expr e b) names = opens_bang p e a (unsigned_whole (fresh_levels b)) names
 bang_begun p a at_item names = opens_bang p refl a (unsigned_whole (fresh_levels no_branch)) names
@@ -156,7 +156,7 @@ bang_begun p a (at_has e b) names = opens_bang p e a (unsigned_whole (has_levels
 bang_begun {src = src} {w = w} {sg = sg} p a (at_operand o) names = guarded src names w _ (may_sign (op_sign sg.op) sign.Bang) _ (opens_bang p refl a o names)
 bang_begun p a (at_primary e) names = tt
 
-dash_begun : {src : List ℕ} {w : Wanted} {ts us : List Lexeme} {st : List Frame} {lv : Levels} {pl : Place} {sg : Signs} (p : Spot) → BegunStack src w ts st → Wants src w us st lv pl sg → (names : Reader WordsState WordsAct NameOrEntity) →
+dash_begun : {src : List ℕ} {w : Wanted} {ts us : List Lexeme} {st : List Frame} {lv : Levels} {pl : OperandPlace} {sg : Signs} (p : Spot) → BegunStack src w ts st → Wants src w us st lv pl sg → (names : Reader WordsState WordsAct NameOrEntity) →
     After src names w (ts ++ (us ++ one kind.Minus p)) (sign_read st lv pl sg sign.Dash (at p))
 dash_begun p a (at_expr e b) names = opens_dash p e a (unsigned_whole (fresh_levels b)) names
 dash_begun p a at_item names = opens_dash p refl a (unsigned_whole (fresh_levels no_branch)) names
@@ -167,7 +167,7 @@ dash_begun p a (at_primary e) names = tt
 
 -- a list that ends before an item
 
-end_paren : {src : List ℕ} {w : Wanted} {ts us : List Lexeme} {st : List Frame} {lv : Levels} {pl : Place} {sg : Signs} (p : Spot) → BegunStack src w ts st → Wants src w us st lv pl sg → (names : Reader WordsState WordsAct NameOrEntity) →
+end_paren : {src : List ℕ} {w : Wanted} {ts us : List Lexeme} {st : List Frame} {lv : Levels} {pl : OperandPlace} {sg : Signs} (p : Spot) → BegunStack src w ts st → Wants src w us st lv pl sg → (names : Reader WordsState WordsAct NameOrEntity) →
     After src names w (ts ++ (us ++ one kind.CloseParen p)) (list_ended src st pl closing.Paren (at p))
 end_paren p a at_item names = call_begun p a names
 end_paren p a (at_expr e b) names = tt
@@ -176,7 +176,7 @@ end_paren p a (at_has e b) names = tt
 end_paren p a (at_operand o) names = tt
 end_paren p a (at_primary e) names = tt
 
-end_bracket : {src : List ℕ} {w : Wanted} {ts us : List Lexeme} {st : List Frame} {lv : Levels} {pl : Place} {sg : Signs} (p : Spot) → BegunStack src w ts st → Wants src w us st lv pl sg → (names : Reader WordsState WordsAct NameOrEntity) →
+end_bracket : {src : List ℕ} {w : Wanted} {ts us : List Lexeme} {st : List Frame} {lv : Levels} {pl : OperandPlace} {sg : Signs} (p : Spot) → BegunStack src w ts st → Wants src w us st lv pl sg → (names : Reader WordsState WordsAct NameOrEntity) →
     After src names w (ts ++ (us ++ one kind.CloseBracket p)) (list_ended src st pl closing.Bracket (at p))
 end_bracket p a at_item names = items_begun p a names
 end_bracket p a (at_expr e b) names = tt
@@ -185,7 +185,7 @@ end_bracket p a (at_has e b) names = tt
 end_bracket p a (at_operand o) names = tt
 end_bracket p a (at_primary e) names = tt
 
-end_brace : {src : List ℕ} {w : Wanted} {ts us : List Lexeme} {st : List Frame} {lv : Levels} {pl : Place} {sg : Signs} (p : Spot) → BegunStack src w ts st → Wants src w us st lv pl sg → (names : Reader WordsState WordsAct NameOrEntity) →
+end_brace : {src : List ℕ} {w : Wanted} {ts us : List Lexeme} {st : List Frame} {lv : Levels} {pl : OperandPlace} {sg : Signs} (p : Spot) → BegunStack src w ts st → Wants src w us st lv pl sg → (names : Reader WordsState WordsAct NameOrEntity) →
     After src names w (ts ++ (us ++ one kind.CloseBrace p)) (list_ended src st pl closing.Brace (at p))
 end_brace p a at_key names = keys_begun p a names
 end_brace p a (at_expr e b) names = tt
@@ -207,16 +207,16 @@ if_planned : {A : Type 0} (src : List ℕ) (names : Reader WordsState WordsAct N
 if_planned src names w ts true a f h = h
 if_planned src names w ts false a f h = tt
 
-abbrev pub wanting : List ℕ → Reader WordsState WordsAct NameOrEntity → List Frame → Levels → Place → Signs → Lexeme → Option State
+abbrev pub wanting : List ℕ → Reader WordsState WordsAct NameOrEntity → List Frame → Levels → OperandPlace → Signs → Lexeme → Option State
 wanting src names st lv pl sg t = planned (operand_plan (stack_shape st) pl (op_sign sg.op) t.kind) (λ b. begin_act src names st lv pl sg b t)
 
 -- the machine of words begins with this token
-begun_word : {src : List ℕ} {w : Wanted} {ts us : List Lexeme} {st : List Frame} {lv : Levels} {pl : Place} {sg : Signs} (names : Reader WordsState WordsAct NameOrEntity) (vs : List Lexeme) (o : Option WordsState) → ((s : WordsState) → o ≡ Some s → Comes (machine_of src names) vs s) →
+begun_word : {src : List ℕ} {w : Wanted} {ts us : List Lexeme} {st : List Frame} {lv : Levels} {pl : OperandPlace} {sg : Signs} (names : Reader WordsState WordsAct NameOrEntity) (vs : List Lexeme) (o : Option WordsState) → ((s : WordsState) → o ≡ Some s → Comes (machine_of src names) vs s) →
     BegunStack src w ts st → Wants src w us st lv pl sg → After src names w (ts ++ (us ++ vs)) (option_image (λ v. word_held st lv pl sg v) o)
 begun_word names vs (Some s) f a b = is_worded vs a b (f s refl)
 begun_word names vs None f a b = tt
 
-number_begun : {src : List ℕ} {w : Wanted} {ts us : List Lexeme} {st : List Frame} {lv : Levels} {pl : Place} {sg : Signs} (p : Spot) → BegunStack src w ts st → Wants src w us st lv pl sg → (names : Reader WordsState WordsAct NameOrEntity) →
+number_begun : {src : List ℕ} {w : Wanted} {ts us : List Lexeme} {st : List Frame} {lv : Levels} {pl : OperandPlace} {sg : Signs} (p : Spot) → BegunStack src w ts st → Wants src w us st lv pl sg → (names : Reader WordsState WordsAct NameOrEntity) →
     After src names w (ts ++ (us ++ one kind.Number p)) (number_reading src st lv sg (fits p.text) (number_token p))
 number_begun {src = src} {w = w} {ts = ts} {us = us} {st = st} {lv = lv} {pl = pl} {sg = sg} p a b names = go (fits p.text) refl
   where
@@ -224,7 +224,7 @@ number_begun {src = src} {w = w} {ts = ts} {us = us} {st = st} {lv = lv} {pl = p
     go true e = is_primary_had a (wants_leads b) (literally (number p e))
     go false e = tt
 
-pub wanted_begun : {src : List ℕ} {w : Wanted} {ts us : List Lexeme} {st : List Frame} {lv : Levels} {pl : Place} {sg : Signs} → BegunStack src w ts st → Wants src w us st lv pl sg →
+pub wanted_begun : {src : List ℕ} {w : Wanted} {ts us : List Lexeme} {st : List Frame} {lv : Levels} {pl : OperandPlace} {sg : Signs} → BegunStack src w ts st → Wants src w us st lv pl sg →
     (names : Reader WordsState WordsAct NameOrEntity) (k : TokenKind) (p : Spot) → ((s : WordsState) → first_words src names (token k p) ≡ Some s → Comes (machine_of src names) (one k p) s) →
     After src names w (ts ++ (us ++ one k p)) (wanting src names st lv pl sg (token k p))
 wanted_begun a b names kind.True p f = begun_word names (one kind.True p) (first_words _ names (token kind.True p)) f a b

@@ -17,8 +17,8 @@ use Rattle.cedar_expression_machine.specs.declared.expression.state.Levels.{Leve
 use Rattle.cedar_expression_machine.specs.declared.expression.state.Signs.{Signs}
 use Rattle.cedar_expression_machine.specs.declared.expression.state.Operand.{Operand}
 use Rattle.cedar_expression_machine.specs.declared.expression.state.Frame.{Frame}
-use Rattle.cedar_expression_machine.specs.declared.expression.state.Place.{Place}
-use Rattle.cedar_expression_machine.specs.declared.expression.state.Place.TheVariants as place
+use Rattle.cedar_expression_machine.specs.declared.expression.state.OperandPlace.{OperandPlace}
+use Rattle.cedar_expression_machine.specs.declared.expression.state.OperandPlace.TheVariants as place
 use Rattle.cedar_expression_machine.specs.declared.expression.state.State.{State}
 use Rattle.cedar_expression_machine.specs.declared.expression.state.Wanted.{Wanted}
 use Rattle.cedar_expression_machine.specs.declared.expression.state.Wanted.TheVariants as form
@@ -36,7 +36,7 @@ use Rattle.cedar_expression_machine.specs.machines.ExpressionPlans.{alone_reach,
 use Rattle.cedar_expression_machine.specs.machines.Expressions.{alone_is_if, alone_operand, with_words, named_at_end, last_operand, expr_at_end, sum_at_end, primary_at_end, expression_reader, sum_reader, primary_reader}
 use Rattle.cedar_expression_machine.specs.machines.ExpressionShapes.{WordOutline}
 use Rattle.cedar_expression_machine.proofs.expressions.Held.{Held}
-use Rattle.cedar_expression_machine.proofs.expressions.sound.Begun.{at, closed, Reading, no_mult, no_add, no_branch, in_sum, begun_if, whole_longer, sum_longer, if_longer, Holds, holds, holds_primary, bottom, in_paren, in_set, in_call, in_index, in_key, in_value, in_guard, in_yes, Wants, at_expr, at_item, at_key, at_has, at_operand, at_primary, Begun, is_wanting, is_worded, is_dotted, is_had}
+use Rattle.cedar_expression_machine.proofs.expressions.sound.Begun.{at, closed, Reading, no_mult, no_add, no_branch, in_sum, begun_if, whole_longer, sum_longer, if_longer, Holds, holds, holds_primary, bottom, in_paren, in_set, in_call, in_index, in_key, in_value, in_guard, in_then, Wants, at_expr, at_item, at_key, at_has, at_operand, at_primary, Begun, is_wanting, is_worded, is_dotted, is_had}
 use Rattle.cedar_expression_machine.proofs.expressions.sound.Closing.{sum_close}
 use Rattle.cedar_expression_machine.proofs.expressions.sound.Operators.{moved, leads_to, unsigned_sum, wants_leads, opens_expr}
 use Rattle.cedar_expression_machine.proofs.expressions.sound.Brackets.{holds_whole}
@@ -46,10 +46,10 @@ use Rattle.cedar_grammar.proofs.machines.Laws.{some_is, none_some, steps-none}
 
 -- the last operand, with all that is begun before it
 
-abbrev LastIs : List ℕ → Wanted → List Lexeme → List Lexeme → List Frame → Levels → Place → Signs → NameOrEntity → Type 0
+abbrev LastIs : List ℕ → Wanted → List Lexeme → List Lexeme → List Frame → Levels → OperandPlace → Signs → NameOrEntity → Type 0
 LastIs src w us vs st lv pl sg x = IfSome (named_at_end src pl sg x) (λ m. Holds src (edge w st) (us ++ vs) lv m)
 
-if_at_last : {src : List ℕ} {w : Wanted} {us : List Lexeme} {st : List Frame} {lv : Levels} {pl : Place} {sg : Signs} (p : Spot) → Wants src w us st lv pl sg → LastIs src w us (one kind.If p) st lv pl sg (word_path src kind.If p ident.If)
+if_at_last : {src : List ℕ} {w : Wanted} {us : List Lexeme} {st : List Frame} {lv : Levels} {pl : OperandPlace} {sg : Signs} (p : Spot) → Wants src w us st lv pl sg → LastIs src w us (one kind.If p) st lv pl sg (word_path src kind.If p ident.If)
 if_at_last {src = src} {us = us} {lv = lv} p (at_has e b) = subst (λ r. Holds src r (us ++ one kind.If p) lv (if_operand src (Some (at p)))) (sym e) (holds (if_longer b (begun_if p no_access)))
 if_at_last p (at_expr e b) = tt
 if_at_last p at_item = tt
@@ -57,10 +57,10 @@ if_at_last p at_key = tt
 if_at_last p (at_operand o) = tt
 if_at_last p (at_primary e) = tt
 
-abbrev AloneLast : List ℕ → Wanted → List Lexeme → List Frame → Levels → Place → Signs → TokenKind → Spot → Ident → Type 0
+abbrev AloneLast : List ℕ → Wanted → List Lexeme → List Frame → Levels → OperandPlace → Signs → TokenKind → Spot → Ident → Type 0
 AloneLast src w us st lv pl sg k p i = LastIs src w us (one k p) st lv pl sg (word_path src k p i)
 
-alone_last : {src : List ℕ} {w : Wanted} {us : List Lexeme} {st : List Frame} {lv : Levels} {pl : Place} {sg : Signs} (k : TokenKind) (p : Spot) (i : Ident) → any_of k p.text ≡ Some i → Wants src w us st lv pl sg → AloneLast src w us st lv pl sg k p i
+alone_last : {src : List ℕ} {w : Wanted} {us : List Lexeme} {st : List Frame} {lv : Levels} {pl : OperandPlace} {sg : Signs} (k : TokenKind) (p : Spot) (i : Ident) → any_of k p.text ≡ Some i → Wants src w us st lv pl sg → AloneLast src w us st lv pl sg k p i
 alone_last {src = src} {w = w} {us = us} {st = st} {lv = lv} {pl = pl} {sg = sg} k p ident.True e b =
     subst (λ j. AloneLast src w us st lv pl sg j p ident.True) (sym (true_kind k p.text e)) (leads_to (wants_leads b) (literally (truth p)))
 alone_last {src = src} {w = w} {us = us} {st = st} {lv = lv} {pl = pl} {sg = sg} k p ident.False e b =
@@ -69,14 +69,14 @@ alone_last {src = src} {w = w} {us = us} {st = st} {lv = lv} {pl = pl} {sg = sg}
     subst (λ j. AloneLast src w us st lv pl sg j p ident.If) (sym (if_kind k p.text e)) (if_at_last p b)
 alone_last k p _ e b = leads_to (wants_leads b) (named (common_name (any p e) refl))
 
-named_last : {src : List ℕ} {w : Wanted} {us vs : List Lexeme} {st : List Frame} {lv : Levels} {pl : Place} {sg : Signs} {x : NameOrEntity} → Wants src w us st lv pl sg → ReadsNamed src vs x → LastIs src w us vs st lv pl sg x
+named_last : {src : List ℕ} {w : Wanted} {us vs : List Lexeme} {st : List Frame} {lv : Levels} {pl : OperandPlace} {sg : Signs} {x : NameOrEntity} → Wants src w us st lv pl sg → ReadsNamed src vs x → LastIs src w us vs st lv pl sg x
 named_last b (a_ref r) = leads_to (wants_leads b) (referred r)
 named_last b (a_path (one_word (any {k = k} {i = i} p e))) = alone_last k p i e b
 named_last {src = src} {w = w} {us = us} {vs = vs} {st = st} {lv = lv} {pl = pl} {sg = sg} b (a_path (more_words {us = ws} {xs = xs} {x = x} {i = i} p r h)) =
     subst (λ q. IfSome (cond (if_ends pl (alone_is_if q)) (Some (alone_operand src sg (closed vs (name_of (xs ++ x ∷ []) (placed src ws i))) q)) None) (λ m. Holds src (edge w st) (us ++ vs) lv m)) (sym (path_name xs x (placed src ws i)))
     (leads_to (wants_leads b) (named (qualified p r h)))
 
-words_last : {src : List ℕ} {w : Wanted} {us : List Lexeme} {st : List Frame} {lv : Levels} {pl : Place} {sg : Signs} (names : Names) → Door (machine_of src names) (ReadsNamed src) → (vs : List Lexeme) (s : WordsState) → Wants src w us st lv pl sg → Comes (machine_of src names) vs s →
+words_last : {src : List ℕ} {w : Wanted} {us : List Lexeme} {st : List Frame} {lv : Levels} {pl : OperandPlace} {sg : Signs} (names : Names) → Door (machine_of src names) (ReadsNamed src) → (vs : List Lexeme) (s : WordsState) → Wants src w us st lv pl sg → Comes (machine_of src names) vs s →
     IfSome (with_words (names.finish src s) (λ x. named_at_end src pl sg x)) (λ m. Holds src (edge w st) (us ++ vs) lv m)
 words_last {src = src} {w = w} {us = us} {st = st} {lv = lv} {pl = pl} {sg = sg} names d vs s b c = go (names.finish src s) refl
   where
@@ -120,10 +120,10 @@ last_begun names d (is_had (in_guard l e a x) b) = tt
 last_begun names d (is_worded vs (in_guard l e a x) b c) = tt
 last_begun names d (is_wanting (in_guard l e a x) b) = tt
 last_begun names d (is_dotted i (in_guard l e a x) b) = tt
-last_begun names d (is_had (in_yes l m e a x y) b) = tt
-last_begun names d (is_worded vs (in_yes l m e a x y) b c) = tt
-last_begun names d (is_wanting (in_yes l m e a x y) b) = tt
-last_begun names d (is_dotted i (in_yes l m e a x y) b) = tt
+last_begun names d (is_had (in_then l m e a x y) b) = tt
+last_begun names d (is_worded vs (in_then l m e a x y) b c) = tt
+last_begun names d (is_wanting (in_then l m e a x y) b) = tt
+last_begun names d (is_dotted i (in_then l m e a x y) b) = tt
 
 -- a run over tokens
 

@@ -1,7 +1,7 @@
 //! Accesses behind an operand: a field, a call, an index.
 ghost use Rattle.std.specs.Prelude.{◌≡◌, Some, OnOk};
 ghost use Rattle.cedar_lexer.specs.Token.{lexeme_of};
-ghost use Rattle.cedar_grammar.specs.declared.reading.class.Access.TheVariants as opens;
+ghost use Rattle.cedar_grammar.specs.declared.reading.class.AccessStart.TheVariants as opens;
 ghost use Rattle.cedar_grammar.specs.declared.reading.class.Closing.TheVariants as closing;
 ghost use Rattle.cedar_grammar.specs.declared.reading.class.Operator.TheVariants as operators;
 ghost use Rattle.cedar_expression_machine.specs.declared.expression.state.Act.TheVariants as acts;
@@ -13,12 +13,12 @@ ghost use Rattle.cedar_expression_machine.specs.machines.Named.{named_reader};
 ghost use Rattle.cedar_expression_machine.specs.machines.Wanting.{call_closing};
 ghost use Rattle.cedar_expression_machine.specs.machines.WholeExpressions.{IsPlanned};
 
-use crate::expression::brackets::paren::around;
+use crate::expression::brackets::paren::bracket_extent;
 use crate::expression::levels::begin::have;
-use crate::expression::state::{Call, Frame, Index, Mode, Operand, Place, Ranged, State};
+use crate::expression::state::{Call, Frame, Index, Mode, Operand, OperandPlace, Ranged, State};
 use crate::ground::Ground;
 use cedar_expressions::Items;
-use cedar_grammar::reading::extent::{Extent, joined};
+use cedar_grammar::reading::extent::{Extent, join_extents};
 use cedar_grammar::reading::place::token_extent;
 use cedar_grammar::reading::put::put;
 use cedar_grammar::reading::tokens::ident_node;
@@ -32,7 +32,7 @@ impl Operand {
     pub fn push(&mut self, ground: Ground<'_>, access: Ranged<MemAccess>) -> Result<(), AllocError>
         ensures { OnOk result (self.new ≡ with_access ground.entry.source.now self.old access) }
     {
-        self.extent = joined(self.extent, access.extent);
+        self.extent = join_extents(self.extent, access.extent);
         self.access.push(ground.node_of(access)?)
     }
 }
@@ -66,7 +66,7 @@ impl State {
         ensures { (src : _) → OnOk result (Some self.new
             ≡ followed src self.old (operators.Access opens.Paren) opened) }
     {
-        let operand = self.take_operand(Place::Item);
+        let operand = self.take_operand(OperandPlace::Item);
         let outer = self.take_levels(alloc);
         let items = Items::new(alloc);
         self.stack.push(Frame::Call(Call {
@@ -84,7 +84,7 @@ impl State {
         ensures { (src : _) → OnOk result (Some self.new
             ≡ followed src self.old (operators.Access opens.Bracket) opened) }
     {
-        let operand = self.take_operand(Place::Expr);
+        let operand = self.take_operand(OperandPlace::Expr);
         let outer = self.take_levels(alloc);
         self.stack.push(Frame::Index(Index {
             outer,
@@ -111,10 +111,10 @@ impl State {
             items,
         } = frame;
         let tree = MemAccess::Call(items);
-        let extent = around(opened, end);
+        let extent = bracket_extent(opened, end);
         operand.push(ground, Ranged { tree, extent })?;
         put(&mut self.levels, outer);
-        put(&mut self.mode, have(operand));
+        self.turn(have(operand));
         Ok(())
     }
 
@@ -136,10 +136,10 @@ impl State {
             opened,
         } = frame;
         let tree = MemAccess::Index(ground.node_of(item)?);
-        let extent = around(opened, end);
+        let extent = bracket_extent(opened, end);
         operand.push(ground, Ranged { tree, extent })?;
         put(&mut self.levels, outer);
-        put(&mut self.mode, have(operand));
+        self.turn(have(operand));
         Ok(())
     }
 
@@ -152,7 +152,7 @@ impl State {
     {
         match &mut self.mode {
             Mode::Have { operand, dot } => {
-                let extent = joined(*dot, Some(token_extent(token)));
+                let extent = join_extents(*dot, Some(token_extent(token)));
                 let field = ident_node(ground.alloc, ground.source, token)?;
                 let tree = MemAccess::Field(field);
                 operand.push(ground, Ranged { tree, extent })?;

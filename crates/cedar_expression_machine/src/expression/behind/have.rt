@@ -10,10 +10,11 @@ ghost use Rattle.cedar_expression_machine.specs.machines.Closing.{whole, node_of
 ghost use Rattle.cedar_expression_machine.specs.machines.ExpressionModes.{HasOperand, IsFollowed, followed};
 ghost use Rattle.cedar_expression_machine.specs.machines.ExpressionStates.{state, wants};
 
-use crate::expression::state::{Frame, Mark, Place, Ranged, State};
+use crate::expression::levels::alone::{expr_alone, places_of, upper_places};
+use crate::expression::state::{Frame, OperandPlace, OperatorAt, Ranged, State};
 use crate::ground::Ground;
-use cedar_grammar::reading::class::{Access, Closing, Operator};
-use cedar_grammar::reading::extent::Extent;
+use cedar_grammar::reading::class::{AccessStart, Closing, Operator};
+use cedar_grammar::reading::extent::{Extent, join_extents};
 use cedar_grammar::reading::place::token_extent;
 use cedar_lexer::token::Token;
 use cedar_syntax::cst::Expr;
@@ -24,7 +25,29 @@ impl State {
     /// The expression that ends with the operand; behind what ends it, an operand may be wanted at
     /// this place.
     #[inline(never)]
-    pub fn close(&mut self, ground: Ground<'_>, place: Place) -> Result<Ranged<Expr>, AllocError>
+    pub fn close(
+        &mut self,
+        ground: Ground<'_>,
+        place: OperandPlace,
+    ) -> Result<Ranged<Expr>, AllocError>
+        requires { HasOperand self.old.mode }
+        ensures closed { IfOk result (λ item. (m : _) → self.old.mode ≡ mode.Have m None
+            → item ≡ whole ground.entry.source.now self.old.levels m) }
+        ensures after { OnOk result (self.new ≡ state self.old.stack (fresh []) (wants place)) }
+    {
+        if self.levels.is_fresh() {
+            return self.close_alone(ground, place);
+        }
+        self.close_begun(ground, place)
+    }
+
+    /// The same, where some level is begun.
+    #[inline(never)]
+    fn close_begun(
+        &mut self,
+        ground: Ground<'_>,
+        place: OperandPlace,
+    ) -> Result<Ranged<Expr>, AllocError>
         requires { HasOperand self.old.mode }
         ensures closed { IfOk result (λ item. (m : _) → self.old.mode ≡ mode.Have m None
             → item ≡ whole ground.entry.source.now self.old.levels m) }
@@ -34,11 +57,33 @@ impl State {
         self.levels.close(ground, operand)
     }
 
+    /// The same, where the operand is all. It is taken out when nothing but the memory for the
+    /// tree can be refused any more, so that it is copied to where it stays.
+    #[inline(always)]
+    fn close_alone(
+        &mut self,
+        ground: Ground<'_>,
+        place: OperandPlace,
+    ) -> Result<Ranged<Expr>, AllocError>
+        requires operand { HasOperand self.old.mode }
+        requires levels { self.old.levels ≡ fresh [] }
+        ensures closed { IfOk result (λ item. (m : _) → self.old.mode ≡ mode.Have m None
+            → item ≡ whole ground.entry.source.now self.old.levels m) }
+        ensures after { OnOk result (self.new ≡ state self.old.stack (fresh []) (wants place)) }
+    {
+        let operand = self.operand();
+        let extent = join_extents(operand.signs.extent, operand.extent);
+        let places = places_of(ground, operand)?;
+        let upper = upper_places(ground, extent)?;
+        let tree = expr_alone(ground.alloc, self.take_operand(place), places, upper)?;
+        Ok(Ranged { tree, extent })
+    }
+
     /// The same as a node.
     pub fn close_node(
         &mut self,
         ground: Ground<'_>,
-        place: Place,
+        place: OperandPlace,
     ) -> Result<Node<Option<Expr>>, AllocError>
         requires { HasOperand self.old.mode }
         ensures closed { IfOk result (λ node. (m : _) → self.old.mode ≡ mode.Have m None
@@ -57,17 +102,17 @@ impl State {
         ensures { (end : _) → OnOk result (Some self.new ≡ followed ground.entry.source.now
             self.old (operators.Ends closing.Comma) end) }
     {
-        let item = self.close(ground, Place::Item)?;
+        let item = self.close(ground, OperandPlace::Item)?;
         match self.stack.top_mut() {
             Some(frame) => match frame {
                 Frame::Set(set) => set.push(ground, item),
                 Frame::Call(call) => call.push(ground, item),
                 Frame::Record(record) => {
                     record.push(ground, item)?;
-                    self.want_again(Place::Key);
+                    self.want_again(OperandPlace::Key);
                     Ok(())
                 }
-                Frame::Paren(_) | Frame::Index(_) | Frame::Guard(_) | Frame::Yes(_) => {
+                Frame::Paren(_) | Frame::Index(_) | Frame::Guard(_) | Frame::Then(_) => {
                     unreachable!()
                 }
             },
@@ -82,7 +127,7 @@ impl State {
         ensures { OnOk result (Some self.new ≡ followed ground.entry.source.now self.old
             (operators.Ends closing.Paren) end) }
     {
-        let item = self.close(ground, Place::Operand)?;
+        let item = self.close(ground, OperandPlace::Operand)?;
         match self.stack.pop() {
             Some(Frame::Paren(frame)) => self.close_paren(ground, frame, item, end),
             Some(Frame::Call(mut frame)) => {
@@ -94,7 +139,7 @@ impl State {
                 | Frame::Index(_)
                 | Frame::Record(_)
                 | Frame::Guard(_)
-                | Frame::Yes(_),
+                | Frame::Then(_),
             )
             | None => unreachable!(),
         }
@@ -107,7 +152,7 @@ impl State {
         ensures { OnOk result (Some self.new ≡ followed ground.entry.source.now self.old
             (operators.Ends closing.Bracket) end) }
     {
-        let item = self.close(ground, Place::Operand)?;
+        let item = self.close(ground, OperandPlace::Operand)?;
         match self.stack.pop() {
             Some(Frame::Set(mut frame)) => {
                 frame.push(ground, item)?;
@@ -119,14 +164,14 @@ impl State {
                 | Frame::Call(_)
                 | Frame::Record(_)
                 | Frame::Guard(_)
-                | Frame::Yes(_),
+                | Frame::Then(_),
             )
             | None => unreachable!(),
         }
     }
 
     /// What ends an expression, behind its last operand.
-    fn end(&mut self, ground: Ground<'_>, mark: Mark<Closing>) -> Result<(), AllocError>
+    fn end(&mut self, ground: Ground<'_>, mark: OperatorAt<Closing>) -> Result<(), AllocError>
         requires { IsFollowed self.old (operators.Ends mark.op) }
         ensures { OnOk result (Some self.new ≡ followed ground.entry.source.now self.old
             (operators.Ends mark.op) mark.extent) }
@@ -138,7 +183,7 @@ impl State {
             Closing::Brace => self.end_value(ground, mark.extent),
             Closing::Colon => self.end_key(ground, mark.extent),
             Closing::Then => self.end_guard(ground, mark.extent),
-            Closing::Else => self.end_yes(ground, mark.extent),
+            Closing::Else => self.end_then(ground, mark.extent),
         }
     }
 
@@ -155,19 +200,19 @@ impl State {
     {
         let extent = token_extent(token);
         match operator {
-            Operator::Access(Access::Dot) => {
+            Operator::Access(AccessStart::Dot) => {
                 self.begin_field(extent);
                 Ok(())
             }
-            Operator::Access(Access::Paren) => self.open_call(ground.alloc, extent),
-            Operator::Access(Access::Bracket) => self.open_index(ground.alloc, extent),
-            Operator::Multiply(op) => self.multiply(ground, Mark { op, extent }),
-            Operator::Sum(op) => self.sum(ground, Mark { op, extent }),
-            Operator::Compare(op) => self.compare(ground, Mark { op, extent }),
-            Operator::Side(op) => self.side(ground, Mark { op, extent }),
+            Operator::Access(AccessStart::Paren) => self.open_call(ground.alloc, extent),
+            Operator::Access(AccessStart::Bracket) => self.open_index(ground.alloc, extent),
+            Operator::Multiply(op) => self.multiply(ground, OperatorAt { op, extent }),
+            Operator::Sum(op) => self.sum(ground, OperatorAt { op, extent }),
+            Operator::Compare(op) => self.compare(ground, OperatorAt { op, extent }),
+            Operator::Side(op) => self.side(ground, OperatorAt { op, extent }),
             Operator::And => self.and_then(ground, extent),
             Operator::Or => self.or_else(ground, extent),
-            Operator::Ends(op) => self.end(ground, Mark { op, extent }),
+            Operator::Ends(op) => self.end(ground, OperatorAt { op, extent }),
             Operator::Other => unreachable!(),
         }
     }

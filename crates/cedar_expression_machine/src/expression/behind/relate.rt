@@ -1,12 +1,14 @@
 //! Closes a relation with its last sum: the left side is taken out of its slot.
-ghost use Rattle.std.specs.Prelude.{◌≡◌, None, Some, IfOk, OnOk, IsSome};
-ghost use Rattle.cedar_expression_machine.specs.machines.Closing.{node_of, relation_with_sum};
-ghost use Rattle.cedar_expression_machine.specs.machines.ExpressionModes.{IsCommon, IsSided, IsWithin};
+ghost use Rattle.std.specs.Prelude.{◌≡◌, None, Some, IfOk, OnOk, IsSome, IsTrue};
+ghost use Rattle.cedar_expression_machine.specs.declared.expression.state.Left.TheVariants as left;
+ghost use Rattle.cedar_expression_machine.specs.machines.Closing.{add_at, made_common, marked_chain, node_of, relation_with_sum};
+ghost use Rattle.cedar_expression_machine.specs.machines.ExpressionModes.{HasNoSum, IsCommon, IsSided, IsWithin};
 
-use crate::expression::state::{Chain, Left, Levels, Pending, Ranged};
+use crate::expression::levels::alone::{add_with_places, places_of};
+use crate::expression::state::{Chain, Left, Levels, Operand, PendingChain, Ranged};
 use crate::ground::Ground;
 use cedar_expressions::{Boxed, Items};
-use cedar_grammar::reading::extent::joined;
+use cedar_grammar::reading::extent::join_extents;
 use cedar_syntax::cst::{Add, Relation};
 use cedar_syntax::node::Node;
 use std::alloc::AllocError;
@@ -49,6 +51,74 @@ impl Levels {
         }
     }
 
+    /// Whether comparisons are begun.
+    #[inline(always)]
+    pub fn is_common(&self) -> bool
+        ensures { IsTrue result → IsCommon self.now.relation }
+    {
+        match &self.relation {
+            Some(left) => matches!(left.as_ref(), Left::Common(_)),
+            None => false,
+        }
+    }
+
+    /// The last operand of comparisons, which is their last sum: it is put where it stays.
+    #[inline(always)]
+    pub fn link_common(&mut self, ground: Ground<'_>, operand: Operand) -> Result<(), AllocError>
+        requires sums { HasNoSum self.old }
+        requires common { IsCommon self.old.relation }
+        ensures { (p : _) → self.old.relation ≡ Some (left.Common p) → OnOk result
+            (self.new ≡ record self.old {
+              relation = Some (left.Common record {
+                chain = marked_chain ground.entry.source.now (Some p)
+                    (add_at ground.entry.source.now self.old operand);
+                op = p.op;
+              });
+            }) }
+    {
+        let extent = join_extents(operand.signs.extent, operand.extent);
+        let places = places_of(ground, &operand)?;
+        let loc = ground.loc_at(extent)?;
+        let node = Node {
+            node: Some(add_with_places(ground.alloc, operand, places)),
+            loc,
+        };
+        match &mut self.relation {
+            Some(left) => match left.as_mut() {
+                Left::Common(begun) => {
+                    begun.chain.extent = join_extents(begun.chain.extent, extent);
+                    begun.chain.extended.push((begun.op, node))
+                }
+                _ => unreachable!(),
+            },
+            None => unreachable!(),
+        }
+    }
+
+    /// Comparisons whose last sum is read, taken out.
+    #[inline(always)]
+    pub fn take_common(&mut self) -> Ranged<Relation>
+        requires { IsCommon self.old.relation }
+        ensures tree { (p : _) → self.old.relation ≡ Some (left.Common p)
+            → result ≡ made_common p.chain }
+        ensures after { self.new ≡ record self.old { relation = None } }
+    {
+        match self.take_left() {
+            Left::Common(begun) => {
+                let Chain {
+                    initial,
+                    extended,
+                    extent,
+                } = begun.chain;
+                Ranged {
+                    tree: Relation::Common { initial, extended },
+                    extent,
+                }
+            }
+            _ => unreachable!(),
+        }
+    }
+
     /// Comparisons and their last sum.
     #[inline(never)]
     fn close_common(
@@ -64,7 +134,7 @@ impl Levels {
         let loc = ground.loc_at(item.extent)?;
         match self.take_left() {
             Left::Common(begun) => {
-                let Pending { chain, op } = begun;
+                let PendingChain { chain, op } = begun;
                 let Chain {
                     initial,
                     mut extended,
@@ -75,7 +145,7 @@ impl Levels {
                     loc,
                 };
                 extended.push((op, node))?;
-                let extent = joined(extent, item.extent);
+                let extent = join_extents(extent, item.extent);
                 Ok(Ranged {
                     tree: Relation::Common { initial, extended },
                     extent,
@@ -126,7 +196,7 @@ impl Levels {
         };
         Ok(Ranged {
             tree,
-            extent: joined(before, item_extent),
+            extent: join_extents(before, item_extent),
         })
     }
 
@@ -148,7 +218,7 @@ impl Levels {
                 entity_type,
                 extent,
             } => {
-                let extent = joined(extent, item.extent);
+                let extent = join_extents(extent, item.extent);
                 let (entity_type, entity) = boxes(ground, entity_type, item)?;
                 let tree = Relation::IsIn {
                     target,

@@ -4,9 +4,9 @@ ghost use Rattle.cedar_grammar.specs.declared.reading.class.Closing.TheVariants 
 ghost use Rattle.cedar_grammar.specs.declared.reading.class.Operator.TheVariants as operators;
 ghost use Rattle.cedar_expression_machine.specs.machines.ExpressionModes.{IsFollowed, followed};
 
-use crate::expression::state::{Branch, Frame, Guard, Place, State, Yes};
+use crate::expression::state::{Branch, Frame, Guard, OperandPlace, State, Then};
 use crate::ground::Ground;
-use cedar_grammar::reading::extent::{Extent, joined};
+use cedar_grammar::reading::extent::{Extent, join_extents};
 use cedar_grammar::reading::put::put;
 use std::alloc::AllocError;
 
@@ -18,12 +18,12 @@ impl State {
         ensures { OnOk result (Some self.new ≡ followed ground.entry.source.now self.old
             (operators.Ends closing.Then) word) }
     {
-        let item = self.close(ground, Place::Expr)?;
+        let item = self.close(ground, OperandPlace::Expr)?;
         match self.stack.pop() {
             Some(Frame::Guard(Guard { branches, opened })) => {
-                let extent = joined(joined(opened, item.extent), Some(word));
+                let extent = join_extents(join_extents(opened, item.extent), Some(word));
                 let guard = ground.node_of(item)?;
-                self.stack.push(Frame::Yes(Yes {
+                self.stack.push(Frame::Then(Then {
                     branches,
                     guard,
                     extent,
@@ -35,23 +35,23 @@ impl State {
 
     /// `else` behind the part for yes.
     #[inline(never)]
-    pub fn end_yes(&mut self, ground: Ground<'_>, word: Extent) -> Result<(), AllocError>
+    pub fn end_then(&mut self, ground: Ground<'_>, word: Extent) -> Result<(), AllocError>
         requires { IsFollowed self.old (operators.Ends closing.Else) }
         ensures { OnOk result (Some self.new ≡ followed ground.entry.source.now self.old
             (operators.Ends closing.Else) word) }
     {
-        let item = self.close(ground, Place::Expr)?;
+        let item = self.close(ground, OperandPlace::Expr)?;
         match self.stack.pop() {
             Some(
-                Frame::Yes(
-                    Yes {
+                Frame::Then(
+                    Then {
                         mut branches,
                         guard,
                         extent,
                     },
                 ),
             ) => {
-                let extent = joined(joined(extent, item.extent), Some(word));
+                let extent = join_extents(join_extents(extent, item.extent), Some(word));
                 let yes = ground.node_of(item)?;
                 branches.push(Branch { guard, yes, extent })?;
                 put(&mut self.levels.branches, branches);

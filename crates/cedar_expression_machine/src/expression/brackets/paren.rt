@@ -6,18 +6,18 @@ ghost use Rattle.cedar_expression_machine.specs.machines.ExpressionStates.{aroun
 ghost use Rattle.cedar_expression_machine.specs.machines.Having.{paren_ending};
 ghost use Rattle.cedar_expression_machine.specs.machines.Wanting.{paren_opening};
 
-use crate::expression::state::{Frame, Paren, Place, Ranged, State};
+use crate::expression::state::{Frame, OperandPlace, Paren, Ranged, State};
 use crate::ground::Ground;
-use cedar_grammar::reading::extent::{Extent, joined};
+use cedar_grammar::reading::extent::{Extent, join_extents};
 use cedar_grammar::reading::put::put;
 use cedar_syntax::cst::{Expr, Primary};
 use std::alloc::{AllocError, Global};
 
 /// From an open bracket to its end.
-pub fn around(opened: Extent, end: Extent) -> Option<Extent>
+pub fn bracket_extent(opened: Extent, end: Extent) -> Option<Extent>
     ensures { result ≡ around opened end }
 {
-    joined(Some(opened), Some(end))
+    join_extents(Some(opened), Some(end))
 }
 
 impl State {
@@ -29,7 +29,7 @@ impl State {
             (mode_signs self.old.mode) opened) }
     {
         let signs = self.gap().signs;
-        self.want_again(Place::Expr);
+        self.want_again(OperandPlace::Expr);
         let outer = self.take_levels(alloc);
         self.stack.push(Frame::Paren(Paren {
             outer,
@@ -56,7 +56,7 @@ impl State {
             opened,
         } = frame;
         let tree = Primary::Expr(ground.node_of(item)?);
-        let extent = around(opened, end);
+        let extent = bracket_extent(opened, end);
         put(&mut self.levels, outer);
         self.have_primary(ground, signs, Ranged { tree, extent })
     }

@@ -3,17 +3,17 @@ ghost use Rattle.std.specs.Prelude.{◌≡◌, [], ◌∷◌, Some, IsSome, OnOk
 ghost use Rattle.cedar_grammar.specs.declared.reading.class.Closing.TheVariants as closing;
 ghost use Rattle.cedar_grammar.specs.declared.reading.class.Operator.TheVariants as operators;
 ghost use Rattle.cedar_expression_machine.specs.declared.expression.state.Frame.TheVariants as frame;
-ghost use Rattle.cedar_expression_machine.specs.declared.expression.state.Place.TheVariants as place;
+ghost use Rattle.cedar_expression_machine.specs.declared.expression.state.OperandPlace.TheVariants as place;
 ghost use Rattle.cedar_expression_machine.specs.machines.ExpressionModes.{HasRecord, IsFollowed, WantsOperand, followed, mode_signs};
 ghost use Rattle.cedar_expression_machine.specs.machines.ExpressionStates.{opening};
 ghost use Rattle.cedar_expression_machine.specs.machines.Having.{record_more, value_beginning};
 ghost use Rattle.cedar_expression_machine.specs.machines.Wanting.{record_opening, record_closing};
 
-use crate::expression::brackets::paren::around;
-use crate::expression::state::{Frame, Key, Place, Ranged, Record, State};
+use crate::expression::brackets::paren::bracket_extent;
+use crate::expression::state::{Frame, Key, OperandPlace, Ranged, Record, State};
 use crate::ground::Ground;
 use cedar_expressions::Items;
-use cedar_grammar::reading::extent::{Extent, joined};
+use cedar_grammar::reading::extent::{Extent, join_extents};
 use cedar_grammar::reading::put::put;
 use cedar_syntax::cst::{Expr, Primary, RecInit};
 use cedar_syntax::node::Node;
@@ -28,7 +28,7 @@ impl Record {
     {
         match self.key.take() {
             Some(Key { node, extent }) => {
-                let extent = joined(extent, item.extent);
+                let extent = join_extents(extent, item.extent);
                 let pair = RecInit(node, ground.node_of(item)?);
                 self.items.push(ground.node_at(extent, pair)?)
             }
@@ -46,7 +46,7 @@ impl State {
             (mode_signs self.old.mode) opened) }
     {
         let signs = self.gap().signs;
-        self.want_again(Place::Key);
+        self.want_again(OperandPlace::Key);
         let outer = self.take_levels(alloc);
         let items = Items::new(alloc);
         self.stack.push(Frame::Record(Record {
@@ -77,7 +77,7 @@ impl State {
             key: _,
         } = frame;
         let tree = Primary::RInits(items);
-        let extent = around(opened, end);
+        let extent = bracket_extent(opened, end);
         put(&mut self.levels, outer);
         self.have_primary(ground, signs, Ranged { tree, extent })
     }
@@ -89,7 +89,7 @@ impl State {
         ensures { (f : _) (st : _) → self.old.stack ≡ frame.Record f ∷ st
             → self.new ≡ value_beginning st f key.tree key.extent colon }
     {
-        let extent = joined(key.extent, Some(colon));
+        let extent = join_extents(key.extent, Some(colon));
         match self.stack.top_mut() {
             Some(frame) => match frame {
                 Frame::Record(record) => {
@@ -109,7 +109,7 @@ impl State {
         ensures { OnOk result (Some self.new ≡ followed ground.entry.source.now self.old
             (operators.Ends closing.Colon) colon) }
     {
-        let item = self.close(ground, Place::Expr)?;
+        let item = self.close(ground, OperandPlace::Expr)?;
         let extent = item.extent;
         let tree = ground.node_of(item)?;
         self.begin_value(Ranged { tree, extent }, colon);
@@ -123,7 +123,7 @@ impl State {
         ensures { OnOk result (Some self.new ≡ followed ground.entry.source.now self.old
             (operators.Ends closing.Brace) end) }
     {
-        let item = self.close(ground, Place::Operand)?;
+        let item = self.close(ground, OperandPlace::Operand)?;
         match self.stack.pop() {
             Some(Frame::Record(mut frame)) => {
                 frame.push(ground, item)?;

@@ -4,8 +4,8 @@ ghost use Rattle.cedar_expression_machine.specs.machines.ExpressionModes.{WantsO
 ghost use Rattle.cedar_expression_machine.specs.machines.Having.{set_more};
 ghost use Rattle.cedar_expression_machine.specs.machines.Wanting.{set_opening, set_closing};
 
-use crate::expression::brackets::paren::around;
-use crate::expression::state::{Frame, Place, Ranged, Set, State};
+use crate::expression::brackets::paren::bracket_extent;
+use crate::expression::state::{Frame, OperandPlace, Ranged, Set, State};
 use crate::ground::Ground;
 use cedar_expressions::Items;
 use cedar_grammar::reading::extent::Extent;
@@ -31,7 +31,7 @@ impl State {
             (mode_signs self.old.mode) opened) }
     {
         let signs = self.gap().signs;
-        self.want_again(Place::Item);
+        self.want_again(OperandPlace::Item);
         let outer = self.take_levels(alloc);
         let items = Items::new(alloc);
         self.stack.push(Frame::Set(Set {
@@ -60,7 +60,7 @@ impl State {
             items,
         } = frame;
         let tree = Primary::EList(items);
-        let extent = around(opened, end);
+        let extent = bracket_extent(opened, end);
         put(&mut self.levels, outer);
         self.have_primary(ground, signs, Ranged { tree, extent })
     }

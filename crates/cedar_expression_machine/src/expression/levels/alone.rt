@@ -4,12 +4,13 @@
 ghost use Rattle.std.specs.Prelude.{◌≡◌, [], Some, IfOk};
 ghost use Rattle.cedar_syntax.specs.Trees.{unary_of, member_of, mult_of, add_of, common_of, and_of, or_of};
 ghost use Rattle.cedar_expression_machine.specs.machines.Closing.{fresh, mult_at, add_at, relation_at, or_at, made_expr};
-ghost use Rattle.cedar_expression_machine.specs.machines.OperandPlaces.{places_of};
+ghost use Rattle.cedar_grammar.specs.Place.{joint_extent};
+ghost use Rattle.cedar_expression_machine.specs.machines.AlonePlaces.{places_of, upper_places};
 
 use crate::expression::state::{Operand, Ranged};
 use crate::ground::Ground;
 use cedar_expressions::{Boxed, Items};
-use cedar_grammar::reading::extent::joined;
+use cedar_grammar::reading::extent::{Extent, join_extents};
 use cedar_syntax::cst::{Add, And, Expr, ExprData, ExprImpl, Member, Mult, Or, Relation, Unary};
 use cedar_syntax::loc::Loc;
 use cedar_syntax::node::Node;
@@ -98,9 +99,9 @@ fn or_of(alloc: Global, and: And, loc: Option<Loc>) -> Or
 /// The places of the trees above an operand alone, up to its sum.
 #[derive(Drop)]
 pub struct Places {
-    of_member: Option<Loc>,
-    of_unary: Option<Loc>,
-    of_mult: Option<Loc>,
+    pub of_member: Option<Loc>,
+    pub of_unary: Option<Loc>,
+    pub of_mult: Option<Loc>,
 }
 
 /// Where they stand.
@@ -108,7 +109,7 @@ pub struct Places {
 pub fn places_of(ground: Ground<'_>, operand: &Operand) -> Result<Places, AllocError>
     ensures { IfOk result (λ places. places ≡ places_of ground.entry.source.now operand.now) }
 {
-    let extent = joined(operand.signs.extent, operand.extent);
+    let extent = join_extents(operand.signs.extent, operand.extent);
     let of_member = ground.loc_at(operand.extent)?;
     let of_unary = ground.loc_at(extent)?;
     let of_mult = ground.loc_at(extent)?;
@@ -121,17 +122,23 @@ pub fn places_of(ground: Ground<'_>, operand: &Operand) -> Result<Places, AllocE
 
 /// The product that is an operand alone, at these places.
 #[inline(always)]
-pub fn mult_at(alloc: Global, operand: Operand, places: Places) -> Mult
-    ensures { (src : _) → places ≡ places_of src operand
+pub fn mult_with_places(
+    alloc: Global,
+    operand: Operand,
+    of_member: Option<Loc>,
+    of_unary: Option<Loc>,
+) -> Mult
+    ensures { (src : _) → of_member ≡ (places_of src operand).of_member
+        → of_unary ≡ (places_of src operand).of_unary
         → result ≡ (mult_at src (fresh []) operand).tree }
 {
-    let unary = unary_of(operand, places.of_member);
-    mult_of(alloc, unary, places.of_unary)
+    let unary = unary_of(operand, of_member);
+    mult_of(alloc, unary, of_unary)
 }
 
 /// The sum that is an operand alone, at these places.
 #[inline(always)]
-pub fn add_alone(alloc: Global, operand: Operand, places: Places) -> Add
+pub fn add_with_places(alloc: Global, operand: Operand, places: Places) -> Add
     ensures { (src : _) → places ≡ places_of src operand
         → result ≡ (add_at src (fresh []) operand).tree }
 {
@@ -145,7 +152,7 @@ pub fn add_alone(alloc: Global, operand: Operand, places: Places) -> Add
 pub fn alone_add(ground: Ground<'_>, operand: Operand) -> Result<Ranged<Add>, AllocError>
     ensures { IfOk result (λ sum. sum ≡ add_at ground.entry.source.now (fresh []) operand) }
 {
-    let extent = joined(operand.signs.extent, operand.extent);
+    let extent = join_extents(operand.signs.extent, operand.extent);
     let of_member = ground.loc_at(operand.extent)?;
     let of_unary = ground.loc_at(extent)?;
     let of_mult = ground.loc_at(extent)?;
@@ -163,7 +170,7 @@ pub fn alone_relation(ground: Ground<'_>, operand: Operand) -> Result<Ranged<Rel
     ensures { IfOk result (λ relation. relation
         ≡ relation_at ground.entry.source.now (fresh []) operand) }
 {
-    let extent = joined(operand.signs.extent, operand.extent);
+    let extent = join_extents(operand.signs.extent, operand.extent);
     let of_member = ground.loc_at(operand.extent)?;
     let of_unary = ground.loc_at(extent)?;
     let of_mult = ground.loc_at(extent)?;
@@ -177,29 +184,62 @@ pub fn alone_relation(ground: Ground<'_>, operand: Operand) -> Result<Ranged<Rel
     })
 }
 
-/// The expression that is this operand alone.
+/// The places of the trees above its sum, up to the expression.
+#[derive(Drop)]
+pub struct UpperPlaces {
+    of_add: Option<Loc>,
+    of_relation: Option<Loc>,
+    of_and: Option<Loc>,
+    of_or: Option<Loc>,
+}
+
+/// Where they stand.
 #[inline(always)]
+pub fn upper_places(ground: Ground<'_>, extent: Option<Extent>) -> Result<UpperPlaces, AllocError>
+    ensures { IfOk result (λ places. places ≡ upper_places ground.entry.source.now extent) }
+{
+    let of_add = ground.loc_at(extent)?;
+    let of_relation = ground.loc_at(extent)?;
+    let of_and = ground.loc_at(extent)?;
+    let of_or = ground.loc_at(extent)?;
+    Ok(UpperPlaces {
+        of_add,
+        of_relation,
+        of_and,
+        of_or,
+    })
+}
+
+/// The expression that is an operand alone, at these places.
+#[inline(always)]
+pub fn expr_alone(
+    alloc: Global,
+    operand: Operand,
+    places: Places,
+    upper: UpperPlaces,
+) -> Result<Expr, AllocError>
+    ensures { (src : _) → places ≡ places_of src operand
+        → upper ≡ upper_places src (joint_extent operand.signs.extent operand.extent)
+        → IfOk result (λ expr. expr ≡ (made_expr src (or_at src (fresh []) operand)).tree) }
+{
+    let add = add_with_places(alloc, operand, places);
+    let relation = common_of(alloc, add, upper.of_add);
+    let and = and_of(alloc, relation, upper.of_relation);
+    let node = Some(or_of(alloc, and, upper.of_and));
+    let loc = upper.of_or;
+    let expr = Boxed::new(alloc, ExprData::Or(Node { node, loc }))?;
+    Ok(Expr::Expr(ExprImpl { expr }))
+}
+
+/// The expression that is this operand alone.
+#[inline(never)]
 pub fn alone_expr(ground: Ground<'_>, operand: Operand) -> Result<Ranged<Expr>, AllocError>
     ensures { IfOk result (λ expr. expr ≡ made_expr ground.entry.source.now
         (or_at ground.entry.source.now (fresh []) operand)) }
 {
-    let extent = joined(operand.signs.extent, operand.extent);
-    let of_member = ground.loc_at(operand.extent)?;
-    let of_unary = ground.loc_at(extent)?;
-    let of_mult = ground.loc_at(extent)?;
-    let of_add = ground.loc_at(extent)?;
-    let of_relation = ground.loc_at(extent)?;
-    let of_and = ground.loc_at(extent)?;
-    let loc = ground.loc_at(extent)?;
-    let unary = unary_of(operand, of_member);
-    let mult = mult_of(ground.alloc, unary, of_unary);
-    let add = add_of(ground.alloc, mult, of_mult);
-    let relation = common_of(ground.alloc, add, of_add);
-    let and = and_of(ground.alloc, relation, of_relation);
-    let node = Some(or_of(ground.alloc, and, of_and));
-    let expr = Boxed::new(ground.alloc, ExprData::Or(Node { node, loc }))?;
-    Ok(Ranged {
-        tree: Expr::Expr(ExprImpl { expr }),
-        extent,
-    })
+    let extent = join_extents(operand.signs.extent, operand.extent);
+    let places = places_of(ground, &operand)?;
+    let upper = upper_places(ground, extent)?;
+    let tree = expr_alone(ground.alloc, operand, places, upper)?;
+    Ok(Ranged { tree, extent })
 }

@@ -5,10 +5,12 @@ ghost use Rattle.cedar_expression_machine.specs.machines.Closing.{fresh, no_sign
 ghost use Rattle.cedar_expression_machine.specs.machines.ExpressionModes.{HasOperand, WantsOperand};
 ghost use Rattle.cedar_expression_machine.specs.machines.ExpressionStates.{state, wants, has_primary};
 
-use crate::expression::state::{Branch, Gap, Levels, Mode, Operand, Place, Ranged, Signs, State};
+use crate::expression::state::{
+    Branch, Gap, Levels, Mode, Operand, OperandPlace, Ranged, Signs, State,
+};
 use crate::ground::Ground;
 use cedar_expressions::Items;
-use cedar_grammar::reading::put::put;
+use cedar_grammar::reading::put::{put, put_apart};
 use cedar_grammar::reading::stack::Stack;
 use cedar_syntax::cst::Primary;
 use cedar_syntax::node::Node;
@@ -40,7 +42,7 @@ pub fn no_signs() -> Signs
 }
 
 /// An operand is wanted, and nothing stands before it.
-pub fn want_at(place: Place) -> Mode
+pub fn want_at(place: OperandPlace) -> Mode
     ensures { result ≡ wants place }
 {
     Mode::Want {
@@ -79,12 +81,24 @@ impl State {
     /// The operand that has ended is taken out, and behind what stands there one is wanted at this
     /// place.
     #[inline(always)]
-    pub fn take_operand(&mut self, place: Place) -> Operand
+    pub fn take_operand(&mut self, place: OperandPlace) -> Operand
         requires { HasOperand self.old.mode }
         ensures operand { self.old.mode ≡ mode.Have result None }
         ensures after { self.new ≡ state self.old.stack self.old.levels (wants place) }
     {
         match mem::replace(&mut self.mode, want_at(place)) {
+            Mode::Have { operand, dot: _ } => operand,
+            Mode::Want { .. } | Mode::Word { .. } => unreachable!(),
+        }
+    }
+
+    /// The operand that has ended, lent.
+    #[inline(always)]
+    pub fn operand(&self) -> &Operand
+        requires { HasOperand self.now.mode }
+        ensures { self.now.mode ≡ mode.Have result.now None }
+    {
+        match &self.mode {
             Mode::Have { operand, dot: _ } => operand,
             Mode::Want { .. } | Mode::Word { .. } => unreachable!(),
         }
@@ -107,7 +121,7 @@ impl State {
 
     /// An operand is wanted at this place, where one already was.
     #[inline(always)]
-    pub fn want_again(&mut self, next: Place)
+    pub fn want_again(&mut self, next: OperandPlace)
         requires { WantsOperand self.old.mode }
         ensures { self.new ≡ state self.old.stack self.old.levels (wants next) }
     {
@@ -117,6 +131,18 @@ impl State {
                 *signs = no_signs();
             }
             Mode::Word { .. } | Mode::Have { .. } => unreachable!(),
+        }
+    }
+
+    /// What comes next becomes this. Where an operand is wanted, nothing is let go: so the
+    /// compiler copies nothing out of the state.
+    #[inline(always)]
+    pub fn turn(&mut self, next: Mode)
+        ensures { self.new ≡ state self.old.stack self.old.levels next }
+    {
+        match &self.mode {
+            Mode::Want { .. } => put(&mut self.mode, next),
+            Mode::Word { .. } | Mode::Have { .. } => put_apart(&mut self.mode, next),
         }
     }
 
@@ -151,7 +177,7 @@ impl State {
             access: Items::new(ground.alloc),
             is_if: false,
         };
-        put(&mut self.mode, have(operand));
+        self.turn(have(operand));
         Ok(())
     }
 }

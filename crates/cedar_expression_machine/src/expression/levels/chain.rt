@@ -2,10 +2,10 @@
 ghost use Rattle.std.specs.Prelude.{◌≡◌, Some, None, IfOk, OnOk};
 ghost use Rattle.cedar_expression_machine.specs.machines.Closing.{begun_at, marked_chain, onward, pending, pending_with, plain_chain, plain_with};
 
-use crate::expression::state::{Chain, Mark, Pending, Ranged};
+use crate::expression::state::{Chain, OperatorAt, PendingChain, Ranged};
 use crate::ground::Ground;
 use cedar_expressions::{Boxed, Items};
-use cedar_grammar::reading::extent::{Extent, joined};
+use cedar_grammar::reading::extent::{Extent, join_extents};
 use cedar_syntax::loc::Loc;
 use cedar_syntax::node::Node;
 use std::alloc::{AllocError, Global};
@@ -27,7 +27,7 @@ impl<T: Drop, I: Drop> Chain<T, I> {
     }
 }
 
-impl<T: Drop, O: Drop + Copy> Pending<T, O> {
+impl<T: Drop, O: Drop + Copy> PendingChain<T, O> {
     /// One more operand.
     #[inline(always)]
     fn link(&mut self, ground: Ground<'_>, item: Ranged<T>) -> Result<(), AllocError>
@@ -35,7 +35,7 @@ impl<T: Drop, O: Drop + Copy> Pending<T, O> {
             (Some self.old) item) }
     {
         let loc = ground.loc_at(item.extent)?;
-        self.chain.extent = joined(self.chain.extent, item.extent);
+        self.chain.extent = join_extents(self.chain.extent, item.extent);
         let node = Node {
             node: Some(item.tree),
             loc,
@@ -49,14 +49,14 @@ impl<T: Drop, O: Drop + Copy> Pending<T, O> {
         &mut self,
         ground: Ground<'_>,
         item: Ranged<T>,
-        mark: Mark<O>,
+        mark: OperatorAt<O>,
     ) -> Result<(), AllocError>
         ensures { OnOk result
             (self.new ≡ pending (marked_chain ground.entry.source.now
             (Some self.old) item) mark.op mark.extent) }
     {
         self.link(ground, item)?;
-        self.chain.extent = joined(self.chain.extent, Some(mark.extent));
+        self.chain.extent = join_extents(self.chain.extent, Some(mark.extent));
         self.op = mark.op;
         Ok(())
     }
@@ -68,14 +68,14 @@ pub fn begin_pending<T: Drop, O: Drop + Copy>(
     alloc: Global,
     item: Ranged<T>,
     loc: Option<Loc>,
-    mark: Mark<O>,
-) -> Pending<T, O>
+    mark: OperatorAt<O>,
+) -> PendingChain<T, O>
     ensures { result ≡ pending (begun_at item loc) mark.op mark.extent }
 {
-    Pending {
+    PendingChain {
         op: mark.op,
         chain: Chain {
-            extent: joined(item.extent, Some(mark.extent)),
+            extent: join_extents(item.extent, Some(mark.extent)),
             initial: Node {
                 node: Some(item.tree),
                 loc,
@@ -89,9 +89,9 @@ pub fn begin_pending<T: Drop, O: Drop + Copy>(
 #[inline(always)]
 pub fn push_pending<T: Drop, O: Drop + Copy>(
     ground: Ground<'_>,
-    slot: &mut Option<Boxed<Pending<T, O>>>,
+    slot: &mut Option<Boxed<PendingChain<T, O>>>,
     item: Ranged<T>,
-    mark: Mark<O>,
+    mark: OperatorAt<O>,
 ) -> Result<(), AllocError>
     ensures { OnOk result
         (slot.new ≡ Some (pending
@@ -112,7 +112,7 @@ pub fn push_pending<T: Drop, O: Drop + Copy>(
 #[inline(always)]
 pub fn close_pending<T: Drop, O: Drop + Copy>(
     ground: Ground<'_>,
-    begun: &mut Option<Boxed<Pending<T, O>>>,
+    begun: &mut Option<Boxed<PendingChain<T, O>>>,
     item: Ranged<T>,
 ) -> Result<Chain<T, (O, Node<Option<T>>)>, AllocError>
     ensures chain { IfOk result (λ chain. chain ≡ marked_chain ground.entry.source.now begun.old
@@ -139,7 +139,7 @@ impl<T: Drop> Chain<T, Node<Option<T>>> {
             item) }
     {
         let loc = ground.loc_at(item.extent)?;
-        self.extent = joined(self.extent, item.extent);
+        self.extent = join_extents(self.extent, item.extent);
         self.extended.push(Node {
             node: Some(item.tree),
             loc,
@@ -159,7 +159,7 @@ impl<T: Drop> Chain<T, Node<Option<T>>> {
             operator) }
     {
         self.link(ground, item)?;
-        self.extent = joined(self.extent, Some(operator));
+        self.extent = join_extents(self.extent, Some(operator));
         Ok(())
     }
 }
@@ -177,7 +177,7 @@ pub fn push_plain_node<T: Drop>(
     match slot {
         Some(level) => {
             let chain = level.as_mut();
-            chain.extent = joined(chain.extent, extent);
+            chain.extent = join_extents(chain.extent, extent);
             chain.extended.push(node)
         }
         None => {
@@ -196,7 +196,7 @@ pub fn push_plain_node<T: Drop>(
 #[inline(always)]
 pub fn push_pending_node<T: Drop, O: Drop + Copy>(
     alloc: Global,
-    slot: &mut Option<Boxed<Pending<T, O>>>,
+    slot: &mut Option<Boxed<PendingChain<T, O>>>,
     node: Node<Option<T>>,
     extent: Option<Extent>,
     op: O,
@@ -206,13 +206,13 @@ pub fn push_pending_node<T: Drop, O: Drop + Copy>(
     match slot {
         Some(level) => {
             let begun = level.as_mut();
-            begun.chain.extent = joined(begun.chain.extent, extent);
+            begun.chain.extent = join_extents(begun.chain.extent, extent);
             let before = begun.op;
             begun.op = op;
             begun.chain.extended.push((before, node))
         }
         None => {
-            let begun = Pending {
+            let begun = PendingChain {
                 chain: Chain {
                     initial: node,
                     extended: Items::new(alloc),
@@ -242,7 +242,7 @@ pub fn push_plain<T: Drop>(
         None => {
             let loc = ground.loc_at(item.extent)?;
             let mut chain = Chain::begin(ground.alloc, item, loc);
-            chain.extent = joined(chain.extent, Some(operator));
+            chain.extent = join_extents(chain.extent, Some(operator));
             *slot = Some(Boxed::new(ground.alloc, chain)?);
             Ok(())
         }

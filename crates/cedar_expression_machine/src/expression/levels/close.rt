@@ -11,7 +11,7 @@ use crate::expression::levels::chain::{close_pending, close_plain};
 use crate::expression::state::{Branch, Chain, Levels, Operand, Ranged};
 use crate::ground::Ground;
 use cedar_expressions::{Boxed, Items};
-use cedar_grammar::reading::extent::joined;
+use cedar_grammar::reading::extent::join_extents;
 use cedar_grammar::reading::stack::Stack;
 use cedar_syntax::cst::{Add, And, Expr, ExprData, ExprImpl, Member, Mult, Or, Relation, Unary};
 use cedar_syntax::node::Node;
@@ -32,7 +32,7 @@ pub fn close_unary(ground: Ground<'_>, operand: Operand) -> Result<Ranged<Unary>
     let item = ground.node_at(extent, Member { item, access })?;
     Ok(Ranged {
         tree: Unary { op: signs.op, item },
-        extent: joined(signs.extent, extent),
+        extent: join_extents(signs.extent, extent),
     })
 }
 
@@ -123,7 +123,7 @@ fn close_branch(
         (if_of branch.guard branch.yes (node_of ground.entry.source.now item))) }
 {
     let Branch { guard, yes, extent } = branch;
-    let extent = joined(extent, item.extent);
+    let extent = join_extents(extent, item.extent);
     let last = ground.node_of(item)?;
     let expr = Boxed::new(ground.alloc, ExprData::If(guard, yes, last))?;
     Ok(Ranged {
@@ -165,6 +165,14 @@ impl Levels {
         ensures { IsTrue result → HasNoRelation self.now }
     {
         self.relation.is_none() && self.has_no_sum()
+    }
+
+    /// Whether nothing is begun.
+    #[inline(always)]
+    pub fn is_fresh(&self) -> bool
+        ensures { IsTrue result → self.now ≡ fresh [] }
+    {
+        self.has_no_operator() && self.branches.top().is_none()
     }
 
     /// Whether no level of an expression is begun, but for the `if`s around it.
@@ -237,6 +245,25 @@ impl Levels {
     /// The relation that ends with the operand, where one or a level of a sum is begun.
     #[inline(never)]
     fn close_related(
+        &mut self,
+        ground: Ground<'_>,
+        operand: Operand,
+    ) -> Result<Ranged<Relation>, AllocError>
+        ensures closed { IfOk result (λ closed. closed
+            ≡ relation_at ground.entry.source.now self.old operand) }
+        ensures after { OnOk result
+            (self.new ≡ levels_of self.old.branches self.old.or self.old.and None None None) }
+    {
+        if self.has_no_sum() && self.is_common() {
+            self.link_common(ground, operand)?;
+            return Ok(self.take_common());
+        }
+        self.close_sided(ground, operand)
+    }
+
+    /// The same, whatever is begun.
+    #[inline(never)]
+    fn close_sided(
         &mut self,
         ground: Ground<'_>,
         operand: Operand,

@@ -7,7 +7,7 @@ ghost use Rattle.cedar_syntax.specs.declared.cst.Primary.TheVariants as primary;
 ghost use Rattle.cedar_grammar.specs.machines.Judged.{done_as};
 ghost use Rattle.cedar_expression_machine.specs.declared.expression.state.Act.TheVariants as acts;
 ghost use Rattle.cedar_expression_machine.specs.declared.expression.state.Frame.TheVariants as frame;
-ghost use Rattle.cedar_expression_machine.specs.declared.expression.state.Place.TheVariants as place;
+ghost use Rattle.cedar_expression_machine.specs.declared.expression.state.OperandPlace.TheVariants as place;
 ghost use Rattle.cedar_expression_machine.specs.machines.Closing.{if_key, if_operand, if_primary, ranged_tree};
 ghost use Rattle.cedar_expression_machine.specs.machines.ExpressionModes.{HasEndedWords, settled, words_extent};
 ghost use Rattle.cedar_expression_machine.specs.machines.ExpressionStates.{has_operand, has_primary, opening};
@@ -18,8 +18,10 @@ ghost use Rattle.cedar_expression_machine.specs.machines.WholeExpressions.{IsPla
 ghost use Rattle.cedar_expression_machine.specs.machines.Words.{path_extent, word_node};
 
 use crate::expression::levels::begin::{fresh_levels, have, no_signs, operand_of, want_at};
-use crate::expression::operand::words::{self, alone_of, path_extent};
-use crate::expression::state::{Alone, Frame, Guard, Mode, Operand, Place, Ranged, Signs, State};
+use crate::expression::operand::begun_words::{self, alone_of, path_extent};
+use crate::expression::state::{
+    Alone, Frame, Guard, Mode, Operand, OperandPlace, Ranged, Signs, State,
+};
 use crate::ground::Ground;
 use crate::words::state::{Entity, Path, PathState, Words, WordsAct, WordsState};
 use cedar_expressions::Items;
@@ -164,7 +166,7 @@ impl State {
             (if_operand ground.entry.source.now extent)) }
     {
         let operand = if_operand(ground, extent)?;
-        put(&mut self.mode, have(operand));
+        self.turn(have(operand));
         Ok(())
     }
 
@@ -194,14 +196,11 @@ impl State {
         requires { HasEndedWords self.old.mode }
         ensures { OnOk result (Some self.new ≡ settled ground.entry.source.now self.old) }
     {
-        match &mut self.mode {
-            Mode::Word { signs, words, .. } => {
-                let signs = *signs;
-                match words::take(words) {
-                    Words::Path(path) => self.settle_path(ground, signs, path),
-                    Words::Entity(entity) => self.settle_ref(ground, signs, entity),
-                }
-            }
+        match mem::replace(&mut self.mode, want_at(OperandPlace::Operand)) {
+            Mode::Word { signs, words, .. } => match begun_words::ended(words) {
+                Words::Path(path) => self.settle_path(ground, signs, path),
+                Words::Entity(entity) => self.settle_ref(ground, signs, entity),
+            },
             Mode::Want { .. } | Mode::Have { .. } => unreachable!(),
         }
     }
@@ -218,7 +217,7 @@ impl State {
         let branches = mem::replace(&mut self.levels.branches, Stack::new(alloc));
         self.stack.push(Frame::Guard(Guard { branches, opened }))?;
         put(&mut self.levels, fresh_levels(Stack::new(alloc)));
-        put(&mut self.mode, want_at(Place::Expr));
+        put(&mut self.mode, want_at(OperandPlace::Expr));
         Ok(())
     }
 
@@ -245,7 +244,7 @@ impl State {
         let extent = self.words_extent();
         let tree = if_key(ground, extent)?;
         put(&mut self.levels, fresh_levels(Stack::new(ground.alloc)));
-        put(&mut self.mode, want_at(Place::Expr));
+        put(&mut self.mode, want_at(OperandPlace::Expr));
         self.begin_value(Ranged { tree, extent }, token_extent(token));
         Ok(())
     }

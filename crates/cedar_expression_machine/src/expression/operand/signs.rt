@@ -3,9 +3,9 @@ ghost use Rattle.std.specs.Prelude.{◌≡◌, Some};
 ghost use Rattle.cedar_expression_machine.specs.machines.ExpressionModes.{MaySign, mode_signs};
 ghost use Rattle.cedar_expression_machine.specs.machines.Wanting.{sign_reading};
 
-use crate::expression::state::{Mode, Place, State};
-use cedar_grammar::reading::class::{Sign, signed};
-use cedar_grammar::reading::extent::{Extent, joined};
+use crate::expression::state::{Mode, OperandPlace, State};
+use cedar_grammar::reading::class::{Sign, add_sign};
+use cedar_grammar::reading::extent::{Extent, join_extents};
 
 impl State {
     /// One sign more.
@@ -16,9 +16,9 @@ impl State {
     {
         match &mut self.mode {
             Mode::Want { place, signs } => {
-                *place = Place::Operand;
-                signs.op = signed(signs.op, sign);
-                signs.extent = joined(signs.extent, Some(extent));
+                *place = OperandPlace::Operand;
+                signs.op = add_sign(signs.op, sign);
+                signs.extent = join_extents(signs.extent, Some(extent));
             }
             Mode::Word { .. } | Mode::Have { .. } => unreachable!(),
         }

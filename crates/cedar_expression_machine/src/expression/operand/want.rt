@@ -12,14 +12,13 @@ ghost use Rattle.cedar_expression_machine.specs.machines.Expressions.{expression
 ghost use Rattle.cedar_expression_machine.specs.machines.Named.{named_reader};
 ghost use Rattle.cedar_expression_machine.specs.machines.Wanting.{slot_at, slot_of_token};
 
-use crate::expression::operand::literal::slot_at;
-use crate::expression::operand::words;
+use crate::expression::operand::begun_words;
+use crate::expression::operand::slot::slot_at;
 use crate::expression::state::{Begin, Gap, Mode, Ranged, State};
 use crate::ground::Ground;
 use cedar_grammar::reading::class::SlotToken;
 use cedar_grammar::reading::literal::as_number;
 use cedar_grammar::reading::place::token_extent;
-use cedar_grammar::reading::put::put;
 use cedar_grammar::reading::tokens::string_node;
 use cedar_lexer::token::Token;
 use cedar_syntax::cst::{Literal, Primary};
@@ -35,13 +34,13 @@ impl State {
             self.old (acts.Begin begins.Word) (lexeme_of token.now)) }
     {
         let Gap { place, signs } = self.gap();
-        let words = words::first(ground, token)?;
+        let words = begun_words::first(ground, token)?;
         let mode = Mode::Word {
             place,
             signs,
             words,
         };
-        put(&mut self.mode, mode);
+        self.turn(mode);
         Ok(())
     }
 

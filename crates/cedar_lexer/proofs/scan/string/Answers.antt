@@ -1,4 +1,5 @@
--- One more byte read: an escaped one is taken as it is, another closes nothing and may be a backslash.
+-- One more byte read: an escaped one is taken as it is, another closes nothing and may be a
+-- backslash.
 use Rattle.std.proofs.Common.{◌≡◌, ℕ, ◌+◌, ◌<◌, true, false, List, length, get_or, drop, refl, ◌∙◌, ap, ne_eqb}
 use Rattle.std.specs.Prelude.{◌==◌}
 use Rattle.std.proofs.lemmas.List.{drop_more}

@@ -1,7 +1,7 @@
 use Rattle.cedar_policy_store.specs.TextMap.{map_in}
 use Rattle.cedar_policy_store.proofs.MapsByText.{map_in-empty}
 use Rattle.cedar_policy_conversion.specs.AnnotationKeys.{gathering}
-use Rattle.cedar_policy_conversion.proofs.FilledMaps.{filled_first, filled_ok, filled_err, gathered_next, no_value, refused_on}
+use Rattle.cedar_policy_conversion.proofs.FilledMaps.{filled_first, filled_ok, filled_err, gathered_next, refused_on}
 use Rattle.cedar_conversion.proofs.Loops.{take_whole}
 use Rattle.cedar_policy_conversion.proofs.annotations.annotations.Goals as goal
 
@@ -17,15 +17,12 @@ loop-node-preserved g c = record {
   filled = rw (gathered_next c.args.nodes.now c.loop-node.node-index c.node-item.result c.loop-node-test.true c.node-item.is) (c.one_more-all.ensures.filled _ c.loop-node.invariant.ordered c.loop-node.invariant.filled);
 }
 
-pub returns-in_err-all-clause-value : goal.returns-in_err-all-clause-value
-returns-in_err-all-clause-value g c = no_value _ c.from_residual.result c.in_err-all.field-0.0 c.from_residual.ensures.1
-
-pub returns-in_err-all-clause-refused : goal.returns-in_err-all-clause-refused
-returns-in_err-all-clause-refused g c =
+pub returns-in_err-all : goal.returns-in_err-all
+returns-in_err-all g c =
     let whole = rw (take_whole c.args.nodes.now c.loop-node.node-index c.loop-node-test.false) at c.loop-node.invariant.filled in
-    refused_on c.from_residual.result c.in_err-all.field-0.0 _ c.from_residual.ensures.1 (filled_err g.F.Fn c.args.f.now (gathering c.args.nodes.now) (map_in c.loop-node.map) c.loop-node.all c.in_err-all.field-0.0 c.in_err-all.was whole)
+    refused_on g.F.Fn c.args.f.now c.from_residual.result c.in_err-all.field-0.0 _ c.from_residual.ensures.1 (filled_err g.F.Fn c.args.f.now (gathering c.args.nodes.now) (map_in c.loop-node.map) c.loop-node.all c.in_err-all.field-0.0 c.in_err-all.was whole)
 
-pub returns-clause-value : goal.returns-clause-value
-returns-clause-value g c =
+pub returns : goal.returns
+returns g c =
     let whole = rw (take_whole c.args.nodes.now c.loop-node.node-index c.loop-node-test.false) at c.loop-node.invariant.filled in
     filled_ok g.F.Fn c.args.f.now (gathering c.args.nodes.now) (map_in c.loop-node.map) c.loop-node.all tt c.in_ok-all.was whole

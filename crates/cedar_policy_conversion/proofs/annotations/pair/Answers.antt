@@ -12,4 +12,4 @@ text_seen p = (p.0, option_map string_bytes p.1)
 pub returns : goal.returns
 returns c =
     then_gives text_seen (annotation_at c.args.loc.now) c.flatten_tuple_2.result _
-    (both_gives itself (option_map string_bytes) c.any_ident.result c.text_of.result c.flatten_tuple_2.result _ _ c.flatten_tuple_2.ensures.both c.flatten_tuple_2.ensures.faults c.any_ident.ensures c.text_of.ensures)
+    (both_gives itself (option_map string_bytes) c.any_id.result c.text_of.result c.flatten_tuple_2.result _ _ c.flatten_tuple_2.ensures.both c.flatten_tuple_2.ensures.faults c.any_id.ensures c.text_of.ensures)

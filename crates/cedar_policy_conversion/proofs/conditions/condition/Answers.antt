@@ -5,4 +5,4 @@ pub returns-in-Some : goal.returns-in-Some
 returns-in-Some c = rw c.in-Some.is c.condition_of.ensures
 
 pub returns-in-None : goal.returns-in-None
-returns-in-None c = rw c.in-None.is (refused_at _ c.unreached.result _ _ c.unreached.ensures)
+returns-in-None c = rw c.in-None.is (refused_at _ c.empty_node.result _ _ c.empty_node.ensures)

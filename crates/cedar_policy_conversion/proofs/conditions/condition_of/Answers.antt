@@ -9,13 +9,13 @@ returns-in_err-when c = passed_on unplaced c.from_residual.result c.in_err-when.
 pub returns-in_err-expr : goal.returns-in_err-expr
 returns-in_err-expr c = passed_on unplaced c.from_residual-in_err-expr.result c.in_err-expr.field-0.0 _ c.from_residual-in_err-expr.ensures.1 (rw c.in_ok-when.ensures (refused_next c.in_err-expr.field-0.0 _ _ c.in_err-expr.ensures))
 
-pub returns-in_err-without_slots : goal.returns-in_err-without_slots
-returns-in_err-without_slots c = passed_on unplaced c.from_residual-in_err-without_slots.result c.in_err-without_slots.field-0.0 _ c.from_residual-in_err-without_slots.ensures.1 (rw (c.in_ok-when.ensures, c.in_ok-expr.ensures) (refused_next c.in_err-without_slots.field-0.0 _ _ c.in_err-without_slots.ensures))
+pub returns-in_err-refuse_slots_of : goal.returns-in_err-refuse_slots_of
+returns-in_err-refuse_slots_of c = passed_on unplaced c.from_residual-in_err-refuse_slots_of.result c.in_err-refuse_slots_of.field-0.0 _ c.from_residual-in_err-refuse_slots_of.ensures.1 (rw (c.in_ok-when.ensures, c.in_ok-expr.ensures) (refused_next c.in_err-refuse_slots_of.field-0.0 _ _ c.in_err-refuse_slots_of.ensures))
 
-pub returns-in_err-meant : goal.returns-in_err-meant
-returns-in_err-meant c = wanting unplaced c.from_residual-in_err-meant.result _ c.from_residual-in_err-meant.ensures.1
+pub returns-in_err-condition_value : goal.returns-in_err-condition_value
+returns-in_err-condition_value c = wanting unplaced c.from_residual-in_err-condition_value.result _ c.from_residual-in_err-condition_value.ensures.1
 
 pub returns : goal.returns
 returns c =
     rw (c.in_ok-when.ensures, c.in_ok-expr.ensures)
-    (value_there c.args.site.loc.now c.in_ok-when.when c.in_ok-expr.expr c.in_ok-meant.field-0 _ c.in_ok-without_slots.ensures c.in_ok-meant.ensures)
+    (value_there c.args.site.loc.now c.in_ok-when.when c.in_ok-expr.expr c.in_ok-condition_value.field-0 _ c.in_ok-refuse_slots_of.ensures c.in_ok-condition_value.ensures)

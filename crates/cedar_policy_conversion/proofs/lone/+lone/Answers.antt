@@ -1,5 +1,4 @@
-use Rattle.std.proofs.Common.{arith, sym, ◌∙◌}
-use Rattle.std.proofs.lemmas.Grind.{common_steps}
+use Rattle.std.proofs.Common.{sym, ◌∙◌}
 use Rattle.cedar_syntax.specs.Forms.{expr_form, or_form, and_form, relation_form, add_form, mult_form, unary_form, member_form, primary_form}
 use Rattle.cedar_policy_conversion.proofs.LonePrimaries as lone
 use Rattle.cedar_conversion.proofs.Outcomes.{gives_at, refuses}
@@ -8,31 +7,31 @@ use Rattle.cedar_policy_conversion.proofs.lone.+lone.Goals as goal
 -- ---- empty nodes
 
 pub lone_expr-returns-in-None : goal.lone_expr-returns-in-None
-lone_expr-returns-in-None t c = refuses c.unreached.result _ _ _ (lone.no_lone expr_form c.args.node.now c.in-None.is) c.unreached.ensures
+lone_expr-returns-in-None t c = refuses c.empty_node.result _ _ _ (lone.no_lone expr_form c.args.node.now c.in-None.is) c.empty_node.ensures
 
 pub lone_or-returns-in-None : goal.lone_or-returns-in-None
-lone_or-returns-in-None t c = refuses c.unreached.result _ _ _ (lone.no_lone or_form c.args.node.now c.in-None.is) c.unreached.ensures
+lone_or-returns-in-None t c = refuses c.empty_node.result _ _ _ (lone.no_lone or_form c.args.node.now c.in-None.is) c.empty_node.ensures
 
 pub lone_and-returns-in-None : goal.lone_and-returns-in-None
-lone_and-returns-in-None t c = refuses c.unreached.result _ _ _ (lone.no_lone and_form c.args.node.now c.in-None.is) c.unreached.ensures
+lone_and-returns-in-None t c = refuses c.empty_node.result _ _ _ (lone.no_lone and_form c.args.node.now c.in-None.is) c.empty_node.ensures
 
 pub lone_relation-returns-in-None : goal.lone_relation-returns-in-None
-lone_relation-returns-in-None t c = refuses c.unreached.result _ _ _ (lone.no_lone relation_form c.args.node.now c.in-None.is) c.unreached.ensures
+lone_relation-returns-in-None t c = refuses c.empty_node.result _ _ _ (lone.no_lone relation_form c.args.node.now c.in-None.is) c.empty_node.ensures
 
 pub lone_add-returns-in-None : goal.lone_add-returns-in-None
-lone_add-returns-in-None t c = refuses c.unreached.result _ _ _ (lone.no_lone add_form c.args.node.now c.in-None.is) c.unreached.ensures
+lone_add-returns-in-None t c = refuses c.empty_node.result _ _ _ (lone.no_lone add_form c.args.node.now c.in-None.is) c.empty_node.ensures
 
 pub lone_mult-returns-in-None : goal.lone_mult-returns-in-None
-lone_mult-returns-in-None t c = refuses c.unreached.result _ _ _ (lone.no_lone mult_form c.args.node.now c.in-None.is) c.unreached.ensures
+lone_mult-returns-in-None t c = refuses c.empty_node.result _ _ _ (lone.no_lone mult_form c.args.node.now c.in-None.is) c.empty_node.ensures
 
 pub lone_unary-returns-in-None : goal.lone_unary-returns-in-None
-lone_unary-returns-in-None t c = refuses c.unreached.result _ _ _ (lone.no_lone unary_form c.args.node.now c.in-None.is) c.unreached.ensures
+lone_unary-returns-in-None t c = refuses c.empty_node.result _ _ _ (lone.no_lone unary_form c.args.node.now c.in-None.is) c.empty_node.ensures
 
 pub lone_member-returns-in-None : goal.lone_member-returns-in-None
-lone_member-returns-in-None t c = refuses c.unreached.result _ _ _ (lone.no_lone member_form c.args.node.now c.in-None.is) c.unreached.ensures
+lone_member-returns-in-None t c = refuses c.empty_node.result _ _ _ (lone.no_lone member_form c.args.node.now c.in-None.is) c.empty_node.ensures
 
 pub lone_primary-returns-in-None : goal.lone_primary-returns-in-None
-lone_primary-returns-in-None t c = refuses c.unreached.result _ _ _ (lone.no_lone primary_form c.args.node.now c.in-None.is) c.unreached.ensures
+lone_primary-returns-in-None t c = refuses c.empty_node.result _ _ _ (lone.no_lone primary_form c.args.node.now c.in-None.is) c.empty_node.ensures
 
 -- ---- expressions
 
@@ -44,58 +43,49 @@ lone_expr-returns-in-If t c = refuses c.form.result _ _ _ (lone.if_expr c.args.n
 
 -- ---- levels
 
-pub lone_or-returns-then-is_empty : goal.lone_or-returns-then-is_empty
-lone_or-returns-then-is_empty t c = gives_at _ c.lone_and.result _ _ (lone.one_or c.args.node.now _ c.in-Some.is (grind (arith, common_steps))) c.lone_and.ensures
+pub lone_or-returns-in-Some-alone : goal.lone_or-returns-in-Some-alone
+lone_or-returns-in-Some-alone t c = gives_at _ c.lone_and.result _ _ (lone.part_lone or_form and_form c.args.node.now _ _ c.in-Some.is (rw c.in-Some-alone.is at c.alone.ensures.part)) c.lone_and.ensures
 
-pub lone_or-returns-else-is_empty : goal.lone_or-returns-else-is_empty
-lone_or-returns-else-is_empty t c = refuses c.form.result _ _ _ (lone.several_or c.args.node.now _ c.in-Some.is (λ h. grind (arith, common_steps))) c.form.ensures
+pub lone_or-returns-in-None-alone : goal.lone_or-returns-in-None-alone
+lone_or-returns-in-None-alone t c = refuses c.form.result _ _ _ (lone.wrong_level or_form c.args.node.now _ c.in-Some.is (lone.or_level _) (rw c.in-None-alone.is at c.alone.ensures.part)) c.form.ensures
 
-pub lone_and-returns-then-is_empty : goal.lone_and-returns-then-is_empty
-lone_and-returns-then-is_empty t c = gives_at _ c.lone_relation.result _ _ (lone.one_and c.args.node.now _ c.in-Some.is (grind (arith, common_steps))) c.lone_relation.ensures
+pub lone_and-returns-in-Some-alone : goal.lone_and-returns-in-Some-alone
+lone_and-returns-in-Some-alone t c = gives_at _ c.lone_relation.result _ _ (lone.part_lone and_form relation_form c.args.node.now _ _ c.in-Some.is (rw c.in-Some-alone.is at c.alone.ensures.part)) c.lone_relation.ensures
 
-pub lone_and-returns-else-is_empty : goal.lone_and-returns-else-is_empty
-lone_and-returns-else-is_empty t c = refuses c.form.result _ _ _ (lone.several_and c.args.node.now _ c.in-Some.is (λ h. grind (arith, common_steps))) c.form.ensures
+pub lone_and-returns-in-None-alone : goal.lone_and-returns-in-None-alone
+lone_and-returns-in-None-alone t c = refuses c.form.result _ _ _ (lone.wrong_level and_form c.args.node.now _ c.in-Some.is (lone.and_level _) (rw c.in-None-alone.is at c.alone.ensures.part)) c.form.ensures
 
-pub lone_add-returns-then-is_empty : goal.lone_add-returns-then-is_empty
-lone_add-returns-then-is_empty t c = gives_at _ c.lone_mult.result _ _ (lone.one_add c.args.node.now _ c.in-Some.is (grind (arith, common_steps))) c.lone_mult.ensures
+pub lone_relation-returns-in-Some-alone : goal.lone_relation-returns-in-Some-alone
+lone_relation-returns-in-Some-alone t c = gives_at _ c.lone_add.result _ _ (lone.part_lone relation_form add_form c.args.node.now _ _ c.in-Some.is (rw c.in-Some-alone.is at c.alone.ensures.part)) c.lone_add.ensures
 
-pub lone_add-returns-else-is_empty : goal.lone_add-returns-else-is_empty
-lone_add-returns-else-is_empty t c = refuses c.form.result _ _ _ (lone.several_add c.args.node.now _ c.in-Some.is (λ h. grind (arith, common_steps))) c.form.ensures
+pub lone_relation-returns-in-None-alone : goal.lone_relation-returns-in-None-alone
+lone_relation-returns-in-None-alone t c = refuses c.form.result _ _ _ (lone.wrong_level relation_form c.args.node.now _ c.in-Some.is (lone.relation_level _) (rw c.in-None-alone.is at c.alone.ensures.part)) c.form.ensures
 
-pub lone_mult-returns-then-is_empty : goal.lone_mult-returns-then-is_empty
-lone_mult-returns-then-is_empty t c = gives_at _ c.lone_unary.result _ _ (lone.one_mult c.args.node.now _ c.in-Some.is (grind (arith, common_steps))) c.lone_unary.ensures
+pub lone_add-returns-in-Some-alone : goal.lone_add-returns-in-Some-alone
+lone_add-returns-in-Some-alone t c = gives_at _ c.lone_mult.result _ _ (lone.part_lone add_form mult_form c.args.node.now _ _ c.in-Some.is (rw c.in-Some-alone.is at c.alone.ensures.part)) c.lone_mult.ensures
 
-pub lone_mult-returns-else-is_empty : goal.lone_mult-returns-else-is_empty
-lone_mult-returns-else-is_empty t c = refuses c.form.result _ _ _ (lone.several_mult c.args.node.now _ c.in-Some.is (λ h. grind (arith, common_steps))) c.form.ensures
+pub lone_add-returns-in-None-alone : goal.lone_add-returns-in-None-alone
+lone_add-returns-in-None-alone t c = refuses c.form.result _ _ _ (lone.wrong_level add_form c.args.node.now _ c.in-Some.is (lone.add_level _) (rw c.in-None-alone.is at c.alone.ensures.part)) c.form.ensures
 
-pub lone_relation-returns-then-is_empty : goal.lone_relation-returns-then-is_empty
-lone_relation-returns-then-is_empty t c = gives_at _ c.lone_add.result _ _ (lone.one_relation c.args.node.now _ _ _ c.in-Some-Common.is (rw c.in-Some-Common.is at c.in-Some-Common.field-0-is) (grind (arith, common_steps))) c.lone_add.ensures
+pub lone_mult-returns-in-Some-alone : goal.lone_mult-returns-in-Some-alone
+lone_mult-returns-in-Some-alone t c = gives_at _ c.lone_unary.result _ _ (lone.part_lone mult_form unary_form c.args.node.now _ _ c.in-Some.is (rw c.in-Some-alone.is at c.alone.ensures.part)) c.lone_unary.ensures
 
-pub lone_relation-returns-else-is_empty : goal.lone_relation-returns-else-is_empty
-lone_relation-returns-else-is_empty t c = refuses c.form.result _ _ _ (lone.several_relation c.args.node.now _ _ _ c.in-Some-Common.is (rw c.in-Some-Common.is at c.in-Some-Common.field-0-is) (λ h. grind (arith, common_steps))) c.form.ensures
+pub lone_mult-returns-in-None-alone : goal.lone_mult-returns-in-None-alone
+lone_mult-returns-in-None-alone t c = refuses c.form.result _ _ _ (lone.wrong_level mult_form c.args.node.now _ c.in-Some.is (lone.mult_level _) (rw c.in-None-alone.is at c.alone.ensures.part)) c.form.ensures
 
-pub lone_relation-returns-in-Some-Has : goal.lone_relation-returns-in-Some-Has
-lone_relation-returns-in-Some-Has t c = refuses c.form-in-Some-Has.result _ _ _ (lone.has_relation c.args.node.now _ _ _ c.in-Some-Has.is (rw c.in-Some-Has.is at c.in-Some-Has.field-0-is)) c.form-in-Some-Has.ensures
+pub lone_unary-returns-in-Some-alone : goal.lone_unary-returns-in-Some-alone
+lone_unary-returns-in-Some-alone t c = gives_at _ c.lone_member.result _ _ (lone.part_lone unary_form member_form c.args.node.now _ _ c.in-Some.is (rw c.in-Some-alone.is at c.alone.ensures.part)) c.lone_member.ensures
 
-pub lone_relation-returns-in-Some-Like : goal.lone_relation-returns-in-Some-Like
-lone_relation-returns-in-Some-Like t c = refuses c.form-in-Some-Like.result _ _ _ (lone.like_relation c.args.node.now _ _ _ c.in-Some-Like.is (rw c.in-Some-Like.is at c.in-Some-Like.field-0-is)) c.form-in-Some-Like.ensures
+pub lone_unary-returns-in-None-alone : goal.lone_unary-returns-in-None-alone
+lone_unary-returns-in-None-alone t c = refuses c.signs.result _ _ _ (lone.wrong_level unary_form c.args.node.now _ c.in-Some.is (lone.unary_level _) (rw c.in-None-alone.is at c.alone.ensures.part)) c.signs.ensures
 
-pub lone_relation-returns-in-Some-IsIn : goal.lone_relation-returns-in-Some-IsIn
-lone_relation-returns-in-Some-IsIn t c = refuses c.form-in-Some-IsIn.result _ _ _ (lone.is_relation c.args.node.now _ _ _ _ c.in-Some-IsIn.is (rw c.in-Some-IsIn.is at c.in-Some-IsIn.field-0-is)) c.form-in-Some-IsIn.ensures
+pub lone_member-returns-in-Some-alone : goal.lone_member-returns-in-Some-alone
+lone_member-returns-in-Some-alone t c = gives_at _ c.lone_primary.result _ _ (lone.part_lone member_form primary_form c.args.node.now _ _ c.in-Some.is (rw c.in-Some-alone.is at c.alone.ensures.part)) c.lone_primary.ensures
 
--- ---- operands, members and primaries
+pub lone_member-returns-in-None-alone : goal.lone_member-returns-in-None-alone
+lone_member-returns-in-None-alone t c = refuses c.form.result _ _ _ (lone.wrong_level member_form c.args.node.now _ c.in-Some.is (lone.member_level _) (rw c.in-None-alone.is at c.alone.ensures.part)) c.form.ensures
 
-pub lone_unary-returns-then-no_sign : goal.lone_unary-returns-then-no_sign
-lone_unary-returns-then-no_sign t c = gives_at _ c.lone_member.result _ _ (lone.bare_unary c.args.node.now _ c.in-Some.is (sym c.no_sign.ensures ∙ c.if-no_sign.true)) c.lone_member.ensures
-
-pub lone_unary-returns-else-no_sign : goal.lone_unary-returns-else-no_sign
-lone_unary-returns-else-no_sign t c = refuses c.signs.result _ _ _ (lone.signed_unary c.args.node.now _ c.in-Some.is (sym c.no_sign.ensures ∙ c.if-no_sign.false)) c.signs.ensures
-
-pub lone_member-returns-then-is_empty : goal.lone_member-returns-then-is_empty
-lone_member-returns-then-is_empty t c = gives_at _ c.lone_primary.result _ _ (lone.bare_member c.args.node.now _ c.in-Some.is (grind (arith, common_steps))) c.lone_primary.ensures
-
-pub lone_member-returns-else-is_empty : goal.lone_member-returns-else-is_empty
-lone_member-returns-else-is_empty t c = refuses c.form.result _ _ _ (lone.accessed_member c.args.node.now _ c.in-Some.is (λ h. grind (arith, common_steps))) c.form.ensures
+-- ---- primaries
 
 pub lone_primary-returns-in-Some-Expr : goal.lone_primary-returns-in-Some-Expr
 lone_primary-returns-in-Some-Expr t c = gives_at _ c.lone_expr.result _ _ (lone.parens_primary c.args.node.now _ _ c.in-Some-Expr.is (rw c.in-Some-Expr.is at c.in-Some-Expr.field-0-is)) c.lone_expr.ensures

@@ -7,7 +7,7 @@ pub returns : goal.returns
 returns c =
     let ns = c.args.elements.now in
     elements_given (table_of c.args.styles.now) c.args.place.now c.place_behind-behind_first.result.now c.place_behind-behind_second.result.now
-    (option_copied c.get-first.result) (option_copied c.get-second.result) (option_copied c.get-third.result) c.others.result.now ns c.joined.result
+    (option_copied c.get-first.result) (option_copied c.get-second.result) (option_copied c.get-third.result) c.others.result.now ns c.join_elements.result
     (got ns 0 c.get-first.result c.get-first.ensures.lookup) (got ns 1 c.get-second.result c.get-second.ensures.lookup) (got ns 2 c.get-third.result c.get-third.ensures.lookup)
     c.others.ensures c.place_behind-behind_first.ensures c.place_behind-behind_second.ensures
-    (c.joined.ensures _ _ _ _ c.principal_there.ensures c.action_there.ensures c.resource_there.ensures c.no_extra.ensures)
+    (c.join_elements.ensures _ _ _ _ c.principal_there.ensures c.action_there.ensures c.resource_there.ensures c.refuse_extra.ensures)

@@ -1,19 +1,27 @@
-use Rattle.std.proofs.Common.{◌<◌, length, take, arith}
-use Rattle.cedar_policy_conversion.specs.Policies.{policies_from, template_outcome}
-use Rattle.cedar_policy_conversion.specs.PolicyMeaning.{policy_id}
+use Rattle.std.proofs.Common.{◌≡◌, Some, subst, sym}
 use Rattle.cedar_conversion.specs.Table.{table_of}
-use Rattle.cedar_policy_conversion.specs.machines.Filled.{set_view}
-use Rattle.cedar_conversion.proofs.Outcomes.{gives_at}
-use Rattle.cedar_policy_conversion.proofs.SetSteps.{nothing_kept, set_next}
+use Rattle.cedar_policy_conversion.specs.GeneratedIds.{GivesNext, named_policies, remaining_nodes}
+use Rattle.cedar_policy_conversion.proofs.NumberedSets.{first_kept, next_free, next_kept, whole_kept}
 use Rattle.cedar_policy_conversion.proofs.sets.policies.Goals as goal
 
-pub loop-count-init : goal.loop-count-init
-loop-count-init c = nothing_kept (table_of c.args.styles.now) c.new-set.result c.new-set.ensures
+pub loop-item-init : goal.loop-item-init
+loop-item-init c =
+    first_kept (table_of c.args.styles.now) c.args.nodes.now c.into_iter-item-iterator.result c.new-set.result
+    (subst (λ ids. remaining_nodes ids ≡ named_policies 0 c.args.nodes.now) (sym c.into_iter-item-iterator.ensures.into_iter_gives) c.new-item-items.ensures) c.new-set.ensures
 
-pub loop-count-preserved : goal.loop-count-preserved
-loop-count-preserved c =
-    let e = table_of c.args.styles.now in
-    let nodes = c.args.nodes.now in
-    let more : c.loop-count.count < length nodes = omega arith in
-    gives_at (set_view c.one_more-all.new.set) c.one_more-all.result _ _ (set_next e nodes c.loop-count.count c.index-nodes-count.result more c.index-nodes-count.is)
-    (c.one_more-all.ensures (policies_from e 0 (take c.loop-count.count nodes)) (template_outcome e (policy_id c.loop-count.count) c.index-nodes-count.result) c.loop-count.invariant c.policy_at.ensures)
+pub one_more-all-requires : goal.one_more-all-requires
+one_more-all-requires c =
+    let ids = c.loop-item.item-iterator in
+    let is = subst (λ r. GivesNext ids (Some r) c.next.new.self) c.in_ok-id.was c.in-Some.ensures.steps in
+    next_free (table_of c.args.styles.now) c.args.nodes.now c.requires ids c.next.new.self c.loop-item.set c.loop-item.all c.loop-item.invariant c.in_ok-id.id c.in_ok-id.node.now is c.static_or_template.result c.static_or_template.ensures
+
+pub loop-item-preserved : goal.loop-item-preserved
+loop-item-preserved c =
+    let ids = c.loop-item.item-iterator in
+    let is = subst (λ r. GivesNext ids (Some r) c.next.new.self) c.in_ok-id.was c.in-Some.ensures.steps in
+    next_kept (table_of c.args.styles.now) c.args.nodes.now c.requires ids c.next.new.self c.loop-item.set c.loop-item.all c.loop-item.invariant c.in_ok-id.id c.in_ok-id.node.now is c.static_or_template.result c.static_or_template.ensures
+    c.one_more-all.new.set c.one_more-all.result c.one_more-all.ensures.named c.one_more-all.ensures.told
+
+pub returns : goal.returns
+returns c =
+    c.filled.ensures _ (whole_kept (table_of c.args.styles.now) c.args.nodes.now c.loop-item.item-iterator c.loop-item.set c.loop-item.all c.loop-item.invariant c.in-None.ensures.steps.0)

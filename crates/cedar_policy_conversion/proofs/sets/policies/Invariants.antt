@@ -1,9 +1,6 @@
-use Rattle.std.proofs.Common.{take}
-use Rattle.cedar_policy_conversion.specs.Policies.{set_outcome}
-use Rattle.cedar_conversion.specs.Seen.{Gives}
 use Rattle.cedar_conversion.specs.Table.{table_of}
-use Rattle.cedar_policy_conversion.specs.machines.Filled.{set_view}
+use Rattle.cedar_policy_conversion.proofs.NumberedSets.{AreKept}
 use Rattle.cedar_policy_conversion.proofs.sets.policies.Given as goal
 
-abbrev pub invariant-loop-count : goal.invariant-loop-count
-invariant-loop-count l = Gives (set_view l.set) l.all (set_outcome (table_of l.styles) (take l.count l.nodes))
+abbrev pub invariant-loop-item : goal.invariant-loop-item
+invariant-loop-item l = AreKept (table_of l.styles) l.nodes l.item-iterator l.set l.all

@@ -1,6 +1,15 @@
 use Rattle.cedar_conversion.proofs.Outcomes.{refuses}
-use Rattle.cedar_policy_conversion.proofs.PolicySides.{not_static_refused}
+use Rattle.cedar_policy_conversion.specs.Policies.{scope_slots, template_parts}
+use Rattle.cedar_policy_conversion.proofs.PolicySides.{no_slots, unless_none, unless_some}
 use Rattle.cedar_policy_conversion.proofs.templates.only_static.Goals as goal
 
-pub returns-in-Err : goal.returns-in-Err
-returns-in-Err c none = refuses c.not_static.result _ _ _ (not_static_refused c.args.loc.now c.args.template c.in-Err.error none c.in-Err.ensures) c.not_static.ensures
+pub returns-in-Some : goal.returns-in-Some
+returns-in-Some c =
+    let parts = template_parts c.args.template in
+    refuses c.found_slot.result _ _ _ (unless_some c.args.loc.now (scope_slots parts) parts c.in-Some.slot c.in-Some.ensures) c.found_slot.ensures
+
+pub of_static-requires : goal.of_static-requires
+of_static-requires c = no_slots c.args.template c.requires c.in-None.ensures
+
+pub returns-in-None : goal.returns-in-None
+returns-in-None c = unless_none c.args.loc.now c.args.template c.of_static.result c.of_static.ensures c.in-None.ensures

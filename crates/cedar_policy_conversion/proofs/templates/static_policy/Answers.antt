@@ -5,11 +5,11 @@ use Rattle.cedar_policy_conversion.proofs.ConditionFree.{template_free}
 use Rattle.cedar_conversion.proofs.Outcomes.{gives_at}
 use Rattle.cedar_policy_conversion.proofs.templates.static_policy.Goals as goal
 
+pub only_static-requires : goal.only_static-requires
+only_static-requires c = template_free (table_of c.args.styles.now) c.args.id c.args.node.now c.in-Ok.template c.in-Ok.ensures
+
 pub returns-in-Ok : goal.returns-in-Ok
-returns-in-Ok c =
-    let e = table_of c.args.styles.now in
-    let given = c.in-Ok.ensures in
-    gives_at template_parts c.only_static.result _ _ (ap (only_static c.args.node.now.loc) given) (c.only_static.ensures (template_free e c.args.id c.args.node.now c.in-Ok.template given))
+returns-in-Ok c = gives_at template_parts c.only_static.result _ _ (ap (only_static c.args.node.now.loc) c.in-Ok.ensures) c.only_static.ensures
 
 pub returns-in-Err : goal.returns-in-Err
 returns-in-Err c =

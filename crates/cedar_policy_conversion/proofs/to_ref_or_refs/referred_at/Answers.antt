@@ -25,4 +25,4 @@ pub returns-in-Some-Expr : goal.returns-in-Some-Expr
 returns-in-Some-Expr g c = refuses c.record_found-in-Some-Expr.result _ _ _ (node.parens_referred g.T.RefKind.kind c.args.var c.args.node.now _ _ c.in-Some-Expr.is (rw c.in-Some-Expr.is at c.in-Some-Expr.field-0-is)) c.record_found-in-Some-Expr.ensures
 
 pub returns-in-None : goal.returns-in-None
-returns-in-None g c = refuses c.unreached.result _ _ _ (node.nothing_referred g.T.RefKind.kind c.args.var c.args.node.now c.in-None.is) c.unreached.ensures
+returns-in-None g c = refuses c.empty_node.result _ _ _ (node.nothing_referred g.T.RefKind.kind c.args.var c.args.node.now c.in-None.is) c.empty_node.ensures

@@ -20,18 +20,18 @@ pub returns-in_err-tree-clause-kept : goal.returns-in_err-tree-clause-kept
 returns-in_err-tree-clause-kept c ts set cut means = returns-in_err-tree-clause-only c ts set cut (old_set means)
 
 pub returns-clause-value : goal.returns-clause-value
-returns-clause-value c = read_value (table_of c.args.styles.now) set_meaning c.args.text.now c.in_ok-tree.tree c.to_policyset.result c.in_ok-tree.ensures.found c.to_policyset.ensures
+returns-clause-value c = read_value (table_of c.args.styles.now) set_meaning c.args.text.now c.in_ok-tree.tree c.into_policyset.result c.in_ok-tree.ensures.found c.into_policyset.ensures
 
 pub returns-clause-only : goal.returns-clause-only
 returns-clause-only c ts set cut means =
     let d = tree_found (table_of c.args.styles.now) c.args.text.now ts set cut means in
-    read_only (table_of c.args.styles.now) set_meaning c.in_ok-tree.tree d.tree set c.to_policyset.result (c.in_ok-tree.ensures.only d.tree d.stands) c.to_policyset.ensures d.gives
+    read_only (table_of c.args.styles.now) set_meaning c.in_ok-tree.tree d.tree set c.into_policyset.result (c.in_ok-tree.ensures.only d.tree d.stands) c.into_policyset.ensures d.gives
 
 pub returns-in_err-tree-clause-refused : goal.returns-in_err-tree-clause-refused
 returns-in_err-tree-clause-refused c = err_on c.from_residual.result c.in_err-tree.field-0.0 (λ f. RefusesSet (table_of c.args.styles.now) f c.args.text.now) c.from_residual.ensures.1 (inl c.in_err-tree.ensures.refused)
 
 pub returns-clause-refused : goal.returns-clause-refused
-returns-clause-refused c = told_tree (table_of c.args.styles.now) set_meaning c.args.text.now c.in_ok-tree.tree c.to_policyset.result c.in_ok-tree.ensures.found c.to_policyset.ensures
+returns-clause-refused c = told_tree (table_of c.args.styles.now) set_meaning c.args.text.now c.in_ok-tree.tree c.into_policyset.result c.in_ok-tree.ensures.found c.into_policyset.ensures
 
 pub returns-in_err-tree-clause-leftmost : goal.returns-in_err-tree-clause-leftmost
 returns-in_err-tree-clause-leftmost c ts cut fit none =
@@ -46,11 +46,11 @@ returns-clause-kept c ts set cut means = returns-clause-only c ts set cut (old_s
 pub returns-clause-spaces : goal.returns-clause-spaces
 returns-clause-spaces c =
     let e = table_of c.args.styles.now in
-    spaces_clause c.at_most_one_cut.ensures e set_meaning c.args.text.now c.to_policyset.result c.utf8.text
-    (read_value e set_meaning c.args.text.now c.in_ok-tree.tree c.to_policyset.result c.in_ok-tree.ensures.found c.to_policyset.ensures)
+    spaces_clause c.at_most_one_cut.ensures e set_meaning c.args.text.now c.into_policyset.result c.utf8.text
+    (read_value e set_meaning c.args.text.now c.in_ok-tree.tree c.into_policyset.result c.in_ok-tree.ensures.found c.into_policyset.ensures)
 
 pub returns-clause-parentheses : goal.returns-clause-parentheses
 returns-clause-parentheses c =
     let e = table_of c.args.styles.now in
-    parentheses_clause c.at_most_one_cut.ensures e (c.one_set.ensures e) set_meaning c.args.text.now c.to_policyset.result c.utf8.text
-    (read_value e set_meaning c.args.text.now c.in_ok-tree.tree c.to_policyset.result c.in_ok-tree.ensures.found c.to_policyset.ensures)
+    parentheses_clause c.at_most_one_cut.ensures e (c.one_set.ensures e) set_meaning c.args.text.now c.into_policyset.result c.utf8.text
+    (read_value e set_meaning c.args.text.now c.in_ok-tree.tree c.into_policyset.result c.in_ok-tree.ensures.found c.into_policyset.ensures)

@@ -1,15 +1,15 @@
-use Rattle.std.proofs.Common.{◌≡◌, ap, sym, ◌∙◌, List, [], Bool, false, refl}
+use Rattle.std.proofs.Common.{◌≡◌, ap, sym, ◌∙◌, List, [], false, refl}
 use Rattle.cedar_grammar.specs.declared.reading.class.Closing.{Closing}
 use Rattle.cedar_grammar.specs.declared.reading.class.Closing.TheVariants as closing
 use Rattle.cedar_expression_machine.specs.declared.expression.state.Frame.{Frame}
-use Rattle.cedar_expression_machine.specs.declared.expression.state.Place.{Place}
-use Rattle.cedar_expression_machine.specs.declared.expression.state.Place.TheVariants as place
+use Rattle.cedar_expression_machine.specs.declared.expression.state.OperandPlace.{OperandPlace}
+use Rattle.cedar_expression_machine.specs.declared.expression.state.OperandPlace.TheVariants as place
 use Rattle.cedar_expression_machine.specs.machines.ExpressionPlans.{list_may_end}
 use Rattle.cedar_expression_machine.specs.machines.ExpressionShapes.{stack_shape}
 use Rattle.cedar_expression_machine.proofs.expression.state.State.may_end_list.Goals as goal
 
 -- no list is open
-none_ends : (p : Place) (x : Closing) → list_may_end [] p x ≡ false
+none_ends : (p : OperandPlace) (x : Closing) → list_may_end [] p x ≡ false
 none_ends place.Item closing.Bracket = refl
 none_ends place.Item closing.Paren = refl
 none_ends place.Item _ = refl

@@ -1,4 +1,4 @@
-use Rattle.std.proofs.Common.{◌≡◌, sym, subst, Some, inl, inr}
+use Rattle.std.proofs.Common.{◌≡◌, subst, Some, inl, inr}
 use Rattle.cedar_expression_machine.specs.declared.words.state.WordsState.{WordsState}
 use Rattle.cedar_expression_machine.specs.machines.WordShapes.{words_plan, words_shape}
 use Rattle.cedar_expression_machine.proofs.expressions.PlannedActs.{words_go_on}

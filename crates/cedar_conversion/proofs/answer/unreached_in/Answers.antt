@@ -1,7 +1,0 @@
-use Rattle.cedar_conversion.specs.Held.{Held}
-use Rattle.cedar_conversion.specs.Outcome.{empty_node}
-use Rattle.cedar_conversion.proofs.Outcomes.{refused_at}
-use Rattle.cedar_conversion.proofs.answer.unreached_in.Goals as goal
-
-pub returns : goal.returns
-returns g c = rw c.put.ensures (refused_at Held c.unreached.result empty_node c.args.loc.now c.unreached.ensures)

@@ -1,6 +1,0 @@
-use Rattle.cedar_conversion.specs.machines.Applied.{seen_access}
-use Rattle.cedar_conversion.proofs.Outcomes.{grown_gives}
-use Rattle.cedar_conversion.proofs.collections.add_access.Goals as goal
-
-pub returns : goal.returns
-returns g c xs x h k = grown_gives (seen_access g.B.ExprBuilderInfallibleBuild.meaning) _ _ _ xs x h k c.add.ensures

@@ -1,0 +1,12 @@
+use Rattle.std.proofs.Common.{sym, ap, ◌∙◌, Err}
+use Rattle.cedar_conversion.proofs.Quoted.{pattern_expected, pattern_faults_expected}
+use Rattle.cedar_conversion.proofs.Outcomes.{kept_refusal}
+use Rattle.cedar_conversion.proofs.leaves.strings.pattern_of.Goals as goal
+
+pub returns-in-Ok : goal.returns-in-Ok
+returns-in-Ok c = pattern_expected c.args.loc.now c.args.raw.now c.in-Ok.pattern.items (rw c.as_str.ensures at c.in-Ok.ensures.pattern)
+
+pub returns-in_ok-escape_faults-in-Err-Errors : goal.returns-in_ok-escape_faults-in-Err-Errors
+returns-in_ok-escape_faults-in-Err-Errors c =
+    kept_refusal c.of_errors.result _ _ c.of_errors.ensures
+    (pattern_faults_expected c.args.loc.now c.args.raw.now c.in-Err-Errors.faults (rw (c.in-Err-Errors.field-0-is, c.as_str.ensures) at c.in-Err-Errors.ensures.told) ∙ ap Err (sym c.in_ok-escape_faults-in-Err-Errors.ensures))

@@ -1,8 +1,0 @@
-use Rattle.std.proofs.Common.{take}
-use Rattle.cedar_conversion.specs.Names.{all_of, valid_ident}
-use Rattle.cedar_conversion.specs.Seen.{Gives}
-use Rattle.cedar_conversion.proofs.Identifiers.{items_of}
-use Rattle.cedar_conversion.proofs.names.path_of.Given as goal
-
-abbrev pub invariant-loop-part : goal.invariant-loop-part
-invariant-loop-part l = Gives items_of l.all (all_of valid_ident (take l.part-index l.path))

@@ -1,7 +1,0 @@
-use Rattle.cedar_conversion.specs.machines.Views.{plain}
-use Rattle.cedar_conversion.proofs.Outcomes.{gives_at, next_next}
-use Rattle.cedar_conversion.proofs.sides.like_from.Goals as goal
-
-pub returns : goal.returns
-returns g c x h k l =
-    gives_at (plain g.B.ExprBuilderInfallibleBuild.meaning) c.matched_from.result _ _ (next_next h _ _) (c.matched_from.ensures _ (c.pattern_beside.ensures x h k l))

@@ -1,8 +1,0 @@
-use Rattle.std.proofs.Common.{◌≡◌, ◌∷◌}
-use Rattle.cedar_syntax.specs.ParseErrors.{faults_of}
-use Rattle.cedar_conversion.specs.Seen.{named_faults}
-use Rattle.cedar_conversion.specs.Strings.{string_faults}
-use Rattle.cedar_conversion.proofs.strings.escape_faults.Given as goal
-
-abbrev pub invariant-loop-fault : goal.invariant-loop-fault
-invariant-loop-fault l = named_faults (faults_of l.all) ≡ string_faults l.loc (l.fn.faults.head ∷ l.yielded)

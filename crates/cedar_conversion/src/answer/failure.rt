@@ -1,0 +1,165 @@
+//! Why a part of a tree has no value, in two words of the machine.
+//!
+//! An answer goes up through each level of nesting and keeps a failure's room there, a value's
+//! too. So faults stand in memory of their own here, and `told` gives the failure that the calls
+//! on trees tell. `cedar_syntax::util` joins what is told.
+ghost use Rattle.std.specs.Prelude.{◌≡◌, ◌⊎◌, ◌++◌, IfOk, IfErr};
+ghost use Rattle.cedar_syntax.specs.Joined.{WantsMemory, TellsBoth, TellsAll, TellsFaults};
+ghost use Rattle.cedar_syntax.specs.ParseErrors.{faults_of};
+ghost use Rattle.cedar_syntax.specs.declared.err.faults.Failure.TheVariants.{Errors};
+
+use cedar_expressions::Boxed;
+use cedar_syntax::err::{self, ParseErrors};
+use std::alloc::{AllocError, AllocFailed, Global};
+use std::marker::Model;
+
+/// Want of memory, or faults. Contracts see it as the failure that is told.
+#[derive(Drop)]
+pub struct Failure {
+    cause: Cause,
+}
+
+/// What a failure holds.
+#[derive(Drop)]
+pub(crate) enum Cause {
+    Memory(AllocError),
+    Errors(Boxed<ParseErrors>),
+}
+
+impl Model for Failure {
+    ghost use Rattle.cedar_syntax.specs.declared.err.faults.Failure.{Failure as Told};
+    ghost use Rattle.cedar_syntax.specs.contracts.err.faults.Failure as whole;
+    ghost use Rattle.cedar_conversion.specs.Causes.{told_cause};
+
+    ghost Value = { Told };
+
+    ghost coded = { whole.the_row.coded };
+
+    ghost view = { λ failure. told_cause failure.cause };
+}
+
+impl Failure {
+    /// These faults, or want of memory for them.
+    #[cold]
+    #[inline(never)]
+    pub fn of_errors(alloc: Global, faults: ParseErrors) -> Failure
+        ensures { TellsFaults result (faults_of faults) }
+    {
+        let cause = match Boxed::new(alloc, faults) {
+            Ok(faults) => Cause::Errors(faults),
+            Err(error) => Cause::Memory(error),
+        };
+        Failure { cause }
+    }
+}
+
+impl From<AllocError> for Failure {
+    ghost use Rattle.std.specs.Prelude.{◌≡◌, alloc_error};
+    ghost use Rattle.cedar_syntax.specs.declared.err.faults.Failure.TheVariants.{Memory};
+
+    ghost from_gives = { λ _ failure. failure ≡ Memory alloc_error };
+
+    fn from(_: AllocError) -> Failure {
+        Failure {
+            cause: Cause::Memory(AllocError),
+        }
+    }
+}
+
+impl<T: Drop> From<AllocFailed<T>> for Failure {
+    ghost use Rattle.std.specs.Prelude.{◌≡◌, alloc_error};
+    ghost use Rattle.cedar_syntax.specs.declared.err.faults.Failure.TheVariants.{Memory};
+
+    ghost from_gives = { λ _ failure. failure ≡ Memory alloc_error };
+
+    fn from(_: AllocFailed<T>) -> Failure {
+        Failure {
+            cause: Cause::Memory(AllocError),
+        }
+    }
+}
+
+/// The failure that is told; it takes no memory.
+impl From<Failure> for err::Failure {
+    ghost use Rattle.std.specs.Prelude.{◌≡◌};
+
+    ghost from_gives = { λ failure told. told ≡ failure };
+
+    fn from(failure: Failure) -> err::Failure {
+        let Failure { cause } = failure;
+        match cause {
+            Cause::Memory(error) => err::Failure::Memory(error),
+            Cause::Errors(faults) => err::Failure::Errors(faults.into_inner()),
+        }
+    }
+}
+
+/// An answer with the failure that is told.
+pub fn told<T: Drop>(answer: Result<T, Failure>) -> Result<T, err::Failure>
+    ensures { result ≡ answer }
+{
+    match answer {
+        Ok(value) => Ok(value),
+        Err(failure) => Err(err::Failure::from(failure)),
+    }
+}
+
+/// The faults, then the others.
+fn followed(faults: Boxed<ParseErrors>, more: Boxed<ParseErrors>) -> Failure
+    ensures { TellsAll result (Errors faults) (Errors more) }
+{
+    let mut all = faults;
+    match all.as_mut().extend(more.into_inner()) {
+        Ok(()) => Failure {
+            cause: Cause::Errors(all),
+        },
+        Err(error) => Failure::from(error),
+    }
+}
+
+/// The faults, then those of the second.
+fn behind(faults: Boxed<ParseErrors>, second: Failure) -> Failure
+    ensures { TellsAll result (Errors faults) second }
+{
+    let Failure { cause } = second;
+    match cause {
+        Cause::Memory(error) => Failure::from(error),
+        Cause::Errors(more) => followed(faults, more),
+    }
+}
+
+/// The faults of the first, then those of the second. Want of memory in either is the answer.
+#[cold]
+#[inline(never)]
+fn joined(first: Failure, second: Failure) -> Failure
+    ensures { TellsAll result first second }
+{
+    let Failure { cause } = first;
+    match cause {
+        Cause::Memory(error) => Failure::from(error),
+        Cause::Errors(faults) => behind(faults, second),
+    }
+}
+
+/// Both values. Where one part fails, its failure; where both fail, want of memory if one is that,
+/// else the faults of the first and those of the second.
+pub fn flatten_tuple_2<T1: Drop, T2: Drop>(
+    first: Result<T1, Failure>,
+    second: Result<T2, Failure>,
+) -> Result<(T1, T2), Failure>
+    ensures all { (x : T1) (y : T2) → first ≡ Ok x → second ≡ Ok y → result ≡ Ok (x, y) }
+    ensures both { IfOk result (λ pair. (first ≡ Ok pair.0) × (second ≡ Ok pair.1)) }
+    ensures memory { WantsMemory first ⊎ WantsMemory second → WantsMemory result }
+    ensures faults { IfErr result (λ failure. TellsBoth failure first second) }
+{
+    match first {
+        Ok(first) => match second {
+            Ok(second) => Ok((first, second)),
+            Err(failure) => Err(failure),
+        },
+        Err(failure) => match second {
+            Ok(_) => Err(failure),
+            Err(more) => Err(joined(failure, more)),
+        },
+    }
+}

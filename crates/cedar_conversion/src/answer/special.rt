@@ -1,0 +1,129 @@
+//! Expressions, and what is one but may be something else where it stands bare; refusals at a
+//! place.
+ghost use Rattle.std.specs.Prelude.{◌≡◌, IfOk, Ok};
+ghost use Rattle.std.specs.Option.{option_map};
+ghost use Rattle.cedar_conversion.specs.Held.{Held, expression, as_expression};
+ghost use Rattle.cedar_conversion.specs.Outcome.{Outcome, arbitrary_variable, empty_node, next};
+ghost use Rattle.cedar_conversion.specs.Places.{bytes_of};
+ghost use Rattle.cedar_conversion.specs.Seen.{Gives, kind_of};
+ghost use Rattle.cedar_conversion.specs.machines.Views.{TellsAlone, plain};
+
+use crate::answer::failure::Failure;
+use crate::answer::places::bytes_of;
+use crate::leaves::strings::text_of;
+use cedar_expressions::{ExprBuilderInfallibleBuild, Literal, Name, Text, TryClone, Var};
+use cedar_syntax::err::{ParseErrors, ToASTError, ToASTErrorKind};
+use cedar_syntax::loc::Loc;
+use std::alloc::{AllocError, Global};
+use std::fmt::Display;
+
+/// An expression, or a form that is one where an expression is wanted and something else
+/// elsewhere, with its place.
+#[derive(Drop)]
+pub enum ExprOrSpecial<E> {
+    Expr(E, Option<Loc>),
+    Var(Var, Option<Loc>),
+    /// A name that is no variable.
+    Name(Name, Option<Loc>),
+    BoolLit(bool, Option<Loc>),
+    /// A string as it is written. Its escape faults are told once it is wanted as an expression.
+    StrLit(Text, Option<Loc>),
+}
+
+/// A builder for a node at a place.
+pub fn builder_at<B: ExprBuilderInfallibleBuild>(alloc: Global, loc: &Option<Loc>) -> B
+    ensures { B.node_place result ≡ option_map bytes_of loc.now }
+{
+    B::new(alloc).with_maybe_source_loc(bytes_of(loc))
+}
+
+/// An expression that was made, at its place.
+pub(crate) fn expr_at<B: ExprBuilderInfallibleBuild>(
+    expr: B::Expr,
+    loc: &Option<Loc>,
+) -> Result<ExprOrSpecial<B::Expr>, Failure>
+    ensures { Gives (plain B.meaning) result (Ok (expression loc.now (B.meaning expr))) }
+{
+    Ok(ExprOrSpecial::Expr(expr, loc.try_clone()?))
+}
+
+/// A value, with a place that is copied. Where that is refused, a caller then drops nothing on its
+/// way out.
+fn with_place<T: Drop>(value: T, loc: &Option<Loc>) -> Result<(T, Option<Loc>), AllocError>
+    ensures { IfOk result (λ both. both ≡ (value, loc.now)) }
+{
+    let loc = loc.try_clone()?;
+    Ok((value, loc))
+}
+
+/// One fault at a place of its own.
+fn fault_at(alloc: Global, kind: ToASTErrorKind, loc: Option<Loc>) -> Failure
+    ensures { TellsAlone result (kind_of kind) loc }
+{
+    let faults = ParseErrors::from_ast(alloc, ToASTError::new(kind, loc));
+    Failure::of_errors(alloc, faults)
+}
+
+/// One fault at a place.
+pub fn refusal(alloc: Global, kind: ToASTErrorKind, loc: &Option<Loc>) -> Failure
+    ensures { TellsAlone result (kind_of kind) loc.now }
+{
+    match with_place(kind, loc) {
+        Ok((kind, loc)) => fault_at(alloc, kind, loc),
+        Err(error) => Failure::from(error),
+    }
+}
+
+/// A value as it is printed.
+pub(crate) fn to_text<T: Display>(alloc: Global, value: &T) -> Result<Text, AllocError> {
+    match format!(in alloc; "{value}") {
+        Ok(shown) => Ok(Text::from(shown)),
+        Err(error) => Err(AllocError::from(error)),
+    }
+}
+
+/// A node with nothing in it, or with a form that its caller has another call for.
+pub fn empty_node(alloc: Global, loc: &Option<Loc>) -> Failure
+    ensures { TellsAlone result empty_node loc.now }
+{
+    refusal(alloc, ToASTErrorKind::EmptyNodeInvariantViolation, loc)
+}
+
+/// A name where an expression is wanted.
+fn arbitrary_variable(alloc: Global, name: &Name, loc: &Option<Loc>) -> Failure
+    ensures { TellsAlone result arbitrary_variable loc.now }
+{
+    match to_text(alloc, name) {
+        Ok(shown) => refusal(alloc, ToASTErrorKind::ArbitraryVariable(shown), loc),
+        Err(error) => Failure::from(error),
+    }
+}
+
+/// The expression that a form is where an expression is wanted.
+pub(crate) fn into_expr<B: ExprBuilderInfallibleBuild>(
+    alloc: Global,
+    special: ExprOrSpecial<B::Expr>,
+) -> Result<B::Expr, Failure>
+    ensures { Gives B.meaning result (as_expression (plain B.meaning special)) }
+{
+    match special {
+        ExprOrSpecial::Expr(expr, _) => Ok(expr),
+        ExprOrSpecial::Var(var, loc) => Ok(builder_at::<B>(alloc, &loc).var(var)?),
+        ExprOrSpecial::Name(name, loc) => Err(arbitrary_variable(alloc, &name, &loc)),
+        ExprOrSpecial::BoolLit(value, loc) => {
+            Ok(builder_at::<B>(alloc, &loc).val(Literal::Bool(value))?)
+        }
+        ExprOrSpecial::StrLit(raw, loc) => text_of::<B>(alloc, &raw, &loc),
+    }
+}
+
+/// The expression that a conversion gives.
+pub fn expr_of<B: ExprBuilderInfallibleBuild>(
+    alloc: Global,
+    converted: Result<ExprOrSpecial<B::Expr>, Failure>,
+) -> Result<B::Expr, Failure>
+    ensures { (x : Outcome Held) → Gives (plain B.meaning) converted x
+        → Gives B.meaning result (next x as_expression) }
+{
+    into_expr::<B>(alloc, converted?)
+}

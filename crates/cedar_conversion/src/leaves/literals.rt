@@ -1,0 +1,127 @@
+//! Literals: truth values, numbers and strings.
+ghost use Rattle.std.specs.Prelude.{◌≡◌, Ok};
+ghost use Rattle.std.specs.Option.{option_copied};
+ghost use Rattle.cedar_expressions.specs.Value.{Value};
+ghost use Rattle.cedar_syntax.specs.Forms.{located, primary_form, member_form};
+ghost use Rattle.cedar_conversion.specs.Conversion.{literal_outcome, held_string, number_outcome, number_in, literal_alone, lone_literal};
+ghost use Rattle.cedar_conversion.specs.Held.{bare_truth};
+ghost use Rattle.cedar_conversion.specs.Outcome.{invalid_string};
+ghost use Rattle.cedar_conversion.specs.Seen.{Gives};
+ghost use Rattle.cedar_conversion.specs.machines.Views.{TellsAlone, plain};
+
+use crate::answer::failure::Failure;
+use crate::answer::special::{ExprOrSpecial, builder_at, empty_node, expr_at, refusal};
+use crate::operators::alone::Alone;
+use cedar_expressions::{ExprBuilderInfallibleBuild, Literal, Text, TryClone};
+use cedar_syntax::cst;
+use cedar_syntax::err::ToASTErrorKind;
+use cedar_syntax::loc::Loc;
+use cedar_syntax::node::Node;
+use std::alloc::Global;
+
+/// The largest number behind a `-`.
+pub(crate) const LARGEST: u64 = 0x8000_0000_0000_0000;
+
+fn number<B: ExprBuilderInfallibleBuild>(
+    alloc: Global,
+    loc: &Option<Loc>,
+    number: u64,
+) -> Result<ExprOrSpecial<B::Expr>, Failure>
+    ensures { Gives (plain B.meaning) result (number_outcome loc.now number) }
+{
+    if number >= LARGEST {
+        return Err(refusal(alloc, ToASTErrorKind::IntegerLiteralTooLarge(number), loc));
+    }
+    let literal = Literal::Long(number as i64);
+    expr_at::<B>(builder_at::<B>(alloc, loc).val(literal)?, loc)
+}
+
+/// A string that no text is written as, with its raw text.
+pub(crate) fn invalid_raw(alloc: Global, raw: &Text, loc: &Option<Loc>) -> Failure
+    ensures { TellsAlone result invalid_string loc.now }
+{
+    match raw.try_clone() {
+        Ok(raw) => refusal(alloc, ToASTErrorKind::InvalidString(raw), loc),
+        Err(error) => Failure::from(error),
+    }
+}
+
+/// A string, which has the place of its literal.
+fn raw_string<E>(
+    alloc: Global,
+    loc: &Option<Loc>,
+    node: &Node<Option<cst::Str>>,
+) -> Result<ExprOrSpecial<E>, Failure>
+    ensures { (meaning : E → Value)
+        → Gives (plain meaning) result (held_string loc.now node.now.loc node.now.node) }
+{
+    match &node.node {
+        Some(cst::Str::String(raw)) => {
+            let raw = raw.try_clone()?;
+            Ok(ExprOrSpecial::StrLit(raw, loc.try_clone()?))
+        }
+        Some(cst::Str::Invalid(raw)) => Err(invalid_raw(alloc, raw, &node.loc)),
+        None => Err(empty_node(alloc, &node.loc)),
+    }
+}
+
+fn truth<E>(value: bool, loc: &Option<Loc>) -> Result<ExprOrSpecial<E>, Failure>
+    ensures { (meaning : E → Value) → Gives (plain meaning) result
+        (Ok (bare_truth loc.now value)) }
+{
+    Ok(ExprOrSpecial::BoolLit(value, loc.try_clone()?))
+}
+
+pub(crate) fn literal<B: ExprBuilderInfallibleBuild>(
+    alloc: Global,
+    node: &Node<Option<cst::Literal>>,
+) -> Result<ExprOrSpecial<B::Expr>, Failure>
+    ensures { Gives (plain B.meaning) result (literal_outcome node.now.loc node.now.node) }
+{
+    match &node.node {
+        Some(cst::Literal::True) => truth::<B::Expr>(true, &node.loc),
+        Some(cst::Literal::False) => truth::<B::Expr>(false, &node.loc),
+        Some(cst::Literal::Num(value)) => number::<B>(alloc, &node.loc, *value),
+        Some(cst::Literal::Str(inner)) => raw_string::<B::Expr>(alloc, &node.loc, inner),
+        None => Err(empty_node(alloc, &node.loc)),
+    }
+}
+
+/// The literal that a primary is, if it is one.
+fn literal_alone(node: &Node<Option<cst::Primary>>) -> Option<&cst::Literal>
+    ensures { option_copied result ≡ literal_alone (located primary_form node.now) }
+{
+    match &node.node {
+        Some(cst::Primary::Literal(inner)) => inner.node.as_ref(),
+        Some(cst::Primary::Ref(_)) => None,
+        Some(cst::Primary::Name(_)) => None,
+        Some(cst::Primary::Slot(_)) => None,
+        Some(cst::Primary::Expr(_)) => None,
+        Some(cst::Primary::EList(_)) => None,
+        Some(cst::Primary::RInits(_)) => None,
+        None => None,
+    }
+}
+
+/// The literal that a member is, if it is a literal and no more.
+pub fn literal_of(node: &Node<Option<cst::Member>>) -> Option<&cst::Literal>
+    ensures { option_copied result ≡ lone_literal (located member_form node.now) }
+{
+    match &node.node {
+        Some(member) => match member.alone() {
+            Some(item) => literal_alone(item),
+            None => None,
+        },
+        None => None,
+    }
+}
+
+/// The number that a member is, if it is a number and no more.
+pub(crate) fn bare_number(node: &Node<Option<cst::Member>>) -> Option<u64>
+    ensures { result ≡ number_in (lone_literal (located member_form node.now)) }
+{
+    match literal_of(node) {
+        Some(cst::Literal::Num(number)) => Some(*number),
+        _ => None,
+    }
+}

@@ -1,0 +1,48 @@
+//! Slots.
+ghost use Rattle.cedar_conversion.specs.Entities.{slot_outcome};
+ghost use Rattle.cedar_conversion.specs.Leaves.{slot_leaf};
+ghost use Rattle.cedar_conversion.specs.Outcome.{invalid_slot};
+ghost use Rattle.cedar_conversion.specs.Seen.{Gives, itself};
+ghost use Rattle.cedar_conversion.specs.machines.Views.{TellsAlone, plain};
+
+use crate::answer::failure::Failure;
+use crate::answer::special::{ExprOrSpecial, builder_at, empty_node, expr_at, refusal};
+use cedar_expressions::{ExprBuilderInfallibleBuild, SlotId, Text, TryClone};
+use cedar_syntax::cst::Slot;
+use cedar_syntax::err::ToASTErrorKind;
+use cedar_syntax::loc::Loc;
+use cedar_syntax::node::Node;
+use std::alloc::Global;
+
+/// A slot that is neither `?principal` nor `?resource`, with its text.
+fn invalid_slot(alloc: Global, text: &Text, loc: &Option<Loc>) -> Failure
+    ensures { TellsAlone result invalid_slot loc.now }
+{
+    match text.try_clone() {
+        Ok(text) => refusal(alloc, ToASTErrorKind::InvalidSlot(text), loc),
+        Err(error) => Failure::from(error),
+    }
+}
+
+/// The slot of a template that a node holds.
+pub(crate) fn slot_id(alloc: Global, node: &Node<Option<Slot>>) -> Result<SlotId, Failure>
+    ensures { Gives itself result (slot_outcome node.now) }
+{
+    match &node.node {
+        Some(Slot::Principal) => Ok(SlotId::Principal),
+        Some(Slot::Resource) => Ok(SlotId::Resource),
+        Some(Slot::Other(text)) => Err(invalid_slot(alloc, text, &node.loc)),
+        None => Err(empty_node(alloc, &node.loc)),
+    }
+}
+
+/// The expression that a slot is.
+pub(crate) fn slot<B: ExprBuilderInfallibleBuild>(
+    alloc: Global,
+    node: &Node<Option<Slot>>,
+) -> Result<ExprOrSpecial<B::Expr>, Failure>
+    ensures { Gives (plain B.meaning) result (slot_leaf node.now) }
+{
+    let id = slot_id(alloc, node)?;
+    expr_at::<B>(builder_at::<B>(alloc, &node.loc).slot(id)?, &node.loc)
+}

@@ -1,0 +1,98 @@
+//! The texts that strings stand for.
+ghost use Rattle.std.specs.Prelude.{◌≡◌, ◌∷◌, [], ◌++◌, IfOk, OnOk};
+ghost use Rattle.cedar_syntax.specs.NonEmpty.{list_of};
+ghost use Rattle.cedar_syntax.specs.ParseErrors.{faults_of};
+ghost use Rattle.cedar_conversion.specs.Held.{text_value};
+ghost use Rattle.cedar_conversion.specs.Outcome.{next, unescape};
+ghost use Rattle.cedar_conversion.specs.Seen.{Gives, itself, named_faults, named_fault};
+ghost use Rattle.cedar_conversion.specs.Strings.{pattern_outcome, text_outcome, string_faults};
+
+use crate::answer::failure::Failure;
+use crate::answer::special::builder_at;
+use cedar_expressions::{ExprBuilderInfallibleBuild, Literal, PatternElem, Text, TryClone};
+use cedar_syntax::err::{
+    NonEmpty, ParseError, ParseErrors, ToASTError, ToASTErrorKind, UnescapeError, UnescapeFailure,
+};
+use cedar_syntax::loc::Loc;
+use cedar_syntax::unescape::{to_pattern, to_unescaped_string};
+use std::alloc::{AllocError, Global};
+
+/// An escape fault at the string's place.
+fn escape_fault(fault: UnescapeError, loc: &Option<Loc>) -> Result<ToASTError, AllocError>
+    ensures { IfOk result (λ made. named_fault (ParseError.ToAST made) ≡ (unescape, loc.now)) }
+{
+    let loc = loc.try_clone()?;
+    Ok(ToASTError::new(ToASTErrorKind::Unescape(fault), loc))
+}
+
+/// One more escape fault, at the string's place.
+fn add_escape_fault(
+    all: &mut ParseErrors,
+    fault: UnescapeError,
+    loc: &Option<Loc>,
+) -> Result<(), AllocError>
+    ensures { OnOk result (named_faults (faults_of all.new)
+        ≡ named_faults (faults_of all.old) ++ (unescape, loc.now) ∷ []) }
+{
+    let fault = escape_fault(fault, loc)?;
+    all.faults.push(ParseError::ToAST(fault))
+}
+
+/// The escape faults of a string, each at the string's place.
+pub(crate) fn escape_faults(
+    alloc: Global,
+    faults: NonEmpty<UnescapeError>,
+    loc: &Option<Loc>,
+) -> Result<ParseErrors, AllocError>
+    ensures { IfOk result (λ all. named_faults (faults_of all)
+        ≡ string_faults loc.now (list_of faults)) }
+{
+    let NonEmpty { head, tail } = faults;
+    let mut all = ParseErrors::from_ast(alloc, escape_fault(head, loc)?);
+    for fault in tail.into_vec() {
+        add_escape_fault(&mut all, fault, loc)?;
+    }
+    Ok(all)
+}
+
+/// The text that a raw text stands for, or its escape faults, each at the string's place.
+pub(crate) fn unescape_raw(alloc: Global, raw: &Text, loc: &Option<Loc>) -> Result<Text, Failure>
+    ensures { Gives itself result (text_outcome loc.now raw.now) }
+{
+    match to_unescaped_string(alloc, raw.as_str()) {
+        Ok(text) => Ok(Text::from(text)),
+        Err(UnescapeFailure::Memory(error)) => Err(Failure::from(error)),
+        Err(UnescapeFailure::Errors(faults)) => {
+            Err(Failure::of_errors(alloc, escape_faults(alloc, faults, loc)?))
+        }
+    }
+}
+
+/// The pattern that a raw text stands for, or its escape faults, each at the string's place.
+pub(crate) fn pattern_of(
+    alloc: Global,
+    raw: &Text,
+    loc: &Option<Loc>,
+) -> Result<Vec<PatternElem>, Failure>
+    ensures { Gives (λ elements. elements.items) result (pattern_outcome loc.now raw.now) }
+{
+    match to_pattern(alloc, raw.as_str()) {
+        Ok(pattern) => Ok(pattern),
+        Err(UnescapeFailure::Memory(error)) => Err(Failure::from(error)),
+        Err(UnescapeFailure::Errors(faults)) => {
+            Err(Failure::of_errors(alloc, escape_faults(alloc, faults, loc)?))
+        }
+    }
+}
+
+/// The constant that a string is.
+pub(crate) fn text_of<B: ExprBuilderInfallibleBuild>(
+    alloc: Global,
+    raw: &Text,
+    loc: &Option<Loc>,
+) -> Result<B::Expr, Failure>
+    ensures { Gives B.meaning result (next (text_outcome loc.now raw.now) text_value) }
+{
+    let text = unescape_raw(alloc, raw, loc)?;
+    Ok(builder_at::<B>(alloc, loc).val(Literal::String(text))?)
+}

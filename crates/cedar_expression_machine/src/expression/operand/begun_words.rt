@@ -1,0 +1,94 @@
+//! What expressions ask of the machine of words that they hold.
+ghost use Rattle.std.specs.Prelude.{◌≡◌, [], Some, IsTrue, IfOk};
+ghost use Rattle.cedar_lexer.specs.Token.{lexeme_of};
+ghost use Rattle.cedar_syntax.specs.Tokens.{any_of};
+ghost use Rattle.cedar_grammar.specs.machines.Door.{is_some, option_image};
+ghost use Rattle.cedar_expression_machine.specs.machines.Expressions.{alone_of};
+ghost use Rattle.cedar_expression_machine.specs.machines.Named.{named_reader};
+ghost use Rattle.cedar_expression_machine.specs.machines.NamedShapes.{is_condition, named_outline};
+ghost use Rattle.cedar_expression_machine.specs.machines.Wanting.{first_words};
+ghost use Rattle.cedar_expression_machine.specs.machines.Words.{word_node, path_extent, words_end};
+ghost use Rattle.cedar_expression_machine.specs.machines.WordShapes.{path_kind, words_shape};
+
+use crate::expression::state::Alone;
+use crate::ground::Ground;
+use crate::words::nodes::word_of;
+use crate::words::path::first_word;
+use crate::words::state::{Path, PathState, Words, WordsState};
+use cedar_grammar::reading::extent::Extent;
+use cedar_lexer::token::Token;
+use cedar_syntax::cst::Ident;
+use std::alloc::AllocError;
+
+/// What a path alone is.
+#[inline(always)]
+pub fn alone_of(path: &Path) -> Alone
+    ensures { (src : _) → result ≡ alone_of path.now.before (word_node src path.now.last) }
+{
+    if !path.before.is_empty() {
+        return Alone::Name;
+    }
+    match &path.last.ident {
+        Ident::True => Alone::True,
+        Ident::False => Alone::False,
+        Ident::If => Alone::If,
+        _ => Alone::Name,
+    }
+}
+
+/// The bytes of a path.
+#[inline(always)]
+pub fn path_extent(path: &Path) -> Extent
+    ensures { result ≡ path_extent path.now }
+{
+    Extent {
+        start: path.start,
+        end: path.last.extent.end,
+    }
+}
+
+/// The first of them.
+#[inline(always)]
+pub fn first(ground: Ground<'_>, token: &Token<'_>) -> Result<WordsState, AllocError>
+    requires { IsTrue (is_some (any_of token.now.kind [])) }
+    ensures { IfOk result (λ words. Some words
+        ≡ first_words ground.entry.source.now named_reader (lexeme_of token.now)) }
+{
+    let word = word_of(ground.alloc, token)?;
+    Ok(WordsState::Path(PathState::Have(first_word(ground.alloc, word))))
+}
+
+/// Whether a path is the word `if` alone.
+fn is_condition(path: &Path) -> bool
+    ensures { result ≡ is_condition (path_kind path.now) }
+{
+    path.before.is_empty() && matches!(path.last.ident, Ident::If)
+}
+
+/// Whether they are the word `if` alone, where they can end.
+pub fn ends(words: &WordsState) -> Option<bool>
+    ensures { result ≡ option_image named_outline.is_if
+        (named_outline.outline.finish (words_shape words.now)) }
+{
+    match words {
+        WordsState::Path(PathState::Have(path)) => Some(is_condition(path)),
+        WordsState::Path(PathState::Start | PathState::Behind(_)) => None,
+        WordsState::Inits(_) => None,
+        WordsState::Entity(_) => Some(false),
+    }
+}
+
+/// The words that have ended.
+#[inline(always)]
+pub fn ended(words: WordsState) -> Words
+    requires { IsTrue (is_some (words_end words)) }
+    ensures { words_end words ≡ Some result }
+{
+    match words {
+        WordsState::Path(PathState::Have(path)) => Words::Path(path),
+        WordsState::Entity(entity) => Words::Entity(entity),
+        WordsState::Path(PathState::Start | PathState::Behind(_)) | WordsState::Inits(_) => {
+            unreachable!()
+        }
+    }
+}

@@ -1,8 +1,0 @@
-use Rattle.cedar_syntax.proofs.Printing.{after, as_texts}
-use Rattle.cedar_syntax.proofs.Texts.{name_texts}
-use Rattle.cedar_syntax.proofs.leaves.NameTokens.write_tokens.Goals as goal
-
-pub returns : goal.returns
-returns g c =
-    let took = g.W.Write.write_str_gives in
-    as_texts took (name_texts c.args.self.now) (after took c.in_ok-fresh.ensures c.in_ok-fresh-2.ensures)

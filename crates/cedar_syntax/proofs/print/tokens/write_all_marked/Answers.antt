@@ -1,0 +1,14 @@
+use Rattle.std.proofs.Common.{subst, sym}
+use Rattle.cedar_syntax.specs.Printed.{Texts}
+use Rattle.cedar_syntax.specs.Printing.{HasPrinted}
+use Rattle.cedar_syntax.proofs.Printing.{printed-append, marked-take}
+use Rattle.cedar_syntax.proofs.print.tokens.write_all_marked.Goals as goal
+
+pub loop-item-preserved : goal.loop-item-preserved
+loop-item-preserved g c = λ plain.
+    let took = g.W.Write.write_str_gives in
+    let one = c.loop-item.invariant plain in
+    let two = c.in_ok-fresh.ensures one.written.plain in
+    let three = c.in_ok-fresh-2.ensures two.written.plain in
+    let e = marked-take g.T.Tokens.tokens c.args.mark.now c.args.items.now c.loop-item.item-index c.item-item.result c.loop-item-test.true c.item-item.is in
+    subst (λ (ts : Texts). HasPrinted took c.args.f.now c.args.fresh ts c.in_ok-fresh-2.fresh c.write_tokens.new.f) (sym e) (printed-append took _ _ one (printed-append took _ _ two three))

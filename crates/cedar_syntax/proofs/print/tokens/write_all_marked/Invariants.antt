@@ -1,0 +1,8 @@
+use Rattle.std.proofs.Common.{take}
+use Rattle.std.specs.Fmt.{IsPlainFormatter}
+use Rattle.cedar_syntax.specs.Printing.{HasPrinted, texts_behind_mark}
+use Rattle.cedar_syntax.proofs.print.tokens.write_all_marked.Given as goal
+
+abbrev pub invariant-loop-item : goal.invariant-loop-item
+invariant-loop-item g l =
+    IsPlainFormatter l.fn.f → HasPrinted g.W.Write.write_str_gives l.fn.f l.fn.fresh (texts_behind_mark l.mark g.T.Tokens.tokens (take l.item-index l.items)) l.fresh l.f

@@ -1,0 +1,10 @@
+use Rattle.std.proofs.Common.{◌∷◌, [], ap, sym}
+use Rattle.cedar_syntax.specs.Printing.{option_behind_mark}
+use Rattle.cedar_syntax.proofs.Printing.{prints-then, prints-of_eq}
+use Rattle.cedar_syntax.proofs.print.tokens.write_opt_marked.Goals as goal
+
+pub returns-in_ok-fresh-in-Some : goal.returns-in_ok-fresh-in-Some
+returns-in_ok-fresh-in-Some g c =
+    let took = g.W.Write.write_str_gives in
+    prints-of_eq took _ _ _ _ _ _ (ap (option_behind_mark c.args.mark.now g.T.Tokens.tokens) (sym c.in-Some.is))
+    (prints-then took _ _ _ _ _ _ (c.args.mark.now ∷ []) _ c.in_ok-fresh-in-Some.ensures c.write_tokens.ensures)

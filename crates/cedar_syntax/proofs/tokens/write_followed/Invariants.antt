@@ -1,8 +1,0 @@
-use Rattle.std.proofs.Common.{take}
-use Rattle.std.specs.Fmt.{IsPlainFormatter}
-use Rattle.cedar_syntax.specs.Printing.{HasPrinted, texts_before_mark}
-use Rattle.cedar_syntax.proofs.tokens.write_followed.Given as goal
-
-abbrev pub invariant-loop-item : goal.invariant-loop-item
-invariant-loop-item g l =
-    IsPlainFormatter l.fn.f → HasPrinted g.W.Write.write_str_gives l.fn.f l.fn.fresh (texts_before_mark l.mark g.T.Tokens.tokens (take l.item-index l.item-items)) l.fresh l.f

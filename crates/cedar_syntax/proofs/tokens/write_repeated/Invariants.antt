@@ -1,8 +1,0 @@
-use Rattle.std.proofs.Common.{replicate}
-use Rattle.std.specs.Fmt.{IsPlainFormatter}
-use Rattle.cedar_syntax.specs.Printing.{HasPrinted}
-use Rattle.cedar_syntax.proofs.tokens.write_repeated.Given as goal
-
-abbrev pub invariant-loop-i : goal.invariant-loop-i
-invariant-loop-i g l =
-    IsPlainFormatter l.fn.f → HasPrinted g.W.Write.write_str_gives l.fn.f l.fn.fresh (replicate l._i l.token) l.fresh l.f
