@@ -1,4 +1,5 @@
 pub mod formers
+pub mod Kept
 pub mod Keys
 pub mod Lending
 pub mod Meaning

@@ -1,4 +1,5 @@
-//! A text that contracts see as its bytes.
+//! A text that contracts see as its bytes. Most words and names are short, and a tree holds one for
+//! each of them: so a short one stands in the value, as large as a `String` is, and takes no memory.
 ghost use Rattle.std.specs.Prelude.{◌≡◌, IfOk, nat_eq, length, ◌↔◌, IsTrue, [], string_bytes};
 ghost use Rattle.std.specs.Cmp.Lexicographic.{pointwise, slice_cmp, nat_list_eq_equiv, nat_list_cmp_total, texts_ties, texts_po};
 ghost use Rattle.std.specs.Cmp;
@@ -7,79 +8,131 @@ ghost use Rattle.std.specs.Hash as fed;
 ghost use Rattle.std.specs.Cmp.Rules.{hashing};
 ghost use Rattle.std.proofs.Common.{rules, Some, refl};
 
+use crate::short::ShortText;
 use std::alloc::{AllocError, Global};
 use std::cmp::Ordering;
 use std::fmt;
 use std::hash::{Hash, Hasher};
 use std::marker::Model;
+use std::rc::RcStr;
 
-/// A `String` that contracts see as its bytes.
-#[derive(Debug, Drop)]
+/// Where the bytes of a text stand.
+#[derive(Drop)]
+pub(crate) enum Kept {
+    /// In the value itself.
+    Short(ShortText),
+    /// In memory that is shared by a count.
+    Shared(RcStr),
+}
+
+/// A text that contracts see as its bytes. One of at most 22 bytes takes no memory beside the
+/// value, and a copy of a longer one takes none.
+#[derive(Drop)]
 pub struct Text {
-    text: String,
+    alloc: Global,
+    kept: Kept,
 }
 
 impl Model for Text {
-    ghost use Rattle.std.specs.Prelude.{List, ℕ, string_bytes};
+    ghost use Rattle.std.specs.Prelude.{List, ℕ};
     ghost use Rattle.std.specs.Coded.{coded_list, coded_ℕ};
+    ghost use Rattle.cedar_expressions.specs.Kept.{kept_bytes};
 
     ghost Value = { List ℕ };
 
     ghost coded = { coded_list coded_ℕ };
 
-    ghost view = { λ owner. string_bytes owner.text };
+    ghost view = { λ owner. kept_bytes owner.kept };
 }
 
 impl Text {
+    /// No byte; it takes no memory.
+    pub fn new(alloc: Global) -> Text
+        ensures { result ≡ [] }
+    {
+        Text {
+            alloc,
+            kept: Kept::Short(ShortText::new()),
+        }
+    }
+
     /// A copy of a text.
     pub fn from_str(alloc: Global, text: &str) -> Result<Text, AllocError>
         ensures { IfOk result (λ copy. copy ≡ text.now) }
     {
-        Ok(Text {
-            text: String::from_str(alloc, text)?,
-        })
+        let kept = match ShortText::from_str(text) {
+            Some(short) => Kept::Short(short),
+            None => Kept::Shared(RcStr::from_str(alloc, text)?),
+        };
+        Ok(Text { alloc, kept })
+    }
+
+    /// The text of a `String`.
+    pub fn from_string(text: String) -> Result<Text, AllocError>
+        ensures { IfOk result (λ same. same ≡ string_bytes text) }
+    {
+        let alloc = *text.allocator();
+        let kept = match ShortText::from_str(text.as_str()) {
+            Some(short) => Kept::Short(short),
+            None => Kept::Shared(RcStr::from_string(text)?),
+        };
+        Ok(Text { alloc, kept })
     }
 
     /// The text, lent.
     pub fn as_str(&self) -> &str
         ensures { result.now ≡ self.now }
     {
-        self.text.as_str()
+        match &self.kept {
+            Kept::Short(short) => short.as_str(),
+            Kept::Shared(shared) => shared.as_str(),
+        }
     }
 
     /// How many bytes the text has.
     pub fn len(&self) -> usize
         ensures { result ≡ length self.now }
     {
-        self.text.len()
+        self.as_str().len()
     }
 
     /// Whether the text has no byte.
     pub fn is_empty(&self) -> bool
         ensures { IsTrue result ↔ (self.now ≡ []) }
     {
-        self.text.is_empty()
+        self.as_str().is_empty()
     }
 
     /// Where the text's memory comes from.
     pub fn alloc(&self) -> Global {
-        *self.text.allocator()
+        self.alloc
     }
 
-    /// The `String` inside; it takes no memory.
-    pub fn into_string(self) -> String
-        ensures { string_bytes result ≡ self }
+    /// A `String` of the text.
+    pub fn into_string(self) -> Result<String, AllocError>
+        ensures { IfOk result (λ string. string_bytes string ≡ self) }
     {
-        let Text { text } = self;
-        text
+        String::from_str(self.alloc, self.as_str())
+    }
+
+    /// The same text once more.
+    pub fn share(&self) -> Result<Text, AllocError>
+        ensures { IfOk result (λ other. other ≡ self.now) }
+    {
+        let kept = match &self.kept {
+            Kept::Short(short) => Kept::Short(short.copy()),
+            Kept::Shared(shared) => Kept::Shared(shared.clone()?),
+        };
+        Ok(Text {
+            alloc: self.alloc,
+            kept,
+        })
     }
 }
 
-impl From<String> for Text {
-    ghost from_gives = { λ string text. text ≡ string_bytes string };
-
-    fn from(text: String) -> Text {
-        Text { text }
+impl fmt::Debug for Text {
+    fn fmt<W: fmt::Write>(&self, f: &mut fmt::Formatter<W>) -> fmt::Result {
+        fmt::Debug::fmt(self.as_str(), f)
     }
 }
 
@@ -143,6 +196,6 @@ impl Clone for Text {
     ghost is_clone = { λ x y. y ≡ x };
 
     fn clone(&self) -> Result<Text, AllocError> {
-        Text::from_str(self.alloc(), self.as_str())
+        self.share()
     }
 }

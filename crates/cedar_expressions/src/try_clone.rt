@@ -1,7 +1,7 @@
 //! Copies that can be refused memory.
 ghost use Rattle.std.specs.Prelude.{◌≡◌, IfOk};
 
-use crate::{Boxed, Items, Source, Text};
+use crate::{Boxed, Items, OwnedText, Source, Text};
 use std::alloc::AllocError;
 
 /// A copy that equals its source, places included.
@@ -15,7 +15,13 @@ pub trait TryClone {
 
 impl TryClone for Text {
     fn try_clone(&self) -> Result<Text, AllocError> {
-        Text::from_str(self.alloc(), self.as_str())
+        self.share()
+    }
+}
+
+impl TryClone for OwnedText {
+    fn try_clone(&self) -> Result<OwnedText, AllocError> {
+        OwnedText::from_str(self.alloc(), self.as_str())
     }
 }
 

@@ -35,7 +35,7 @@ fn text_of(
     ensures { Gives (option_map string_bytes) result (k.value_text_outcome loc.now node.now) }
 {
     match node {
-        Some(node) => Ok(Some(id_of(alloc, loc, node)?.into_string())),
+        Some(node) => Ok(Some(id_of(alloc, loc, node)?.into_string()?)),
         None => Ok(None),
     }
 }

@@ -174,7 +174,7 @@ impl PrimaryAst for Node<Option<Primary>> {
     ) -> Result<String, Failure>
         ensures { Gives string_bytes result (string_outcome (located primary_form self.now)) }
     {
-        Ok(told(string_literal::<B>(alloc, self))?.into_string())
+        Ok(told(string_literal::<B>(alloc, self))?.into_string()?)
     }
 }
 

@@ -10,7 +10,7 @@ use cedar_conversion::answer::failure::Failure;
 use cedar_conversion::answer::special::{empty_node, refusal};
 use cedar_conversion::convert::inner_of;
 use cedar_conversion::operators::alone::Alone;
-use cedar_expressions::Text;
+use cedar_expressions::OwnedText;
 use cedar_syntax::cst;
 use cedar_syntax::err::ToASTErrorKind;
 use cedar_syntax::loc::Loc;
@@ -18,14 +18,14 @@ use cedar_syntax::node::Node;
 use std::alloc::{AllocError, Global};
 
 /// What stands where a reference is wanted, and perhaps a hint.
-pub(crate) type Shown = (Text, Option<Text>);
+pub(crate) type Shown = (OwnedText, Option<OwnedText>);
 
 fn shown(alloc: Global, got: &str, hint: &str) -> Result<Shown, AllocError> {
-    let got = Text::from_str(alloc, got)?;
+    let got = OwnedText::from_str(alloc, got)?;
     if hint.is_empty() {
         return Ok((got, None));
     }
-    Ok((got, Some(Text::from_str(alloc, hint)?)))
+    Ok((got, Some(OwnedText::from_str(alloc, hint)?)))
 }
 
 /// Another form than what is wanted.
@@ -74,7 +74,7 @@ fn signs(
 {
     match op {
         Some(op) => match format!(in alloc; "a `{op}` expression") {
-            Ok(got) => wrong_node(alloc, expected, Ok((Text::from(got), None)), loc),
+            Ok(got) => wrong_node(alloc, expected, Ok((OwnedText::from(got), None)), loc),
             Err(error) => Failure::from(error),
         },
         None => form(alloc, expected, "an expression", "", loc),

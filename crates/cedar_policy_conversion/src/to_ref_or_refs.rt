@@ -13,7 +13,7 @@ use cedar_conversion::answer::lists::add;
 use cedar_conversion::answer::places::bytes_of;
 use cedar_conversion::answer::special::{empty_node, refusal};
 use cedar_conversion::leaves::entities::entity_of;
-use cedar_expressions::{EntityUID, Items, NodePlace, Text, Var};
+use cedar_expressions::{EntityUID, Items, NodePlace, OwnedText, Var};
 use cedar_policy_store::EntityReference;
 use cedar_syntax::cst;
 use cedar_syntax::err::ToASTErrorKind;
@@ -190,7 +190,7 @@ fn literal_found(
 {
     match &node.node {
         Some(literal) => match format!(in alloc; "literal `{literal}`") {
-            Ok(got) => wrong_node(alloc, expected, Ok((Text::from(got), None)), loc),
+            Ok(got) => wrong_node(alloc, expected, Ok((OwnedText::from(got), None)), loc),
             Err(error) => Failure::from(error),
         },
         None => empty_node(alloc, &node.loc),
@@ -277,7 +277,7 @@ fn other_slot(
     ensures { TellsAlone result wrong_node loc.now }
 {
     match format!(in alloc; "{slot} instead of ?{var}") {
-        Ok(got) => wrong_node(alloc, expected, Ok((Text::from(got), None)), loc),
+        Ok(got) => wrong_node(alloc, expected, Ok((OwnedText::from(got), None)), loc),
         Err(error) => Failure::from(error),
     }
 }

@@ -15,8 +15,8 @@ pub mod policy_laws;
 pub use cedar_expressions::{
     AddOp, AnyId, BinaryCall, BinaryOp, Boxed, Eid, EntityType, EntityUID, Expr, ExprBuilder,
     ExprBuilderInfallibleBuild, ExprKind, ExpressionConstructionError, Id, InternalName, Items,
-    ListCall, Literal, Name, NaryOp, PatternElem, Place, RecordError, ReservedNameError, Slot,
-    SlotId, Source, Text, TryClone, UnaryCall, UnaryOp, UnreservedId, Var,
+    ListCall, Literal, Name, NaryOp, OwnedText, PatternElem, Place, RecordError, ReservedNameError,
+    Slot, SlotId, Source, Text, TryClone, UnaryCall, UnaryOp, UnreservedId, Var,
 };
 pub use cedar_policy_conversion::cst_to_ast::{
     AnnotationAst, ExprAst, ExtStyles, GeneratedPolicyIds, IdentAst, MemberAst, OneOrMultipleRefs,

@@ -5,7 +5,7 @@ ghost use Rattle.std.specs.FinMap as map;
 ghost use Rattle.cedar_expressions.specs.Placed.{marked_place};
 ghost use Rattle.cedar_policy_store.specs.TextMap.{map_in};
 
-use cedar_expressions::{AnyId, NodePlace, Place, Text, TryClone};
+use cedar_expressions::{AnyId, NodePlace, Place, OwnedText, TryClone};
 use std::alloc::{AllocError, Global};
 use std::collections::BTreeMap;
 use std::collections::btree_map::Iter;
@@ -15,7 +15,7 @@ use std::marker::Model;
 /// The value of an annotation. Equality looks at no place.
 #[derive(Debug, Drop, PartialEq, Eq)]
 pub struct Annotation {
-    value: Text,
+    value: OwnedText,
     place: NodePlace,
 }
 
@@ -35,7 +35,7 @@ impl Annotation {
             None => String::new(alloc),
         };
         Annotation {
-            value: Text::from(value),
+            value: OwnedText::from(value),
             place: NodePlace::from(place),
         }
     }

@@ -1,7 +1,7 @@
 //! The names of policies within a set.
 ghost use Rattle.std.specs.Prelude.{◌≡◌, string_bytes};
 
-use cedar_expressions::{Text, TryClone};
+use cedar_expressions::{OwnedText, TryClone};
 use std::alloc::AllocError;
 use std::fmt;
 use std::marker::Model;
@@ -9,7 +9,7 @@ use std::marker::Model;
 /// The name of a policy or a template within a set: any text.
 #[derive(Debug, Drop, PartialEq, Eq, PartialOrd, Ord, Hash)]
 pub struct PolicyID {
-    text: Text,
+    text: OwnedText,
 }
 
 impl Model for PolicyID {
@@ -31,7 +31,7 @@ impl PolicyID {
         ensures { result ≡ string_bytes text }
     {
         PolicyID {
-            text: Text::from(text),
+            text: OwnedText::from(text),
         }
     }
 

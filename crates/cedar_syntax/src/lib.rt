@@ -14,4 +14,4 @@ mod slots;
 pub mod unescape;
 pub mod util;
 
-pub use cedar_expressions::{Boxed, Items, Source, Text, TryClone};
+pub use cedar_expressions::{Boxed, Items, OwnedText, Source, Text, TryClone};

@@ -11,3 +11,4 @@ mod shapes;
 mod slots;
 mod store;
 mod stored_sets;
+mod texts;

@@ -77,7 +77,7 @@ pub fn refusal(alloc: Global, kind: ToASTErrorKind, loc: &Option<Loc>) -> Failur
 /// A value as it is printed.
 pub(crate) fn to_text<T: Display>(alloc: Global, value: &T) -> Result<Text, AllocError> {
     match format!(in alloc; "{value}") {
-        Ok(shown) => Ok(Text::from(shown)),
+        Ok(shown) => Text::from_string(shown),
         Err(error) => Err(AllocError::from(error)),
     }
 }

@@ -60,7 +60,7 @@ pub(crate) fn unescape_raw(alloc: Global, raw: &Text, loc: &Option<Loc>) -> Resu
     ensures { Gives itself result (text_outcome loc.now raw.now) }
 {
     match to_unescaped_string(alloc, raw.as_str()) {
-        Ok(text) => Ok(Text::from(text)),
+        Ok(text) => Ok(Text::from_string(text)?),
         Err(UnescapeFailure::Memory(error)) => Err(Failure::from(error)),
         Err(UnescapeFailure::Errors(faults)) => {
             Err(Failure::of_errors(alloc, escape_faults(alloc, faults, loc)?))

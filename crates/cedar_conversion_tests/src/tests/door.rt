@@ -66,7 +66,8 @@ fn first_kind(text: &str) -> Option<Result<TokenKind, usize>> {
 fn names_tokens_and_owners(rt: HostRuntime) {
     holds(&rt, first_kind("permit(") == Some(Ok(TokenKind::Permit)));
     holds(&rt, first_kind(" $") == Some(Err(1)));
-    let text = Text::from(made(&rt, to_unescaped_string(rt.alloc(), "a\\tb")));
+    let text = made(&rt, to_unescaped_string(rt.alloc(), "a\\tb"));
+    let text = made(&rt, Text::from_string(text));
     holds(&rt, text.as_str() == "a\tb");
     let items: Items<Text> = Items::new(rt.alloc());
     holds(&rt, items.is_empty());

@@ -5,7 +5,7 @@ ghost use Rattle.cedar_syntax.specs.Help.{kind_help, plain_help, policy_help, ex
 
 use crate::cst::SIGN_LIMIT;
 use crate::err::ToASTErrorKind;
-use cedar_expressions::Text;
+use cedar_expressions::{OwnedText, Text};
 use std::alloc::{AllocError, Global};
 
 impl ToASTErrorKind {
@@ -102,7 +102,7 @@ impl ToASTErrorKind {
 }
 
 // A text, where one is there.
-fn as_text(text: &Option<Text>) -> Option<&str>
+fn as_text(text: &Option<OwnedText>) -> Option<&str>
     ensures { option_map (λ text. text.now) result ≡ text.now }
 {
     match text {

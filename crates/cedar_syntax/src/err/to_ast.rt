@@ -12,7 +12,7 @@ use crate::err::parse_errors::{
 };
 use crate::loc::{Loc, SourceSpan};
 use cedar_expressions::{
-    AnyId, Boxed, ExpressionConstructionError, Name, ReservedNameError, Slot, Text, TryClone,
+    AnyId, Boxed, ExpressionConstructionError, Name, OwnedText, ReservedNameError, Slot, Text, TryClone,
     UnaryOp, UnreservedId, Var,
 };
 use cedar_policy_store::PolicyID;
@@ -95,8 +95,8 @@ pub enum ToASTErrorKind {
     /// another form than the scope can have there
     WrongNode {
         expected: &'static str,
-        got: Text,
-        suggestion: Option<Text>,
+        got: OwnedText,
+        suggestion: Option<OwnedText>,
     },
     /// two or more operators of a relation side by side
     AmbiguousOperators,
@@ -182,12 +182,12 @@ impl ToASTErrorKind {
             (option_map (λ text. string_bytes text) suggestion) }
     {
         let suggestion = match suggestion {
-            Some(text) => Some(Text::from(text)),
+            Some(text) => Some(OwnedText::from(text)),
             None => None,
         };
         ToASTErrorKind::WrongNode {
             expected,
-            got: Text::from(got),
+            got: OwnedText::from(got),
             suggestion,
         }
     }

@@ -120,7 +120,8 @@ const TOO_LARGE: &str = "integer parse error: number too large to fit in target 
 #[test]
 fn raw_texts_are_unescaped(rt: HostRuntime) {
     let read = made(&rt, to_unescaped_string(rt.alloc(), "a\\n\\u{e9}"));
-    agrees(&rt, Text::from(read), text(&rt, "a\né"), "a text");
+    let read = made(&rt, Text::from_string(read));
+    agrees(&rt, read, text(&rt, "a\né"), "a text");
     let refused = refusal(&rt, to_unescaped_string(rt.alloc(), "a\\*"));
     says(&rt, refused, "the input `\\*` is not a valid escape");
 }
