@@ -4,12 +4,12 @@ use Rattle.std.proofs.Common.{◌≡◌, ℕ, List, String, string_bytes, Result
 use Rattle.cedar_lexer.specs.Cut.{Cuts}
 use Rattle.cedar_lexer.specs.Token.{Lexeme}
 use Rattle.cedar_policy_store.specs.PlaceFree.{Policies}
-use Rattle.cedar_syntax.specs.Signs.{sign_limit}
+use Rattle.cedar_syntax.specs.tokens.Signs.{sign_limit}
 use Rattle.cedar_syntax.specs.declared.err.faults.Failure.{Failure}
-use Rattle.cedar_syntax.specs.ParseErrors.{IsMemory}
-use Rattle.cedar_conversion.specs.Extensions.{Extensions}
-use Rattle.cedar_policy_parser.specs.Formatted.{Formats, MeanTheSame}
-use Rattle.cedar_policy_parser.specs.StrictPolicy.{IsPolicySet}
+use Rattle.cedar_syntax.specs.faults.ParseErrors.{IsMemory}
+use Rattle.cedar_conversion.specs.strict.Extensions.{Extensions}
+use Rattle.cedar_policy_parser.specs.meaning.Formatted.{Formats, MeanTheSame}
+use Rattle.cedar_policy_parser.specs.meaning.StrictPolicy.{IsPolicySet}
 use Rattle.cedar_command.specs.declared.request.Command.TheVariants as command
 use Rattle.cedar_command.specs.Ends.{IsMeant}
 

@@ -13,7 +13,7 @@ use Rattle.cedar_expressions.specs.contracts.ids.UnreservedIdOrd.TheImpl as id_o
 use Rattle.cedar_expressions.specs.contracts.ids.UnreservedIdOrd.TheImpl.Laws as id_laws
 use Rattle.cedar_expressions.specs.contracts.ids.UnreservedIdPartialEq.TheImpl as id_eq
 use Rattle.cedar_expressions.proofs.EqualParts as equal
-use Rattle.cedar_conversion.specs.Extensions.{Extensions}
+use Rattle.cedar_conversion.specs.strict.Extensions.{Extensions}
 use Rattle.cedar_command.specs.Request.{IsFoundName, IsStyle, SpellsName, is_unreserved_name, names_function, word_names_method}
 use Rattle.cedar_command.proofs.Spelled.{left, right, both, tail_of, name_once}
 

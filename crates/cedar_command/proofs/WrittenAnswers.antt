@@ -7,13 +7,13 @@ use Rattle.cedar_syntax.specs.declared.cst.Expr.{Expr}
 use Rattle.cedar_syntax.specs.declared.err.faults.Failure.{Failure}
 use Rattle.cedar_syntax.specs.declared.err.faults.Failure.TheVariants.{Memory, Errors}
 use Rattle.cedar_syntax.specs.declared.err.faults.ParseError.{ParseError}
-use Rattle.cedar_syntax.specs.ParseErrors.{IsMemory, faults_of}
-use Rattle.cedar_grammar.specs.Grammar.{IsTreeOf}
-use Rattle.cedar_grammar.specs.LooseExpressions.{ReadsExpr}
-use Rattle.cedar_syntax.specs.Trees.{Cell}
+use Rattle.cedar_syntax.specs.faults.ParseErrors.{IsMemory, faults_of}
+use Rattle.cedar_grammar.specs.grammar.Grammar.{IsTreeOf}
+use Rattle.cedar_grammar.specs.grammar.LooseExpressions.{ReadsExpr}
+use Rattle.cedar_syntax.specs.trees.Trees.{Cell}
 use Rattle.cedar_conversion.proofs.Loops.{take_next, take_whole}
-use Rattle.cedar_conversion.specs.Extensions.{Extensions}
-use Rattle.cedar_policy_parser.specs.Formatted.{AreLinesOf, MeansSet}
+use Rattle.cedar_conversion.specs.strict.Extensions.{Extensions}
+use Rattle.cedar_policy_parser.specs.meaning.Formatted.{AreLinesOf, MeansSet}
 use Rattle.cedar_policy_store.specs.PlaceFree.{set_meaning}
 use Rattle.cedar_policy_store.specs.PolicyMaps.{PolicyMaps}
 use Rattle.cedar_command.specs.FaultLines.{AreFaultsWritten, fault_line}

@@ -6,16 +6,16 @@ use Rattle.cedar_lexer.specs.Cut.{Cuts}
 use Rattle.cedar_expressions.specs.Value.{Value}
 use Rattle.cedar_syntax.specs.declared.cst.Expr.{Expr}
 use Rattle.cedar_syntax.specs.declared.err.faults.Failure.{Failure}
-use Rattle.cedar_grammar.specs.Grammar.{IsTreeOf}
-use Rattle.cedar_grammar.specs.LooseExpressions.{ReadsExpr}
-use Rattle.cedar_syntax.specs.Printed.{printed, tokens_text}
-use Rattle.cedar_syntax.specs.Signs.{sign_limit}
-use Rattle.cedar_syntax.specs.Trees.{Cell}
-use Rattle.cedar_syntax.specs.Unplaced.{expr_tree}
-use Rattle.cedar_conversion.specs.Extensions.{Extensions}
-use Rattle.cedar_conversion.specs.Strict.{Means, expression}
-use Rattle.cedar_policy_parser.specs.Formatted.{AreLinesOf, MeansSet}
-use Rattle.cedar_policy_parser.specs.Refused.{RefusesText, RefusesSet}
+use Rattle.cedar_grammar.specs.grammar.Grammar.{IsTreeOf}
+use Rattle.cedar_grammar.specs.grammar.LooseExpressions.{ReadsExpr}
+use Rattle.cedar_syntax.specs.printing.Printed.{printed, tokens_text}
+use Rattle.cedar_syntax.specs.tokens.Signs.{sign_limit}
+use Rattle.cedar_syntax.specs.trees.Trees.{Cell}
+use Rattle.cedar_syntax.specs.trees.Unplaced.{expr_tree}
+use Rattle.cedar_conversion.specs.strict.Extensions.{Extensions}
+use Rattle.cedar_conversion.specs.strict.Strict.{Means, expression}
+use Rattle.cedar_policy_parser.specs.meaning.Formatted.{AreLinesOf, MeansSet}
+use Rattle.cedar_policy_parser.specs.faults.Refused.{RefusesText, RefusesSet}
 use Rattle.cedar_policy_store.specs.PlaceFree.{Policies as PolicySet}
 use Rattle.cedar_command.specs.declared.run.Ending.{Ending}
 use Rattle.cedar_command.specs.declared.run.Ending.TheVariants.{Answered, Usage, Stopped}

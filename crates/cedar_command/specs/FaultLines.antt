@@ -1,9 +1,9 @@
 -- What is written of a text that is refused: a line for each fault, in order.
 use Rattle.std.specs.Prelude.{ℕ, List, ◌++◌, Option, Some, None, codes, flat_map}
 use Rattle.std.specs.Fmt.{decimal}
-use Rattle.cedar_syntax.specs.Messages.{fault_message}
-use Rattle.cedar_syntax.specs.ParseErrors.{faults_of, span_of}
-use Rattle.cedar_syntax.specs.Span.{Span, end_of}
+use Rattle.cedar_syntax.specs.messages.Messages.{fault_message}
+use Rattle.cedar_syntax.specs.faults.ParseErrors.{faults_of, span_of}
+use Rattle.cedar_syntax.specs.places.Span.{Span, end_of}
 use Rattle.cedar_syntax.specs.declared.err.faults.Failure.{Failure}
 use Rattle.cedar_syntax.specs.declared.err.faults.Failure.TheVariants.{Memory, Errors}
 use Rattle.cedar_syntax.specs.declared.err.faults.ParseError.{ParseError}

@@ -6,9 +6,9 @@ use Rattle.std.specs.FinMap.{get, values}
 use Rattle.std.specs.Option.{is_some}
 use Rattle.cedar_policy_store.specs.PolicyMaps.{PolicyMaps}
 use Rattle.cedar_policy_conversion.specs.PolicyMeaning.{policy_id}
-use Rattle.cedar_policy_parser.specs.Formatted.{MeansSet}
+use Rattle.cedar_policy_parser.specs.meaning.Formatted.{MeansSet}
 use Rattle.cedar_policy_store.specs.PlaceFree.{set_meaning}
-use Rattle.cedar_conversion.specs.Extensions.{Extensions}
+use Rattle.cedar_conversion.specs.strict.Extensions.{Extensions}
 use Rattle.cedar_command.specs.Streams.{Writing, AreBytesWritten}
 
 -- the line of a policy of this kind, where there is one

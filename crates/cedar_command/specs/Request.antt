@@ -4,7 +4,7 @@ use Rattle.std.specs.Prelude.{◌≡◌, ◌≢◌, ℕ, Bool, true, false, List
 use Rattle.std.specs.List.{AllByRecursion, list_all, list_any}
 use Rattle.std.specs.Str.{byte, bytes_eq}
 use Rattle.cedar_expressions.specs.Path.{Path, name_text, is_unreserved_identifier}
-use Rattle.cedar_conversion.specs.Extensions.{Extensions}
+use Rattle.cedar_conversion.specs.strict.Extensions.{Extensions}
 use Rattle.cedar_command.specs.declared.request.Command.{Command}
 use Rattle.cedar_command.specs.declared.request.Command.TheVariants.{Expression, Policies, Format}
 

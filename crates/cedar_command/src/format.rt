@@ -1,12 +1,12 @@
 //! The command `format`: a text's policies, each on a line of its own.
 ghost use Rattle.std.specs.Prelude.{◌≡◌, IfOk, OnOk, IfErr, string_bytes};
-ghost use Rattle.cedar_conversion.specs.Table.{table_of};
-ghost use Rattle.cedar_policy_parser.specs.Formatted.{AreLinesOf};
+ghost use Rattle.cedar_conversion.specs.strict.Table.{table_of};
+ghost use Rattle.cedar_policy_parser.specs.meaning.Formatted.{AreLinesOf};
 ghost use Rattle.cedar_command.specs.Ends.{IsMeant, IsVerdict, IsAnswerWritten, RefusesFor, StopsWriting};
 ghost use Rattle.cedar_command.specs.Streams.{writer_state, writing, AreBytesWritten};
 ghost use Rattle.cedar_command.specs.declared.run.Verdict.TheVariants as verdict;
 ghost use Rattle.cedar_command.specs.declared.request.Command.TheVariants as command;
-ghost use Rattle.cedar_syntax.specs.ParseErrors.{IsMemory};
+ghost use Rattle.cedar_syntax.specs.faults.ParseErrors.{IsMemory};
 
 use crate::run::{Verdict, print_failure};
 use crate::streams::{Output, Stop, WriterState};

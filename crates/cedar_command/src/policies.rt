@@ -1,15 +1,15 @@
 //! The command `policies`: a text's policies, each by its name, and how many they are.
 ghost use Rattle.std.specs.Prelude.{◌≡◌, IfOk, IfErr, OnOk};
-ghost use Rattle.cedar_conversion.specs.Table.{table_of};
+ghost use Rattle.cedar_conversion.specs.strict.Table.{table_of};
 ghost use Rattle.cedar_policy_conversion.specs.PolicyMeaning.{policy_id};
-ghost use Rattle.cedar_policy_parser.specs.Formatted.{MeansSet};
+ghost use Rattle.cedar_policy_parser.specs.meaning.Formatted.{MeansSet};
 ghost use Rattle.cedar_policy_store.specs.PlaceFree.{set_meaning};
 ghost use Rattle.cedar_command.specs.Ends.{IsMeant, IsVerdict, IsAnswerWritten, RefusesFor, StopsWriting};
 ghost use Rattle.cedar_command.specs.PolicyLines.{kind_line, policy_line, policy_lines, set_lines, set_size};
 ghost use Rattle.cedar_command.specs.Streams.{writer_state, writing, AreBytesWritten};
 ghost use Rattle.cedar_command.specs.declared.run.Verdict.TheVariants as verdict;
 ghost use Rattle.cedar_command.specs.declared.request.Command.TheVariants as command;
-ghost use Rattle.cedar_syntax.specs.ParseErrors.{IsMemory};
+ghost use Rattle.cedar_syntax.specs.faults.ParseErrors.{IsMemory};
 
 use crate::run::{Verdict, print_failure};
 use crate::streams::{Output, Stop, WriterState};

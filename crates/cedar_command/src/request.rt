@@ -7,7 +7,7 @@ ghost use Rattle.std.specs.Prelude.{◌≡◌, ◌≢◌, ◌↔◌, ℕ, true, 
 ghost use Rattle.std.specs.BTreeSet.{contains};
 ghost use Rattle.std.specs.List.{AllByRecursion, list_any};
 ghost use Rattle.cedar_expressions.specs.Path.{Path, name_text, is_unreserved_identifier};
-ghost use Rattle.cedar_conversion.specs.Table.{table_of};
+ghost use Rattle.cedar_conversion.specs.strict.Table.{table_of};
 ghost use Rattle.cedar_command.specs.Request.{AsksFor, AsksForNothing, IsStyle, SpellsName, IsFoundName, IsCut, IsUncut, is_unreserved_name, names_function, word_names_method, styles_of, command_word};
 
 use cedar_expressions::{Id, InternalName, Name, Text, UnreservedId};

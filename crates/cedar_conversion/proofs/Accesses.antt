@@ -8,11 +8,11 @@ use Rattle.cedar_syntax.specs.declared.err.faults.Failure.{Failure}
 use Rattle.cedar_syntax.specs.declared.err.faults.Failure.TheVariants.{Memory, Errors}
 use Rattle.cedar_conversion.specs.declared.primaries.members.AccessValue.{AccessValue as Kept}
 use Rattle.cedar_conversion.specs.declared.primaries.members.Reading.{Reading}
-use Rattle.cedar_conversion.specs.Extensions.{Extensions}
-use Rattle.cedar_conversion.specs.Held.{Held, expression}
-use Rattle.cedar_conversion.specs.Members.{Access, field, call, index, accesses_of, method_outcome, name_accesses}
-use Rattle.cedar_conversion.specs.Outcome.{Outcome, fault_outcome, next, expression_call, no_methods, invalid_access}
-use Rattle.cedar_conversion.specs.Seen.{Refuses}
+use Rattle.cedar_conversion.specs.strict.Extensions.{Extensions}
+use Rattle.cedar_conversion.specs.outcome.Held.{Held, expression}
+use Rattle.cedar_conversion.specs.parts.Members.{Access, field, call, index, accesses_of, method_outcome, name_accesses}
+use Rattle.cedar_conversion.specs.outcome.Outcome.{Outcome, fault_outcome, next, expression_call, no_methods, invalid_access}
+use Rattle.cedar_conversion.specs.outcome.Seen.{Refuses}
 use Rattle.cedar_conversion.specs.machines.Applied.{Leads, after_field, begins_call, reading_outcome, seen_access, settled_value, waiting}
 use Rattle.cedar_conversion.specs.machines.Views.{TellsAlone}
 use Rattle.cedar_conversion.proofs.Inverted.{given_as}

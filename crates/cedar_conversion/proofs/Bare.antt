@@ -4,12 +4,12 @@ use Rattle.cedar_syntax.specs.declared.loc.Loc.{Loc}
 use Rattle.cedar_syntax.specs.declared.node.Node.{Node}
 use Rattle.cedar_syntax.specs.declared.cst.Member.{Member}
 use Rattle.cedar_syntax.specs.declared.cst.Primary.{Primary}
-use Rattle.cedar_syntax.specs.Forms.{located, parts_of, primary_form, member_form, listed_access}
-use Rattle.cedar_syntax.specs.Located as f
-use Rattle.cedar_syntax.specs.Located.{Located, Form, Parts}
+use Rattle.cedar_syntax.specs.trees.Forms.{located, parts_of, primary_form, member_form, listed_access}
+use Rattle.cedar_syntax.specs.trees.Located as f
+use Rattle.cedar_syntax.specs.trees.Located.{Located, Form, Parts}
 use Rattle.cedar_syntax.proofs.FormLevels.{member_out}
-use Rattle.cedar_conversion.specs.Conversion.{literal_alone, lone_literal}
-use Rattle.cedar_conversion.specs.LonePart.{lone_part}
+use Rattle.cedar_conversion.specs.outcome.Conversion.{literal_alone, lone_literal}
+use Rattle.cedar_conversion.specs.outcome.LonePart.{lone_part}
 use Rattle.cedar_conversion.proofs.LoneParts.{through, to_none, to_part}
 
 -- a primary of this form

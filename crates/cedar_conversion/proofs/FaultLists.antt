@@ -1,12 +1,12 @@
 -- Faults one behind another, and places within a place.
 use Rattle.std.proofs.Common.{◌≡◌, ◌+◌, ◌<◌, ◌∙◌, ℕ, zero, suc, List, [], ◌∷◌, ◌++◌, map, take, length, get_or, Ok, Err, refl, sym, ap, arith}
-use Rattle.cedar_syntax.specs.ParseErrors.{faults_of}
+use Rattle.cedar_syntax.specs.faults.ParseErrors.{faults_of}
 use Rattle.cedar_syntax.specs.declared.err.faults.Failure.TheVariants.{Errors}
 use Rattle.cedar_syntax.specs.declared.err.faults.ParseError.TheVariants.{ToAST}
 use Rattle.cedar_syntax.specs.declared.err.faults.ParseErrors.{ParseErrors}
 use Rattle.cedar_syntax.specs.declared.err.to_ast.ToASTError.{ToASTError}
-use Rattle.cedar_conversion.specs.Outcome.{NamedFault, both, next, fault_outcome, faults_outcome}
-use Rattle.cedar_conversion.specs.Seen.{Refuses, named_faults, named_fault}
+use Rattle.cedar_conversion.specs.outcome.Outcome.{NamedFault, both, next, fault_outcome, faults_outcome}
+use Rattle.cedar_conversion.specs.outcome.Seen.{Refuses, named_faults, named_fault}
 use Rattle.cedar_conversion.proofs.Loops.{map_snoc, take_next}
 
 -- one fault more

@@ -7,14 +7,14 @@ use Rattle.cedar_syntax.specs.declared.cst.Ident.{Ident}
 use Rattle.cedar_syntax.specs.declared.cst.MemAccess.{MemAccess}
 use Rattle.cedar_syntax.specs.declared.cst.MemAccess.TheVariants as accesses
 use Rattle.cedar_syntax.specs.declared.err.faults.Failure.{Failure}
-use Rattle.cedar_syntax.specs.Forms.{access_form, listed_access, located, parts_of}
-use Rattle.cedar_syntax.specs.Located.{Form}
+use Rattle.cedar_syntax.specs.trees.Forms.{access_form, listed_access, located, parts_of}
+use Rattle.cedar_syntax.specs.trees.Located.{Form}
 use Rattle.cedar_syntax.proofs.FormLevels.{access_field, access_call, access_index}
 use Rattle.std.specs.Prelude.{Option, Some}
-use Rattle.cedar_conversion.specs.HasSide.{field_form, field_of, fields_of, string_alone}
-use Rattle.cedar_conversion.specs.Outcome.{Outcome, fault_outcome, next, invalid_has_rhs}
-use Rattle.cedar_conversion.specs.Names.{unreserved_ident}
-use Rattle.cedar_conversion.specs.Seen.{Refuses}
+use Rattle.cedar_conversion.specs.parts.HasSide.{field_form, field_of, fields_of, string_alone}
+use Rattle.cedar_conversion.specs.outcome.Outcome.{Outcome, fault_outcome, next, invalid_has_rhs}
+use Rattle.cedar_conversion.specs.parts.Names.{unreserved_ident}
+use Rattle.cedar_conversion.specs.outcome.Seen.{Refuses}
 use Rattle.cedar_conversion.proofs.Loops.{drop_next, drop_whole}
 use Rattle.cedar_conversion.proofs.Outcomes.{refused_next}
 

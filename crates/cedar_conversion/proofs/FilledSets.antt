@@ -13,7 +13,7 @@ use Rattle.cedar_expressions.specs.contracts.ids.UnreservedIdOrd.TheImpl.Laws as
 use Rattle.cedar_expressions.specs.contracts.ids.UnreservedIdPartialEq.TheImpl as id_eq
 use Rattle.cedar_expressions.proofs.Deciding.{both, through}
 use Rattle.cedar_expressions.proofs.EqualParts as equal
-use Rattle.cedar_conversion.specs.CedarExtensions.{is_empty_namespace, is_word_alone}
+use Rattle.cedar_conversion.specs.strict.CedarExtensions.{is_empty_namespace, is_word_alone}
 
 -- ---- lists of tests
 

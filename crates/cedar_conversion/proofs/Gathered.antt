@@ -1,11 +1,11 @@
 -- Accesses and pairs, one longer at the end.
 use Rattle.std.proofs.Common.{◌≡◌, ◌<◌, ◌+◌, ℕ, List, [], ◌∷◌, ◌++◌, append_assoc, map, take, length, get_or, Ok, Err, refl, sym, ap, ◌∙◌}
-use Rattle.cedar_syntax.specs.Forms.{parts_of}
-use Rattle.cedar_syntax.specs.Located.{Located}
-use Rattle.cedar_syntax.specs.Tree.{Operator}
-use Rattle.cedar_conversion.specs.Conversion.{accesses_outcome, access_outcome, pairs_outcome, pair_outcome, with_first}
-use Rattle.cedar_conversion.specs.Extensions.{Extensions}
-use Rattle.cedar_conversion.specs.Outcome.{Outcome, both, next, item_more}
+use Rattle.cedar_syntax.specs.trees.Forms.{parts_of}
+use Rattle.cedar_syntax.specs.trees.Located.{Located}
+use Rattle.cedar_syntax.specs.trees.Tree.{Operator}
+use Rattle.cedar_conversion.specs.outcome.Conversion.{accesses_outcome, access_outcome, pairs_outcome, pair_outcome, with_first}
+use Rattle.cedar_conversion.specs.strict.Extensions.{Extensions}
+use Rattle.cedar_conversion.specs.outcome.Outcome.{Outcome, both, next, item_more}
 use Rattle.cedar_conversion.proofs.Loops.{take_next, map_snoc}
 
 pub last : {X : Type 0} (x : Outcome X) → next (both x (Ok [])) with_first ≡ item_more (Ok []) x

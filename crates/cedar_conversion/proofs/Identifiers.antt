@@ -2,8 +2,8 @@
 use Rattle.std.proofs.Common.{◌≡◌, ◌<◌, ◌+◌, ℕ, List, [], ◌∷◌, ◌++◌, take, length, get_or, Ok, ap, ◌∙◌}
 use Rattle.std.specs.declared.vec.Vec.{Vec}
 use Rattle.std.specs.declared.alloc.Global.{Global}
-use Rattle.cedar_conversion.specs.Names.{all_of}
-use Rattle.cedar_conversion.specs.Outcome.{Outcome, both, next, item_more}
+use Rattle.cedar_conversion.specs.parts.Names.{all_of}
+use Rattle.cedar_conversion.specs.outcome.Outcome.{Outcome, both, next, item_more}
 use Rattle.cedar_conversion.proofs.Gathered.{last, shifted}
 use Rattle.cedar_conversion.proofs.Loops.{take_next}
 

@@ -2,13 +2,13 @@
 use Rattle.std.proofs.Common.{◌≡◌, ◌⊎◌, inl, inr, Bool, true, false, cond, List, [], ◌∷◌, ◌++◌, Option, Ok, Err, refl, ap, ◌∙◌}
 use Rattle.cedar_expressions.specs.Value.{Value}
 use Rattle.cedar_syntax.specs.declared.loc.Loc.{Loc}
-use Rattle.cedar_syntax.specs.Located as f
-use Rattle.cedar_syntax.specs.Located.{Parts}
-use Rattle.cedar_syntax.specs.Tree.{Level, Operator, relation}
-use Rattle.cedar_conversion.specs.Conversion.{Part, chain_outcome, level_outcome, joint_outcome, operator_limit, expression_at, operands, with_part}
-use Rattle.cedar_conversion.specs.Extensions.{Extensions}
-use Rattle.cedar_conversion.specs.Held.{Held, as_expression}
-use Rattle.cedar_conversion.specs.Outcome.{NamedFault, Outcome, both, next}
+use Rattle.cedar_syntax.specs.trees.Located as f
+use Rattle.cedar_syntax.specs.trees.Located.{Parts}
+use Rattle.cedar_syntax.specs.trees.Tree.{Level, Operator, relation}
+use Rattle.cedar_conversion.specs.outcome.Conversion.{Part, chain_outcome, level_outcome, joint_outcome, operator_limit, expression_at, operands, with_part}
+use Rattle.cedar_conversion.specs.strict.Extensions.{Extensions}
+use Rattle.cedar_conversion.specs.outcome.Held.{Held, as_expression}
+use Rattle.cedar_conversion.specs.outcome.Outcome.{NamedFault, Outcome, both, next}
 use Rattle.cedar_conversion.specs.machines.Views.{one_more}
 
 abbrev pub given_as : {X : Type 0} → X → Outcome X

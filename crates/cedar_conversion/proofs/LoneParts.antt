@@ -8,12 +8,12 @@ use Rattle.cedar_syntax.specs.declared.cst.RelOp.{RelOp}
 use Rattle.cedar_syntax.specs.declared.cst.Relation.{Relation}
 use Rattle.cedar_syntax.specs.declared.cst.Relation.TheVariants as relations
 use Rattle.cedar_syntax.specs.declared.cst.Unary.{Unary, out-Unary}
-use Rattle.cedar_syntax.specs.Forms.{located, parts_of, add_form, member_form, relation_form, unary_form, relation_operand, typed_form}
-use Rattle.cedar_syntax.specs.Located as f
-use Rattle.cedar_syntax.specs.Located.{Located, Form}
-use Rattle.cedar_syntax.specs.Tree.{Level, Operator, relation}
+use Rattle.cedar_syntax.specs.trees.Forms.{located, parts_of, add_form, member_form, relation_form, unary_form, relation_operand, typed_form}
+use Rattle.cedar_syntax.specs.trees.Located as f
+use Rattle.cedar_syntax.specs.trees.Located.{Located, Form}
+use Rattle.cedar_syntax.specs.trees.Tree.{Level, Operator, relation}
 use Rattle.cedar_syntax.proofs.FormLevels.{relation_common, relation_has, relation_like, relation_typed, unary_out}
-use Rattle.cedar_conversion.specs.LonePart.{lone_part, no_sign}
+use Rattle.cedar_conversion.specs.outcome.LonePart.{lone_part, no_sign}
 
 -- ---- when it is
 

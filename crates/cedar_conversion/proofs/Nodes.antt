@@ -28,21 +28,21 @@ use Rattle.cedar_syntax.specs.declared.cst.Name.{Name}
 use Rattle.cedar_syntax.specs.declared.cst.Slot.{Slot}
 use Rattle.cedar_syntax.specs.declared.cst.Ref.{Ref}
 use Rattle.cedar_syntax.specs.declared.cst.RecInit.{RecInit}
-use Rattle.cedar_syntax.specs.Forms.{located, parts_of, expr_form, data_form, or_form, and_form, relation_form, add_form, mult_form, unary_form, member_form, primary_form, access_form, init_form, or_operand, and_operand, relation_operand, add_operand, mult_operand, listed_access, listed_expr, listed_init, typed_form}
-use Rattle.cedar_syntax.specs.Located as f
-use Rattle.cedar_syntax.specs.Located.{Located, Form}
-use Rattle.cedar_syntax.specs.Tree.{disjunction, conjunction, relation, sum, product}
+use Rattle.cedar_syntax.specs.trees.Forms.{located, parts_of, expr_form, data_form, or_form, and_form, relation_form, add_form, mult_form, unary_form, member_form, primary_form, access_form, init_form, or_operand, and_operand, relation_operand, add_operand, mult_operand, listed_access, listed_expr, listed_init, typed_form}
+use Rattle.cedar_syntax.specs.trees.Located as f
+use Rattle.cedar_syntax.specs.trees.Located.{Located, Form}
+use Rattle.cedar_syntax.specs.trees.Tree.{disjunction, conjunction, relation, sum, product}
 use Rattle.cedar_syntax.proofs.FormLevels.{expr_out, impl_out, data_or, data_if, or_out, and_out, relation_common, relation_has, relation_like, relation_typed, add_out, mult_out, unary_out, member_out, primary_literal, primary_ref, primary_name, primary_slot, primary_expr, primary_list, primary_inits, access_field, access_call, access_index, init_out}
-use Rattle.cedar_conversion.specs.Conversion.{outcome, form_outcome, operands, chain_outcome, conditional_outcome, signs_outcome, number_in, lone_literal, literal_outcome, expression_at, tree_place, accesses_outcome, pairs_outcome, with_attributes, beside_type, match_outcome, type_test_outcome, type_within_outcome, set_value_outcome, record_outcome, access_outcome, access_form_outcome, pair_outcome, pair_form_outcome, value_outcome, bodies}
-use Rattle.cedar_conversion.specs.HasSide.{right_side}
-use Rattle.cedar_conversion.specs.Leaves.{name_leaf, slot_leaf, entity_leaf}
-use Rattle.cedar_conversion.specs.LonePart.{lone_part, no_sign}
-use Rattle.cedar_conversion.specs.Members as member
-use Rattle.cedar_conversion.specs.Members.{member_outcome}
-use Rattle.cedar_conversion.specs.Names.{unreserved_ident}
-use Rattle.cedar_conversion.specs.Extensions.{Extensions}
-use Rattle.cedar_conversion.specs.Held.{Held, as_expression, as_pattern, as_string, as_attribute}
-use Rattle.cedar_conversion.specs.Outcome.{Outcome, fault_outcome, both, next, empty_node}
+use Rattle.cedar_conversion.specs.outcome.Conversion.{outcome, form_outcome, operands, chain_outcome, conditional_outcome, signs_outcome, number_in, lone_literal, literal_outcome, expression_at, tree_place, accesses_outcome, pairs_outcome, with_attributes, beside_type, match_outcome, type_test_outcome, type_within_outcome, set_value_outcome, record_outcome, access_outcome, access_form_outcome, pair_outcome, pair_form_outcome, value_outcome, bodies}
+use Rattle.cedar_conversion.specs.parts.HasSide.{right_side}
+use Rattle.cedar_conversion.specs.parts.Leaves.{name_leaf, slot_leaf, entity_leaf}
+use Rattle.cedar_conversion.specs.outcome.LonePart.{lone_part, no_sign}
+use Rattle.cedar_conversion.specs.parts.Members as member
+use Rattle.cedar_conversion.specs.parts.Members.{member_outcome}
+use Rattle.cedar_conversion.specs.parts.Names.{unreserved_ident}
+use Rattle.cedar_conversion.specs.strict.Extensions.{Extensions}
+use Rattle.cedar_conversion.specs.outcome.Held.{Held, as_expression, as_pattern, as_string, as_attribute}
+use Rattle.cedar_conversion.specs.outcome.Outcome.{Outcome, fault_outcome, both, next, empty_node}
 use Rattle.cedar_conversion.specs.machines.Applied.{type_relation_outcome}
 use Rattle.cedar_conversion.proofs.LoneParts.{through, to_part}
 use Rattle.cedar_conversion.proofs.Parts.{alone}

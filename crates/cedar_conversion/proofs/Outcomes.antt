@@ -3,19 +3,19 @@ use Rattle.std.proofs.Common.{append-nil, ◌≡◌, ◌<◌, ◌+◌, ℕ, List
 use Rattle.cedar_expressions.specs.Value.{Value}
 use Rattle.std.specs.declared.alloc.Global.{Global}
 use Rattle.std.specs.declared.vec.Vec.{Vec}
-use Rattle.cedar_syntax.specs.ParseErrors.{faults_of}
+use Rattle.cedar_syntax.specs.faults.ParseErrors.{faults_of}
 use Rattle.cedar_syntax.specs.declared.loc.Loc.{Loc}
 use Rattle.cedar_syntax.specs.declared.err.faults.Failure.{Failure}
 use Rattle.cedar_syntax.specs.declared.err.faults.Failure.TheVariants.{Memory, Errors}
 use Rattle.cedar_syntax.specs.declared.err.faults.ParseError.{ParseError}
-use Rattle.cedar_syntax.specs.Forms.{parts_of}
-use Rattle.cedar_syntax.specs.Located.{Located, none}
-use Rattle.cedar_syntax.specs.Tree.{Operator}
-use Rattle.cedar_syntax.specs.Joined.{TellsBoth, TellsFaults, WantsMemory}
-use Rattle.cedar_conversion.specs.Conversion.{Part, operands, with_part, factor, value_outcome}
-use Rattle.cedar_conversion.specs.Extensions.{Extensions}
-use Rattle.cedar_conversion.specs.Outcome.{Kind, Outcome, both, next, fault_outcome, item_more}
-use Rattle.cedar_conversion.specs.Seen.{Refuses, Gives, itself, named_faults, named_fault}
+use Rattle.cedar_syntax.specs.trees.Forms.{parts_of}
+use Rattle.cedar_syntax.specs.trees.Located.{Located, none}
+use Rattle.cedar_syntax.specs.trees.Tree.{Operator}
+use Rattle.cedar_syntax.specs.faults.Joined.{TellsBoth, TellsFaults, WantsMemory}
+use Rattle.cedar_conversion.specs.outcome.Conversion.{Part, operands, with_part, factor, value_outcome}
+use Rattle.cedar_conversion.specs.strict.Extensions.{Extensions}
+use Rattle.cedar_conversion.specs.outcome.Outcome.{Kind, Outcome, both, next, fault_outcome, item_more}
+use Rattle.cedar_conversion.specs.outcome.Seen.{Refuses, Gives, itself, named_faults, named_fault}
 use Rattle.cedar_conversion.specs.machines.Views.{TellsAlone, Grows, one_more, rest_view}
 use Rattle.cedar_conversion.proofs.Loops.{take_next, map_snoc}
 

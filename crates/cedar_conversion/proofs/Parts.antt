@@ -6,13 +6,13 @@ use Rattle.cedar_expressions.specs.Keys.{repeats_key}
 use Rattle.cedar_expressions.specs.Value as v
 use Rattle.cedar_expressions.specs.Value.{Value, values, terms}
 use Rattle.cedar_syntax.specs.declared.loc.Loc.{Loc}
-use Rattle.cedar_syntax.specs.Forms.{parts_of}
-use Rattle.cedar_syntax.specs.Located.{Located, none}
-use Rattle.cedar_syntax.specs.Tree.{Operator, Level, disjunction, conjunction, relation, sum, product, add}
-use Rattle.cedar_conversion.specs.Conversion.{Part, bodies, sum_terms, level_outcome, joint_outcome, operator_limit, chain_outcome, expression_at, record_outcome, set_value_outcome}
-use Rattle.cedar_conversion.specs.Held.{Held, as_expression}
-use Rattle.cedar_conversion.specs.Members.{call}
-use Rattle.cedar_conversion.specs.Outcome.{Outcome, fault_outcome, next, ambiguous_operators, expression_construction_error}
+use Rattle.cedar_syntax.specs.trees.Forms.{parts_of}
+use Rattle.cedar_syntax.specs.trees.Located.{Located, none}
+use Rattle.cedar_syntax.specs.trees.Tree.{Operator, Level, disjunction, conjunction, relation, sum, product, add}
+use Rattle.cedar_conversion.specs.outcome.Conversion.{Part, bodies, sum_terms, level_outcome, joint_outcome, operator_limit, chain_outcome, expression_at, record_outcome, set_value_outcome}
+use Rattle.cedar_conversion.specs.outcome.Held.{Held, as_expression}
+use Rattle.cedar_conversion.specs.parts.Members.{call}
+use Rattle.cedar_conversion.specs.outcome.Outcome.{Outcome, fault_outcome, next, ambiguous_operators, expression_construction_error}
 
 pub bodies_behind : {O E : Type 0} (operator : O → Operator) (m : E → Value) (es : List (O × E)) → bodies (map (λ p. (operator p.0, m p.1)) es) ≡ map m (map (λ p. p.1) es)
 bodies_behind operator m [] = refl

@@ -5,20 +5,20 @@ use Rattle.std.proofs.Math.Seq.{take-append_seam}
 use Rattle.cedar_expressions.specs.declared.atoms.Literal.TheVariants as literals
 use Rattle.cedar_expressions.specs.Value as v
 use Rattle.cedar_expressions.specs.Value.{Value}
-use Rattle.cedar_syntax.specs.NonEmpty.{list_of}
+use Rattle.cedar_syntax.specs.faults.NonEmpty.{list_of}
 use Rattle.cedar_syntax.specs.declared.loc.Loc.{Loc}
 use Rattle.cedar_syntax.specs.declared.err.escape.UnescapeError.{UnescapeError}
 use Rattle.cedar_syntax.specs.declared.err.non_empty.NonEmpty.{NonEmpty}
 use Rattle.cedar_expressions.specs.declared.atoms.PatternElem.{PatternElem}
-use Rattle.cedar_syntax.specs.Pattern.{IsPattern, HasPatternFaults, pattern_faults, pattern_pieces}
+use Rattle.cedar_syntax.specs.strings.Pattern.{IsPattern, HasPatternFaults, pattern_faults, pattern_pieces}
 use Rattle.cedar_syntax.specs.declared.unescape.piece.PieceValue.{PieceValue}
-use Rattle.cedar_syntax.specs.Piece.{Piece, Placed, bytes_len, piece_at, PieceLayout, end_of_text, piece, IsLaidOut, IsUnescaped, HasEscapeFaults}
-use Rattle.cedar_syntax.specs.PieceAhead.{BeginsWithPiece, first_piece}
+use Rattle.cedar_syntax.specs.strings.Piece.{Piece, Placed, bytes_len, piece_at, PieceLayout, end_of_text, piece, IsLaidOut, IsUnescaped, HasEscapeFaults}
+use Rattle.cedar_syntax.specs.strings.PieceAhead.{BeginsWithPiece, first_piece}
 use Rattle.cedar_syntax.proofs.FirstPiece.{begins}
 use Rattle.cedar_syntax.proofs.Layouts.{laid_once}
-use Rattle.cedar_conversion.specs.Held.{text_value}
-use Rattle.cedar_conversion.specs.Outcome.{next}
-use Rattle.cedar_conversion.specs.Strings.{taken, pieces_from, layout, escape_faults, unescaped, string_faults, unless_faulty, text_outcome, pattern_outcome}
+use Rattle.cedar_conversion.specs.outcome.Held.{text_value}
+use Rattle.cedar_conversion.specs.outcome.Outcome.{next}
+use Rattle.cedar_conversion.specs.parts.Strings.{taken, pieces_from, layout, escape_faults, unescaped, string_faults, unless_faulty, text_outcome, pattern_outcome}
 
 -- ---- the layout
 

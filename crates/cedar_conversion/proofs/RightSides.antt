@@ -15,17 +15,17 @@ use Rattle.cedar_syntax.specs.declared.cst.Name.{Name}
 use Rattle.cedar_syntax.specs.declared.cst.Slot.{Slot}
 use Rattle.cedar_syntax.specs.declared.cst.Ref.{Ref}
 use Rattle.cedar_syntax.specs.declared.cst.RecInit.{RecInit}
-use Rattle.cedar_syntax.specs.Forms.{located, parts_of, add_form, mult_form, unary_form, member_form, primary_form, listed_access}
-use Rattle.cedar_syntax.specs.Located as f
-use Rattle.cedar_syntax.specs.Located.{Located, Form, Parts}
-use Rattle.cedar_syntax.specs.Tree.{Level, sum, product}
+use Rattle.cedar_syntax.specs.trees.Forms.{located, parts_of, add_form, mult_form, unary_form, member_form, primary_form, listed_access}
+use Rattle.cedar_syntax.specs.trees.Located as f
+use Rattle.cedar_syntax.specs.trees.Located.{Located, Form, Parts}
+use Rattle.cedar_syntax.specs.trees.Tree.{Level, sum, product}
 use Rattle.cedar_syntax.proofs.FormLevels.{add_out, mult_out, unary_out, member_out, primary_literal, primary_ref, primary_name, primary_slot, primary_expr, primary_list, primary_inits}
-use Rattle.cedar_conversion.specs.Conversion.{tree_place}
-use Rattle.cedar_conversion.specs.HasSide.{Attributes, attributes_of, begins_with, beginning_outcome, right_form, right_side}
-use Rattle.cedar_conversion.specs.Leaves.{name_leaf}
-use Rattle.cedar_conversion.specs.Literals.{literal_outcome}
-use Rattle.cedar_conversion.specs.LonePart.{lone_part, no_sign}
-use Rattle.cedar_conversion.specs.Outcome.{Outcome, fault_outcome, next, empty_node, invalid_has_rhs}
+use Rattle.cedar_conversion.specs.outcome.Conversion.{tree_place}
+use Rattle.cedar_conversion.specs.parts.HasSide.{Attributes, attributes_of, begins_with, beginning_outcome, right_form, right_side}
+use Rattle.cedar_conversion.specs.parts.Leaves.{name_leaf}
+use Rattle.cedar_conversion.specs.parts.Literals.{literal_outcome}
+use Rattle.cedar_conversion.specs.outcome.LonePart.{lone_part, no_sign}
+use Rattle.cedar_conversion.specs.outcome.Outcome.{Outcome, fault_outcome, next, empty_node, invalid_has_rhs}
 use Rattle.cedar_conversion.proofs.LoneParts.{through, to_none, to_part}
 
 -- ---- the primary that begins it

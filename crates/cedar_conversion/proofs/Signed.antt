@@ -6,13 +6,13 @@ use Rattle.cedar_expressions.specs.Value.{Value}
 use Rattle.cedar_syntax.specs.declared.loc.Loc.{Loc}
 use Rattle.cedar_syntax.specs.declared.err.faults.Failure.{Failure}
 use Rattle.cedar_syntax.specs.declared.cst.NegOp.TheVariants as sign
-use Rattle.cedar_syntax.specs.Trees.{bangs_of, dashes_of}
-use Rattle.cedar_syntax.specs.Signs.{sign_limit}
-use Rattle.cedar_conversion.specs.Conversion.{application_outcome, dashes_outcome, signs_outcome, number_outcome, expression_at}
-use Rattle.cedar_conversion.specs.Held.{Held, as_expression}
-use Rattle.cedar_conversion.specs.Outcome.{Outcome, next, fault_outcome, integer_literal_too_large}
-use Rattle.cedar_conversion.specs.Seen.{Refuses}
-use Rattle.cedar_conversion.specs.Strict.{iteration, largest}
+use Rattle.cedar_syntax.specs.trees.Trees.{bangs_of, dashes_of}
+use Rattle.cedar_syntax.specs.tokens.Signs.{sign_limit}
+use Rattle.cedar_conversion.specs.outcome.Conversion.{application_outcome, dashes_outcome, signs_outcome, number_outcome, expression_at}
+use Rattle.cedar_conversion.specs.outcome.Held.{Held, as_expression}
+use Rattle.cedar_conversion.specs.outcome.Outcome.{Outcome, next, fault_outcome, integer_literal_too_large}
+use Rattle.cedar_conversion.specs.outcome.Seen.{Refuses}
+use Rattle.cedar_conversion.specs.strict.Strict.{iteration, largest}
 use Rattle.cedar_conversion.proofs.Inverted.{next_ok, made_is}
 use Rattle.cedar_conversion.proofs.Outcomes.{refused_next}
 

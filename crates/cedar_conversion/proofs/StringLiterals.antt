@@ -2,11 +2,11 @@
 use Rattle.std.proofs.Common.{◌≡◌, Option, Some, None, refl, ap}
 use Rattle.cedar_syntax.specs.declared.node.Node.{Node}
 use Rattle.cedar_syntax.specs.declared.cst.Primary.{Primary}
-use Rattle.cedar_syntax.specs.Forms.{located, primary_form}
-use Rattle.cedar_syntax.specs.Located as f
-use Rattle.cedar_syntax.specs.Located.{Form}
-use Rattle.cedar_conversion.specs.Literals.{string_outcome}
-use Rattle.cedar_conversion.specs.Outcome.{fault_outcome, empty_node}
+use Rattle.cedar_syntax.specs.trees.Forms.{located, primary_form}
+use Rattle.cedar_syntax.specs.trees.Located as f
+use Rattle.cedar_syntax.specs.trees.Located.{Form}
+use Rattle.cedar_conversion.specs.parts.Literals.{string_outcome}
+use Rattle.cedar_conversion.specs.outcome.Outcome.{fault_outcome, empty_node}
 
 -- a primary of this form
 pub string_at : (n : Node (Option Primary)) (d : Primary) (t : Form) → n.node ≡ Some d → primary_form d ≡ t → string_outcome (located primary_form n) ≡ string_outcome (f.at n.loc t)

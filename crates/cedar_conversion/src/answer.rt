@@ -5,13 +5,13 @@
 //! parts, and one part alone goes through its levels without a frame.
 ghost use Rattle.std.specs.Prelude.{◌≡◌, List};
 ghost use Rattle.cedar_expressions.specs.Value.{Value};
-ghost use Rattle.cedar_syntax.specs.Tree.{Operator};
-ghost use Rattle.cedar_conversion.specs.Conversion.{Part, conditional_outcome, expression_at as made_at};
-ghost use Rattle.cedar_conversion.specs.Held.{Held, as_expression};
-ghost use Rattle.cedar_conversion.specs.Members.{Access as Given, member_outcome};
-ghost use Rattle.cedar_conversion.specs.Outcome.{Outcome, both, empty_node, next, fault_outcome};
-ghost use Rattle.cedar_conversion.specs.Seen.{Gives};
-ghost use Rattle.cedar_conversion.specs.Table.{table_of};
+ghost use Rattle.cedar_syntax.specs.trees.Tree.{Operator};
+ghost use Rattle.cedar_conversion.specs.outcome.Conversion.{Part, conditional_outcome, expression_at as made_at};
+ghost use Rattle.cedar_conversion.specs.outcome.Held.{Held, as_expression};
+ghost use Rattle.cedar_conversion.specs.parts.Members.{Access as Given, member_outcome};
+ghost use Rattle.cedar_conversion.specs.outcome.Outcome.{Outcome, both, empty_node, next, fault_outcome};
+ghost use Rattle.cedar_conversion.specs.outcome.Seen.{Gives};
+ghost use Rattle.cedar_conversion.specs.strict.Table.{table_of};
 ghost use Rattle.cedar_conversion.specs.machines.Applied.{seen_accesses};
 ghost use Rattle.cedar_conversion.specs.machines.Views.{rest_view, one_more, plain};
 

@@ -11,10 +11,10 @@ ghost use Rattle.cedar_syntax.specs.declared.cst.Expr.{Expr as Tree};
 ghost use Rattle.cedar_syntax.specs.declared.cst.ExprData.TheVariants as datas;
 ghost use Rattle.cedar_syntax.specs.declared.cst.Relation.TheVariants as relations;
 ghost use Rattle.cedar_syntax.specs.declared.cst.Expr.TheVariants as exprs;
-ghost use Rattle.cedar_syntax.specs.Forms.{located, expr_form, data_form, or_form, and_form, relation_form, add_form, mult_form, unary_form};
-ghost use Rattle.cedar_conversion.specs.Conversion.{outcome, form_outcome};
-ghost use Rattle.cedar_conversion.specs.Seen.{Gives};
-ghost use Rattle.cedar_conversion.specs.Table.{table_of};
+ghost use Rattle.cedar_syntax.specs.trees.Forms.{located, expr_form, data_form, or_form, and_form, relation_form, add_form, mult_form, unary_form};
+ghost use Rattle.cedar_conversion.specs.outcome.Conversion.{outcome, form_outcome};
+ghost use Rattle.cedar_conversion.specs.outcome.Seen.{Gives};
+ghost use Rattle.cedar_conversion.specs.strict.Table.{table_of};
 ghost use Rattle.cedar_conversion.specs.machines.Views.{plain};
 
 use crate::answer::lists::{at_most_one, more};

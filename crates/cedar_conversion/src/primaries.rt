@@ -6,14 +6,14 @@ ghost use Rattle.cedar_syntax.specs.declared.cst.MemAccess.TheVariants as access
 ghost use Rattle.cedar_syntax.specs.declared.cst.Primary.TheVariants as primaries;
 ghost use Rattle.cedar_syntax.specs.declared.cst.RecInit.{RecInit as Init};
 ghost use Rattle.cedar_syntax.specs.declared.node.Node.{Node as Held};
-ghost use Rattle.cedar_syntax.specs.Forms.{located, member_form, primary_form, access_form, init_form};
-ghost use Rattle.cedar_conversion.specs.Conversion.{outcome, form_outcome, access_outcome, pair_outcome};
-ghost use Rattle.cedar_conversion.specs.Leaves.{entity_leaf, name_leaf, slot_leaf};
-ghost use Rattle.cedar_conversion.specs.Literals.{literal_outcome};
-ghost use Rattle.cedar_conversion.specs.Members.{Access as Given};
-ghost use Rattle.cedar_conversion.specs.Outcome.{Outcome, item_more};
-ghost use Rattle.cedar_conversion.specs.Seen.{Gives};
-ghost use Rattle.cedar_conversion.specs.Table.{table_of};
+ghost use Rattle.cedar_syntax.specs.trees.Forms.{located, member_form, primary_form, access_form, init_form};
+ghost use Rattle.cedar_conversion.specs.outcome.Conversion.{outcome, form_outcome, access_outcome, pair_outcome};
+ghost use Rattle.cedar_conversion.specs.parts.Leaves.{entity_leaf, name_leaf, slot_leaf};
+ghost use Rattle.cedar_conversion.specs.parts.Literals.{literal_outcome};
+ghost use Rattle.cedar_conversion.specs.parts.Members.{Access as Given};
+ghost use Rattle.cedar_conversion.specs.outcome.Outcome.{Outcome, item_more};
+ghost use Rattle.cedar_conversion.specs.outcome.Seen.{Gives};
+ghost use Rattle.cedar_conversion.specs.strict.Table.{table_of};
 ghost use Rattle.cedar_conversion.specs.machines.Applied.{Pair, seen_accesses, seen_pairs};
 ghost use Rattle.cedar_conversion.specs.machines.Views.{plain};
 

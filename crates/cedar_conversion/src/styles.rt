@@ -4,8 +4,8 @@ ghost use Rattle.std.specs.BTreeSet.{contains};
 ghost use Rattle.std.specs.List.{list_any};
 ghost use Rattle.std.specs.Str.{bytes_eq};
 ghost use Rattle.cedar_expressions.specs.Path.{Path, is_unreserved_identifier};
-ghost use Rattle.cedar_conversion.specs.CedarExtensions.{cedar_extensions, is_word_alone};
-ghost use Rattle.cedar_conversion.specs.Table.{table_of};
+ghost use Rattle.cedar_conversion.specs.strict.CedarExtensions.{cedar_extensions, is_word_alone};
+ghost use Rattle.cedar_conversion.specs.strict.Table.{table_of};
 
 use cedar_expressions::{Id, Name, Text, UnreservedId};
 use std::alloc::{AllocError, Global};

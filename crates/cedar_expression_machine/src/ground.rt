@@ -1,6 +1,6 @@
 //! What nodes are made with.
 ghost use Rattle.std.specs.Prelude.{◌≡◌, IfOk};
-ghost use Rattle.cedar_grammar.specs.Place.{loc_at, node_at};
+ghost use Rattle.cedar_grammar.specs.grammar.Place.{loc_at, node_at};
 ghost use Rattle.cedar_expression_machine.specs.machines.Closing.{node_of};
 
 use crate::expression::state::Ranged;

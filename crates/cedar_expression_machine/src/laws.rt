@@ -3,7 +3,7 @@
 ghost use Rattle.std.specs.Prelude.{◌≡◌, ◌≢◌, ℕ, List, None};
 ghost use Rattle.cedar_lexer.specs.declared.token.TokenKind.{TokenKind};
 ghost use Rattle.cedar_lexer.specs.declared.token.TokenKind.TheVariants as kind;
-ghost use Rattle.cedar_syntax.specs.Tokens.{any_of};
+ghost use Rattle.cedar_syntax.specs.tokens.Tokens.{any_of};
 ghost use Rattle.cedar_grammar.specs.machines.Door.{Door, IsOutside, Shapes};
 ghost use Rattle.cedar_expression_machine.specs.machines.Words.{paths, words_machine};
 ghost use Rattle.cedar_expression_machine.specs.machines.WordsRead.{ReadsWholePath, ReadsWords};

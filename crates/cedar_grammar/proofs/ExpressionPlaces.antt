@@ -23,17 +23,17 @@ use Rattle.cedar_syntax.specs.declared.cst.Primary.{Primary}
 use Rattle.cedar_syntax.specs.declared.cst.Name.{Name}
 use Rattle.cedar_syntax.specs.declared.cst.Ident.TheVariants as ident
 use Rattle.cedar_syntax.specs.declared.cst.RecInit.{RecInit}
-use Rattle.cedar_syntax.specs.Tree.{Operator, disjunction, sum, product}
-use Rattle.cedar_syntax.specs.Located.{Located, Form, only, ite, chain, unary}
-use Rattle.cedar_syntax.specs.Forms.{located, parts_of, expr_form, or_form, and_form, relation_form, add_form, mult_form, unary_form, member_form, access_form, primary_form, init_form, or_operand, and_operand, relation_operand, add_operand, mult_operand, listed_access, listed_expr, listed_init}
+use Rattle.cedar_syntax.specs.trees.Tree.{Operator, disjunction, sum, product}
+use Rattle.cedar_syntax.specs.trees.Located.{Located, Form, only, ite, chain, unary}
+use Rattle.cedar_syntax.specs.trees.Forms.{located, parts_of, expr_form, or_form, and_form, relation_form, add_form, mult_form, unary_form, member_form, access_form, primary_form, init_form, or_operand, and_operand, relation_operand, add_operand, mult_operand, listed_access, listed_expr, listed_init}
 use Rattle.cedar_syntax.proofs.FormLevels.{or_out, and_out, add_out, mult_out, unary_out, member_out, init_out, impl_out, expr_out, data_or, data_if, relation_common, relation_has, relation_like, relation_is, relation_is_in, access_field, access_call, access_index, primary_literal, primary_ref, primary_name, primary_slot, primary_expr, primary_list, primary_inits}
-use Rattle.cedar_grammar.specs.Grammar.{IsTreeOf}
-use Rattle.cedar_grammar.specs.Place.{extent, loc_at, placed}
-use Rattle.cedar_syntax.specs.Tokens.{Spot, one}
-use Rattle.cedar_syntax.specs.Trees.{Cell, expr_of, if_of, or_of, and_of, common_of, add_of, mult_of, unary_of, member_of, rec_init_of, name_of, bangs_of, dashes_of}
-use Rattle.cedar_syntax.specs.TreePlaces.{IsPlace, node_places, ident_places, name_places, literal_places, slot_places, ref_places, located_places, form_places, parts_places, expr_places, primary_places}
-use Rattle.cedar_grammar.specs.LooseWords.{ReadsName}
-use Rattle.cedar_grammar.specs.LooseExpressions.{if_name, lone_add, lone_expr, ReadsExpr, or_expr, if_expr, ReadsOr, or, ReadsAnds, one_and, more_and, ReadsAnd, and, ReadsRelations, one_relation, more_relation, ReadsRelation, common, has, has_if, like, is, is_in, ReadsAdds, one_add, more_add, ReadsAdd, add, ReadsMults, one_mult, more_mult, ReadsMult, mult, ReadsUnaries, one_unary, more_unary, ReadsUnary, plain, banged, dashed, ReadsMember, member, ReadsAccesses, no_access, more_access, ReadsAccess, field, call, index, ReadsPrimary, literally, referred, named, slotted, paren, set, in_braces, ReadsExprs, no_expr, exprs, exprs_comma, ReadsExprItems, one_expr, more_exprs, ReadsRecInits, no_init, inits, inits_comma, ReadsInitItems, one_init, more_inits, ReadsRecInit, rec_init, if_init}
+use Rattle.cedar_grammar.specs.grammar.Grammar.{IsTreeOf}
+use Rattle.cedar_grammar.specs.grammar.Place.{extent, loc_at, placed}
+use Rattle.cedar_syntax.specs.tokens.Tokens.{Spot, one}
+use Rattle.cedar_syntax.specs.trees.Trees.{Cell, expr_of, if_of, or_of, and_of, common_of, add_of, mult_of, unary_of, member_of, rec_init_of, name_of, bangs_of, dashes_of}
+use Rattle.cedar_syntax.specs.trees.TreePlaces.{IsPlace, node_places, ident_places, name_places, literal_places, slot_places, ref_places, located_places, form_places, parts_places, expr_places, primary_places}
+use Rattle.cedar_grammar.specs.grammar.LooseWords.{ReadsName}
+use Rattle.cedar_grammar.specs.grammar.LooseExpressions.{if_name, lone_add, lone_expr, ReadsExpr, or_expr, if_expr, ReadsOr, or, ReadsAnds, one_and, more_and, ReadsAnd, and, ReadsRelations, one_relation, more_relation, ReadsRelation, common, has, has_if, like, is, is_in, ReadsAdds, one_add, more_add, ReadsAdd, add, ReadsMults, one_mult, more_mult, ReadsMult, mult, ReadsUnaries, one_unary, more_unary, ReadsUnary, plain, banged, dashed, ReadsMember, member, ReadsAccesses, no_access, more_access, ReadsAccess, field, call, index, ReadsPrimary, literally, referred, named, slotted, paren, set, in_braces, ReadsExprs, no_expr, exprs, exprs_comma, ReadsExprItems, one_expr, more_exprs, ReadsRecInits, no_init, inits, inits_comma, ReadsInitItems, one_init, more_inits, ReadsRecInit, rec_init, if_init}
 use Rattle.cedar_grammar.proofs.Lying.{Some_of, stands}
 use Rattle.cedar_grammar.proofs.WordPlaces.{Lie, Stand, parts, node_lies, no_places, ident_lies, name_path, path_some, path_lies, literal_some, literal_lies, ref_some, ref_lies, whole_lies, stand_of}
 use Rattle.cedar_grammar.proofs.ExpressionTokens.{access_some, primary_some, member_some, unary_some, mult_some, add_some, relation_some, and_some, or_some, expr_some, rec_init_some}

@@ -17,9 +17,9 @@ use Rattle.cedar_syntax.specs.declared.cst.Member.{Member}
 use Rattle.cedar_syntax.specs.declared.cst.MemAccess.{MemAccess}
 use Rattle.cedar_syntax.specs.declared.cst.Primary.{Primary}
 use Rattle.cedar_syntax.specs.declared.cst.RecInit.{RecInit}
-use Rattle.cedar_syntax.specs.Tokens.{Spot, one}
-use Rattle.cedar_syntax.specs.Trees.{Cell}
-use Rattle.cedar_grammar.specs.LooseExpressions.{ReadsSigns, one_sign, more_signs, ReadsExpr, or_expr, if_expr, ReadsOr, or, ReadsAnds, one_and, more_and, ReadsAnd, and, ReadsRelations, one_relation, more_relation, ReadsRelation, common, has, has_if, like, is, is_in, ReadsAdds, one_add, more_add, ReadsAdd, add, ReadsMults, one_mult, more_mult, ReadsMult, mult, ReadsUnaries, one_unary, more_unary, ReadsUnary, plain, banged, dashed, ReadsMember, member, ReadsAccess, field, call, index, ReadsPrimary, literally, referred, named, slotted, paren, set, in_braces, ReadsRecInit, rec_init, if_init}
+use Rattle.cedar_syntax.specs.tokens.Tokens.{Spot, one}
+use Rattle.cedar_syntax.specs.trees.Trees.{Cell}
+use Rattle.cedar_grammar.specs.grammar.LooseExpressions.{ReadsSigns, one_sign, more_signs, ReadsExpr, or_expr, if_expr, ReadsOr, or, ReadsAnds, one_and, more_and, ReadsAnd, and, ReadsRelations, one_relation, more_relation, ReadsRelation, common, has, has_if, like, is, is_in, ReadsAdds, one_add, more_add, ReadsAdd, add, ReadsMults, one_mult, more_mult, ReadsMult, mult, ReadsUnaries, one_unary, more_unary, ReadsUnary, plain, banged, dashed, ReadsMember, member, ReadsAccess, field, call, index, ReadsPrimary, literally, referred, named, slotted, paren, set, in_braces, ReadsRecInit, rec_init, if_init}
 use Rattle.cedar_grammar.proofs.Lying.{Some_of, some_append}
 use Rattle.cedar_grammar.proofs.WordPlaces.{literal_some, path_some, name_path, ref_some}
 

@@ -7,8 +7,8 @@ use Rattle.cedar_lexer.specs.Token.{Lexeme}
 use Rattle.cedar_lexer.specs.Cut.{Layout, nothing, skip, token}
 use Rattle.cedar_lexer.proofs.Cuts.{behind_skip, behind_token}
 use Rattle.cedar_grammar.specs.declared.reading.extent.Extent.{Extent}
-use Rattle.cedar_grammar.specs.Place.{joint_extent, extent_of, extent, loc_at}
-use Rattle.cedar_syntax.specs.TreePlaces.{IsPlace}
+use Rattle.cedar_grammar.specs.grammar.Place.{joint_extent, extent_of, extent, loc_at}
+use Rattle.cedar_syntax.specs.trees.TreePlaces.{IsPlace}
 
 -- from i to k tokens stand one behind the other, on boundaries of characters
 abbrev pub Lies : List ℕ → ℕ → List Lexeme → ℕ → Type 0

@@ -17,12 +17,12 @@ use Rattle.cedar_syntax.specs.declared.cst.Policy.{Policy}
 use Rattle.cedar_syntax.specs.declared.cst.RelOp.{RelOp}
 use Rattle.cedar_syntax.specs.declared.cst.Str.TheVariants as str
 use Rattle.cedar_syntax.specs.declared.cst.VariableDef.{VariableDef}
-use Rattle.cedar_grammar.specs.Grammar.{IsTreeOf}
-use Rattle.cedar_grammar.specs.Place.{loc_at, placed, placed_or_start}
-use Rattle.cedar_syntax.specs.Tokens.{one, between_quotes}
-use Rattle.cedar_syntax.specs.Trees.{Cell}
-use Rattle.cedar_syntax.specs.TreePlaces.{IsPlace, node_places, ident_places, str_places, name_places, add_places, expr_places, optional_places, annotation_places, constraint_places, variable_def_places, cond_places, policy_places, policies_places}
-use Rattle.cedar_grammar.specs.LoosePolicies.{ReadsMany, none, more, ReadsAnnotation, key_alone, with_value, ReadsTypeName, no_type_name, type_name, ReadsEntityType, no_entity_type, entity_type, ReadsConstraint, no_constraint, constraint, ReadsVariableDef, variable_def, ReadsBody, no_body, body, ReadsCond, cond, ReadsPolicy, policy, ReadsPolicies, policies}
+use Rattle.cedar_grammar.specs.grammar.Grammar.{IsTreeOf}
+use Rattle.cedar_grammar.specs.grammar.Place.{loc_at, placed, placed_or_start}
+use Rattle.cedar_syntax.specs.tokens.Tokens.{one, between_quotes}
+use Rattle.cedar_syntax.specs.trees.Trees.{Cell}
+use Rattle.cedar_syntax.specs.trees.TreePlaces.{IsPlace, node_places, ident_places, str_places, name_places, add_places, expr_places, optional_places, annotation_places, constraint_places, variable_def_places, cond_places, policy_places, policies_places}
+use Rattle.cedar_grammar.specs.grammar.LoosePolicies.{ReadsMany, none, more, ReadsAnnotation, key_alone, with_value, ReadsTypeName, no_type_name, type_name, ReadsEntityType, no_entity_type, entity_type, ReadsConstraint, no_constraint, constraint, ReadsVariableDef, variable_def, ReadsBody, no_body, body, ReadsCond, cond, ReadsPolicy, policy, ReadsPolicies, policies}
 use Rattle.cedar_grammar.proofs.Lying.{Some_of, some_append}
 use Rattle.cedar_grammar.proofs.WordPlaces.{Lie, Stand, parts, node_lies, more_lie, any_some, no_places, ident_lies, list_lies, whole_lies, stand_of}
 use Rattle.cedar_grammar.proofs.ExpressionTokens.{add_some, expr_some}

@@ -3,8 +3,8 @@ use Rattle.std.proofs.Common.{◌≡◌, ◌≢◌, ℕ, ◌-◌, List, [], ◌�
 use denote.Ref.{Bor}
 use Rattle.std.proofs.Math.Seq.{take-append_seam}
 use Rattle.cedar_lexer.specs.declared.token.TokenKind.TheVariants as kind
-use Rattle.cedar_syntax.specs.Tokens.{between_quotes}
-use Rattle.cedar_grammar.specs.WrittenTokens.{Written}
+use Rattle.cedar_syntax.specs.tokens.Tokens.{between_quotes}
+use Rattle.cedar_grammar.specs.grammar.WrittenTokens.{Written}
 
 -- it begins with a quote
 pub begins_so : (text : List ℕ) (r : Option (Bor (List ℕ))) → Written kind.StringLit text → MatchOption r ((rest : List ℕ) → text ≢ 34 ∷ rest) (λ x. text ≡ 34 ∷ x.now) → r ≡ None → ⊥

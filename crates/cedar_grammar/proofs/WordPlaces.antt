@@ -12,12 +12,12 @@ use Rattle.cedar_syntax.specs.declared.cst.Ref.{Ref}
 use Rattle.cedar_syntax.specs.declared.cst.RefInit.{RefInit}
 use Rattle.cedar_syntax.specs.declared.cst.Literal.{Literal}
 use Rattle.cedar_syntax.specs.declared.cst.Str.TheVariants as str
-use Rattle.cedar_grammar.specs.Grammar.{Rule, IsTreeOf}
-use Rattle.cedar_grammar.specs.Place.{extent, loc_at, placed, placed_or_start}
-use Rattle.cedar_syntax.specs.Tokens.{one, between_quotes}
-use Rattle.cedar_syntax.specs.Trees.{Cell, name_of}
-use Rattle.cedar_syntax.specs.TreePlaces.{IsPlace, node_places, ident_places, str_places, name_places, literal_places, ref_init_places, ref_places}
-use Rattle.cedar_grammar.specs.LooseWords.{ReadsItems, one_item, more_items, ReadsList, no_item, items, items_comma, ReadsLiteral, truth, falsity, number, string, ReadsAny, any, ReadsIdent, ReadsPath, one_word, more_words, ReadsName, common, qualified, ReadsRefInit, ref_init, ReadsRef, uid, with_inits}
+use Rattle.cedar_grammar.specs.grammar.Grammar.{Rule, IsTreeOf}
+use Rattle.cedar_grammar.specs.grammar.Place.{extent, loc_at, placed, placed_or_start}
+use Rattle.cedar_syntax.specs.tokens.Tokens.{one, between_quotes}
+use Rattle.cedar_syntax.specs.trees.Trees.{Cell, name_of}
+use Rattle.cedar_syntax.specs.trees.TreePlaces.{IsPlace, node_places, ident_places, str_places, name_places, literal_places, ref_init_places, ref_places}
+use Rattle.cedar_grammar.specs.grammar.LooseWords.{ReadsItems, one_item, more_items, ReadsList, no_item, items, items_comma, ReadsLiteral, truth, falsity, number, string, ReadsAny, any, ReadsIdent, ReadsPath, one_word, more_words, ReadsName, common, qualified, ReadsRefInit, ref_init, ReadsRef, uid, with_inits}
 use Rattle.cedar_grammar.proofs.Lying.{Lies, Some_of, some_append, split, stands, laid_lies}
 
 abbrev pub Lie : List ℕ → List (Option Loc) → Type 0

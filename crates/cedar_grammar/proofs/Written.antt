@@ -13,7 +13,7 @@ use Rattle.cedar_lexer.specs.declared.token.TokenKind.TheVariants as kind
 use Rattle.cedar_lexer.specs.Spelling.{Spells, IsNumber, IsStringText, IsStringTail, closing, plain, escaped}
 use Rattle.cedar_lexer.specs.Cut.{Layout, nothing, skip, token}
 use Rattle.cedar_lexer.proofs.Cuts.{behind_skip, behind_token}
-use Rattle.cedar_grammar.specs.WrittenTokens.{Written, IsWritten}
+use Rattle.cedar_grammar.specs.grammar.WrittenTokens.{Written, IsWritten}
 
 below : (d b : ℕ) → d + 48 ≡ b → b ≤ 57 → d < 10
 below d b e h = omega arith

@@ -2,18 +2,18 @@
 //! Each is a function that does nothing: its contract is the law.
 ghost use Rattle.std.specs.Prelude.{◌≡◌, ℕ, List};
 ghost use Rattle.cedar_syntax.specs.declared.cst.Policies.{Policies};
-ghost use Rattle.cedar_grammar.specs.FirstFault.{HasOneTree};
-ghost use Rattle.cedar_grammar.specs.Formatted.{formatted};
-ghost use Rattle.cedar_grammar.specs.Grammar.{IsTreeOf};
-ghost use Rattle.cedar_grammar.specs.LooseExpressions.{ReadsExpr, ReadsPrimary};
-ghost use Rattle.cedar_grammar.specs.LoosePolicies.{ReadsPolicy, ReadsPolicies};
-ghost use Rattle.cedar_grammar.specs.LooseWords.{ReadsIdent, ReadsName, ReadsRef};
-ghost use Rattle.cedar_grammar.specs.PrintLaw.{PrintLaw, HasSameTree, SameUpToPlaces};
-ghost use Rattle.cedar_grammar.specs.SameWords.{SameWordsLaw};
-ghost use Rattle.cedar_syntax.specs.Trees.{Cell};
-ghost use Rattle.cedar_syntax.specs.Unlocated.{unlocated_name, unlocated_ref};
-ghost use Rattle.cedar_syntax.specs.UnlocatedTrees.{unlocated_expr, unlocated_ident, unlocated_primary, unlocated_policy, unlocated_policies};
-ghost use Rattle.cedar_syntax.specs.Unplaced.{expr_tree, primary_tree, name_tree, ref_tree, ident_tree, policy_tree, policies_tree};
+ghost use Rattle.cedar_grammar.specs.faults.FirstFault.{HasOneTree};
+ghost use Rattle.cedar_grammar.specs.printing.Formatted.{formatted};
+ghost use Rattle.cedar_grammar.specs.grammar.Grammar.{IsTreeOf};
+ghost use Rattle.cedar_grammar.specs.grammar.LooseExpressions.{ReadsExpr, ReadsPrimary};
+ghost use Rattle.cedar_grammar.specs.grammar.LoosePolicies.{ReadsPolicy, ReadsPolicies};
+ghost use Rattle.cedar_grammar.specs.grammar.LooseWords.{ReadsIdent, ReadsName, ReadsRef};
+ghost use Rattle.cedar_grammar.specs.printing.PrintLaw.{PrintLaw, HasSameTree, SameUpToPlaces};
+ghost use Rattle.cedar_grammar.specs.printing.SameWords.{SameWordsLaw};
+ghost use Rattle.cedar_syntax.specs.trees.Trees.{Cell};
+ghost use Rattle.cedar_syntax.specs.trees.Unlocated.{unlocated_name, unlocated_ref};
+ghost use Rattle.cedar_syntax.specs.trees.UnlocatedTrees.{unlocated_expr, unlocated_ident, unlocated_primary, unlocated_policy, unlocated_policies};
+ghost use Rattle.cedar_syntax.specs.trees.Unplaced.{expr_tree, primary_tree, name_tree, ref_tree, ident_tree, policy_tree, policies_tree};
 
 /// Where tokens have at most one tree, the printed text of a tree that a text has cuts into tokens
 /// that have a tree which is the same up to places, and no other.

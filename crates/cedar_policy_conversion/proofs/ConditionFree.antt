@@ -12,9 +12,9 @@ use Rattle.cedar_syntax.specs.declared.cst.Policy.TheVariants as trees
 use Rattle.cedar_syntax.specs.declared.loc.Loc.{Loc}
 use Rattle.cedar_syntax.specs.declared.node.Node.{Node}
 use Rattle.cedar_policy_conversion.specs.Conditions.{clause, condition_of, condition_outcome, conditions_outcome, is_when, slots_outcome, without_slots}
-use Rattle.cedar_conversion.specs.Extensions.{Extensions}
-use Rattle.cedar_conversion.specs.Names.{all_of, content_outcome}
-use Rattle.cedar_conversion.specs.Outcome.{both}
+use Rattle.cedar_conversion.specs.strict.Extensions.{Extensions}
+use Rattle.cedar_conversion.specs.parts.Names.{all_of, content_outcome}
+use Rattle.cedar_conversion.specs.outcome.Outcome.{both}
 use Rattle.cedar_policy_conversion.specs.Policies as k
 use Rattle.cedar_policy_conversion.specs.PolicyMeaning.{joint_condition, conjunction_value}
 use Rattle.cedar_policy_conversion.specs.Scope.{scope_outcome}

@@ -10,8 +10,8 @@ use Rattle.cedar_expressions.specs.WithoutPlaces.{without_places}
 use Rattle.cedar_syntax.specs.declared.err.faults.Failure.{Failure}
 use Rattle.cedar_syntax.specs.declared.loc.Loc.{Loc}
 use Rattle.cedar_policy_conversion.specs.Conditions.{condition_slot_fault, condition_value, slots_outcome, without_slots}
-use Rattle.cedar_conversion.specs.Outcome.{next, faults_outcome}
-use Rattle.cedar_conversion.specs.Seen.{Gives}
+use Rattle.cedar_conversion.specs.outcome.Outcome.{next, faults_outcome}
+use Rattle.cedar_conversion.specs.outcome.Seen.{Gives}
 use Rattle.cedar_conversion.specs.machines.Views.{empty_view}
 use Rattle.cedar_policy_conversion.proofs.SlotFree.{no_place}
 

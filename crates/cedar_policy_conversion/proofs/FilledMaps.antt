@@ -12,17 +12,17 @@ use denote.Param.Members.{Shared}
 use Rattle.std.specs.declared.alloc.Global.{Global}
 use Rattle.std.specs.declared.string.String.{String}
 use Rattle.cedar_policy_store.specs.TextMap.{text_order}
-use Rattle.cedar_syntax.specs.ParseErrors.{faults_of, IsMemory}
+use Rattle.cedar_syntax.specs.faults.ParseErrors.{faults_of, IsMemory}
 use Rattle.cedar_syntax.specs.declared.cst.Annotation.{Annotation}
 use Rattle.cedar_syntax.specs.declared.err.faults.Failure.{Failure}
 use Rattle.cedar_syntax.specs.declared.err.faults.Failure.TheVariants.{Memory, Errors}
 use Rattle.cedar_syntax.specs.declared.loc.Loc.{Loc}
 use Rattle.cedar_syntax.specs.declared.node.Node.{Node}
-use Rattle.cedar_syntax.specs.Joined.{WantsMemory}
+use Rattle.cedar_syntax.specs.faults.Joined.{WantsMemory}
 use Rattle.cedar_policy_conversion.specs.AnnotationKeys.{AnnotationContent, Answers, AnswersEach, Gathering, GivesByKey, annotation_at, annotation_outcome, gathering_with, gathering_with_node, gathering, has_key, with_pair, empty_gathering, key_value_outcome, paired_keys, with_new_key}
-use Rattle.cedar_conversion.specs.Names.{content_outcome}
-use Rattle.cedar_conversion.specs.Outcome.{NamedFault, Outcome, both, next, duplicate_annotation, item_more, faults_outcome}
-use Rattle.cedar_conversion.specs.Seen.{Gives, Refuses, named_faults}
+use Rattle.cedar_conversion.specs.parts.Names.{content_outcome}
+use Rattle.cedar_conversion.specs.outcome.Outcome.{NamedFault, Outcome, both, next, duplicate_annotation, item_more, faults_outcome}
+use Rattle.cedar_conversion.specs.outcome.Seen.{Gives, Refuses, named_faults}
 use Rattle.cedar_policy_conversion.specs.machines.Filled.{HoldsSoFar, HasKeys, HoldsAll}
 use Rattle.cedar_conversion.specs.machines.Views.{empty_view}
 use Rattle.cedar_conversion.proofs.Inverted.{next_ok, ok_is}

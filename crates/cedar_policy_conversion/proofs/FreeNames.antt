@@ -20,9 +20,9 @@ use Rattle.cedar_syntax.specs.declared.cst.Policy.TheVariants as trees
 use Rattle.cedar_syntax.specs.declared.err.faults.Failure.{Failure}
 use Rattle.cedar_syntax.specs.declared.loc.Loc.{Loc}
 use Rattle.cedar_syntax.specs.declared.node.Node.{Node}
-use Rattle.cedar_conversion.specs.Extensions.{Extensions}
-use Rattle.cedar_conversion.specs.Names.{content_outcome}
-use Rattle.cedar_conversion.specs.Seen.{Gives}
+use Rattle.cedar_conversion.specs.strict.Extensions.{Extensions}
+use Rattle.cedar_conversion.specs.parts.Names.{content_outcome}
+use Rattle.cedar_conversion.specs.outcome.Seen.{Gives}
 use Rattle.cedar_policy_conversion.specs.Policies.{Given, TemplateParts, either_outcome, either_parts, given_parts, parts_outcome, policy_side, scope_slots, template_of, template_outcome}
 use Rattle.cedar_policy_conversion.specs.PolicyMeaning.{policy_id}
 use Rattle.cedar_policy_conversion.specs.machines.Filled.{AddsAtMost, IsAdded, IsFreeFor, WantsMemoryAlone, id_of, maps_with_policy}

@@ -22,12 +22,12 @@ use Rattle.cedar_syntax.specs.declared.cst.Name.{Name}
 use Rattle.cedar_syntax.specs.declared.cst.Slot.{Slot}
 use Rattle.cedar_syntax.specs.declared.cst.Ref.{Ref}
 use Rattle.cedar_syntax.specs.declared.cst.RecInit.{RecInit}
-use Rattle.cedar_syntax.specs.Forms.{F, located, expr_step, data_step, access_step, primary_step, relation_step, add_step, and_step, impl_step, member_step, mult_step, or_step, init_step, unary_step, expr_form, data_form, or_form, and_form, relation_form, add_form, mult_form, unary_form, member_form, primary_form}
-use Rattle.cedar_syntax.specs.Located as f
-use Rattle.cedar_syntax.specs.Located.{Located, Form}
+use Rattle.cedar_syntax.specs.trees.Forms.{F, located, expr_step, data_step, access_step, primary_step, relation_step, add_step, and_step, impl_step, member_step, mult_step, or_step, init_step, unary_step, expr_form, data_form, or_form, and_form, relation_form, add_form, mult_form, unary_form, member_form, primary_form}
+use Rattle.cedar_syntax.specs.trees.Located as f
+use Rattle.cedar_syntax.specs.trees.Located.{Located, Form}
 use Rattle.cedar_syntax.proofs.FormLevels.{expr_out, impl_out, data_or, data_if, or_out, and_out, add_out, mult_out, unary_out, member_out, primary_literal, primary_ref, primary_name, primary_slot, primary_expr, primary_list, primary_inits}
-use Rattle.cedar_conversion.specs.LonePart.{lone_part, no_sign}
-use Rattle.cedar_conversion.specs.Outcome.{Outcome, fault_outcome, empty_node, wrong_node}
+use Rattle.cedar_conversion.specs.outcome.LonePart.{lone_part, no_sign}
+use Rattle.cedar_conversion.specs.outcome.Outcome.{Outcome, fault_outcome, empty_node, wrong_node}
 use Rattle.cedar_conversion.proofs.LoneParts.{through, to_part}
 use Rattle.cedar_policy_conversion.specs.References.{lone, lone_form}
 

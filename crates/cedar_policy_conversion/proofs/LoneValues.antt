@@ -22,19 +22,19 @@ use Rattle.cedar_syntax.specs.declared.cst.Str.TheVariants as str
 use Rattle.cedar_syntax.specs.declared.err.faults.Failure.{Failure}
 use Rattle.cedar_syntax.specs.declared.loc.Loc.{Loc}
 use Rattle.cedar_syntax.specs.declared.node.Node.{Node}
-use Rattle.cedar_syntax.specs.Forms.{located, expr_form}
-use Rattle.cedar_syntax.specs.Located as f
-use Rattle.cedar_syntax.specs.Located.{Located, Form}
-use Rattle.cedar_conversion.specs.Conversion.{Part, accesses_outcome, expression_at, form_outcome, held_string, literal_outcome, number_outcome, operands, outcome, pairs_outcome, record_outcome, set_value_outcome, tree_place, value_outcome}
-use Rattle.cedar_conversion.specs.Entities.{entity_outcome, slot_outcome}
-use Rattle.cedar_conversion.specs.Extensions.{Extensions}
-use Rattle.cedar_conversion.specs.Held.{Held, as_expression, bare_name, expression, text_value}
-use Rattle.cedar_conversion.specs.Leaves.{slot_value, variable_or_name}
-use Rattle.cedar_conversion.specs.Names.{name_outcome, named_variable}
-use Rattle.cedar_conversion.specs.Outcome.{Outcome, expression_construction_error, fault_outcome, integer_literal_too_large, next}
-use Rattle.cedar_conversion.specs.Seen.{Refuses}
-use Rattle.cedar_conversion.specs.Strict.{largest}
-use Rattle.cedar_conversion.specs.Strings.{text_outcome}
+use Rattle.cedar_syntax.specs.trees.Forms.{located, expr_form}
+use Rattle.cedar_syntax.specs.trees.Located as f
+use Rattle.cedar_syntax.specs.trees.Located.{Located, Form}
+use Rattle.cedar_conversion.specs.outcome.Conversion.{Part, accesses_outcome, expression_at, form_outcome, held_string, literal_outcome, number_outcome, operands, outcome, pairs_outcome, record_outcome, set_value_outcome, tree_place, value_outcome}
+use Rattle.cedar_conversion.specs.parts.Entities.{entity_outcome, slot_outcome}
+use Rattle.cedar_conversion.specs.strict.Extensions.{Extensions}
+use Rattle.cedar_conversion.specs.outcome.Held.{Held, as_expression, bare_name, expression, text_value}
+use Rattle.cedar_conversion.specs.parts.Leaves.{slot_value, variable_or_name}
+use Rattle.cedar_conversion.specs.parts.Names.{name_outcome, named_variable}
+use Rattle.cedar_conversion.specs.outcome.Outcome.{Outcome, expression_construction_error, fault_outcome, integer_literal_too_large, next}
+use Rattle.cedar_conversion.specs.outcome.Seen.{Refuses}
+use Rattle.cedar_conversion.specs.strict.Strict.{largest}
+use Rattle.cedar_conversion.specs.parts.Strings.{text_outcome}
 use Rattle.cedar_conversion.proofs.Nodes.{alone_member}
 use Rattle.cedar_conversion.proofs.Outcomes.{refused_next}
 use Rattle.cedar_conversion.proofs.Parts.{alone}

@@ -8,9 +8,9 @@ use Rattle.cedar_policy_store.specs.PolicyMaps.{PolicyMaps}
 use Rattle.cedar_syntax.specs.declared.cst.Policy.{Policy}
 use Rattle.cedar_syntax.specs.declared.err.faults.Failure.{Failure}
 use Rattle.cedar_syntax.specs.declared.node.Node.{Node}
-use Rattle.cedar_conversion.specs.Extensions.{Extensions}
-use Rattle.cedar_conversion.specs.Outcome.{Outcome, item_more}
-use Rattle.cedar_conversion.specs.Seen.{Gives}
+use Rattle.cedar_conversion.specs.strict.Extensions.{Extensions}
+use Rattle.cedar_conversion.specs.outcome.Outcome.{Outcome, item_more}
+use Rattle.cedar_conversion.specs.outcome.Seen.{Gives}
 use Rattle.cedar_policy_conversion.specs.declared.policy_ids.GeneratedPolicyIds.{GeneratedPolicyIds}
 use Rattle.cedar_policy_conversion.specs.GeneratedIds.{NamedPolicy, named_policies, remaining_nodes}
 use Rattle.cedar_policy_conversion.specs.Policies as k

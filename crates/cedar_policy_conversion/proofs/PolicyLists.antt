@@ -15,10 +15,10 @@ use Rattle.cedar_syntax.specs.declared.err.faults.ParseError.{ParseError}
 use Rattle.cedar_syntax.specs.declared.loc.Loc.{Loc}
 use Rattle.cedar_syntax.specs.declared.node.Node.{Node}
 use Rattle.cedar_policy_conversion.specs.AnnotationKeys.{AnnotationContent, Answers, AnswersEach, annotation_map, annotations_outcome, with_pair, with_annotation, kept_annotation, values_by_key, paired_keys}
-use Rattle.cedar_conversion.specs.Outcome.{NamedFault, expected_static_policy}
+use Rattle.cedar_conversion.specs.outcome.Outcome.{NamedFault, expected_static_policy}
 use Rattle.cedar_policy_conversion.specs.Policies.{is_slot_fault, kept_outcome, slot_faults}
-use Rattle.cedar_conversion.specs.Places.{bytes_of}
-use Rattle.cedar_conversion.specs.Seen.{named_faults, named_fault}
+use Rattle.cedar_conversion.specs.outcome.Places.{bytes_of}
+use Rattle.cedar_conversion.specs.outcome.Seen.{named_faults, named_fault}
 use Rattle.cedar_conversion.specs.machines.Views.{lent_bytes}
 use Rattle.cedar_conversion.proofs.Outcomes.{given_next}
 use Rattle.cedar_conversion.proofs.Loops.{map_snoc, take_next, take_whole}

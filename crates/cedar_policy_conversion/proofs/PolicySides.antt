@@ -11,8 +11,8 @@ use Rattle.cedar_policy_store.specs.declared.template.Template.{Template}
 use Rattle.cedar_policy_store.specs.PlaceFree.{asks_for_slot, constraint_meaning, has_slot_in_scope}
 use Rattle.cedar_policy_store.specs.TemplateSlots.{at_most_one, constraint_slot, template_slots}
 use Rattle.cedar_syntax.specs.declared.loc.Loc.{Loc}
-use Rattle.cedar_conversion.specs.Places.{place_within}
-use Rattle.cedar_conversion.specs.Outcome.{Outcome, NamedFault, fault_outcome, expected_static_policy}
+use Rattle.cedar_conversion.specs.outcome.Places.{place_within}
+use Rattle.cedar_conversion.specs.outcome.Outcome.{Outcome, NamedFault, fault_outcome, expected_static_policy}
 use Rattle.cedar_policy_conversion.specs.Policies.{TemplateParts, meaning_of, only_static, scope_slots, side_outcome, policy_side, slot_faults, template_parts, unless_slots}
 use Rattle.cedar_policy_conversion.specs.machines.PolicyViews.{IsConditionFree}
 

@@ -10,13 +10,13 @@ use Rattle.cedar_syntax.specs.declared.cst.Name.{Name}
 use Rattle.cedar_syntax.specs.declared.cst.Slot.{Slot}
 use Rattle.cedar_syntax.specs.declared.cst.Ref.{Ref}
 use Rattle.cedar_syntax.specs.declared.cst.RecInit.{RecInit}
-use Rattle.cedar_syntax.specs.Forms.{located, parts_of, primary_form, listed_expr}
-use Rattle.cedar_syntax.specs.Located.{Located, Form}
-use Rattle.cedar_syntax.specs.Tree.{Operator}
+use Rattle.cedar_syntax.specs.trees.Forms.{located, parts_of, primary_form, listed_expr}
+use Rattle.cedar_syntax.specs.trees.Located.{Located, Form}
+use Rattle.cedar_syntax.specs.trees.Tree.{Operator}
 use Rattle.cedar_syntax.proofs.FormLevels.{primary_literal, primary_ref, primary_name, primary_slot, primary_expr, primary_list, primary_inits}
-use Rattle.cedar_conversion.specs.Conversion.{with_first}
-use Rattle.cedar_conversion.specs.Entities.{entity_outcome}
-use Rattle.cedar_conversion.specs.Outcome.{fault_outcome, both, next, empty_node, wrong_node, wrong_entity_argument, item_more}
+use Rattle.cedar_conversion.specs.outcome.Conversion.{with_first}
+use Rattle.cedar_conversion.specs.parts.Entities.{entity_outcome}
+use Rattle.cedar_conversion.specs.outcome.Outcome.{fault_outcome, both, next, empty_node, wrong_node, wrong_entity_argument, item_more}
 use Rattle.cedar_policy_conversion.specs.References.{RefKind, entities, entity_at, entity_form, single_outcome, literal_fault, lone_entity, referent_at, referred_form, several_outcome, own_slot_outcome}
 use Rattle.cedar_conversion.proofs.Gathered.{last, shifted}
 use Rattle.cedar_conversion.proofs.Loops.{take_next, map_snoc}

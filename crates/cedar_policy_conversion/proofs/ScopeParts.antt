@@ -7,10 +7,10 @@ use Rattle.cedar_syntax.specs.declared.cst.VariableDef.{VariableDef}
 use Rattle.cedar_syntax.specs.declared.err.faults.Failure.{Failure}
 use Rattle.cedar_syntax.specs.declared.loc.Loc.{Loc}
 use Rattle.cedar_syntax.specs.declared.node.Node.{Node}
-use Rattle.cedar_conversion.specs.Extensions.{Extensions}
-use Rattle.cedar_conversion.specs.Outcome.{both, next}
+use Rattle.cedar_conversion.specs.strict.Extensions.{Extensions}
+use Rattle.cedar_conversion.specs.outcome.Outcome.{both, next}
 use Rattle.cedar_policy_conversion.specs.Scope.{Scope, action_outcome, elements_outcome, if_there, no_extra, place_behind, principal_outcome, resource_outcome, three}
-use Rattle.cedar_conversion.specs.Seen.{Gives, itself}
+use Rattle.cedar_conversion.specs.outcome.Seen.{Gives, itself}
 use Rattle.cedar_conversion.proofs.Outcomes.{gives_at}
 
 abbrev Element : Type 0

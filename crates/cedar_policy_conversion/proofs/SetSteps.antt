@@ -9,25 +9,25 @@ use Rattle.cedar_policy_store.specs.declared.template.Template.{Template}
 use Rattle.cedar_policy_store.specs.PlaceFree as free
 use Rattle.cedar_policy_store.specs.PlaceFree.{has_slot_in_scope, set_meaning, template_meaning}
 use Rattle.cedar_policy_store.specs.PolicyMaps.{PolicyMaps}
-use Rattle.cedar_syntax.specs.ParseErrors.{faults_of}
+use Rattle.cedar_syntax.specs.faults.ParseErrors.{faults_of}
 use Rattle.cedar_syntax.specs.declared.cst.Policy.{Policy}
 use Rattle.cedar_syntax.specs.declared.err.faults.Failure.{Failure}
 use Rattle.cedar_syntax.specs.declared.err.faults.Failure.TheVariants.{Memory, Errors}
 use Rattle.cedar_syntax.specs.declared.node.Node.{Node}
-use Rattle.cedar_syntax.specs.Trees.{Cell}
-use Rattle.cedar_conversion.specs.Extensions.{Extensions}
-use Rattle.cedar_conversion.specs.Outcome.{Outcome, both, next, item_more}
+use Rattle.cedar_syntax.specs.trees.Trees.{Cell}
+use Rattle.cedar_conversion.specs.strict.Extensions.{Extensions}
+use Rattle.cedar_conversion.specs.outcome.Outcome.{Outcome, both, next, item_more}
 use Rattle.cedar_policy_conversion.specs.Policies as k
 use Rattle.cedar_policy_conversion.specs.Policies.{TemplateParts, either_parts, meaning_of, scope_slots, parts_set_outcome, side_outcome, policy_side, template_parts, with_parts}
 use Rattle.cedar_policy_conversion.specs.PolicyMeaning.{set_with_policy, no_policies, policy_id}
-use Rattle.cedar_conversion.specs.Seen.{Gives, Refuses, named_faults}
+use Rattle.cedar_conversion.specs.outcome.Seen.{Gives, Refuses, named_faults}
 use Rattle.cedar_policy_conversion.specs.machines.Filled.{IsAdded, maps_with_policy, set_view}
 use Rattle.cedar_conversion.specs.machines.Views.{empty_view}
 use Rattle.cedar_conversion.proofs.Inverted.{ok_is}
 use Rattle.cedar_conversion.proofs.Loops.{take_next}
 use Rattle.cedar_policy_conversion.proofs.MappedValues.{fold_snoc, with-empty, with-insert}
 use Rattle.cedar_policy_conversion.proofs.PolicySides.{is_left, is_right, side_of}
-use Rattle.cedar_conversion.specs.Conversion.{with_first}
+use Rattle.cedar_conversion.specs.outcome.Conversion.{with_first}
 use Rattle.cedar_conversion.proofs.Gathered.{last, shifted}
 
 -- ---- a policy that is added

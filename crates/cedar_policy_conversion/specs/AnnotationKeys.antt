@@ -17,11 +17,11 @@ use Rattle.cedar_syntax.specs.declared.cst.Str.{Str}
 use Rattle.cedar_syntax.specs.declared.err.faults.Failure.{Failure}
 use Rattle.cedar_syntax.specs.declared.loc.Loc.{Loc}
 use Rattle.cedar_syntax.specs.declared.node.Node.{Node}
-use Rattle.cedar_conversion.specs.Entities.{id_outcome}
-use Rattle.cedar_conversion.specs.Names.{content_outcome, any_ident}
-use Rattle.cedar_conversion.specs.Outcome.{Outcome, fault_outcome, both, next, duplicate_annotation, item_more}
-use Rattle.cedar_conversion.specs.Places.{place_mark}
-use Rattle.cedar_conversion.specs.Seen.{Refuses}
+use Rattle.cedar_conversion.specs.parts.Entities.{id_outcome}
+use Rattle.cedar_conversion.specs.parts.Names.{content_outcome, any_ident}
+use Rattle.cedar_conversion.specs.outcome.Outcome.{Outcome, fault_outcome, both, next, duplicate_annotation, item_more}
+use Rattle.cedar_conversion.specs.outcome.Places.{place_mark}
+use Rattle.cedar_conversion.specs.outcome.Seen.{Refuses}
 
 -- a key, the text that its string stands for, if there is one, and the annotation's place
 pub record AnnotationContent : Type 0 where

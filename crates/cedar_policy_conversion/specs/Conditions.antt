@@ -11,12 +11,12 @@ use Rattle.cedar_syntax.specs.declared.cst.Ident.{Ident}
 use Rattle.cedar_syntax.specs.declared.cst.Ident.TheVariants as words
 use Rattle.cedar_syntax.specs.declared.loc.Loc.{Loc}
 use Rattle.cedar_syntax.specs.declared.node.Node.{Node}
-use Rattle.cedar_syntax.specs.Forms.{located, expr_form}
-use Rattle.cedar_conversion.specs.Conversion.{value_outcome}
-use Rattle.cedar_conversion.specs.Extensions.{Extensions}
-use Rattle.cedar_conversion.specs.Names.{content_outcome, all_of}
-use Rattle.cedar_conversion.specs.Outcome.{NamedFault, Outcome, fault_outcome, next, invalid_condition, empty_clause, slots_in_condition_clause, faults_outcome}
-use Rattle.cedar_conversion.specs.Places.{place_within}
+use Rattle.cedar_syntax.specs.trees.Forms.{located, expr_form}
+use Rattle.cedar_conversion.specs.outcome.Conversion.{value_outcome}
+use Rattle.cedar_conversion.specs.strict.Extensions.{Extensions}
+use Rattle.cedar_conversion.specs.parts.Names.{content_outcome, all_of}
+use Rattle.cedar_conversion.specs.outcome.Outcome.{NamedFault, Outcome, fault_outcome, next, invalid_condition, empty_clause, slots_in_condition_clause, faults_outcome}
+use Rattle.cedar_conversion.specs.outcome.Places.{place_within}
 
 -- ---- one condition
 

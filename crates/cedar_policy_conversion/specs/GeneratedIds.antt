@@ -6,8 +6,8 @@ use Rattle.cedar_syntax.specs.declared.cst.Policies.{Policies}
 use Rattle.cedar_syntax.specs.declared.cst.Policy.{Policy}
 use Rattle.cedar_syntax.specs.declared.node.Node.{Node}
 use Rattle.cedar_policy_conversion.specs.declared.policy_ids.GeneratedPolicyIds.{GeneratedPolicyIds}
-use Rattle.cedar_conversion.specs.Names.{content_outcome}
-use Rattle.cedar_conversion.specs.Outcome.{Outcome, next}
+use Rattle.cedar_conversion.specs.parts.Names.{content_outcome}
+use Rattle.cedar_conversion.specs.outcome.Outcome.{Outcome, next}
 use Rattle.cedar_policy_conversion.specs.PolicyMeaning.{policy_id}
 
 abbrev pub NamedPolicy : Type 0

@@ -33,11 +33,11 @@ use Rattle.cedar_syntax.specs.declared.loc.Loc.{Loc}
 use Rattle.cedar_syntax.specs.declared.node.Node.{Node}
 use Rattle.cedar_policy_conversion.specs.AnnotationKeys.{annotations_outcome, annotation_map}
 use Rattle.cedar_policy_conversion.specs.Conditions.{conditions_outcome}
-use Rattle.cedar_conversion.specs.Places.{place_within, bytes_of}
-use Rattle.cedar_conversion.specs.Conversion.{with_first}
-use Rattle.cedar_conversion.specs.Extensions.{Extensions}
-use Rattle.cedar_conversion.specs.Names.{content_outcome}
-use Rattle.cedar_conversion.specs.Outcome.{Kind, NamedFault, Outcome, fault_outcome, both, next, invalid_effect, expected_static_policy, slots_in_condition_clause}
+use Rattle.cedar_conversion.specs.outcome.Places.{place_within, bytes_of}
+use Rattle.cedar_conversion.specs.outcome.Conversion.{with_first}
+use Rattle.cedar_conversion.specs.strict.Extensions.{Extensions}
+use Rattle.cedar_conversion.specs.parts.Names.{content_outcome}
+use Rattle.cedar_conversion.specs.outcome.Outcome.{Kind, NamedFault, Outcome, fault_outcome, both, next, invalid_effect, expected_static_policy, slots_in_condition_clause}
 use Rattle.cedar_policy_conversion.specs.PolicyMeaning.{no_policies, policy_id, with_policy, joint_condition}
 use Rattle.cedar_policy_conversion.specs.Scope.{Scope, scope_outcome}
 

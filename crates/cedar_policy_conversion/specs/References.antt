@@ -13,19 +13,19 @@ use Rattle.cedar_syntax.specs.declared.cst.Ref.{Ref}
 use Rattle.cedar_syntax.specs.declared.cst.Slot.{Slot}
 use Rattle.cedar_syntax.specs.declared.loc.Loc.{Loc}
 use Rattle.cedar_syntax.specs.declared.node.Node.{Node}
-use Rattle.cedar_syntax.specs.Forms.{located, expr_form}
-use Rattle.cedar_syntax.specs.Located as f
-use Rattle.cedar_syntax.specs.Located.{Located, Form, Parts}
-use Rattle.cedar_syntax.specs.Slots.{matches}
+use Rattle.cedar_syntax.specs.trees.Forms.{located, expr_form}
+use Rattle.cedar_syntax.specs.trees.Located as f
+use Rattle.cedar_syntax.specs.trees.Located.{Located, Form, Parts}
+use Rattle.cedar_syntax.specs.trees.Slots.{matches}
 use Rattle.cedar_policy_conversion.specs.declared.to_ref_or_refs.SingleEntity.{SingleEntity}
 use Rattle.cedar_policy_conversion.specs.declared.to_ref_or_refs.OneOrMultipleRefs.{OneOrMultipleRefs}
 use Rattle.cedar_policy_conversion.specs.declared.to_ref_or_refs.OneOrMultipleRefs.TheVariants as refs
-use Rattle.cedar_conversion.specs.Conversion.{with_first}
-use Rattle.cedar_conversion.specs.Entities.{entity_outcome}
-use Rattle.cedar_conversion.specs.HasSide.{no_sign}
-use Rattle.cedar_conversion.specs.Names.{content_outcome}
-use Rattle.cedar_conversion.specs.Places.{place_mark}
-use Rattle.cedar_conversion.specs.Outcome.{NamedFault, Outcome, fault_outcome, both, next, empty_node, wrong_node, wrong_entity_argument}
+use Rattle.cedar_conversion.specs.outcome.Conversion.{with_first}
+use Rattle.cedar_conversion.specs.parts.Entities.{entity_outcome}
+use Rattle.cedar_conversion.specs.parts.HasSide.{no_sign}
+use Rattle.cedar_conversion.specs.parts.Names.{content_outcome}
+use Rattle.cedar_conversion.specs.outcome.Places.{place_mark}
+use Rattle.cedar_conversion.specs.outcome.Outcome.{NamedFault, Outcome, fault_outcome, both, next, empty_node, wrong_node, wrong_entity_argument}
 
 -- ---- kinds of reference
 

@@ -4,12 +4,12 @@ ghost use Rattle.std.specs.Option.{option_map};
 ghost use Rattle.cedar_expressions.specs.Meaning.{expr_meaning, unplaced};
 ghost use Rattle.cedar_syntax.specs.declared.err.faults.ParseError.TheVariants.{ToAST};
 ghost use Rattle.cedar_policy_conversion.specs.Conditions as k;
-ghost use Rattle.cedar_conversion.specs.Outcome.{empty_clause, invalid_condition, slots_in_condition_clause, faults_outcome};
-ghost use Rattle.cedar_conversion.specs.Places.{place_within};
+ghost use Rattle.cedar_conversion.specs.outcome.Outcome.{empty_clause, invalid_condition, slots_in_condition_clause, faults_outcome};
+ghost use Rattle.cedar_conversion.specs.outcome.Places.{place_within};
 ghost use Rattle.cedar_policy_conversion.specs.PolicyMeaning.{joint_condition};
 ghost use Rattle.cedar_policy_conversion.specs.machines.PolicyViews.{meanings};
-ghost use Rattle.cedar_conversion.specs.Seen.{Gives, itself, named_fault};
-ghost use Rattle.cedar_conversion.specs.Table.{table_of};
+ghost use Rattle.cedar_conversion.specs.outcome.Seen.{Gives, itself, named_fault};
+ghost use Rattle.cedar_conversion.specs.strict.Table.{table_of};
 ghost use Rattle.cedar_conversion.specs.machines.Views.{TellsAlone, empty_view};
 
 use crate::cst_to_ast::{ExprAst, ExtStyles};

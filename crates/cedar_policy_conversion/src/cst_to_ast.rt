@@ -10,13 +10,13 @@ ghost use Rattle.cedar_policy_conversion.specs.GeneratedIds.{remaining_nodes, na
 ghost use Rattle.cedar_policy_conversion.specs.Policies.{template_parts, template_outcome, either_parts, either_outcome, static_outcome, policies_outcome};
 ghost use Rattle.cedar_policy_conversion.specs.References.{referent_outcome, single_entity, entity_or_slot, one_or_multiple};
 ghost use Rattle.cedar_policy_conversion.specs.Scope.{scope_outcome};
-ghost use Rattle.cedar_syntax.specs.Forms.{located, expr_form, member_form, primary_form};
-ghost use Rattle.cedar_conversion.specs.Conversion.{value_outcome};
-ghost use Rattle.cedar_conversion.specs.Entities.{entity_outcome};
-ghost use Rattle.cedar_conversion.specs.Literals.{lone_literal, string_outcome};
-ghost use Rattle.cedar_conversion.specs.Names.{any_ident as any_outcome, valid_ident as valid_outcome};
-ghost use Rattle.cedar_conversion.specs.Seen.{Gives, itself};
-ghost use Rattle.cedar_conversion.specs.Table.{table_of};
+ghost use Rattle.cedar_syntax.specs.trees.Forms.{located, expr_form, member_form, primary_form};
+ghost use Rattle.cedar_conversion.specs.outcome.Conversion.{value_outcome};
+ghost use Rattle.cedar_conversion.specs.parts.Entities.{entity_outcome};
+ghost use Rattle.cedar_conversion.specs.parts.Literals.{lone_literal, string_outcome};
+ghost use Rattle.cedar_conversion.specs.parts.Names.{any_ident as any_outcome, valid_ident as valid_outcome};
+ghost use Rattle.cedar_conversion.specs.outcome.Seen.{Gives, itself};
+ghost use Rattle.cedar_conversion.specs.strict.Table.{table_of};
 
 use crate::annotations::{annotations, kv_pair};
 use crate::expressions::expression;

@@ -1,8 +1,8 @@
 //! An expression's tree, converted.
-ghost use Rattle.cedar_conversion.specs.Conversion.{value_outcome};
-ghost use Rattle.cedar_conversion.specs.Seen.{Gives};
-ghost use Rattle.cedar_conversion.specs.Table.{table_of};
-ghost use Rattle.cedar_syntax.specs.Forms.{located, expr_form};
+ghost use Rattle.cedar_conversion.specs.outcome.Conversion.{value_outcome};
+ghost use Rattle.cedar_conversion.specs.outcome.Seen.{Gives};
+ghost use Rattle.cedar_conversion.specs.strict.Table.{table_of};
+ghost use Rattle.cedar_syntax.specs.trees.Forms.{located, expr_form};
 
 use cedar_conversion::answer::failure::Failure;
 use cedar_conversion::answer::special::expr_of;

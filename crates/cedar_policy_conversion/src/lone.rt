@@ -1,9 +1,9 @@
 //! The primary that an expression is, through operators with one operand and parentheses; any
 //! other form is refused by what it is.
-ghost use Rattle.cedar_syntax.specs.Forms.{located, expr_form, or_form, and_form, relation_form, add_form, mult_form, unary_form, member_form, primary_form};
-ghost use Rattle.cedar_conversion.specs.Outcome.{wrong_node};
+ghost use Rattle.cedar_syntax.specs.trees.Forms.{located, expr_form, or_form, and_form, relation_form, add_form, mult_form, unary_form, member_form, primary_form};
+ghost use Rattle.cedar_conversion.specs.outcome.Outcome.{wrong_node};
 ghost use Rattle.cedar_policy_conversion.specs.References.{lone};
-ghost use Rattle.cedar_conversion.specs.Seen.{Gives};
+ghost use Rattle.cedar_conversion.specs.outcome.Seen.{Gives};
 ghost use Rattle.cedar_conversion.specs.machines.Views.{TellsAlone};
 
 use cedar_conversion::answer::failure::Failure;

@@ -1,6 +1,6 @@
 //! Identifiers, converted.
-ghost use Rattle.cedar_conversion.specs.Names.{any_ident as any_outcome, valid_ident as valid_outcome};
-ghost use Rattle.cedar_conversion.specs.Seen.{Gives, itself};
+ghost use Rattle.cedar_conversion.specs.parts.Names.{any_ident as any_outcome, valid_ident as valid_outcome};
+ghost use Rattle.cedar_conversion.specs.outcome.Seen.{Gives, itself};
 
 use cedar_conversion::answer::failure::told;
 use cedar_conversion::leaves::names::{any_id, valid_id};

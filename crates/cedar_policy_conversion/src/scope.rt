@@ -5,10 +5,10 @@ ghost use Rattle.cedar_policy_store.specs.declared.constraints.ActionConstraint.
 ghost use Rattle.cedar_policy_store.specs.declared.constraints.PrincipalConstraint.{PrincipalConstraint as Principal};
 ghost use Rattle.cedar_policy_store.specs.declared.constraints.ResourceConstraint.{ResourceConstraint as Resource};
 ghost use Rattle.cedar_syntax.specs.declared.err.faults.ParseError.TheVariants.{ToAST};
-ghost use Rattle.cedar_conversion.specs.Outcome.{Outcome, both, next, missing_scope_variable};
+ghost use Rattle.cedar_conversion.specs.outcome.Outcome.{Outcome, both, next, missing_scope_variable};
 ghost use Rattle.cedar_policy_conversion.specs.Scope as s;
-ghost use Rattle.cedar_conversion.specs.Seen.{Gives, itself, named_fault};
-ghost use Rattle.cedar_conversion.specs.Table.{table_of};
+ghost use Rattle.cedar_conversion.specs.outcome.Seen.{Gives, itself, named_fault};
+ghost use Rattle.cedar_conversion.specs.strict.Table.{table_of};
 ghost use Rattle.cedar_conversion.specs.machines.Views.{TellsAlone, empty_view};
 
 mod action;

@@ -2,11 +2,11 @@
 ghost use Rattle.std.specs.Prelude.{◌≡◌, ◌<◌, ◌^◌, List, OnOk, OnErr, IfErr, false, length};
 ghost use Rattle.cedar_policy_store.specs.PlaceFree.{Policies as Meant, set_meaning};
 ghost use Rattle.cedar_policy_store.specs.PolicyMaps.{holds_id};
-ghost use Rattle.cedar_conversion.specs.Outcome.{Outcome, item_more};
+ghost use Rattle.cedar_conversion.specs.outcome.Outcome.{Outcome, item_more};
 ghost use Rattle.cedar_policy_conversion.specs.Policies as k;
 ghost use Rattle.cedar_policy_conversion.specs.PolicyMeaning.{policy_id as policy_id_of};
-ghost use Rattle.cedar_conversion.specs.Seen.{Gives};
-ghost use Rattle.cedar_conversion.specs.Table.{table_of};
+ghost use Rattle.cedar_conversion.specs.outcome.Seen.{Gives};
+ghost use Rattle.cedar_conversion.specs.strict.Table.{table_of};
 ghost use Rattle.cedar_policy_conversion.specs.machines.Filled.{AddsAtMost, IsAdded, IsFreeFor, WantsMemoryAlone, id_of, set_view};
 
 use crate::cst_to_ast::ExtStyles;

@@ -1,10 +1,10 @@
 //! Right of an operator of the scope: an entity, the variable's own slot, or a set of entities.
 //! What is made of the primary that stands there is told by a kind of reference.
 ghost use Rattle.std.specs.Prelude.{◌≡◌, map};
-ghost use Rattle.cedar_syntax.specs.Forms.{located, parts_of, listed_expr, expr_form, primary_form};
-ghost use Rattle.cedar_conversion.specs.Outcome.{wrong_node, wrong_entity_argument};
+ghost use Rattle.cedar_syntax.specs.trees.Forms.{located, parts_of, listed_expr, expr_form, primary_form};
+ghost use Rattle.cedar_conversion.specs.outcome.Outcome.{wrong_node, wrong_entity_argument};
 ghost use Rattle.cedar_policy_conversion.specs.References.{RefKind as Kind, single_entity, entity_or_slot, one_or_multiple, literal_fault, entity_at, lone_entity, entities, single_outcome, own_slot_outcome, several_outcome, of_variable, referent_at, referent_outcome};
-ghost use Rattle.cedar_conversion.specs.Seen.{Gives, itself};
+ghost use Rattle.cedar_conversion.specs.outcome.Seen.{Gives, itself};
 ghost use Rattle.cedar_conversion.specs.machines.Views.{TellsAlone};
 
 use crate::lone::{form, lone_expr, wrong_node};
@@ -61,9 +61,9 @@ pub(crate) trait RefKind: Drop {
 
 impl RefKind for SingleEntity {
     ghost use Rattle.std.specs.Prelude.{◌≡◌, map};
-    ghost use Rattle.cedar_syntax.specs.Forms.{parts_of, listed_expr};
+    ghost use Rattle.cedar_syntax.specs.trees.Forms.{parts_of, listed_expr};
     ghost use Rattle.cedar_policy_conversion.specs.References.{single_entity, several_outcome, entities};
-    ghost use Rattle.cedar_conversion.specs.Seen.{Gives, itself};
+    ghost use Rattle.cedar_conversion.specs.outcome.Seen.{Gives, itself};
 
     ghost kind = { single_entity };
 
@@ -91,9 +91,9 @@ impl RefKind for SingleEntity {
 
 impl RefKind for EntityReference {
     ghost use Rattle.std.specs.Prelude.{◌≡◌, map};
-    ghost use Rattle.cedar_syntax.specs.Forms.{parts_of, listed_expr};
+    ghost use Rattle.cedar_syntax.specs.trees.Forms.{parts_of, listed_expr};
     ghost use Rattle.cedar_policy_conversion.specs.References.{entity_or_slot, several_outcome, entities};
-    ghost use Rattle.cedar_conversion.specs.Seen.{Gives, itself};
+    ghost use Rattle.cedar_conversion.specs.outcome.Seen.{Gives, itself};
 
     ghost kind = { entity_or_slot };
 
@@ -127,9 +127,9 @@ impl RefKind for EntityReference {
 
 impl RefKind for OneOrMultipleRefs {
     ghost use Rattle.std.specs.Prelude.{◌≡◌, map};
-    ghost use Rattle.cedar_syntax.specs.Forms.{parts_of, listed_expr};
+    ghost use Rattle.cedar_syntax.specs.trees.Forms.{parts_of, listed_expr};
     ghost use Rattle.cedar_policy_conversion.specs.References.{one_or_multiple, several_outcome, entities};
-    ghost use Rattle.cedar_conversion.specs.Seen.{Gives, itself};
+    ghost use Rattle.cedar_conversion.specs.outcome.Seen.{Gives, itself};
 
     ghost kind = { one_or_multiple };
 

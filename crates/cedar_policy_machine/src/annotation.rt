@@ -2,7 +2,7 @@
 ghost use Rattle.std.specs.Prelude.{◌≡◌, Some, None, cond, OnOk};
 ghost use Rattle.cedar_lexer.specs.Token.{lexeme_of};
 ghost use Rattle.cedar_lexer.specs.declared.token.TokenKind.TheVariants as kind;
-ghost use Rattle.cedar_grammar.specs.WrittenTokens.{Written};
+ghost use Rattle.cedar_grammar.specs.grammar.WrittenTokens.{Written};
 ghost use Rattle.cedar_policy_machine.specs.machines.Annotation.{annotation_shape, annotation_opening, annotation_filling, annotation_closing, has_key, wants_value, has_value};
 
 use cedar_expressions::Source;

@@ -1,7 +1,7 @@
 //! A condition: a word, and an expression in braces, or none.
 ghost use Rattle.std.specs.Prelude.{◌≡◌, Some, IfOk, OnOk};
 ghost use Rattle.cedar_lexer.specs.Token.{lexeme_of};
-ghost use Rattle.cedar_grammar.specs.WrittenTokens.{IsWritten};
+ghost use Rattle.cedar_grammar.specs.grammar.WrittenTokens.{IsWritten};
 ghost use Rattle.cedar_grammar.specs.machines.Judged.{done_as};
 ghost use Rattle.cedar_policy_machine.specs.machines.Condition.{body_going, in_body, behind_body, condition_reader, IsBodyPlan, HasBody};
 

@@ -1,6 +1,6 @@
 //! An element of the scope: a variable, and possibly a type name, an entity type and a constraint.
 ghost use Rattle.std.specs.Prelude.{◌≡◌, Some, None, IfOk, OnOk, IsTrue};
-ghost use Rattle.cedar_syntax.specs.Trees.{variable_def_of};
+ghost use Rattle.cedar_syntax.specs.trees.Trees.{variable_def_of};
 ghost use Rattle.cedar_policy_machine.specs.machines.Scope.{readers_of, reader_plans, element_with_part, compare_plan, narrow_plan, behind_part, sum_beginning, constraint_beginning, element_ends, element_finish, MayLeave};
 
 use cedar_expressions::Source;

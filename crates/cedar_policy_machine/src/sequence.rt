@@ -1,7 +1,7 @@
 //! Forms that are begun, and what stands before them.
 ghost use Rattle.std.specs.Prelude.{◌≡◌, [], Some, None, IfOk, OnOk, IsTrue};
 ghost use Rattle.cedar_lexer.specs.Token.{lexeme_of};
-ghost use Rattle.cedar_grammar.specs.WrittenTokens.{IsWritten};
+ghost use Rattle.cedar_grammar.specs.grammar.WrittenTokens.{IsWritten};
 ghost use Rattle.cedar_grammar.specs.machines.Door.{option_image};
 ghost use Rattle.cedar_grammar.specs.machines.Judged.{done_as};
 ghost use Rattle.cedar_policy_machine.specs.machines.Sequences.{sequence, many_plan, list_plan, sequence_ends, sequence_end, item_begun, item_going, items_ended, sequence_act, IsItemPlan, IsSequencePlan};

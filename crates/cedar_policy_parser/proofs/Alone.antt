@@ -13,20 +13,20 @@ use Rattle.cedar_syntax.specs.declared.cst.Name.{Name}
 use Rattle.cedar_syntax.specs.declared.cst.NegOp.{NegOp}
 use Rattle.cedar_syntax.specs.declared.cst.NegOp.TheVariants as sign
 use Rattle.cedar_syntax.specs.declared.cst.RelOp.TheVariants as rel
-use Rattle.cedar_syntax.specs.Located as f
-use Rattle.cedar_syntax.specs.Located.{Located, Parts, at}
-use Rattle.cedar_syntax.specs.Tree as t
-use Rattle.cedar_syntax.specs.Tree.{Level, Operator, disjunction, conjunction, relation, sum, product}
-use Rattle.cedar_policy_parser.specs.Alone as way
-use Rattle.cedar_policy_parser.specs.Alone.{HasValue, HaveValues, OperandsHaveValues, quotient, quotients, IsPair, ArePairs, ComesTo, IsAlone, IsBareName}
-use Rattle.cedar_conversion.specs.Conversion.{Part, outcome, form_outcome, operands, pairs_outcome, pair_outcome, pair_form_outcome, value_outcome, accesses_outcome, tree_place, expression_at, chain_outcome, record_outcome, factor, with_part, signs_outcome, number_in, lone_literal}
-use Rattle.cedar_conversion.specs.Extensions.{Extensions}
-use Rattle.cedar_conversion.specs.HasSide.{no_sign}
-use Rattle.cedar_conversion.specs.Held.{Held, bare_name, as_expression, as_attribute}
-use Rattle.cedar_conversion.specs.Leaves.{name_leaf, variable_or_name}
-use Rattle.cedar_conversion.specs.Members.{member_outcome}
-use Rattle.cedar_conversion.specs.Names.{name_outcome, named_variable}
-use Rattle.cedar_conversion.specs.Outcome.{NamedFault, Outcome, fault_outcome, both, next, ambiguous_operators, invalid_single_eq, unary_op_limit, expression_construction_error, arbitrary_variable}
+use Rattle.cedar_syntax.specs.trees.Located as f
+use Rattle.cedar_syntax.specs.trees.Located.{Located, Parts, at}
+use Rattle.cedar_syntax.specs.trees.Tree as t
+use Rattle.cedar_syntax.specs.trees.Tree.{Level, Operator, disjunction, conjunction, relation, sum, product}
+use Rattle.cedar_policy_parser.specs.faults.Alone as way
+use Rattle.cedar_policy_parser.specs.faults.Alone.{HasValue, HaveValues, OperandsHaveValues, quotient, quotients, IsPair, ArePairs, ComesTo, IsAlone, IsBareName}
+use Rattle.cedar_conversion.specs.outcome.Conversion.{Part, outcome, form_outcome, operands, pairs_outcome, pair_outcome, pair_form_outcome, value_outcome, accesses_outcome, tree_place, expression_at, chain_outcome, record_outcome, factor, with_part, signs_outcome, number_in, lone_literal}
+use Rattle.cedar_conversion.specs.strict.Extensions.{Extensions}
+use Rattle.cedar_conversion.specs.parts.HasSide.{no_sign}
+use Rattle.cedar_conversion.specs.outcome.Held.{Held, bare_name, as_expression, as_attribute}
+use Rattle.cedar_conversion.specs.parts.Leaves.{name_leaf, variable_or_name}
+use Rattle.cedar_conversion.specs.parts.Members.{member_outcome}
+use Rattle.cedar_conversion.specs.parts.Names.{name_outcome, named_variable}
+use Rattle.cedar_conversion.specs.outcome.Outcome.{NamedFault, Outcome, fault_outcome, both, next, ambiguous_operators, invalid_single_eq, unary_op_limit, expression_construction_error, arbitrary_variable}
 use Rattle.cedar_conversion.proofs.Inverted.{next_ok}
 
 -- ---- a node alone

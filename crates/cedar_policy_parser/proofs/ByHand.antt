@@ -16,19 +16,19 @@ use Rattle.cedar_syntax.specs.declared.cst.PolicyImpl.{PolicyImpl}
 use Rattle.cedar_syntax.specs.declared.cst.Ref.{Ref}
 use Rattle.cedar_syntax.specs.declared.cst.Ref.TheVariants as refs
 use Rattle.cedar_syntax.specs.declared.cst.VariableDef.{VariableDef}
-use Rattle.cedar_syntax.specs.Forms.{located, add_form, expr_form}
-use Rattle.cedar_syntax.specs.Located.{Located, Form, Parts, missing, at, only, ite, chain, has, like, is, is_in, unary, member, field, call, index, literal, name, slot, reference, parens, set, record_of, init, none, more}
+use Rattle.cedar_syntax.specs.trees.Forms.{located, add_form, expr_form}
+use Rattle.cedar_syntax.specs.trees.Located.{Located, Form, Parts, missing, at, only, ite, chain, has, like, is, is_in, unary, member, field, call, index, literal, name, slot, reference, parens, set, record_of, init, none, more}
 use Rattle.cedar_policy_conversion.specs.AnnotationKeys.{annotation_outcome, with_new_key}
 use Rattle.cedar_policy_conversion.specs.Conditions.{condition_outcome}
-use Rattle.cedar_conversion.specs.Extensions.{Extensions}
-use Rattle.cedar_conversion.specs.Outcome.{next}
+use Rattle.cedar_conversion.specs.strict.Extensions.{Extensions}
+use Rattle.cedar_conversion.specs.outcome.Outcome.{next}
 use Rattle.cedar_policy_conversion.specs.Policies.{effect_outcome, template_outcome, policies_outcome}
 use Rattle.cedar_policy_conversion.specs.Scope.{scope_outcome}
-use Rattle.cedar_policy_parser.proofs.Standing.{by_hand, IsTold, Stands, Anything}
-use Rattle.cedar_policy_parser.proofs.StandingPolicies.{condition_stands, effect_stands, new_annotation_stands, template_stands, policies_stand}
-use Rattle.cedar_policy_parser.proofs.StandingScopes.{scope_stands}
-use Rattle.cedar_policy_parser.proofs.Tidy.{Holding, NodeTidy, Each, IdentHeld, IdentTidy, NameTidy, LiteralTidy, RefTidy, Tidy, FormTidy, PartsTidy, AccessesTidy, AccessTidy, AccessFormTidy, PairsTidy, PairTidy, PairFormTidy}
-use Rattle.cedar_policy_parser.proofs.TidyPolicies.{IfThere, AddTidy, ConstraintTidy, ExprTidy, AnnotationTidy, ElementTidy, CondTidy, PolicyTidy, PoliciesTidy}
+use Rattle.cedar_policy_parser.proofs.standing.Standing.{by_hand, IsTold, Stands, Anything}
+use Rattle.cedar_policy_parser.proofs.standing.StandingPolicies.{condition_stands, effect_stands, new_annotation_stands, template_stands, policies_stand}
+use Rattle.cedar_policy_parser.proofs.standing.StandingScopes.{scope_stands}
+use Rattle.cedar_policy_parser.proofs.tidy.Tidy.{Holding, NodeTidy, Each, IdentHeld, IdentTidy, NameTidy, LiteralTidy, RefTidy, Tidy, FormTidy, PartsTidy, AccessesTidy, AccessTidy, AccessFormTidy, PairsTidy, PairTidy, PairFormTidy}
+use Rattle.cedar_policy_parser.proofs.tidy.TidyPolicies.{IfThere, AddTidy, ConstraintTidy, ExprTidy, AnnotationTidy, ElementTidy, CondTidy, PolicyTidy, PoliciesTidy}
 
 -- ---- nodes
 

@@ -24,21 +24,21 @@ use Rattle.cedar_syntax.specs.declared.cst.Member.{Member}
 use Rattle.cedar_syntax.specs.declared.cst.Primary.{Primary}
 use Rattle.cedar_syntax.specs.declared.cst.Primary as P
 use Rattle.cedar_syntax.specs.declared.cst.Expr.TheViews.{out-roll-Or, out-roll-Add, out-roll-Mult, out-roll-Unary}
-use Rattle.cedar_syntax.specs.Forms.{located, parts_of, expr_form, or_form, and_form, relation_form, add_form, mult_form, unary_form, member_form, primary_form, access_form, init_form, or_operand, and_operand, relation_operand, add_operand, mult_operand, listed_access, listed_expr, listed_init}
-use Rattle.cedar_syntax.specs.Located as f
-use Rattle.cedar_syntax.specs.Located.{Located, Form, at}
-use Rattle.cedar_syntax.specs.Tree.{disjunction, conjunction, relation, sum, product}
+use Rattle.cedar_syntax.specs.trees.Forms.{located, parts_of, expr_form, or_form, and_form, relation_form, add_form, mult_form, unary_form, member_form, primary_form, access_form, init_form, or_operand, and_operand, relation_operand, add_operand, mult_operand, listed_access, listed_expr, listed_init}
+use Rattle.cedar_syntax.specs.trees.Located as f
+use Rattle.cedar_syntax.specs.trees.Located.{Located, Form, at}
+use Rattle.cedar_syntax.specs.trees.Tree.{disjunction, conjunction, relation, sum, product}
 use Rattle.cedar_syntax.proofs.FormLevels.{expr_out, impl_out, data_or, data_if, or_out, and_out, relation_common, add_out, mult_out, unary_out, member_out, init_out, relation_has, relation_like, relation_is, relation_is_in, access_field, access_call, access_index, primary_literal, primary_ref, primary_name, primary_slot, primary_expr, primary_list, primary_inits}
-use Rattle.cedar_syntax.specs.Trees.{Cell, expr_of, if_of, or_of, and_of, common_of, add_of, mult_of, unary_of, member_of, has_of, like_of, is_of, rec_init_of}
-use Rattle.cedar_conversion.specs.Conversion.{outcome, form_outcome, operands, value_outcome, chain_outcome, conditional_outcome, signs_outcome, expression_at, tree_place, bodies, set_value_outcome, record_outcome, accesses_outcome, access_outcome, access_form_outcome, pairs_outcome, pair_outcome, pair_form_outcome, with_attributes, match_outcome, beside_type, type_test_outcome, type_within_outcome}
-use Rattle.cedar_conversion.specs.HasSide.{right_side}
-use Rattle.cedar_conversion.specs.Leaves.{name_leaf, slot_leaf, entity_leaf}
-use Rattle.cedar_conversion.specs.Literals.{number_in, lone_literal, literal_alone, literal_outcome}
-use Rattle.cedar_conversion.specs.Members.{field, call, index, member_outcome}
-use Rattle.cedar_conversion.specs.Names.{unreserved_ident}
-use Rattle.cedar_conversion.specs.Extensions.{Extensions}
-use Rattle.cedar_conversion.specs.Held.{as_pattern, as_string, as_attribute}
-use Rattle.cedar_conversion.specs.Outcome.{both, next}
+use Rattle.cedar_syntax.specs.trees.Trees.{Cell, expr_of, if_of, or_of, and_of, common_of, add_of, mult_of, unary_of, member_of, has_of, like_of, is_of, rec_init_of}
+use Rattle.cedar_conversion.specs.outcome.Conversion.{outcome, form_outcome, operands, value_outcome, chain_outcome, conditional_outcome, signs_outcome, expression_at, tree_place, bodies, set_value_outcome, record_outcome, accesses_outcome, access_outcome, access_form_outcome, pairs_outcome, pair_outcome, pair_form_outcome, with_attributes, match_outcome, beside_type, type_test_outcome, type_within_outcome}
+use Rattle.cedar_conversion.specs.parts.HasSide.{right_side}
+use Rattle.cedar_conversion.specs.parts.Leaves.{name_leaf, slot_leaf, entity_leaf}
+use Rattle.cedar_conversion.specs.parts.Literals.{number_in, lone_literal, literal_alone, literal_outcome}
+use Rattle.cedar_conversion.specs.parts.Members.{field, call, index, member_outcome}
+use Rattle.cedar_conversion.specs.parts.Names.{unreserved_ident}
+use Rattle.cedar_conversion.specs.strict.Extensions.{Extensions}
+use Rattle.cedar_conversion.specs.outcome.Held.{as_pattern, as_string, as_attribute}
+use Rattle.cedar_conversion.specs.outcome.Outcome.{both, next}
 
 at_form : (e : Extensions) (p : Option Loc) (t u : Form) → t ≡ u → outcome e (at p t) ≡ form_outcome e p u
 unfolding outcome

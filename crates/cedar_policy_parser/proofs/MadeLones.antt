@@ -17,14 +17,14 @@ use Rattle.cedar_syntax.specs.declared.cst.Member.{Member}
 use Rattle.cedar_syntax.specs.declared.cst.Primary.{Primary}
 use Rattle.cedar_syntax.specs.declared.cst.Primary as P
 use Rattle.cedar_syntax.specs.declared.cst.Expr.TheViews.{out-roll-Or, out-roll-Add, out-roll-Mult, out-roll-Unary}
-use Rattle.cedar_syntax.specs.Forms.{located, parts_of, expr_form, or_form, and_form, relation_form, add_form, mult_form, unary_form, member_form, primary_form, or_operand, and_operand, relation_operand, add_operand, mult_operand, listed_access}
-use Rattle.cedar_syntax.specs.Located as f
-use Rattle.cedar_syntax.specs.Located.{Form, at}
-use Rattle.cedar_syntax.specs.Tree.{disjunction, conjunction, relation, sum, product}
+use Rattle.cedar_syntax.specs.trees.Forms.{located, parts_of, expr_form, or_form, and_form, relation_form, add_form, mult_form, unary_form, member_form, primary_form, or_operand, and_operand, relation_operand, add_operand, mult_operand, listed_access}
+use Rattle.cedar_syntax.specs.trees.Located as f
+use Rattle.cedar_syntax.specs.trees.Located.{Form, at}
+use Rattle.cedar_syntax.specs.trees.Tree.{disjunction, conjunction, relation, sum, product}
 use Rattle.cedar_syntax.proofs.FormLevels.{expr_out, impl_out, data_or, data_if, or_out, and_out, relation_common, add_out, mult_out, unary_out, member_out, relation_has, relation_like, relation_is, relation_is_in, primary_expr}
-use Rattle.cedar_syntax.specs.Trees.{Cell, expr_of, if_of, or_of, and_of, common_of, add_of, mult_of, unary_of, member_of, has_of, like_of, is_of}
-use Rattle.cedar_conversion.specs.HasSide.{no_sign}
-use Rattle.cedar_conversion.specs.Outcome.{fault_outcome, wrong_node}
+use Rattle.cedar_syntax.specs.trees.Trees.{Cell, expr_of, if_of, or_of, and_of, common_of, add_of, mult_of, unary_of, member_of, has_of, like_of, is_of}
+use Rattle.cedar_conversion.specs.parts.HasSide.{no_sign}
+use Rattle.cedar_conversion.specs.outcome.Outcome.{fault_outcome, wrong_node}
 use Rattle.cedar_policy_conversion.specs.References.{lone, lone_form}
 
 pub lone_at : (p : Option Loc) (t u : Form) → t ≡ u → lone (at p t) ≡ lone_form p u

@@ -4,23 +4,23 @@ use Rattle.cedar_lexer.specs.Cut.{Cuts}
 use Rattle.cedar_lexer.specs.Token.{Lexeme}
 use Rattle.cedar_expressions.specs.Value.{Value}
 use Rattle.cedar_syntax.specs.declared.cst.Expr.{Expr}
-use Rattle.cedar_syntax.specs.Signs.{sign_limit}
+use Rattle.cedar_syntax.specs.tokens.Signs.{sign_limit}
 use Rattle.cedar_syntax.specs.declared.err.faults.Failure.{Failure}
 use Rattle.cedar_syntax.specs.declared.err.faults.Failure.TheVariants.{Memory, Errors}
-use Rattle.cedar_syntax.specs.Forms.{located, expr_form}
-use Rattle.cedar_syntax.specs.Located.{at}
-use Rattle.cedar_syntax.specs.ParseErrors.{IsMemory}
-use Rattle.cedar_grammar.specs.Grammar.{IsTreeOf}
-use Rattle.cedar_grammar.specs.LooseExpressions.{ReadsExpr}
-use Rattle.cedar_grammar.specs.Place.{placed_or_start}
-use Rattle.cedar_syntax.specs.Trees.{Cell}
-use Rattle.cedar_conversion.specs.Conversion.{Converts, value_outcome}
-use Rattle.cedar_conversion.specs.Extensions.{Extensions}
-use Rattle.cedar_conversion.specs.Outcome.{Outcome}
-use Rattle.cedar_policy_parser.specs.Refused.{RefusesText}
-use Rattle.cedar_conversion.specs.Seen.{Gives, Refuses}
-use Rattle.cedar_conversion.specs.Strict as m
-use Rattle.cedar_conversion.specs.Strict.{Means}
+use Rattle.cedar_syntax.specs.trees.Forms.{located, expr_form}
+use Rattle.cedar_syntax.specs.trees.Located.{at}
+use Rattle.cedar_syntax.specs.faults.ParseErrors.{IsMemory}
+use Rattle.cedar_grammar.specs.grammar.Grammar.{IsTreeOf}
+use Rattle.cedar_grammar.specs.grammar.LooseExpressions.{ReadsExpr}
+use Rattle.cedar_grammar.specs.grammar.Place.{placed_or_start}
+use Rattle.cedar_syntax.specs.trees.Trees.{Cell}
+use Rattle.cedar_conversion.specs.outcome.Conversion.{Converts, value_outcome}
+use Rattle.cedar_conversion.specs.strict.Extensions.{Extensions}
+use Rattle.cedar_conversion.specs.outcome.Outcome.{Outcome}
+use Rattle.cedar_policy_parser.specs.faults.Refused.{RefusesText}
+use Rattle.cedar_conversion.specs.outcome.Seen.{Gives, Refuses}
+use Rattle.cedar_conversion.specs.strict.Strict as m
+use Rattle.cedar_conversion.specs.strict.Strict.{Means}
 use Rattle.cedar_conversion.proofs.Inverted.{ok_is}
 use Rattle.cedar_policy_parser.proofs.complete.Reads.{ExprRead}
 use Rattle.cedar_policy_parser.proofs.complete.Whole.{complete}

@@ -4,21 +4,21 @@ use Rattle.cedar_lexer.specs.Cut.{Cuts}
 use Rattle.cedar_lexer.specs.Token.{Lexeme}
 use Rattle.cedar_policy_store.specs.PlaceFree as free
 use Rattle.cedar_syntax.specs.declared.cst.Policies.{Policies}
-use Rattle.cedar_syntax.specs.Signs.{sign_limit}
+use Rattle.cedar_syntax.specs.tokens.Signs.{sign_limit}
 use Rattle.cedar_syntax.specs.declared.err.faults.Failure.{Failure}
 use Rattle.cedar_syntax.specs.declared.err.faults.Failure.TheVariants.{Memory, Errors}
-use Rattle.cedar_syntax.specs.ParseErrors.{IsMemory}
-use Rattle.cedar_grammar.specs.Grammar.{IsTreeOf}
-use Rattle.cedar_grammar.specs.LoosePolicies.{ReadsPolicies}
-use Rattle.cedar_grammar.specs.Place.{placed, placed_or_start}
-use Rattle.cedar_grammar.specs.Sentences.{HasTree}
-use Rattle.cedar_syntax.specs.Trees.{Cell}
-use Rattle.cedar_conversion.specs.Extensions.{Extensions}
-use Rattle.cedar_conversion.specs.Outcome.{Outcome}
+use Rattle.cedar_syntax.specs.faults.ParseErrors.{IsMemory}
+use Rattle.cedar_grammar.specs.grammar.Grammar.{IsTreeOf}
+use Rattle.cedar_grammar.specs.grammar.LoosePolicies.{ReadsPolicies}
+use Rattle.cedar_grammar.specs.grammar.Place.{placed, placed_or_start}
+use Rattle.cedar_grammar.specs.grammar.Sentences.{HasTree}
+use Rattle.cedar_syntax.specs.trees.Trees.{Cell}
+use Rattle.cedar_conversion.specs.strict.Extensions.{Extensions}
+use Rattle.cedar_conversion.specs.outcome.Outcome.{Outcome}
 use Rattle.cedar_policy_conversion.specs.Policies.{policies_outcome}
-use Rattle.cedar_policy_parser.specs.Refused.{RefusesSet}
-use Rattle.cedar_conversion.specs.Seen.{Gives, Refuses}
-use Rattle.cedar_policy_parser.specs.StrictPolicy.{IsPolicySet}
+use Rattle.cedar_policy_parser.specs.faults.Refused.{RefusesSet}
+use Rattle.cedar_conversion.specs.outcome.Seen.{Gives, Refuses}
+use Rattle.cedar_policy_parser.specs.meaning.StrictPolicy.{IsPolicySet}
 use Rattle.cedar_conversion.proofs.Inverted.{ok_is}
 use Rattle.cedar_policy_parser.proofs.complete.Sets.{SetRead, set_read}
 use Rattle.cedar_policy_parser.proofs.sound.Sets.{set_meant}

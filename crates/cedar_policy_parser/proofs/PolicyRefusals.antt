@@ -16,29 +16,29 @@ use Rattle.cedar_syntax.specs.declared.cst.PolicyImpl.{PolicyImpl}
 use Rattle.cedar_syntax.specs.declared.cst.VariableDef.{VariableDef}
 use Rattle.cedar_syntax.specs.declared.loc.Loc.{Loc}
 use Rattle.cedar_syntax.specs.declared.node.Node.{Node}
-use Rattle.cedar_syntax.specs.Forms.{located, expr_form}
-use Rattle.cedar_grammar.specs.Grammar.{IsTreeOf}
-use Rattle.cedar_grammar.specs.LoosePolicies.{ReadsPolicies, ReadsPolicy}
-use Rattle.cedar_syntax.specs.Trees.{Cell}
+use Rattle.cedar_syntax.specs.trees.Forms.{located, expr_form}
+use Rattle.cedar_grammar.specs.grammar.Grammar.{IsTreeOf}
+use Rattle.cedar_grammar.specs.grammar.LoosePolicies.{ReadsPolicies, ReadsPolicy}
+use Rattle.cedar_syntax.specs.trees.Trees.{Cell}
 use Rattle.cedar_policy_conversion.specs.AnnotationKeys.{annotation_outcome, with_new_key}
-use Rattle.cedar_policy_parser.specs.Blocks.{faults_from}
+use Rattle.cedar_policy_parser.specs.faults.Blocks.{faults_from}
 use Rattle.cedar_policy_conversion.specs.Conditions.{is_when_of, condition_value, condition_slot_fault, slots_outcome, without_slots, condition_of, condition_outcome}
-use Rattle.cedar_conversion.specs.Conversion.{Converts}
-use Rattle.cedar_policy_parser.specs.Due.{HoldsCondition, IsWhenOrUnless, is_missing_variable, is_extra_element, count, OfParts, RefusesEffect, TellsMissing, TellsExtra, IsTellable}
-use Rattle.cedar_conversion.specs.Extensions.{Extensions}
-use Rattle.cedar_conversion.specs.Names.{content_outcome}
-use Rattle.cedar_conversion.specs.Outcome.{Kind, NamedFault, Outcome, fault_outcome, both, next, invalid_effect, invalid_condition, empty_clause, missing_scope_variable, extra_scope_element, expected_static_policy, duplicate_policy_id, duplicate_template_id, membership_invariant_violation, faults_outcome}
-use Rattle.cedar_conversion.specs.Places.{place_within}
+use Rattle.cedar_conversion.specs.outcome.Conversion.{Converts}
+use Rattle.cedar_policy_parser.specs.faults.Due.{HoldsCondition, IsWhenOrUnless, is_missing_variable, is_extra_element, count, OfParts, RefusesEffect, TellsMissing, TellsExtra, IsTellable}
+use Rattle.cedar_conversion.specs.strict.Extensions.{Extensions}
+use Rattle.cedar_conversion.specs.parts.Names.{content_outcome}
+use Rattle.cedar_conversion.specs.outcome.Outcome.{Kind, NamedFault, Outcome, fault_outcome, both, next, invalid_effect, invalid_condition, empty_clause, missing_scope_variable, extra_scope_element, expected_static_policy, duplicate_policy_id, duplicate_template_id, membership_invariant_violation, faults_outcome}
+use Rattle.cedar_conversion.specs.outcome.Places.{place_within}
 use Rattle.cedar_policy_conversion.specs.Policies.{TemplateParts, effect_of, effect_outcome, template_outcome, scope_slots, unless_slots, is_slot_fault, slot_faults, only_static, static_outcome, side_outcome, either_outcome, policies_outcome}
 use Rattle.cedar_policy_conversion.specs.Scope.{principal_outcome, action_outcome, resource_outcome, place_behind, if_there, extra_element_fault, no_extra, scope_of, elements_outcome, scope_outcome}
 use Rattle.cedar_expressions.specs.Slots.{slots_of}
 use Rattle.cedar_policy_parser.proofs.ByHand.{any_annotation_stands, any_condition_stands, any_effect_stands, any_policy_stands, any_scope_stands, any_set_stands}
-use Rattle.cedar_policy_parser.proofs.InBlocks.{made_told, joined_told}
-use Rattle.cedar_policy_parser.proofs.Standing.{Origin, by_hand, parsed, IsTold, IsPlain, KindWithin, Stands, Anything, no_policy_name, no_template_name, no_text_fault, some_told}
-use Rattle.cedar_policy_parser.proofs.StandingScopes.{principal_stands, action_stands, resource_stands}
-use Rattle.cedar_policy_parser.proofs.StandingTexts.{parsed_tidy, each_policy}
-use Rattle.cedar_policy_parser.proofs.Tidy.{Holding, NodeTidy, Each, IdentHeld}
-use Rattle.cedar_policy_parser.proofs.TidyPolicies.{IfThere, ElementTidy, PolicyTidy, WholeTidy}
+use Rattle.cedar_policy_parser.proofs.standing.InBlocks.{made_told, joined_told}
+use Rattle.cedar_policy_parser.proofs.standing.Standing.{Origin, by_hand, parsed, IsTold, IsPlain, KindWithin, Stands, Anything, no_policy_name, no_template_name, no_text_fault, some_told}
+use Rattle.cedar_policy_parser.proofs.standing.StandingScopes.{principal_stands, action_stands, resource_stands}
+use Rattle.cedar_policy_parser.proofs.standing.StandingTexts.{parsed_tidy, each_policy}
+use Rattle.cedar_policy_parser.proofs.tidy.Tidy.{Holding, NodeTidy, Each, IdentHeld}
+use Rattle.cedar_policy_parser.proofs.tidy.TidyPolicies.{IfThere, ElementTidy, PolicyTidy, WholeTidy}
 
 -- ---- the effect
 

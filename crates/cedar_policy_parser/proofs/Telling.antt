@@ -4,15 +4,15 @@ use Rattle.std.specs.List.{All}
 use Rattle.std.proofs.lemmas.List.Elements.{All-nil, All-cons, All-append, All-weaker}
 use Rattle.cedar_syntax.specs.declared.err.escape.UnescapeError.{UnescapeError}
 use Rattle.cedar_syntax.specs.declared.loc.Loc.{Loc}
-use Rattle.cedar_policy_parser.specs.DueKinds.{IsDue, IsDueIn, AreDueIn}
-use Rattle.cedar_conversion.specs.Extensions.{Extensions}
-use Rattle.cedar_conversion.specs.Outcome.{Kind, NamedFault, Outcome, fault_outcome, both, next}
-use Rattle.cedar_policy_parser.specs.Sites as site
-use Rattle.cedar_policy_parser.specs.Sites.{Site, IsPart, IsSiteOf, site_place}
-use Rattle.cedar_policy_parser.specs.Standing.{LiesWithin}
-use Rattle.cedar_conversion.specs.Strings.{string_faults, unless_faulty, text_outcome, escape_faults, unescaped}
-use Rattle.cedar_conversion.specs.Outcome as k
-use Rattle.cedar_policy_parser.proofs.Standing.{Anything, BothHold}
+use Rattle.cedar_policy_parser.specs.faults.DueKinds.{IsDue, IsDueIn, AreDueIn}
+use Rattle.cedar_conversion.specs.strict.Extensions.{Extensions}
+use Rattle.cedar_conversion.specs.outcome.Outcome.{Kind, NamedFault, Outcome, fault_outcome, both, next}
+use Rattle.cedar_policy_parser.specs.faults.Sites as site
+use Rattle.cedar_policy_parser.specs.faults.Sites.{Site, IsPart, IsSiteOf, site_place}
+use Rattle.cedar_policy_parser.specs.faults.Standing.{LiesWithin}
+use Rattle.cedar_conversion.specs.parts.Strings.{string_faults, unless_faulty, text_outcome, escape_faults, unescaped}
+use Rattle.cedar_conversion.specs.outcome.Outcome as k
+use Rattle.cedar_policy_parser.proofs.standing.Standing.{Anything, BothHold}
 
 -- ---- joins
 

@@ -2,15 +2,15 @@
 ghost use Rattle.std.specs.Prelude.{◌≡◌, ◌++◌, List, codes, IfOk, OnOk, IfErr, string_bytes};
 ghost use Rattle.cedar_lexer.specs.Cut.{Cuts};
 ghost use Rattle.cedar_lexer.specs.Token.{Lexeme};
-ghost use Rattle.cedar_grammar.specs.Formatted.{formatted, lines_text};
-ghost use Rattle.cedar_grammar.specs.Leftmost.{HasLeftmost, NumbersFit};
-ghost use Rattle.cedar_grammar.specs.LoosePolicies.{ReadsPolicies};
-ghost use Rattle.cedar_grammar.specs.PrintLaw.{node_text};
-ghost use Rattle.cedar_grammar.specs.Sentences.{HasTree};
-ghost use Rattle.cedar_syntax.specs.Unplaced.{policy_tree};
-ghost use Rattle.cedar_conversion.specs.Table.{table_of};
-ghost use Rattle.cedar_policy_parser.specs.Formatted.{Formats, MeanTheSame, IsInLines, IsAnsweredAgain};
-ghost use Rattle.cedar_policy_parser.specs.Refused.{RefusesSet};
+ghost use Rattle.cedar_grammar.specs.printing.Formatted.{formatted, lines_text};
+ghost use Rattle.cedar_grammar.specs.faults.Leftmost.{HasLeftmost, NumbersFit};
+ghost use Rattle.cedar_grammar.specs.grammar.LoosePolicies.{ReadsPolicies};
+ghost use Rattle.cedar_grammar.specs.printing.PrintLaw.{node_text};
+ghost use Rattle.cedar_grammar.specs.grammar.Sentences.{HasTree};
+ghost use Rattle.cedar_syntax.specs.trees.Unplaced.{policy_tree};
+ghost use Rattle.cedar_conversion.specs.strict.Table.{table_of};
+ghost use Rattle.cedar_policy_parser.specs.meaning.Formatted.{Formats, MeanTheSame, IsInLines, IsAnsweredAgain};
+ghost use Rattle.cedar_policy_parser.specs.faults.Refused.{RefusesSet};
 
 use crate::parse::parse_policyset;
 use cedar_grammar::laws::formatted_policies;

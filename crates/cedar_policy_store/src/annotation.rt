@@ -5,7 +5,7 @@ ghost use Rattle.std.specs.FinMap as map;
 ghost use Rattle.cedar_expressions.specs.Placed.{marked_place};
 ghost use Rattle.cedar_policy_store.specs.TextMap.{map_in};
 
-use cedar_expressions::{AnyId, NodePlace, Place, OwnedText, TryClone};
+use cedar_expressions::{AnyId, NodePlace, OwnedText, Place, TryClone};
 use std::alloc::{AllocError, Global};
 use std::collections::BTreeMap;
 use std::collections::btree_map::Iter;

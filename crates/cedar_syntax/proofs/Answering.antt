@@ -7,11 +7,11 @@ use Rattle.cedar_syntax.specs.declared.err.escape.UnescapeError.{UnescapeError}
 use Rattle.cedar_syntax.specs.declared.err.escape.UnescapeFailure.{UnescapeFailure}
 use Rattle.cedar_syntax.specs.declared.err.escape.UnescapeFailure.TheVariants.{Memory, Errors}
 use Rattle.cedar_syntax.specs.declared.err.non_empty.NonEmpty.{NonEmpty}
-use Rattle.cedar_syntax.specs.NonEmpty.{list_of}
-use Rattle.cedar_syntax.specs.UnescapeFailure.{Tells, LacksMemory}
-use Rattle.cedar_syntax.specs.EscapeFaults.{found_list}
-use Rattle.cedar_syntax.specs.Pattern.{IsPattern, HasPatternFaults, elem_of, pattern_fault_of}
-use Rattle.cedar_syntax.specs.Piece.{Placed, IsUnescaped, HasEscapeFaults, unescaped_piece, piece_value_faults}
+use Rattle.cedar_syntax.specs.faults.NonEmpty.{list_of}
+use Rattle.cedar_syntax.specs.strings.UnescapeFailure.{Tells, LacksMemory}
+use Rattle.cedar_syntax.specs.strings.EscapeFaults.{found_list}
+use Rattle.cedar_syntax.specs.strings.Pattern.{IsPattern, HasPatternFaults, elem_of, pattern_fault_of}
+use Rattle.cedar_syntax.specs.strings.Piece.{Placed, IsUnescaped, HasEscapeFaults, unescaped_piece, piece_value_faults}
 use Rattle.cedar_syntax.proofs.Layouts.{Whole, laid_once}
 
 whole_same : {A : Type 0} (gives : Placed → List A) (tells : Placed → List UnescapeError) (raw : List ℕ) (got got' : List A) (found found' : List UnescapeError) → Whole gives tells raw got found → Whole gives tells raw got' found' → (got ≡ got') × (found ≡ found')

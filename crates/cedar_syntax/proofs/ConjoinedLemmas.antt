@@ -2,7 +2,7 @@
 use Rattle.std.proofs.Common.{◌≡◌, ℕ, refl, ap, sym, ◌∙◌, List, [], ◌∷◌, ◌++◌, append_assoc, codes, map, length, ◌==◌, false, true≢false}
 use Rattle.std.specs.List.{flat_map}
 use Rattle.std.proofs.lemmas.List.{map-append}
-use Rattle.cedar_syntax.specs.Conjoined.{list_text, behind_commas}
+use Rattle.cedar_syntax.specs.messages.Conjoined.{list_text, behind_commas}
 
 abbrev pub behind_comma : List ℕ → List ℕ
 behind_comma text = codes ", " ++ text

@@ -11,8 +11,8 @@ use Rattle.std.proofs.Math.Utf8.{scalar, scalar_cases, low_scalar}
 use Rattle.cedar_syntax.specs.declared.err.escape.EscapeError.TheVariants.{BareCarriageReturn, EscapeOnlyChar, TooShortHexEscape, InvalidCharInHexEscape, OutOfRangeHexEscape, NoBraceInUnicodeEscape, InvalidCharInUnicodeEscape, EmptyUnicodeEscape, UnclosedUnicodeEscape, LeadingUnderscoreUnicodeEscape, OverlongUnicodeEscape, LoneSurrogateUnicodeEscape, OutOfRangeUnicodeEscape}
 use Rattle.cedar_syntax.specs.declared.unescape.piece.PieceValue.{PieceValue}
 use Rattle.cedar_syntax.specs.declared.unescape.piece.PieceValue.TheVariants.{Nothing, Character, Fault}
-use Rattle.cedar_syntax.specs.Piece.{Piece, plain, bare_quote, bare_return, lone_slash, short, line_end, hex, large_hex, short_hex, bad_hex, no_brace_but_end, no_brace, empty_braces, leading_underscore, unclosed, bad_inside, unicode, overlong, out_of_range, lone_surrogate, invalid, short_escape, is_blank, EndsBlanks, is_hex, is_no_underscore, is_hex_or_underscore, digits, hex_number, BeginsNumber}
-use Rattle.cedar_syntax.specs.PieceAhead.{BeginsWithPiece, PieceAhead, piece_ahead, faulty, first_of, hex_digit, unskipped_text, ascii, low_digit, behind_high, high_digit, hex_escape, Tally, tally, with_digit, scalar_outcome, as_char, brace_outcome, inside_braces, first_digit, behind_brace, unicode_escape, short_outcome, escape, first_piece}
+use Rattle.cedar_syntax.specs.strings.Piece.{Piece, plain, bare_quote, bare_return, lone_slash, short, line_end, hex, large_hex, short_hex, bad_hex, no_brace_but_end, no_brace, empty_braces, leading_underscore, unclosed, bad_inside, unicode, overlong, out_of_range, lone_surrogate, invalid, short_escape, is_blank, EndsBlanks, is_hex, is_no_underscore, is_hex_or_underscore, digits, hex_number, BeginsNumber}
+use Rattle.cedar_syntax.specs.strings.PieceAhead.{BeginsWithPiece, PieceAhead, piece_ahead, faulty, first_of, hex_digit, unskipped_text, ascii, low_digit, behind_high, high_digit, hex_escape, Tally, tally, with_digit, scalar_outcome, as_char, brace_outcome, inside_braces, first_digit, behind_brace, unicode_escape, short_outcome, escape, first_piece}
 
 moved : {whole whole' : List ℕ} {r r' : PieceAhead} → whole ≡ whole' → r ≡ r' → BeginsWithPiece whole r → BeginsWithPiece whole' r'
 moved {whole} {whole'} {r} {r'} e f b = subst (λ (w : List ℕ). BeginsWithPiece w r') e (subst (λ (s : PieceAhead). BeginsWithPiece whole s) f b)

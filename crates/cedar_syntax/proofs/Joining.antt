@@ -1,10 +1,10 @@
 -- Results joined one behind another.
 use Rattle.std.proofs.Common.{◌≡◌, List, [], ◌∷◌, ◌++◌, Result, Ok, Err, IfOk, IfErr, IsErrAnd, refl}
 use Rattle.std.proofs.lemmas.List.{append-nil}
-use Rattle.cedar_syntax.specs.ParseErrors.{faults_of}
+use Rattle.cedar_syntax.specs.faults.ParseErrors.{faults_of}
 use Rattle.cedar_syntax.specs.declared.err.faults.Failure.{Failure}
 use Rattle.cedar_syntax.specs.declared.err.faults.Failure.TheVariants.{Memory, Errors}
-use Rattle.cedar_syntax.specs.Joined.{failures, IsJoined}
+use Rattle.cedar_syntax.specs.faults.Joined.{failures, IsJoined}
 
 -- a part that fails, and then parts whose joined failure this is
 two_or_more : (f x g : Failure) (ys : List Failure) → IsJoined g ys → IsJoined f (x ∷ g ∷ []) →

@@ -8,8 +8,8 @@ use Rattle.std.specs.Ordering.{nat_cmp, is_eq}
 use Rattle.std.specs.Cmp.Lexicographic.{nat_list_eq_equiv, slice_cmp}
 use Rattle.std.specs.List.Sorted.{IsStrictlySortedBy}
 use Rattle.std.proofs.lemmas.Map.Text.{is_eq-slice_cmp}
-use Rattle.cedar_syntax.specs.Kept.{TokenName, TokenRules, is_among, without, kept_token_names, AreInOrder, SaysExpected, shown_name}
-use Rattle.cedar_syntax.specs.Conjoined.{list_text}
+use Rattle.cedar_syntax.specs.messages.Kept.{TokenName, TokenRules, is_among, without, kept_token_names, AreInOrder, SaysExpected, shown_name}
+use Rattle.cedar_syntax.specs.messages.Conjoined.{list_text}
 
 abbrev pub texts : List (Bor (List ℕ)) → List TokenName
 texts names = map (λ name. name.now) names

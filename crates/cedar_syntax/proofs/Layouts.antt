@@ -11,9 +11,9 @@ use Rattle.cedar_syntax.specs.declared.err.escape.EscapeError.{EscapeError}
 use Rattle.cedar_syntax.specs.declared.err.escape.EscapeError.TheVariants.{InvalidEscape}
 use Rattle.cedar_syntax.specs.declared.unescape.piece.PieceValue.{PieceValue}
 use Rattle.cedar_syntax.specs.declared.unescape.piece.PieceValue.TheVariants.{Fault}
-use Rattle.cedar_syntax.specs.Pattern.{is_escaped_star}
-use Rattle.cedar_syntax.specs.Piece.{Piece, Placed, bytes_len, piece_at, PieceLayout, end_of_text, piece, IsLaidOut}
-use Rattle.cedar_syntax.specs.PieceAhead.{BeginsWithPiece, PieceAhead, piece_ahead, faulty, first_of, first_piece, begins_escaped_star}
+use Rattle.cedar_syntax.specs.strings.Pattern.{is_escaped_star}
+use Rattle.cedar_syntax.specs.strings.Piece.{Piece, Placed, bytes_len, piece_at, PieceLayout, end_of_text, piece, IsLaidOut}
+use Rattle.cedar_syntax.specs.strings.PieceAhead.{BeginsWithPiece, PieceAhead, piece_ahead, faulty, first_of, first_piece, begins_escaped_star}
 use Rattle.cedar_syntax.proofs.FirstPiece.{begins, read_text, piece_is_read}
 
 no_clash : {A : Type 0} (x : A) → None ≡ Some x → ⊥

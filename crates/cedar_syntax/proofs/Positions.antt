@@ -3,7 +3,7 @@ use Rattle.std.proofs.Common.{◌≡◌, ℕ, ◌+◌, ◌<◌, List, [], ◌∷
 use Rattle.std.specs.Prelude.{if◌then◌else◌}
 use Rattle.std.proofs.lemmas.List.Sums.{sum_by_more, sum_by_push, fold_more}
 use Rattle.std.specs.List.{count_by}
-use Rattle.cedar_syntax.specs.Position.{is_line_feed, begins_character, line_with, last_line, line_behind, column_behind}
+use Rattle.cedar_syntax.specs.places.Position.{is_line_feed, begins_character, line_with, last_line, line_behind, column_behind}
 
 pub line_more : (bs : List ℕ) (i n m : ℕ) → i < length bs → n ≡ line_behind (take i bs) → m ≡ n + (if is_line_feed (get_or bs i 0) then 1 else 0) → m ≡ line_behind (take (i + 1) bs)
 line_more bs i n m l e f = omega (arith, sum_by_more (λ x. if is_line_feed x then 1 else 0) bs i 0 l)

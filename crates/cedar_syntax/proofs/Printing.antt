@@ -5,8 +5,8 @@ use Rattle.std.specs.Fmt.{IsPlainFormatter}
 use Rattle.std.proofs.Output.{has_written_append, has_written_of_eq, writes_in_calls_nil}
 use Rattle.std.specs.declared.fmt.Formatter.{Formatter}
 use Rattle.std.specs.declared.fmt.Error.{Error}
-use Rattle.cedar_syntax.specs.Printed.{Texts, spaced_tokens}
-use Rattle.cedar_syntax.specs.Printing.{is_none, text_from, HasPrinted, Prints, texts_behind_mark, in_row, between, texts_before_mark}
+use Rattle.cedar_syntax.specs.printing.Printed.{Texts, spaced_tokens}
+use Rattle.cedar_syntax.specs.printing.Printing.{is_none, text_from, HasPrinted, Prints, texts_behind_mark, in_row, between, texts_before_mark}
 
 pub spaced-append : (xs ys : Texts) → spaced_tokens (xs ++ ys) ≡ spaced_tokens xs ++ spaced_tokens ys
 spaced-append [] ys = refl

@@ -14,7 +14,7 @@ use Rattle.std.specs.HashSet.{HashSet}
 use Rattle.std.specs.declared.hash.FoldHasher.{FoldHasher}
 use Rattle.std.specs.declared.hash.BuildHasherDefault.{BuildHasherDefault}
 use Rattle.std.proofs.lemmas.Map.Made.{update_all_none}
-use Rattle.cedar_syntax.specs.Kept.{TokenName, is_among, is_in, friendly_of, are_distinct, table_texts}
+use Rattle.cedar_syntax.specs.messages.Kept.{TokenName, is_among, is_in, friendly_of, are_distinct, table_texts}
 
 abbrev pub same_text : Bor (List ℕ) → Bor (List ℕ) → Bool
 same_text x y = bytes_eq x.now y.now

@@ -36,10 +36,10 @@ use Rattle.cedar_syntax.specs.declared.cst.Primary as P
 use Rattle.cedar_syntax.specs.declared.cst.Relation as R
 use Rattle.cedar_syntax.specs.declared.cst.Ref.TheVariants as F
 use Rattle.cedar_syntax.specs.declared.cst.Policy.TheVariants as Q
-use Rattle.cedar_syntax.specs.Tree.{Tree, Operator, or_or, and_and, compare, add, multiply, beside}
-use Rattle.cedar_syntax.specs.Unplaced.{expr_tree, data_tree, access_tree, primary_tree, relation_tree, add_tree, and_tree, impl_tree, member_tree, mult_tree, or_tree, init_tree, unary_tree, ident_tree, str_tree, literal_tree, name_tree, slot_tree, ref_tree, ref_init_tree, annotation_tree, variable_def_tree, cond_tree, policy_impl_tree, policy_tree, policies_tree, or_missing, unplaced_node, tree_at, content, rest_behind, rest_of, optional, comparison_rest, condition_tree}
-use Rattle.cedar_syntax.specs.Printed.{Texts, printed, in_order, item_texts, each_behind, option_texts, operator_texts, rel_op_texts, add_op_texts, mult_op_texts, neg_op_texts, ident_texts, str_texts, path_texts, value_texts}
-use Rattle.cedar_syntax.specs.Printing.{texts_behind_mark, in_row, between, option_behind_mark, texts_before_mark, node_texts, pair_texts}
+use Rattle.cedar_syntax.specs.trees.Tree.{Tree, Operator, or_or, and_and, compare, add, multiply, beside}
+use Rattle.cedar_syntax.specs.trees.Unplaced.{expr_tree, data_tree, access_tree, primary_tree, relation_tree, add_tree, and_tree, impl_tree, member_tree, mult_tree, or_tree, init_tree, unary_tree, ident_tree, str_tree, literal_tree, name_tree, slot_tree, ref_tree, ref_init_tree, annotation_tree, variable_def_tree, cond_tree, policy_impl_tree, policy_tree, policies_tree, or_missing, unplaced_node, tree_at, content, rest_behind, rest_of, optional, comparison_rest, condition_tree}
+use Rattle.cedar_syntax.specs.printing.Printed.{Texts, printed, in_order, item_texts, each_behind, option_texts, operator_texts, rel_op_texts, add_op_texts, mult_op_texts, neg_op_texts, ident_texts, str_texts, path_texts, value_texts}
+use Rattle.cedar_syntax.specs.printing.Printing.{texts_behind_mark, in_row, between, option_behind_mark, texts_before_mark, node_texts, pair_texts}
 use Rattle.cedar_syntax.proofs.Levels.{or_out, and_out, add_out, mult_out, unary_out, member_out, init_out, impl_out, expr_out, data_or, data_if, relation_common, relation_has, relation_like, relation_is, relation_is_in, access_field, access_call, access_index, primary_literal, primary_ref, primary_name, primary_slot, primary_expr, primary_list, primary_inits}
 
 -- ---- lists and nodes

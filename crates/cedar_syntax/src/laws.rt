@@ -4,8 +4,8 @@ ghost use Rattle.std.specs.Prelude.{◌≡◌};
 ghost use Rattle.std.specs.Cmp.Lexicographic.{slice_cmp};
 ghost use Rattle.std.specs.Ordering.{nat_cmp, ordering_then};
 ghost use Rattle.cedar_syntax.specs.declared.cst.TheConstants.{SIGN_LIMIT};
-ghost use Rattle.cedar_syntax.specs.Signs.{sign_limit};
-ghost use Rattle.cedar_syntax.specs.Span.{Span};
+ghost use Rattle.cedar_syntax.specs.tokens.Signs.{sign_limit};
+ghost use Rattle.cedar_syntax.specs.places.Span.{Span};
 
 use crate::loc::{Loc, SourceSpan};
 use crate::position::Position;

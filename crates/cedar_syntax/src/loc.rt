@@ -2,7 +2,7 @@
 ghost use Rattle.std.specs.Prelude.{◌≡◌, ◌+◌, ◌-◌, ◌<◌, ◌≤◌, ◌^◌, IfOk, MatchOption, ◌↔◌, IsSome, IsTrue};
 ghost use Rattle.std.specs.Str.{IsCharBoundary};
 ghost use Rattle.std.specs.Rc.{rc_str_bytes};
-ghost use Rattle.cedar_syntax.specs.Span.{IsRangeOf, end_of, part_of, is_boundary};
+ghost use Rattle.cedar_syntax.specs.places.Span.{IsRangeOf, end_of, part_of, is_boundary};
 ghost use Rattle.std.specs.Option.{option_copied};
 
 use cedar_expressions::{Source, TryClone};
@@ -20,7 +20,7 @@ pub struct SourceSpan {
 
 impl Model for SourceSpan {
     ghost use Rattle.std.specs.Prelude.{◌+◌, ◌<◌, ◌^◌};
-    ghost use Rattle.cedar_syntax.specs.Span.{Span};
+    ghost use Rattle.cedar_syntax.specs.places.Span.{Span};
 
     ghost Value = { Span };
 

@@ -138,7 +138,7 @@ impl<'a, T: Copy> Node<&'a T> {
 
 /// What a node that may be empty holds.
 impl<T> Node<Option<T>> {
-    ghost use Rattle.cedar_syntax.specs.Node.{IsLentIn, empty_fault, IsRefusedWith};
+    ghost use Rattle.cedar_syntax.specs.trees.Node.{IsLentIn, empty_fault, IsRefusedWith};
 
     /// The value, or `None` where the node is empty.
     pub fn as_inner(&self) -> Option<&T>

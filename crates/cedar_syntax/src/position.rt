@@ -1,6 +1,6 @@
 //! Lines and columns: where people see an offset of a text.
 ghost use Rattle.std.specs.Prelude.{◌≡◌, ◌+◌, ◌<◌, ◌^◌, if◌then◌else◌};
-ghost use Rattle.cedar_syntax.specs.Position.{is_line_feed, begins_character, position_behind, position_of};
+ghost use Rattle.cedar_syntax.specs.places.Position.{is_line_feed, begins_character, position_behind, position_of};
 
 use crate::loc::Loc;
 

@@ -1,6 +1,6 @@
 //! Slots: which slot of a template a form is, and which variable of the scope can have it.
 ghost use Rattle.std.specs.Prelude.{◌≡◌};
-ghost use Rattle.cedar_syntax.specs.Slots.{GivesSlot, matches as matches_var};
+ghost use Rattle.cedar_syntax.specs.trees.Slots.{GivesSlot, matches as matches_var};
 
 use crate::cst::Slot;
 use crate::err::{Failure, ParseErrors, ToASTError, ToASTErrorKind};
@@ -39,7 +39,7 @@ impl Slot {
 
 impl From<SlotId> for Slot {
     ghost use Rattle.std.specs.Prelude.{◌≡◌};
-    ghost use Rattle.cedar_syntax.specs.Slots.{written_slot};
+    ghost use Rattle.cedar_syntax.specs.trees.Slots.{written_slot};
 
     ghost from_gives = { λ id slot. slot ≡ written_slot id };
 

@@ -2,9 +2,9 @@
 ghost use Rattle.std.specs.Prelude.{◌≡◌, ◌≢◌, [], ℕ, List, MatchResult, IfOk, IfErr, string_bytes};
 ghost use Rattle.cedar_expressions.specs.declared.atoms.PatternElem.{PatternElem};
 ghost use Rattle.cedar_syntax.specs.declared.err.escape.UnescapeError.{UnescapeError};
-ghost use Rattle.cedar_syntax.specs.UnescapeFailure.{Tells, LacksMemory};
-ghost use Rattle.cedar_syntax.specs.Pattern.{IsPattern, HasPatternFaults, character_elem};
-ghost use Rattle.cedar_syntax.specs.Piece.{IsUnescaped, HasEscapeFaults};
+ghost use Rattle.cedar_syntax.specs.strings.UnescapeFailure.{Tells, LacksMemory};
+ghost use Rattle.cedar_syntax.specs.strings.Pattern.{IsPattern, HasPatternFaults, character_elem};
+ghost use Rattle.cedar_syntax.specs.strings.Piece.{IsUnescaped, HasEscapeFaults};
 
 mod digits;
 mod faults;

@@ -1,6 +1,6 @@
 //! Results joined: all values, or the failing parts' faults one after another.
 ghost use Rattle.std.specs.Prelude.{◌≡◌, ◌⊎◌, ◌++◌, IfOk, IfErr};
-ghost use Rattle.cedar_syntax.specs.Joined.{WantsMemory, TellsBoth, TellsAll, failures, IsJoined};
+ghost use Rattle.cedar_syntax.specs.faults.Joined.{WantsMemory, TellsBoth, TellsAll, failures, IsJoined};
 
 use crate::err::{Failure, ParseErrors};
 

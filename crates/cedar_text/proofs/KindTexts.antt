@@ -15,8 +15,8 @@ use Rattle.cedar_lexer.specs.Token.{Lexeme}
 use Rattle.cedar_lexer.specs.declared.token.TokenKind.{TokenKind}
 use Rattle.cedar_lexer.specs.declared.token.TokenKind.TheVariants as kind
 use Rattle.cedar_lexer.proofs.Cuts.{token_found}
-use Rattle.cedar_grammar.specs.Sentences.{kinds}
-use Rattle.cedar_syntax.specs.Tokens.{fits}
+use Rattle.cedar_grammar.specs.grammar.Sentences.{kinds}
+use Rattle.cedar_syntax.specs.tokens.Tokens.{fits}
 
 -- ---- one kind
 

@@ -25,14 +25,14 @@ use Rattle.cedar_syntax.specs.declared.cst.Slot.{Slot}
 use Rattle.cedar_syntax.specs.declared.cst.Ident.{Ident}
 use Rattle.cedar_syntax.specs.declared.cst.Ident.TheVariants as ident
 use Rattle.cedar_syntax.specs.declared.cst.RecInit.{RecInit}
-use Rattle.cedar_grammar.specs.LooseExpressions.{ReadsSigns, one_sign, more_signs, ReadsAddOp, plus, minus, ReadsRelOp, less, less_eq, greater_eq, greater, not_eq, equal, within, single_eq, ReadsMultOp, times, divide, modulo, ReadsSlot, principal_slot, resource_slot, other_slot, if_name, lone_add, lone_expr, ReadsExpr, or_expr, if_expr, ReadsOr, or, ReadsAnds, one_and, more_and, ReadsAnd, and, ReadsRelations, one_relation, more_relation, ReadsRelation, common, has, has_if, like, is, is_in, ReadsAdds, one_add, more_add, ReadsAdd, add, ReadsMults, one_mult, more_mult, ReadsMult, mult, ReadsUnaries, one_unary, more_unary, ReadsUnary, plain, banged, dashed, ReadsMember, member, ReadsAccesses, no_access, more_access, ReadsAccess, field, call, index, ReadsPrimary, literally, referred, named, slotted, paren, set, in_braces, ReadsExprs, no_expr, exprs, exprs_comma, ReadsExprItems, one_expr, more_exprs, ReadsRecInits, no_init, inits, inits_comma, ReadsInitItems, one_init, more_inits, ReadsRecInit, rec_init, if_init}
-use Rattle.cedar_grammar.specs.LooseWords.{ReadsItems, one_item, more_items, ReadsList, no_item, items, items_comma, ReadsLiteral, truth, falsity, number, string, ReadsAny, any, ReadsPath, one_word, more_words, ReadsName, common as common_name, qualified, ReadsRefInit, ref_init, ReadsRef, uid, with_inits}
-use Rattle.cedar_grammar.specs.Place.{placed}
-use Rattle.cedar_syntax.specs.Tokens.{Spot, one}
-use Rattle.cedar_syntax.specs.Tree as t
-use Rattle.cedar_syntax.specs.Tree.{Tree, Operator, disjunction, sum, product, beside as next_to, or_or, and_and}
-use Rattle.cedar_syntax.specs.Trees.{Cell, expr_of, if_of, or_of, and_of, common_of, add_of, mult_of, unary_of, member_of, rec_init_of, name_of, bangs_of, dashes_of}
-use Rattle.cedar_syntax.specs.Unplaced.{expr_tree, access_tree, primary_tree, relation_tree, add_tree, and_tree, member_tree, mult_tree, or_tree, init_tree, unary_tree, literal_tree, ref_tree, unplaced_node, content, tree_at, rest_behind, rest_of, rel_part, add_part, mult_part, unplaced_relation_part, unplaced_sum_part, unplaced_product_part}
+use Rattle.cedar_grammar.specs.grammar.LooseExpressions.{ReadsSigns, one_sign, more_signs, ReadsAddOp, plus, minus, ReadsRelOp, less, less_eq, greater_eq, greater, not_eq, equal, within, single_eq, ReadsMultOp, times, divide, modulo, ReadsSlot, principal_slot, resource_slot, other_slot, if_name, lone_add, lone_expr, ReadsExpr, or_expr, if_expr, ReadsOr, or, ReadsAnds, one_and, more_and, ReadsAnd, and, ReadsRelations, one_relation, more_relation, ReadsRelation, common, has, has_if, like, is, is_in, ReadsAdds, one_add, more_add, ReadsAdd, add, ReadsMults, one_mult, more_mult, ReadsMult, mult, ReadsUnaries, one_unary, more_unary, ReadsUnary, plain, banged, dashed, ReadsMember, member, ReadsAccesses, no_access, more_access, ReadsAccess, field, call, index, ReadsPrimary, literally, referred, named, slotted, paren, set, in_braces, ReadsExprs, no_expr, exprs, exprs_comma, ReadsExprItems, one_expr, more_exprs, ReadsRecInits, no_init, inits, inits_comma, ReadsInitItems, one_init, more_inits, ReadsRecInit, rec_init, if_init}
+use Rattle.cedar_grammar.specs.grammar.LooseWords.{ReadsItems, one_item, more_items, ReadsList, no_item, items, items_comma, ReadsLiteral, truth, falsity, number, string, ReadsAny, any, ReadsPath, one_word, more_words, ReadsName, common as common_name, qualified, ReadsRefInit, ref_init, ReadsRef, uid, with_inits}
+use Rattle.cedar_grammar.specs.grammar.Place.{placed}
+use Rattle.cedar_syntax.specs.tokens.Tokens.{Spot, one}
+use Rattle.cedar_syntax.specs.trees.Tree as t
+use Rattle.cedar_syntax.specs.trees.Tree.{Tree, Operator, disjunction, sum, product, beside as next_to, or_or, and_and}
+use Rattle.cedar_syntax.specs.trees.Trees.{Cell, expr_of, if_of, or_of, and_of, common_of, add_of, mult_of, unary_of, member_of, rec_init_of, name_of, bangs_of, dashes_of}
+use Rattle.cedar_syntax.specs.trees.Unplaced.{expr_tree, access_tree, primary_tree, relation_tree, add_tree, and_tree, member_tree, mult_tree, or_tree, init_tree, unary_tree, literal_tree, ref_tree, unplaced_node, content, tree_at, rest_behind, rest_of, rel_part, add_part, mult_part, unplaced_relation_part, unplaced_sum_part, unplaced_product_part}
 use Rattle.cedar_syntax.proofs.Levels.{or_out, and_out, add_out, mult_out, unary_out, member_out, init_out, impl_out, expr_out, data_or, data_if, relation_common, relation_has, relation_like, relation_is, relation_is_in, access_field, access_call, access_index, primary_literal, primary_ref, primary_name, primary_slot, primary_expr, primary_list, primary_inits}
 use Rattle.cedar_text.specs.TreeDepth.{tree_depth, rest_depth}
 use Rattle.cedar_text.proofs.Spanning.{Spans, Keeps, Opens, Closes, lower, nothing_spans, token_spans, beside, followed, led, joined_by, deeper, bracketed, any_keeps}

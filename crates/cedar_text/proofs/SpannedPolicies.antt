@@ -15,15 +15,15 @@ use Rattle.cedar_syntax.specs.declared.cst.Policy.{Policy}
 use Rattle.cedar_syntax.specs.declared.cst.Primary.{Primary}
 use Rattle.cedar_syntax.specs.declared.cst.RelOp.{RelOp}
 use Rattle.cedar_syntax.specs.declared.cst.VariableDef.{VariableDef}
-use Rattle.cedar_grammar.specs.Grammar.{Rule, IsTreeOf}
-use Rattle.cedar_grammar.specs.LooseExpressions.{ReadsExpr, ReadsPrimary}
-use Rattle.cedar_grammar.specs.LoosePolicies.{ReadsMany, none, more, ReadsAnnotation, key_alone, with_value, ReadsTypeName, no_type_name, type_name, no_entity_type, entity_type, ReadsConstraint, no_constraint, constraint, ReadsVariableDef, variable_def, no_body, body, ReadsCond, cond, ReadsPolicy, policy, ReadsPolicies, policies}
-use Rattle.cedar_grammar.specs.LooseWords.{ReadsItems, one_item, more_items, ReadsList, no_item, items, items_comma}
-use Rattle.cedar_grammar.specs.Place.{placed, placed_or_start}
-use Rattle.cedar_syntax.specs.Tokens.{one}
-use Rattle.cedar_syntax.specs.Tree.{Tree, beside as next_to}
-use Rattle.cedar_syntax.specs.Trees.{Cell}
-use Rattle.cedar_syntax.specs.Unplaced.{expr_tree, primary_tree, annotation_tree, variable_def_tree, cond_tree, policy_tree, policies_tree, comparison_rest, unplaced_node, content, tree_at, rest_behind}
+use Rattle.cedar_grammar.specs.grammar.Grammar.{Rule, IsTreeOf}
+use Rattle.cedar_grammar.specs.grammar.LooseExpressions.{ReadsExpr, ReadsPrimary}
+use Rattle.cedar_grammar.specs.grammar.LoosePolicies.{ReadsMany, none, more, ReadsAnnotation, key_alone, with_value, ReadsTypeName, no_type_name, type_name, no_entity_type, entity_type, ReadsConstraint, no_constraint, constraint, ReadsVariableDef, variable_def, no_body, body, ReadsCond, cond, ReadsPolicy, policy, ReadsPolicies, policies}
+use Rattle.cedar_grammar.specs.grammar.LooseWords.{ReadsItems, one_item, more_items, ReadsList, no_item, items, items_comma}
+use Rattle.cedar_grammar.specs.grammar.Place.{placed, placed_or_start}
+use Rattle.cedar_syntax.specs.tokens.Tokens.{one}
+use Rattle.cedar_syntax.specs.trees.Tree.{Tree, beside as next_to}
+use Rattle.cedar_syntax.specs.trees.Trees.{Cell}
+use Rattle.cedar_syntax.specs.trees.Unplaced.{expr_tree, primary_tree, annotation_tree, variable_def_tree, cond_tree, policy_tree, policies_tree, comparison_rest, unplaced_node, content, tree_at, rest_behind}
 use Rattle.cedar_text.specs.Nesting.{deepest, IsNesting}
 use Rattle.cedar_text.specs.TreeDepth.{tree_depth, rest_depth}
 use Rattle.cedar_text.proofs.Spanning.{Spans, end_depth, deepest_append, end_append, lower, nothing_spans, token_spans, beside, followed, led, joined_by}

@@ -5,7 +5,7 @@ use Rattle.cedar_lexer.specs.Token.{Lexeme}
 use Rattle.cedar_lexer.specs.declared.token.TokenKind.{TokenKind}
 use Rattle.cedar_lexer.specs.declared.token.TokenKind.TheVariants as kind
 use Rattle.cedar_syntax.specs.declared.cst.Ident.{Ident}
-use Rattle.cedar_syntax.specs.Tokens.{Spot, one, any_of}
+use Rattle.cedar_syntax.specs.tokens.Tokens.{Spot, one, any_of}
 use Rattle.cedar_text.specs.Nesting.{depth_behind, deepest}
 use Rattle.cedar_text.proofs.Counting.{at_least}
 

@@ -4,8 +4,8 @@ use Rattle.std.specs.Str.{IsUtf8}
 use Rattle.cedar_lexer.specs.Cut.{Cuts, Layout}
 use Rattle.cedar_lexer.specs.Token.{Lexeme}
 use Rattle.cedar_lexer.specs.declared.token.TokenKind.{TokenKind}
-use Rattle.cedar_grammar.specs.Grammar.{Rule}
-use Rattle.cedar_grammar.specs.Sentences.{kinds, HasTree, Starts, Sentence}
+use Rattle.cedar_grammar.specs.grammar.Grammar.{Rule}
+use Rattle.cedar_grammar.specs.grammar.Sentences.{kinds, HasTree, Starts, Sentence}
 
 -- bytes that make a text behind these, whose tokens are these and then some of these kinds, and
 -- have a tree by the rule

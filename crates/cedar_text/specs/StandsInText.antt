@@ -5,8 +5,8 @@ use Rattle.std.specs.Str.{IsUtf8}
 use Rattle.cedar_lexer.specs.Cut.{Cuts}
 use Rattle.cedar_lexer.specs.Token.{Lexeme}
 use Rattle.cedar_lexer.specs.declared.token.TokenKind.{TokenKind}
-use Rattle.cedar_grammar.specs.Grammar.{Rule}
-use Rattle.cedar_grammar.specs.Sentences.{kinds, HasTree, Sentence}
+use Rattle.cedar_grammar.specs.grammar.Grammar.{Rule}
+use Rattle.cedar_grammar.specs.grammar.Sentences.{kinds, HasTree, Sentence}
 
 -- a text that cuts into tokens of these kinds, which have a tree by the rule
 pub record SentenceText {T : Type 0} (R : Rule T) (ks : List TokenKind) : Type 0 where

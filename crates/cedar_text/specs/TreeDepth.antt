@@ -1,10 +1,10 @@
 -- How deep a tree nests: the most brackets and `if`s, together, that an expression of it stands
 -- in. Each is one call deeper where a tree is converted, printed, copied or dropped.
 use Rattle.std.specs.Prelude.{ℕ, ◌+◌, ◌≤◌, max, List}
-use Rattle.cedar_grammar.specs.Grammar.{Rule, IsTreeOf}
-use Rattle.cedar_syntax.specs.Tree.{Tree, Rest, ite, chain, has, like, is, is_in, unary, member, call, index, parens, set, record_of, init, variable_def, condition, policy, policies, none, more}
-use Rattle.cedar_syntax.specs.Trees.{Cell}
-use Rattle.cedar_syntax.specs.Unplaced.{tree_at}
+use Rattle.cedar_grammar.specs.grammar.Grammar.{Rule, IsTreeOf}
+use Rattle.cedar_syntax.specs.trees.Tree.{Tree, Rest, ite, chain, has, like, is, is_in, unary, member, call, index, parens, set, record_of, init, variable_def, condition, policy, policies, none, more}
+use Rattle.cedar_syntax.specs.trees.Trees.{Cell}
+use Rattle.cedar_syntax.specs.trees.Unplaced.{tree_at}
 use Rattle.cedar_text.specs.Nesting.{IsNesting}
 
 abbrev mutual

@@ -1,10 +1,10 @@
 use Rattle.std.proofs.Common.{◌∙◌, ap, refl, sym, Ok, Some}
 use Rattle.cedar_syntax.specs.declared.cst.Unary.{out-Unary}
-use Rattle.cedar_syntax.specs.Forms.{located, expr_form, or_form, and_form, relation_form, add_form, mult_form, unary_form, member_form, primary_form, or_operand, and_operand, relation_operand, add_operand, mult_operand, listed_access, listed_expr, listed_init}
-use Rattle.cedar_syntax.specs.Tree.{or_or, and_and, compare, add, multiply, beside}
-use Rattle.cedar_conversion.specs.Conversion.{outcome}
-use Rattle.cedar_conversion.specs.Outcome.{item_more}
-use Rattle.cedar_conversion.specs.Table.{table_of}
+use Rattle.cedar_syntax.specs.trees.Forms.{located, expr_form, or_form, and_form, relation_form, add_form, mult_form, unary_form, member_form, primary_form, or_operand, and_operand, relation_operand, add_operand, mult_operand, listed_access, listed_expr, listed_init}
+use Rattle.cedar_syntax.specs.trees.Tree.{or_or, and_and, compare, add, multiply, beside}
+use Rattle.cedar_conversion.specs.outcome.Conversion.{outcome}
+use Rattle.cedar_conversion.specs.outcome.Outcome.{item_more}
+use Rattle.cedar_conversion.specs.strict.Table.{table_of}
 use Rattle.cedar_conversion.proofs.Gathered.{no_access, access_next, no_pair, pair_next}
 use Rattle.cedar_conversion.proofs.Loops.{take_whole}
 use Rattle.cedar_conversion.proofs.Nodes as node

@@ -1,9 +1,9 @@
 use Rattle.std.proofs.Common.{map, take, Option}
-use Rattle.cedar_syntax.specs.Forms.{parts_of, or_operand, and_operand, relation_operand, add_operand, mult_operand, listed_access, listed_expr, listed_init}
-use Rattle.cedar_syntax.specs.Tree.{or_or, and_and, compare, add, multiply, beside}
-use Rattle.cedar_conversion.specs.Conversion.{operands, accesses_outcome, pairs_outcome}
-use Rattle.cedar_conversion.specs.Seen.{Gives}
-use Rattle.cedar_conversion.specs.Table.{table_of}
+use Rattle.cedar_syntax.specs.trees.Forms.{parts_of, or_operand, and_operand, relation_operand, add_operand, mult_operand, listed_access, listed_expr, listed_init}
+use Rattle.cedar_syntax.specs.trees.Tree.{or_or, and_and, compare, add, multiply, beside}
+use Rattle.cedar_conversion.specs.outcome.Conversion.{operands, accesses_outcome, pairs_outcome}
+use Rattle.cedar_conversion.specs.outcome.Seen.{Gives}
+use Rattle.cedar_conversion.specs.strict.Table.{table_of}
 use Rattle.cedar_conversion.specs.machines.Applied.{seen_accesses, seen_pairs}
 use Rattle.cedar_conversion.specs.machines.Views.{rest_view}
 use Rattle.cedar_conversion.proofs.+convert.Given as goal

@@ -7,7 +7,7 @@ use Rattle.cedar_syntax.specs.declared.err.faults.Failure.{Failure}
 use Rattle.cedar_syntax.specs.declared.loc.Loc.{Loc}
 use Rattle.cedar_syntax.specs.declared.node.Node.{Node}
 use Rattle.cedar_syntax.specs.declared.cst.Add.{Add}
-use Rattle.cedar_syntax.specs.Forms.{located, add_form}
+use Rattle.cedar_syntax.specs.trees.Forms.{located, add_form}
 use Rattle.cedar_expressions.specs.Value as v
 use Rattle.cedar_expressions.specs.Value.{Value}
 use Rattle.cedar_conversion.specs.declared.primaries.members.AccessValue.{AccessValue as Access}
@@ -15,14 +15,14 @@ use Rattle.cedar_conversion.specs.declared.primaries.members.AccessValue.TheVari
 use Rattle.cedar_conversion.specs.declared.primaries.members.Reading.{Reading}
 use Rattle.cedar_expressions.specs.declared.entity.EntityType.{EntityType}
 use Rattle.cedar_expressions.specs.declared.atoms.PatternElem.{PatternElem}
-use Rattle.cedar_conversion.specs.Conversion.{ValueAndType, type_test_outcome, type_within_outcome, value_outcome}
-use Rattle.cedar_conversion.specs.Extensions.{Extensions}
-use Rattle.cedar_conversion.specs.HasSide.{Attributes}
-use Rattle.cedar_conversion.specs.Held.{Held}
-use Rattle.cedar_conversion.specs.Members as given
-use Rattle.cedar_conversion.specs.Members.{accesses_of}
-use Rattle.cedar_conversion.specs.Outcome.{Outcome, next}
-use Rattle.cedar_conversion.specs.Seen.{Refuses}
+use Rattle.cedar_conversion.specs.outcome.Conversion.{ValueAndType, type_test_outcome, type_within_outcome, value_outcome}
+use Rattle.cedar_conversion.specs.strict.Extensions.{Extensions}
+use Rattle.cedar_conversion.specs.parts.HasSide.{Attributes}
+use Rattle.cedar_conversion.specs.outcome.Held.{Held}
+use Rattle.cedar_conversion.specs.parts.Members as given
+use Rattle.cedar_conversion.specs.parts.Members.{accesses_of}
+use Rattle.cedar_conversion.specs.outcome.Outcome.{Outcome, next}
+use Rattle.cedar_conversion.specs.outcome.Seen.{Refuses}
 
 abbrev pub seen_access : {E : Type 0} → (E → Value) → Access E → given.Access
 seen_access meaning (access.Field id) = given.field id

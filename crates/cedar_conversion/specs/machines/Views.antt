@@ -10,16 +10,16 @@ use Rattle.cedar_syntax.specs.declared.err.faults.Failure.{Failure}
 use Rattle.cedar_syntax.specs.declared.err.faults.Failure.TheVariants.{Memory, Errors}
 use Rattle.cedar_syntax.specs.declared.err.to_ast.ToASTError.{ToASTError}
 use Rattle.cedar_syntax.specs.declared.loc.Loc.{Loc}
-use Rattle.cedar_syntax.specs.Joined.{TellsBoth}
-use Rattle.cedar_syntax.specs.ParseErrors.{faults_of}
-use Rattle.cedar_syntax.specs.Tree.{Operator}
+use Rattle.cedar_syntax.specs.faults.Joined.{TellsBoth}
+use Rattle.cedar_syntax.specs.faults.ParseErrors.{faults_of}
+use Rattle.cedar_syntax.specs.trees.Tree.{Operator}
 use Rattle.cedar_conversion.specs.declared.answer.special.ExprOrSpecial.{ExprOrSpecial}
 use Rattle.cedar_conversion.specs.declared.answer.special.ExprOrSpecial.TheVariants as special
-use Rattle.cedar_conversion.specs.Conversion.{Part}
-use Rattle.cedar_conversion.specs.Held.{Held, expression, variable, bare_name, bare_truth, bare_string}
-use Rattle.cedar_conversion.specs.Outcome.{Kind, NamedFault, Outcome, both, next}
-use Rattle.cedar_conversion.specs.Places.{bytes_of}
-use Rattle.cedar_conversion.specs.Seen.{kind_of, named_faults}
+use Rattle.cedar_conversion.specs.outcome.Conversion.{Part}
+use Rattle.cedar_conversion.specs.outcome.Held.{Held, expression, variable, bare_name, bare_truth, bare_string}
+use Rattle.cedar_conversion.specs.outcome.Outcome.{Kind, NamedFault, Outcome, both, next}
+use Rattle.cedar_conversion.specs.outcome.Places.{bytes_of}
+use Rattle.cedar_conversion.specs.outcome.Seen.{kind_of, named_faults}
 
 -- ---- faults
 

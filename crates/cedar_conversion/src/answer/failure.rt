@@ -4,8 +4,8 @@
 //! too. So faults stand in memory of their own here, and `told` gives the failure that the calls
 //! on trees tell. `cedar_syntax::util` joins what is told.
 ghost use Rattle.std.specs.Prelude.{◌≡◌, ◌⊎◌, ◌++◌, IfOk, IfErr};
-ghost use Rattle.cedar_syntax.specs.Joined.{WantsMemory, TellsBoth, TellsAll, TellsFaults};
-ghost use Rattle.cedar_syntax.specs.ParseErrors.{faults_of};
+ghost use Rattle.cedar_syntax.specs.faults.Joined.{WantsMemory, TellsBoth, TellsAll, TellsFaults};
+ghost use Rattle.cedar_syntax.specs.faults.ParseErrors.{faults_of};
 ghost use Rattle.cedar_syntax.specs.declared.err.faults.Failure.TheVariants.{Errors};
 
 use cedar_expressions::Boxed;
@@ -29,7 +29,7 @@ pub(crate) enum Cause {
 impl Model for Failure {
     ghost use Rattle.cedar_syntax.specs.declared.err.faults.Failure.{Failure as Told};
     ghost use Rattle.cedar_syntax.specs.contracts.err.faults.Failure as whole;
-    ghost use Rattle.cedar_conversion.specs.Causes.{told_cause};
+    ghost use Rattle.cedar_conversion.specs.outcome.Causes.{told_cause};
 
     ghost Value = { Told };
 

@@ -1,11 +1,11 @@
 //! Faults one behind another, and places within a place.
 ghost use Rattle.std.specs.Prelude.{◌≡◌, ◌⊎◌, List, [], ◌∷◌, ◌++◌, IfOk, Ok};
-ghost use Rattle.cedar_conversion.specs.Places.{bytes_within as within, place_within as within_place};
+ghost use Rattle.cedar_conversion.specs.outcome.Places.{bytes_within as within, place_within as within_place};
 ghost use Rattle.cedar_syntax.specs.declared.err.faults.ParseError.TheVariants.{ToAST};
-ghost use Rattle.cedar_conversion.specs.Outcome.{NamedFault, Outcome, both, next, faults_outcome};
-ghost use Rattle.cedar_conversion.specs.Seen.{Gives, Refuses, named_fault};
-ghost use Rattle.cedar_syntax.specs.ParseErrors.{IsMemory};
-ghost use Rattle.cedar_syntax.specs.Joined.{WantsMemory};
+ghost use Rattle.cedar_conversion.specs.outcome.Outcome.{NamedFault, Outcome, both, next, faults_outcome};
+ghost use Rattle.cedar_conversion.specs.outcome.Seen.{Gives, Refuses, named_fault};
+ghost use Rattle.cedar_syntax.specs.faults.ParseErrors.{IsMemory};
+ghost use Rattle.cedar_syntax.specs.faults.Joined.{WantsMemory};
 ghost use Rattle.cedar_conversion.specs.machines.Views.{empty_view};
 
 use crate::answer::failure::{Failure, flatten_tuple_2};

@@ -1,13 +1,13 @@
 //! Parts that are given, one after another.
 ghost use Rattle.std.specs.Prelude.{◌≡◌, ◌<◌, ◌^◌, List, Ok, Err, length, map, IfOk, alloc_error};
 ghost use Rattle.cedar_expressions.specs.Value.{Value};
-ghost use Rattle.cedar_syntax.specs.Forms.{parts_of};
-ghost use Rattle.cedar_syntax.specs.Located.{Located};
-ghost use Rattle.cedar_syntax.specs.Tree.{Operator, relation};
+ghost use Rattle.cedar_syntax.specs.trees.Forms.{parts_of};
+ghost use Rattle.cedar_syntax.specs.trees.Located.{Located};
+ghost use Rattle.cedar_syntax.specs.trees.Tree.{Operator, relation};
 ghost use Rattle.cedar_syntax.specs.declared.err.faults.Failure.TheVariants.{Memory};
-ghost use Rattle.cedar_conversion.specs.Conversion.{Part, operator_limit};
-ghost use Rattle.cedar_conversion.specs.Outcome.{Outcome};
-ghost use Rattle.cedar_conversion.specs.Seen.{Gives};
+ghost use Rattle.cedar_conversion.specs.outcome.Conversion.{Part, operator_limit};
+ghost use Rattle.cedar_conversion.specs.outcome.Outcome.{Outcome};
+ghost use Rattle.cedar_conversion.specs.outcome.Seen.{Gives};
 ghost use Rattle.cedar_conversion.specs.machines.Views.{Grows, empty_view, one_more, rest_view};
 
 use crate::answer::failure::{Failure, flatten_tuple_2};

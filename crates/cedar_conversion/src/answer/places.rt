@@ -1,7 +1,7 @@
 //! Places as the crates below know them: their bytes, without the text.
 ghost use Rattle.std.specs.Prelude.{◌≡◌};
 ghost use Rattle.std.specs.Option.{option_map};
-ghost use Rattle.cedar_conversion.specs.Places.{bytes_of};
+ghost use Rattle.cedar_conversion.specs.outcome.Places.{bytes_of};
 ghost use Rattle.cedar_conversion.specs.machines.Views.{lent_bytes};
 
 use cedar_expressions::Place;

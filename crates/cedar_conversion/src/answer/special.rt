@@ -2,10 +2,10 @@
 //! place.
 ghost use Rattle.std.specs.Prelude.{◌≡◌, IfOk, Ok};
 ghost use Rattle.std.specs.Option.{option_map};
-ghost use Rattle.cedar_conversion.specs.Held.{Held, expression, as_expression};
-ghost use Rattle.cedar_conversion.specs.Outcome.{Outcome, arbitrary_variable, empty_node, next};
-ghost use Rattle.cedar_conversion.specs.Places.{bytes_of};
-ghost use Rattle.cedar_conversion.specs.Seen.{Gives, kind_of};
+ghost use Rattle.cedar_conversion.specs.outcome.Held.{Held, expression, as_expression};
+ghost use Rattle.cedar_conversion.specs.outcome.Outcome.{Outcome, arbitrary_variable, empty_node, next};
+ghost use Rattle.cedar_conversion.specs.outcome.Places.{bytes_of};
+ghost use Rattle.cedar_conversion.specs.outcome.Seen.{Gives, kind_of};
 ghost use Rattle.cedar_conversion.specs.machines.Views.{TellsAlone, plain};
 
 use crate::answer::failure::Failure;

@@ -3,11 +3,11 @@
 ghost use Rattle.std.specs.Prelude.{◌≡◌, [], false, IfOk, MatchOption};
 ghost use Rattle.cedar_expressions.specs.Path.{is_unreserved_identifier};
 ghost use Rattle.cedar_expressions.specs.Written.{var_text};
-ghost use Rattle.cedar_conversion.specs.Held.{Held, as_attribute, as_entity_type, as_pattern, as_string, unqualified};
-ghost use Rattle.cedar_conversion.specs.Literals.{string_outcome};
-ghost use Rattle.cedar_syntax.specs.Forms.{located, primary_form};
-ghost use Rattle.cedar_conversion.specs.Outcome.{Outcome, next, invalid_attribute, invalid_is_type, invalid_pattern, invalid_string, path_as_attribute, reserved_identifier};
-ghost use Rattle.cedar_conversion.specs.Seen.{Gives, itself};
+ghost use Rattle.cedar_conversion.specs.outcome.Held.{Held, as_attribute, as_entity_type, as_pattern, as_string, unqualified};
+ghost use Rattle.cedar_conversion.specs.parts.Literals.{string_outcome};
+ghost use Rattle.cedar_syntax.specs.trees.Forms.{located, primary_form};
+ghost use Rattle.cedar_conversion.specs.outcome.Outcome.{Outcome, next, invalid_attribute, invalid_is_type, invalid_pattern, invalid_string, path_as_attribute, reserved_identifier};
+ghost use Rattle.cedar_conversion.specs.outcome.Seen.{Gives, itself};
 ghost use Rattle.cedar_conversion.specs.machines.Views.{TellsAlone, plain};
 
 use crate::answer::failure::Failure;

@@ -1,8 +1,8 @@
 //! Entities.
-ghost use Rattle.cedar_conversion.specs.Entities.{entity_outcome, id_outcome, reference_outcome};
-ghost use Rattle.cedar_conversion.specs.Leaves.{entity_leaf};
-ghost use Rattle.cedar_conversion.specs.Outcome.{invalid_entity_literal};
-ghost use Rattle.cedar_conversion.specs.Seen.{Gives, itself};
+ghost use Rattle.cedar_conversion.specs.parts.Entities.{entity_outcome, id_outcome, reference_outcome};
+ghost use Rattle.cedar_conversion.specs.parts.Leaves.{entity_leaf};
+ghost use Rattle.cedar_conversion.specs.outcome.Outcome.{invalid_entity_literal};
+ghost use Rattle.cedar_conversion.specs.outcome.Seen.{Gives, itself};
 ghost use Rattle.cedar_conversion.specs.machines.Views.{TellsAlone, plain};
 
 use crate::answer::failure::{Failure, flatten_tuple_2};

@@ -2,11 +2,11 @@
 ghost use Rattle.std.specs.Prelude.{◌≡◌, Ok};
 ghost use Rattle.std.specs.Option.{option_copied};
 ghost use Rattle.cedar_expressions.specs.Value.{Value};
-ghost use Rattle.cedar_syntax.specs.Forms.{located, primary_form, member_form};
-ghost use Rattle.cedar_conversion.specs.Conversion.{literal_outcome, held_string, number_outcome, number_in, literal_alone, lone_literal};
-ghost use Rattle.cedar_conversion.specs.Held.{bare_truth};
-ghost use Rattle.cedar_conversion.specs.Outcome.{invalid_string};
-ghost use Rattle.cedar_conversion.specs.Seen.{Gives};
+ghost use Rattle.cedar_syntax.specs.trees.Forms.{located, primary_form, member_form};
+ghost use Rattle.cedar_conversion.specs.outcome.Conversion.{literal_outcome, held_string, number_outcome, number_in, literal_alone, lone_literal};
+ghost use Rattle.cedar_conversion.specs.outcome.Held.{bare_truth};
+ghost use Rattle.cedar_conversion.specs.outcome.Outcome.{invalid_string};
+ghost use Rattle.cedar_conversion.specs.outcome.Seen.{Gives};
 ghost use Rattle.cedar_conversion.specs.machines.Views.{TellsAlone, plain};
 
 use crate::answer::failure::Failure;

@@ -1,9 +1,9 @@
 //! Identifiers and names.
 ghost use Rattle.std.specs.Prelude.{◌≡◌};
-ghost use Rattle.cedar_conversion.specs.Leaves.{name_leaf as named_held};
-ghost use Rattle.cedar_conversion.specs.Names.{spelling_outcome, valid_text as valid_text_of, valid_ident_of as valid_of, valid_ident as valid_outcome, any_ident_of as any_of, any_ident as any_outcome, unreserved_ident as unreserved_outcome, all_of, path_outcome, name_outcome, variable_of, named_variable};
-ghost use Rattle.cedar_conversion.specs.Outcome.{reserved_identifier, invalid_identifier};
-ghost use Rattle.cedar_conversion.specs.Seen.{Gives, itself};
+ghost use Rattle.cedar_conversion.specs.parts.Leaves.{name_leaf as named_held};
+ghost use Rattle.cedar_conversion.specs.parts.Names.{spelling_outcome, valid_text as valid_text_of, valid_ident_of as valid_of, valid_ident as valid_outcome, any_ident_of as any_of, any_ident as any_outcome, unreserved_ident as unreserved_outcome, all_of, path_outcome, name_outcome, variable_of, named_variable};
+ghost use Rattle.cedar_conversion.specs.outcome.Outcome.{reserved_identifier, invalid_identifier};
+ghost use Rattle.cedar_conversion.specs.outcome.Seen.{Gives, itself};
 ghost use Rattle.cedar_conversion.specs.machines.Views.{TellsAlone, plain};
 
 use crate::answer::failure::{Failure, flatten_tuple_2};

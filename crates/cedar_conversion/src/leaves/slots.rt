@@ -1,8 +1,8 @@
 //! Slots.
-ghost use Rattle.cedar_conversion.specs.Entities.{slot_outcome};
-ghost use Rattle.cedar_conversion.specs.Leaves.{slot_leaf};
-ghost use Rattle.cedar_conversion.specs.Outcome.{invalid_slot};
-ghost use Rattle.cedar_conversion.specs.Seen.{Gives, itself};
+ghost use Rattle.cedar_conversion.specs.parts.Entities.{slot_outcome};
+ghost use Rattle.cedar_conversion.specs.parts.Leaves.{slot_leaf};
+ghost use Rattle.cedar_conversion.specs.outcome.Outcome.{invalid_slot};
+ghost use Rattle.cedar_conversion.specs.outcome.Seen.{Gives, itself};
 ghost use Rattle.cedar_conversion.specs.machines.Views.{TellsAlone, plain};
 
 use crate::answer::failure::Failure;

@@ -1,11 +1,11 @@
 //! The texts that strings stand for.
 ghost use Rattle.std.specs.Prelude.{◌≡◌, ◌∷◌, [], ◌++◌, IfOk, OnOk};
-ghost use Rattle.cedar_syntax.specs.NonEmpty.{list_of};
-ghost use Rattle.cedar_syntax.specs.ParseErrors.{faults_of};
-ghost use Rattle.cedar_conversion.specs.Held.{text_value};
-ghost use Rattle.cedar_conversion.specs.Outcome.{next, unescape};
-ghost use Rattle.cedar_conversion.specs.Seen.{Gives, itself, named_faults, named_fault};
-ghost use Rattle.cedar_conversion.specs.Strings.{pattern_outcome, text_outcome, string_faults};
+ghost use Rattle.cedar_syntax.specs.faults.NonEmpty.{list_of};
+ghost use Rattle.cedar_syntax.specs.faults.ParseErrors.{faults_of};
+ghost use Rattle.cedar_conversion.specs.outcome.Held.{text_value};
+ghost use Rattle.cedar_conversion.specs.outcome.Outcome.{next, unescape};
+ghost use Rattle.cedar_conversion.specs.outcome.Seen.{Gives, itself, named_faults, named_fault};
+ghost use Rattle.cedar_conversion.specs.parts.Strings.{pattern_outcome, text_outcome, string_faults};
 
 use crate::answer::failure::Failure;
 use crate::answer::special::builder_at;

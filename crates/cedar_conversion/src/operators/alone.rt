@@ -10,8 +10,8 @@ ghost use Rattle.cedar_syntax.specs.declared.cst.Or.{out-Or};
 ghost use Rattle.cedar_syntax.specs.declared.cst.Add.{out-Add};
 ghost use Rattle.cedar_syntax.specs.declared.cst.Mult.{out-Mult};
 ghost use Rattle.cedar_syntax.specs.declared.cst.Unary.{out-Unary};
-ghost use Rattle.cedar_syntax.specs.Forms.{located, or_form, and_form, relation_form, add_form, mult_form, unary_form, member_form, primary_form};
-ghost use Rattle.cedar_conversion.specs.LonePart.{lone_part, no_sign};
+ghost use Rattle.cedar_syntax.specs.trees.Forms.{located, or_form, and_form, relation_form, add_form, mult_form, unary_form, member_form, primary_form};
+ghost use Rattle.cedar_conversion.specs.outcome.LonePart.{lone_part, no_sign};
 
 use cedar_syntax::cst::{Add, And, Member, Mult, NegOp, Or, Primary, Relation, Unary};
 use cedar_syntax::node::Node;

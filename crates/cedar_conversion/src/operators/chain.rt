@@ -2,11 +2,11 @@
 //! products.
 ghost use Rattle.std.specs.Prelude.{◌≡◌, List};
 ghost use Rattle.cedar_expressions.specs.Value.{Value};
-ghost use Rattle.cedar_syntax.specs.Tree.{Operator, Level, disjunction, conjunction, relation, sum, product, or_or, and_and, compare, add, multiply};
-ghost use Rattle.cedar_conversion.specs.Conversion.{Part, operands_outcome, level_outcome, comparison_outcome, factor};
-ghost use Rattle.cedar_conversion.specs.Held.{Held};
-ghost use Rattle.cedar_conversion.specs.Outcome.{Outcome, both, next};
-ghost use Rattle.cedar_conversion.specs.Seen.{Gives};
+ghost use Rattle.cedar_syntax.specs.trees.Tree.{Operator, Level, disjunction, conjunction, relation, sum, product, or_or, and_and, compare, add, multiply};
+ghost use Rattle.cedar_conversion.specs.outcome.Conversion.{Part, operands_outcome, level_outcome, comparison_outcome, factor};
+ghost use Rattle.cedar_conversion.specs.outcome.Held.{Held};
+ghost use Rattle.cedar_conversion.specs.outcome.Outcome.{Outcome, both, next};
+ghost use Rattle.cedar_conversion.specs.outcome.Seen.{Gives};
 ghost use Rattle.cedar_conversion.specs.machines.Views.{plain, rest_view, empty_view};
 
 use crate::answer::failure::{Failure, flatten_tuple_2};

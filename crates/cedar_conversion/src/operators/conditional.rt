@@ -1,9 +1,9 @@
 //! Conditionals and parentheses.
 ghost use Rattle.cedar_expressions.specs.Value.{Value};
-ghost use Rattle.cedar_conversion.specs.Conversion.{conditional_outcome, expression_at as made_at};
-ghost use Rattle.cedar_conversion.specs.Held.{Held, as_expression};
-ghost use Rattle.cedar_conversion.specs.Outcome.{Outcome, both, next};
-ghost use Rattle.cedar_conversion.specs.Seen.{Gives};
+ghost use Rattle.cedar_conversion.specs.outcome.Conversion.{conditional_outcome, expression_at as made_at};
+ghost use Rattle.cedar_conversion.specs.outcome.Held.{Held, as_expression};
+ghost use Rattle.cedar_conversion.specs.outcome.Outcome.{Outcome, both, next};
+ghost use Rattle.cedar_conversion.specs.outcome.Seen.{Gives};
 ghost use Rattle.cedar_conversion.specs.machines.Views.{plain};
 
 use crate::answer::failure::{Failure, flatten_tuple_2};

@@ -1,12 +1,12 @@
 //! Right of `has`: a string alone, or identifiers joined by `.`.
 ghost use Rattle.std.specs.Prelude.{map};
-ghost use Rattle.cedar_syntax.specs.Forms.{located, parts_of, listed_access, access_form, add_form, mult_form, unary_form, member_form, primary_form};
-ghost use Rattle.cedar_conversion.specs.Conversion.{tree_place};
-ghost use Rattle.cedar_conversion.specs.HasSide.{attributes_of, begins_with, behind_first, field_of, fields_of, right_form, right_side, string_alone};
-ghost use Rattle.cedar_conversion.specs.Names.{unreserved_ident as unreserved_outcome};
-ghost use Rattle.cedar_conversion.specs.Outcome.{Outcome, invalid_has_rhs, next};
-ghost use Rattle.cedar_conversion.specs.Held.{Held, unqualified};
-ghost use Rattle.cedar_conversion.specs.Seen.{Gives, itself};
+ghost use Rattle.cedar_syntax.specs.trees.Forms.{located, parts_of, listed_access, access_form, add_form, mult_form, unary_form, member_form, primary_form};
+ghost use Rattle.cedar_conversion.specs.outcome.Conversion.{tree_place};
+ghost use Rattle.cedar_conversion.specs.parts.HasSide.{attributes_of, begins_with, behind_first, field_of, fields_of, right_form, right_side, string_alone};
+ghost use Rattle.cedar_conversion.specs.parts.Names.{unreserved_ident as unreserved_outcome};
+ghost use Rattle.cedar_conversion.specs.outcome.Outcome.{Outcome, invalid_has_rhs, next};
+ghost use Rattle.cedar_conversion.specs.outcome.Held.{Held, unqualified};
+ghost use Rattle.cedar_conversion.specs.outcome.Seen.{Gives, itself};
 ghost use Rattle.cedar_conversion.specs.machines.Applied.{seen_attributes};
 ghost use Rattle.cedar_conversion.specs.machines.Views.{TellsAlone, plain};
 

@@ -1,10 +1,10 @@
 //! `has`, `like`, `is` and `is .. in`, of what their sides give.
 ghost use Rattle.cedar_expressions.specs.Value.{Value};
-ghost use Rattle.cedar_conversion.specs.Conversion.{ValueAndType, beside_type, match_outcome, type_test_outcome, type_within_outcome, with_attributes};
-ghost use Rattle.cedar_conversion.specs.HasSide.{Attributes as Named};
-ghost use Rattle.cedar_conversion.specs.Held.{Held, as_pattern};
-ghost use Rattle.cedar_conversion.specs.Outcome.{Outcome, both, next};
-ghost use Rattle.cedar_conversion.specs.Seen.{Gives};
+ghost use Rattle.cedar_conversion.specs.outcome.Conversion.{ValueAndType, beside_type, match_outcome, type_test_outcome, type_within_outcome, with_attributes};
+ghost use Rattle.cedar_conversion.specs.parts.HasSide.{Attributes as Named};
+ghost use Rattle.cedar_conversion.specs.outcome.Held.{Held, as_pattern};
+ghost use Rattle.cedar_conversion.specs.outcome.Outcome.{Outcome, both, next};
+ghost use Rattle.cedar_conversion.specs.outcome.Seen.{Gives};
 ghost use Rattle.cedar_conversion.specs.machines.Applied.{Matched, seen_attributes, seen_pattern, seen_type};
 ghost use Rattle.cedar_conversion.specs.machines.Views.{plain};
 

@@ -1,11 +1,11 @@
 //! Signs before an operand.
 ghost use Rattle.std.specs.Prelude.{◌≡◌, ◌≤◌, MatchOption, pos, neg_ℤ, Ok};
 ghost use Rattle.cedar_expressions.specs.Value as v;
-ghost use Rattle.cedar_conversion.specs.Conversion.{application_outcome, dashes_outcome, negative as negative_of, signs_outcome};
-ghost use Rattle.cedar_conversion.specs.Held.{Held};
-ghost use Rattle.cedar_conversion.specs.Outcome.{Outcome, fault_outcome, unary_op_limit};
-ghost use Rattle.cedar_conversion.specs.Seen.{Gives};
-ghost use Rattle.cedar_conversion.specs.Strict.{iteration, largest};
+ghost use Rattle.cedar_conversion.specs.outcome.Conversion.{application_outcome, dashes_outcome, negative as negative_of, signs_outcome};
+ghost use Rattle.cedar_conversion.specs.outcome.Held.{Held};
+ghost use Rattle.cedar_conversion.specs.outcome.Outcome.{Outcome, fault_outcome, unary_op_limit};
+ghost use Rattle.cedar_conversion.specs.outcome.Seen.{Gives};
+ghost use Rattle.cedar_conversion.specs.strict.Strict.{iteration, largest};
 ghost use Rattle.cedar_conversion.specs.machines.Views.{TellsAlone, plain};
 
 use crate::answer::failure::Failure;

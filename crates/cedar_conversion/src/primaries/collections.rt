@@ -1,12 +1,12 @@
 //! Sets, records and the accesses of a member, of what their parts give.
 ghost use Rattle.std.specs.Prelude.{◌≡◌, List, Ok};
-ghost use Rattle.cedar_syntax.specs.Tree.{beside};
-ghost use Rattle.cedar_conversion.specs.Conversion.{Part, bodies, record_outcome, set_value_outcome};
-ghost use Rattle.cedar_conversion.specs.Held.{Held, as_attribute, as_string};
-ghost use Rattle.cedar_conversion.specs.Members.{Access as Given, call, field, index};
-ghost use Rattle.cedar_conversion.specs.Names.{unreserved_ident as unreserved_outcome};
-ghost use Rattle.cedar_conversion.specs.Outcome.{Outcome, both, next, item_more};
-ghost use Rattle.cedar_conversion.specs.Seen.{Gives};
+ghost use Rattle.cedar_syntax.specs.trees.Tree.{beside};
+ghost use Rattle.cedar_conversion.specs.outcome.Conversion.{Part, bodies, record_outcome, set_value_outcome};
+ghost use Rattle.cedar_conversion.specs.outcome.Held.{Held, as_attribute, as_string};
+ghost use Rattle.cedar_conversion.specs.parts.Members.{Access as Given, call, field, index};
+ghost use Rattle.cedar_conversion.specs.parts.Names.{unreserved_ident as unreserved_outcome};
+ghost use Rattle.cedar_conversion.specs.outcome.Outcome.{Outcome, both, next, item_more};
+ghost use Rattle.cedar_conversion.specs.outcome.Seen.{Gives};
 ghost use Rattle.cedar_expressions.specs.Value.{Value};
 ghost use Rattle.cedar_conversion.specs.machines.Applied.{Pair, seen_access, seen_accesses, seen_pair, seen_pairs};
 ghost use Rattle.cedar_conversion.specs.machines.Views.{rest_view, plain};

@@ -2,11 +2,11 @@
 ghost use Rattle.std.specs.Prelude.{◌≡◌, ◌∷◌, [], List, MatchOption, map, Ok, if◌then◌else◌};
 ghost use Rattle.cedar_expressions.specs.Value as v;
 ghost use Rattle.cedar_expressions.specs.Value.{Value};
-ghost use Rattle.cedar_conversion.specs.Held.{Held};
-ghost use Rattle.cedar_conversion.specs.Members.{Access as Given, call, accesses_of, name_accesses, variable_accesses, some_accesses, member_outcome};
-ghost use Rattle.cedar_conversion.specs.Outcome.{Outcome, both, next, no_methods, invalid_access};
-ghost use Rattle.cedar_conversion.specs.Seen.{Gives};
-ghost use Rattle.cedar_conversion.specs.Table.{table_of};
+ghost use Rattle.cedar_conversion.specs.outcome.Held.{Held};
+ghost use Rattle.cedar_conversion.specs.parts.Members.{Access as Given, call, accesses_of, name_accesses, variable_accesses, some_accesses, member_outcome};
+ghost use Rattle.cedar_conversion.specs.outcome.Outcome.{Outcome, both, next, no_methods, invalid_access};
+ghost use Rattle.cedar_conversion.specs.outcome.Seen.{Gives};
+ghost use Rattle.cedar_conversion.specs.strict.Table.{table_of};
 ghost use Rattle.cedar_conversion.specs.machines.Applied.{Leads, begins_call, reading_outcome, seen_access, seen_accesses, settled_value};
 ghost use Rattle.cedar_conversion.specs.machines.Views.{TellsAlone, plain};
 

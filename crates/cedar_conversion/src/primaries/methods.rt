@@ -1,11 +1,11 @@
 //! Calls: the methods that every text may call, and the functions and methods of the table.
 ghost use Rattle.std.specs.Prelude.{◌≡◌, ◌∷◌, [], ◌≢◌, MatchOption, IfOk, map, length};
 ghost use Rattle.std.specs.Option.{is_some};
-ghost use Rattle.cedar_conversion.specs.Members.{standard_outcome, extension_method, method_outcome, function_outcome, no_method};
-ghost use Rattle.cedar_conversion.specs.Outcome.{wrong_arity};
-ghost use Rattle.cedar_conversion.specs.Seen.{Gives};
-ghost use Rattle.cedar_conversion.specs.StrictCalls.{standard_method, names_method};
-ghost use Rattle.cedar_conversion.specs.Table.{table_of};
+ghost use Rattle.cedar_conversion.specs.parts.Members.{standard_outcome, extension_method, method_outcome, function_outcome, no_method};
+ghost use Rattle.cedar_conversion.specs.outcome.Outcome.{wrong_arity};
+ghost use Rattle.cedar_conversion.specs.outcome.Seen.{Gives};
+ghost use Rattle.cedar_conversion.specs.strict.StrictCalls.{standard_method, names_method};
+ghost use Rattle.cedar_conversion.specs.strict.Table.{table_of};
 ghost use Rattle.cedar_conversion.specs.machines.Views.{TellsAlone};
 
 use crate::answer::failure::Failure;

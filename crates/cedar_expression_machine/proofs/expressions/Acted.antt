@@ -3,9 +3,9 @@ use Rattle.std.proofs.Common.{◌≡◌, ℕ, refl, sym, ap, ◌∙◌, subst, B
 use Rattle.cedar_lexer.specs.Token.{Lexeme}
 use Rattle.cedar_lexer.specs.declared.token.TokenKind.{TokenKind}
 use Rattle.cedar_lexer.specs.declared.token.TokenKind.TheVariants as kind
-use Rattle.cedar_grammar.specs.Place.{extent_of, joint_extent}
-use Rattle.cedar_syntax.specs.Tokens.{any_of}
-use Rattle.cedar_syntax.specs.Trees.{Cell}
+use Rattle.cedar_grammar.specs.grammar.Place.{extent_of, joint_extent}
+use Rattle.cedar_syntax.specs.tokens.Tokens.{any_of}
+use Rattle.cedar_syntax.specs.trees.Trees.{Cell}
 use Rattle.cedar_syntax.specs.declared.cst.Add.{Add}
 use Rattle.cedar_syntax.specs.declared.cst.Expr.{Expr}
 use Rattle.cedar_syntax.specs.declared.cst.Ident.{Ident}

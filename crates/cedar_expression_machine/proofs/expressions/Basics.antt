@@ -6,10 +6,10 @@ use Rattle.cedar_lexer.specs.Token.{Lexeme}
 use Rattle.cedar_lexer.specs.declared.token.TokenKind.{TokenKind}
 use Rattle.cedar_syntax.specs.declared.cst.NegOp.TheVariants as neg
 use Rattle.cedar_grammar.specs.declared.reading.class.Sign.TheVariants as sign
-use Rattle.cedar_grammar.specs.Place.{joint_extent, extent}
-use Rattle.cedar_syntax.specs.Signs.{sign_limit}
-use Rattle.cedar_syntax.specs.Trees.{bangs_of, dashes_of}
-use Rattle.cedar_syntax.specs.Tokens.{Spot, one}
+use Rattle.cedar_grammar.specs.grammar.Place.{joint_extent, extent}
+use Rattle.cedar_syntax.specs.tokens.Signs.{sign_limit}
+use Rattle.cedar_syntax.specs.trees.Trees.{bangs_of, dashes_of}
+use Rattle.cedar_syntax.specs.tokens.Tokens.{Spot, one}
 use Rattle.cedar_grammar.specs.machines.Classes.{with_sign}
 pub use Rattle.cedar_grammar.proofs.machines.Extents.{join-assoc, extent-append, at}
 

@@ -5,8 +5,8 @@ use Rattle.cedar_syntax.specs.declared.cst.RelOp.{RelOp}
 use Rattle.cedar_syntax.specs.declared.cst.RelOp.TheVariants as rel
 use Rattle.cedar_grammar.specs.declared.reading.class.Operator.TheVariants as operator
 use Rattle.cedar_grammar.specs.declared.reading.extent.Extent.{Extent}
-use Rattle.cedar_grammar.specs.Place.{joint_extent}
-use Rattle.cedar_syntax.specs.Trees.{Cell}
+use Rattle.cedar_grammar.specs.grammar.Place.{joint_extent}
+use Rattle.cedar_syntax.specs.trees.Trees.{Cell}
 use Rattle.cedar_expression_machine.specs.declared.expression.state.Frame.{Frame}
 use Rattle.cedar_expression_machine.specs.declared.expression.state.Left.{Left}
 use Rattle.cedar_expression_machine.specs.declared.expression.state.Left.TheVariants as left

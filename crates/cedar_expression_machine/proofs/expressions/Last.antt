@@ -1,6 +1,6 @@
 -- Words that have ended at the end of a tree are its last operand.
 use Rattle.std.proofs.Common.{◌≡◌, ℕ, refl, sym, ap, ◌∙◌, Bool, true, cond, IsTrue, List, [], ◌∷◌, Some, None}
-use Rattle.cedar_syntax.specs.Trees.{Cell}
+use Rattle.cedar_syntax.specs.trees.Trees.{Cell}
 use Rattle.cedar_syntax.specs.declared.cst.Ident.{Ident}
 use Rattle.cedar_syntax.specs.declared.cst.Ident.TheVariants as ident
 use Rattle.cedar_expression_machine.specs.declared.words.state.PathState.TheVariants as path

@@ -1,7 +1,7 @@
 -- What the plan of each act says of a state of the machine of expressions that reads words.
 use Rattle.std.proofs.Common.{◌≡◌, refl, sym, ap, ◌∙◌, Bool, true, IsTrue, List, [], ◌∷◌, Option, Some, None}
 use Rattle.cedar_lexer.specs.declared.token.TokenKind.{TokenKind}
-use Rattle.cedar_syntax.specs.Tokens.{any_of}
+use Rattle.cedar_syntax.specs.tokens.Tokens.{any_of}
 use Rattle.cedar_syntax.specs.declared.cst.Ident.{Ident}
 use Rattle.cedar_grammar.specs.declared.reading.class.Beginning.{Beginning}
 use Rattle.cedar_grammar.specs.declared.reading.class.Beginning.TheVariants as beginning

@@ -1,7 +1,7 @@
 -- How whole texts are read by the rules of names, entity literals and identifiers.
 use Rattle.std.proofs.Common.{ℕ, List}
-use Rattle.cedar_grammar.specs.Grammar.{IsNodeOf}
-use Rattle.cedar_grammar.specs.LooseWords.{ReadsIdent, ReadsName, ReadsRef}
+use Rattle.cedar_grammar.specs.grammar.Grammar.{IsNodeOf}
+use Rattle.cedar_grammar.specs.grammar.LooseWords.{ReadsIdent, ReadsName, ReadsRef}
 use Rattle.cedar_grammar.specs.machines.Judged.{ReadsBy}
 use Rattle.cedar_expression_machine.specs.machines.Words.{name_reader, ref_reader, ident_reader}
 use Rattle.cedar_grammar.proofs.machines.Readers.{reads_by}

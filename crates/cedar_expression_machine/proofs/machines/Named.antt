@@ -17,10 +17,10 @@ use Rattle.cedar_expression_machine.specs.declared.words.state.Words.{Words}
 use Rattle.cedar_expression_machine.specs.declared.words.state.Words.TheVariants as words
 use Rattle.cedar_expression_machine.specs.declared.words.state.WordsState.{WordsState}
 use Rattle.cedar_expression_machine.specs.declared.words.state.WordsState.TheVariants as state
-use Rattle.cedar_grammar.specs.LooseWords.{ReadsRef}
-use Rattle.cedar_grammar.specs.Place.{extent, node_at, placed}
-use Rattle.cedar_syntax.specs.Tokens.{Spot, one}
-use Rattle.cedar_syntax.specs.Trees.{Cell, name_of}
+use Rattle.cedar_grammar.specs.grammar.LooseWords.{ReadsRef}
+use Rattle.cedar_grammar.specs.grammar.Place.{extent, node_at, placed}
+use Rattle.cedar_syntax.specs.tokens.Tokens.{Spot, one}
+use Rattle.cedar_syntax.specs.trees.Trees.{Cell, name_of}
 use Rattle.cedar_expression_machine.specs.machines.Closing.{ranged_tree}
 use Rattle.cedar_expression_machine.specs.machines.Keeping.{kept_end}
 use Rattle.cedar_grammar.specs.machines.Door.{ended, Door, IsOutline, is_some, option_image}

@@ -19,11 +19,11 @@ use Rattle.cedar_expression_machine.specs.declared.words.state.Words.{Words}
 use Rattle.cedar_expression_machine.specs.declared.words.state.Words.TheVariants as words
 use Rattle.cedar_expression_machine.specs.declared.words.state.IdentState.{IdentState}
 use Rattle.cedar_expression_machine.specs.declared.words.state.IdentState.TheVariants as one_ident
-use Rattle.cedar_grammar.specs.Grammar.{IsNodeOf}
-use Rattle.cedar_grammar.specs.Place.{extent, extent_of, node_at, placed, placed_or_start}
-use Rattle.cedar_syntax.specs.Tokens.{Spot, one, any_of}
-use Rattle.cedar_syntax.specs.Trees.{Cell, name_of}
-use Rattle.cedar_grammar.specs.LooseWords.{ReadsAny, any, is_common, ReadsName, common, qualified, ReadsRef, ReadsIdent}
+use Rattle.cedar_grammar.specs.grammar.Grammar.{IsNodeOf}
+use Rattle.cedar_grammar.specs.grammar.Place.{extent, extent_of, node_at, placed, placed_or_start}
+use Rattle.cedar_syntax.specs.tokens.Tokens.{Spot, one, any_of}
+use Rattle.cedar_syntax.specs.trees.Trees.{Cell, name_of}
+use Rattle.cedar_grammar.specs.grammar.LooseWords.{ReadsAny, any, is_common, ReadsName, common, qualified, ReadsRef, ReadsIdent}
 use Rattle.cedar_expression_machine.specs.declared.words.state.OpenEntity.{OpenEntity}
 use Rattle.cedar_grammar.specs.machines.Door.{answer_state, Comes, RunsTo, Completed, Door, option_image}
 use Rattle.cedar_expression_machine.specs.machines.Words.{word_of, word_node, one_word_path, with_word, path_extent, path_reader, path_node, entity_with_extent, inits_at, words_reader, is_name_among, path_as_name, name_ends, words_as_ref, ref_ends, names, refs, ident_act, ident_end, ident_reader, idents}

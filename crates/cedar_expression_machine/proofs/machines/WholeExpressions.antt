@@ -6,10 +6,10 @@ use Rattle.std.proofs.Common.{◌≡◌, ℕ, List, [], Some, None, Bool, true, 
 use Rattle.cedar_lexer.specs.Token.{Lexeme}
 use Rattle.cedar_syntax.specs.declared.cst.Expr.{Expr}
 use Rattle.cedar_syntax.specs.declared.cst.Primary.{Primary}
-use Rattle.cedar_grammar.specs.Grammar.{IsNodeOf}
-use Rattle.cedar_grammar.specs.LooseExpressions.{ReadsExpr, ReadsAdd, ReadsPrimary}
-use Rattle.cedar_syntax.specs.Tokens.{any_of}
-use Rattle.cedar_syntax.specs.Trees.{Cell}
+use Rattle.cedar_grammar.specs.grammar.Grammar.{IsNodeOf}
+use Rattle.cedar_grammar.specs.grammar.LooseExpressions.{ReadsExpr, ReadsAdd, ReadsPrimary}
+use Rattle.cedar_syntax.specs.tokens.Tokens.{any_of}
+use Rattle.cedar_syntax.specs.trees.Trees.{Cell}
 use Rattle.cedar_expression_machine.specs.machines.Closing.{node_of}
 use Rattle.cedar_grammar.specs.machines.Door.{machine_of, Door, outline_machine, IsOutline, Shapes, is_some, no_tree}
 use Rattle.cedar_grammar.specs.machines.Judged.{ReadsBy}

@@ -16,7 +16,7 @@ use Rattle.cedar_expression_machine.specs.declared.words.state.WordsState.TheVar
 use Rattle.cedar_expression_machine.specs.declared.words.state.WordsAct.TheVariants as words_acts
 use Rattle.cedar_expression_machine.specs.declared.words.state.Words.{Words}
 use Rattle.cedar_expression_machine.specs.declared.words.state.Words.TheVariants as words
-use Rattle.cedar_syntax.specs.Tokens.{any_of}
+use Rattle.cedar_syntax.specs.tokens.Tokens.{any_of}
 use Rattle.cedar_grammar.specs.machines.Door.{Completed, Door, IsOutside, is_some}
 use Rattle.cedar_expression_machine.specs.machines.Words.{word_of, one_word_path, with_word, paths, inits_at, words_end, words_reader, words_machine}
 use Rattle.cedar_expression_machine.specs.machines.WordsRead.{ReadsWholePath, ReadsWords}

@@ -19,10 +19,10 @@ use Rattle.cedar_expression_machine.specs.declared.words.state.InitPlace.TheVari
 use Rattle.cedar_expression_machine.specs.declared.words.state.WordsState.{WordsState}
 use Rattle.cedar_expression_machine.specs.declared.words.state.WordsState.TheVariants as state
 use Rattle.cedar_expression_machine.specs.declared.words.state.Words.{Words}
-use Rattle.cedar_grammar.specs.Place.{extent, node_at, placed}
-use Rattle.cedar_syntax.specs.Tokens.{Spot, one, fits, between_quotes, any_of}
-use Rattle.cedar_syntax.specs.Trees.{Cell, ref_init_of}
-use Rattle.cedar_grammar.specs.LooseWords.{ReadsItems, one_item, more_items, ReadsList, no_item, items, items_comma, ReadsLiteral, truth, falsity, number, string, any, ReadsRefInit, ref_init, ReadsRef, uid, with_inits}
+use Rattle.cedar_grammar.specs.grammar.Place.{extent, node_at, placed}
+use Rattle.cedar_syntax.specs.tokens.Tokens.{Spot, one, fits, between_quotes, any_of}
+use Rattle.cedar_syntax.specs.trees.Trees.{Cell, ref_init_of}
+use Rattle.cedar_grammar.specs.grammar.LooseWords.{ReadsItems, one_item, more_items, ReadsList, no_item, items, items_comma, ReadsLiteral, truth, falsity, number, string, any, ReadsRefInit, ref_init, ReadsRef, uid, with_inits}
 use Rattle.cedar_expression_machine.specs.declared.words.state.PathAct.{PathAct}
 use Rattle.cedar_expression_machine.specs.declared.words.state.PathAct.TheVariants as path_acts
 use Rattle.cedar_expression_machine.specs.declared.words.state.InitAct.{InitAct}

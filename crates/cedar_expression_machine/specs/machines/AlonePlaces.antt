@@ -1,6 +1,6 @@
 -- Where the trees stand that an operand alone makes, up to its sum.
 use Rattle.std.specs.Prelude.{ℕ, List, Option}
-use Rattle.cedar_grammar.specs.Place.{joint_extent, loc_at}
+use Rattle.cedar_grammar.specs.grammar.Place.{joint_extent, loc_at}
 use Rattle.cedar_grammar.specs.declared.reading.extent.Extent.{Extent}
 use Rattle.cedar_expression_machine.specs.declared.expression.levels.alone.Places.{Places}
 use Rattle.cedar_expression_machine.specs.declared.expression.levels.alone.UpperPlaces.{UpperPlaces}

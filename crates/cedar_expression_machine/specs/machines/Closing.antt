@@ -26,8 +26,8 @@ use Rattle.cedar_expression_machine.specs.declared.expression.state.Signs.{Signs
 use Rattle.cedar_expression_machine.specs.declared.expression.state.Operand.{Operand}
 use Rattle.cedar_syntax.specs.declared.loc.Loc.{Loc}
 use Rattle.cedar_grammar.specs.declared.reading.extent.Extent.{Extent}
-use Rattle.cedar_grammar.specs.Place.{joint_extent, loc_at, node_at}
-use Rattle.cedar_syntax.specs.Trees.{Cell, expr_of, if_of, or_of, and_of, common_of, has_of, like_of, is_of, add_of, mult_of, unary_of, member_of, name_of}
+use Rattle.cedar_grammar.specs.grammar.Place.{joint_extent, loc_at, node_at}
+use Rattle.cedar_syntax.specs.trees.Trees.{Cell, expr_of, if_of, or_of, and_of, common_of, has_of, like_of, is_of, add_of, mult_of, unary_of, member_of, name_of}
 
 -- a tree and its bytes
 

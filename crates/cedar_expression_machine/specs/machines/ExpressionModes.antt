@@ -29,7 +29,7 @@ use Rattle.cedar_expression_machine.specs.declared.expression.state.Reach.{Reach
 use Rattle.cedar_expression_machine.specs.declared.expression.state.Record.{Record}
 use Rattle.cedar_expression_machine.specs.declared.expression.state.Signs.{Signs}
 use Rattle.cedar_expression_machine.specs.declared.expression.state.State.{State}
-use Rattle.cedar_syntax.specs.Trees.{Cell}
+use Rattle.cedar_syntax.specs.trees.Trees.{Cell}
 use Rattle.cedar_grammar.specs.machines.Door.{is_some, option_image}
 use Rattle.cedar_expression_machine.specs.machines.ExpressionPlans.{list_may_end, may_follow, may_sign, operand_plan}
 use Rattle.cedar_expression_machine.specs.machines.ExpressionShapes.{left_shape, op_sign, stack_shape}

@@ -19,7 +19,7 @@ use Rattle.cedar_expression_machine.specs.declared.expression.state.Wanted.{Want
 use Rattle.cedar_expression_machine.specs.declared.expression.state.Wanted.TheVariants as form
 use Rattle.cedar_expression_machine.specs.declared.expression.state.Reach.{Reach}
 use Rattle.cedar_expression_machine.specs.declared.expression.state.Reach.TheVariants as reach
-use Rattle.cedar_syntax.specs.Tokens.{any_of}
+use Rattle.cedar_syntax.specs.tokens.Tokens.{any_of}
 use Rattle.cedar_grammar.specs.machines.Door.{option_image}
 use Rattle.cedar_expression_machine.specs.declared.expression.state.Begin.{Begin}
 use Rattle.cedar_expression_machine.specs.declared.expression.state.Begin.TheVariants as begin

@@ -13,7 +13,7 @@ use Rattle.cedar_expression_machine.specs.declared.expression.state.Mode.{Mode}
 use Rattle.cedar_expression_machine.specs.declared.expression.state.Mode.TheVariants as mode
 use Rattle.cedar_expression_machine.specs.declared.expression.state.State.{State}
 use Rattle.cedar_grammar.specs.declared.reading.extent.Extent.{Extent}
-use Rattle.cedar_grammar.specs.Place.{joint_extent}
+use Rattle.cedar_grammar.specs.grammar.Place.{joint_extent}
 use Rattle.cedar_expression_machine.specs.machines.Closing.{fresh, no_signs, operand_of}
 
 -- states

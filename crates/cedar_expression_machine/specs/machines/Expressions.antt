@@ -33,9 +33,9 @@ use Rattle.cedar_expression_machine.specs.declared.expression.state.Wanted.TheVa
 use Rattle.cedar_expression_machine.specs.declared.expression.state.Alone.{Alone}
 use Rattle.cedar_expression_machine.specs.declared.expression.state.Alone.TheVariants as alone
 use Rattle.cedar_grammar.specs.declared.reading.extent.Extent.{Extent}
-use Rattle.cedar_grammar.specs.Place.{extent_of}
-use Rattle.cedar_syntax.specs.Tokens.{any_of}
-use Rattle.cedar_syntax.specs.Trees.{Cell}
+use Rattle.cedar_grammar.specs.grammar.Place.{extent_of}
+use Rattle.cedar_syntax.specs.tokens.Tokens.{any_of}
+use Rattle.cedar_syntax.specs.trees.Trees.{Cell}
 use Rattle.cedar_grammar.specs.machines.Door.{Reader, option_image}
 use Rattle.cedar_expression_machine.specs.machines.Closing.{ranged_tree, node_of, add_at, whole, fresh, no_signs, operand_of, if_operand, if_key}
 use Rattle.cedar_expression_machine.specs.machines.ExpressionStates.{opening}

@@ -39,8 +39,8 @@ use Rattle.cedar_expression_machine.specs.declared.expression.state.OperandPlace
 use Rattle.cedar_expression_machine.specs.declared.expression.state.Mode.TheVariants as mode
 use Rattle.cedar_expression_machine.specs.declared.expression.state.State.{State}
 use Rattle.cedar_grammar.specs.declared.reading.extent.Extent.{Extent}
-use Rattle.cedar_grammar.specs.Place.{joint_extent, node_at}
-use Rattle.cedar_syntax.specs.Trees.{Cell, rec_init_of}
+use Rattle.cedar_grammar.specs.grammar.Place.{joint_extent, node_at}
+use Rattle.cedar_syntax.specs.trees.Trees.{Cell, rec_init_of}
 use Rattle.cedar_expression_machine.specs.machines.Closing.{ranged_tree, node_of, plain_chain, marked_chain, onward, pending, unary_at, mult_at, add_at, relation_at, and_at, whole, levels_of, with_access}
 use Rattle.cedar_expression_machine.specs.machines.ExpressionStates.{state, wants, opening, going_on, has_operand, has_primary, around}
 use Rattle.cedar_expression_machine.specs.machines.Wanting.{set_with, record_with, set_closing, record_closing, call_closing}

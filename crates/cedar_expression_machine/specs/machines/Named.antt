@@ -11,10 +11,10 @@ use Rattle.cedar_expression_machine.specs.declared.expression.state.Ranged.{Rang
 use Rattle.cedar_expression_machine.specs.declared.words.state.Words.{Words}
 use Rattle.cedar_expression_machine.specs.declared.words.state.Words.TheVariants as words
 use Rattle.cedar_expression_machine.specs.declared.words.state.WordsState.{WordsState}
-use Rattle.cedar_grammar.specs.Place.{extent, placed}
-use Rattle.cedar_syntax.specs.Tokens.{Spot, one}
-use Rattle.cedar_syntax.specs.Trees.{Cell, name_of}
-use Rattle.cedar_grammar.specs.LooseWords.{ReadsPath, ReadsRef}
+use Rattle.cedar_grammar.specs.grammar.Place.{extent, placed}
+use Rattle.cedar_syntax.specs.tokens.Tokens.{Spot, one}
+use Rattle.cedar_syntax.specs.trees.Trees.{Cell, name_of}
+use Rattle.cedar_grammar.specs.grammar.LooseWords.{ReadsPath, ReadsRef}
 use Rattle.cedar_expression_machine.specs.machines.Closing.{ranged_tree}
 use Rattle.cedar_expression_machine.specs.declared.words.state.WordsAct.{WordsAct}
 use Rattle.cedar_grammar.specs.machines.Door.{Machine, ended, steps, is_some, Reader, machine_of}

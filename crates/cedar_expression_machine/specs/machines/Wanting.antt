@@ -35,9 +35,9 @@ use Rattle.cedar_expression_machine.specs.declared.expression.state.OperandPlace
 use Rattle.cedar_expression_machine.specs.declared.expression.state.Mode.TheVariants as mode
 use Rattle.cedar_expression_machine.specs.declared.expression.state.State.{State}
 use Rattle.cedar_grammar.specs.declared.reading.extent.Extent.{Extent}
-use Rattle.cedar_grammar.specs.Place.{joint_extent, extent_of, node_at}
-use Rattle.cedar_syntax.specs.Tokens.{between_quotes, number_of, fits}
-use Rattle.cedar_syntax.specs.Trees.{Cell}
+use Rattle.cedar_grammar.specs.grammar.Place.{joint_extent, extent_of, node_at}
+use Rattle.cedar_syntax.specs.tokens.Tokens.{between_quotes, number_of, fits}
+use Rattle.cedar_syntax.specs.trees.Trees.{Cell}
 use Rattle.cedar_grammar.specs.machines.Door.{Reader, option_image}
 use Rattle.cedar_expression_machine.specs.machines.Closing.{ranged_tree, signs_of, with_access}
 use Rattle.cedar_grammar.specs.machines.Classes.{with_sign}

@@ -9,7 +9,7 @@ use Rattle.cedar_syntax.specs.declared.cst.Primary.{Primary}
 use Rattle.cedar_expression_machine.specs.declared.expression.state.State.{State}
 use Rattle.cedar_expression_machine.specs.declared.expression.state.Act.{Act}
 use Rattle.cedar_expression_machine.specs.declared.expression.state.Wanted.{Wanted}
-use Rattle.cedar_syntax.specs.Trees.{Cell}
+use Rattle.cedar_syntax.specs.trees.Trees.{Cell}
 use Rattle.cedar_expression_machine.specs.machines.Closing.{node_of}
 use Rattle.cedar_grammar.specs.machines.Door.{Machine, Reader, Outline, machine_of}
 use Rattle.cedar_expression_machine.specs.machines.Expressions.{expression_reader, sum_reader, primary_reader}

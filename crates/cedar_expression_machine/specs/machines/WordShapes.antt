@@ -22,8 +22,8 @@ use Rattle.cedar_expression_machine.specs.declared.words.state.InitAct.{InitAct}
 use Rattle.cedar_expression_machine.specs.declared.words.state.InitAct.TheVariants as init_acts
 use Rattle.cedar_expression_machine.specs.declared.words.state.WordsAct.{WordsAct}
 use Rattle.cedar_expression_machine.specs.declared.words.state.WordsAct.TheVariants as words_acts
-use Rattle.cedar_syntax.specs.Tokens.{any_of}
-use Rattle.cedar_syntax.specs.Trees.{Cell}
+use Rattle.cedar_syntax.specs.tokens.Tokens.{any_of}
+use Rattle.cedar_syntax.specs.trees.Trees.{Cell}
 use Rattle.cedar_grammar.specs.machines.Door.{Machine, option_image, Outline, outline_machine}
 use Rattle.cedar_grammar.specs.machines.SingleTokens.{if_any}
 use Rattle.cedar_expression_machine.specs.machines.Keeping.{kept_outline}

@@ -30,10 +30,10 @@ use Rattle.cedar_expression_machine.specs.declared.words.state.InitAct.{InitAct}
 use Rattle.cedar_expression_machine.specs.declared.words.state.InitAct.TheVariants as init_acts
 use Rattle.cedar_expression_machine.specs.declared.words.state.WordsAct.{WordsAct}
 use Rattle.cedar_expression_machine.specs.declared.words.state.WordsAct.TheVariants as words_acts
-use Rattle.cedar_grammar.specs.Place.{extent_of, node_at}
-use Rattle.cedar_syntax.specs.Tokens.{number_of, fits, any_of}
-use Rattle.cedar_syntax.specs.Trees.{Cell, name_of, ref_init_of}
-use Rattle.cedar_grammar.specs.LooseWords.{is_common}
+use Rattle.cedar_grammar.specs.grammar.Place.{extent_of, node_at}
+use Rattle.cedar_syntax.specs.tokens.Tokens.{number_of, fits, any_of}
+use Rattle.cedar_syntax.specs.trees.Trees.{Cell, name_of, ref_init_of}
+use Rattle.cedar_grammar.specs.grammar.LooseWords.{is_common}
 use Rattle.cedar_grammar.specs.machines.Door.{Machine, is_some, option_image, Reader, machine_of}
 use Rattle.cedar_grammar.specs.machines.SingleTokens.{string_node}
 use Rattle.cedar_expression_machine.specs.machines.Keeping.{kept_reader}

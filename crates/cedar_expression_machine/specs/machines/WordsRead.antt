@@ -10,9 +10,9 @@ use Rattle.cedar_expression_machine.specs.declared.words.state.Word.{Word}
 use Rattle.cedar_expression_machine.specs.declared.words.state.Path.{Path}
 use Rattle.cedar_expression_machine.specs.declared.words.state.Words.{Words}
 use Rattle.cedar_expression_machine.specs.declared.words.state.Words.TheVariants as words
-use Rattle.cedar_grammar.specs.Place.{extent}
-use Rattle.cedar_syntax.specs.Tokens.{Spot, one, any_of}
-use Rattle.cedar_grammar.specs.LooseWords.{ReadsRef}
+use Rattle.cedar_grammar.specs.grammar.Place.{extent}
+use Rattle.cedar_syntax.specs.tokens.Tokens.{Spot, one, any_of}
+use Rattle.cedar_grammar.specs.grammar.LooseWords.{ReadsRef}
 use Rattle.cedar_expression_machine.specs.machines.Words.{word_of, one_word_path, with_word, entity_with_extent}
 
 abbrev pub word_at : Ident → Spot → Word

@@ -3,9 +3,9 @@
 ghost use Rattle.std.specs.Prelude.{◌≡◌, [], Some, IsTrue, IfOk, OnOk};
 ghost use Rattle.cedar_lexer.specs.Token.{lexeme_of};
 ghost use Rattle.cedar_lexer.specs.declared.token.TokenKind.TheVariants as kind;
-ghost use Rattle.cedar_grammar.specs.Place.{extent_of};
-ghost use Rattle.cedar_syntax.specs.Tokens.{any_of};
-ghost use Rattle.cedar_grammar.specs.WrittenTokens.{IsWritten, Written};
+ghost use Rattle.cedar_grammar.specs.grammar.Place.{extent_of};
+ghost use Rattle.cedar_syntax.specs.tokens.Tokens.{any_of};
+ghost use Rattle.cedar_grammar.specs.grammar.WrittenTokens.{IsWritten, Written};
 ghost use Rattle.cedar_grammar.specs.machines.Door.{is_some};
 ghost use Rattle.cedar_grammar.specs.machines.Judged.{done_as};
 ghost use Rattle.cedar_expression_machine.specs.machines.Words.{entity_with_extent, uid_of, opened, inits_at, inits_named, inits_parted, with_value, inits_valued, inits_closed, init_act, words_named, words_opened, in_inits, words_act};

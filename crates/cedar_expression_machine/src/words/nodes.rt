@@ -1,8 +1,8 @@
 //! Words as nodes.
 ghost use Rattle.std.specs.Prelude.{◌≡◌, [], Some, IsTrue, IfOk};
 ghost use Rattle.cedar_lexer.specs.Token.{lexeme_of};
-ghost use Rattle.cedar_syntax.specs.Tokens.{any_of};
-ghost use Rattle.cedar_grammar.specs.Place.{extent_of};
+ghost use Rattle.cedar_syntax.specs.tokens.Tokens.{any_of};
+ghost use Rattle.cedar_grammar.specs.grammar.Place.{extent_of};
 ghost use Rattle.cedar_grammar.specs.machines.Door.{is_some};
 ghost use Rattle.cedar_expression_machine.specs.machines.Words.{word_node};
 

@@ -2,9 +2,9 @@
 ghost use Rattle.std.specs.Prelude.{◌≡◌, [], Some, IsTrue, IfOk, OnOk};
 ghost use Rattle.cedar_lexer.specs.Token.{lexeme_of};
 ghost use Rattle.cedar_lexer.specs.declared.token.TokenKind.TheVariants as kind;
-ghost use Rattle.cedar_grammar.specs.Place.{extent_of};
-ghost use Rattle.cedar_syntax.specs.Tokens.{any_of};
-ghost use Rattle.cedar_grammar.specs.LooseWords.{is_common};
+ghost use Rattle.cedar_grammar.specs.grammar.Place.{extent_of};
+ghost use Rattle.cedar_syntax.specs.tokens.Tokens.{any_of};
+ghost use Rattle.cedar_grammar.specs.grammar.LooseWords.{is_common};
 ghost use Rattle.cedar_grammar.specs.machines.Door.{is_some};
 ghost use Rattle.cedar_expression_machine.specs.machines.Words.{one_word_path, with_word, path_begun, path_parted, path_longer, path_act, path_node, is_name};
 ghost use Rattle.cedar_expression_machine.specs.machines.WordShapes.{path_plan, path_shape};

@@ -17,24 +17,24 @@ use Rattle.cedar_syntax.specs.declared.cst.Ident.TheVariants as ident
 use Rattle.cedar_syntax.specs.declared.cst.Name.{Name}
 use Rattle.cedar_syntax.specs.declared.cst.Ref.{Ref}
 use Rattle.cedar_syntax.specs.declared.node.Node.{Node}
-use Rattle.cedar_syntax.specs.Forms.{located, parts_of, expr_form, relation_form, add_form, member_form, access_form, primary_form, init_form, listed_access}
-use Rattle.cedar_grammar.specs.Grammar.{Rule}
-use Rattle.cedar_syntax.specs.Located as f
-use Rattle.cedar_syntax.specs.Located.{Located, Form, Parts, at}
-use Rattle.cedar_grammar.specs.LooseExpressions as l
-use Rattle.cedar_grammar.specs.LooseExpressions.{ReadsExpr, ReadsRelation, ReadsAdd, ReadsMember, ReadsAccesses, ReadsAccess, ReadsPrimary, ReadsExprs, ReadsRecInits, ReadsRecInit, ReadsSlot, lone_add, lone_expr, if_name}
-use Rattle.cedar_grammar.specs.LooseWords.{ReadsAny, ReadsLiteral, ReadsName, ReadsRef}
-use Rattle.cedar_grammar.specs.Place.{placed}
-use Rattle.cedar_syntax.specs.Printed.{Texts, printed, in_order, ident_texts, slot_texts}
-use Rattle.cedar_syntax.specs.Tokens.{Spot, one}
-use Rattle.cedar_syntax.specs.Tree as t
-use Rattle.cedar_syntax.specs.Tree.{Level, disjunction, conjunction, relation, sum, product}
-use Rattle.cedar_syntax.specs.Trees.{Cell, if_of, has_of, like_of, is_of, member_of, rec_init_of, name_of}
-use Rattle.cedar_syntax.specs.Unlocated.{unlocated, unlocated_form, unlocated_parts, unlocated_literal, unlocated_name, unlocated_ref}
-use Rattle.cedar_syntax.specs.Unplaced.{unplaced_tree, unplaced_tree_form, unplaced_tree_parts, literal_tree, name_tree, ref_tree}
+use Rattle.cedar_syntax.specs.trees.Forms.{located, parts_of, expr_form, relation_form, add_form, member_form, access_form, primary_form, init_form, listed_access}
+use Rattle.cedar_grammar.specs.grammar.Grammar.{Rule}
+use Rattle.cedar_syntax.specs.trees.Located as f
+use Rattle.cedar_syntax.specs.trees.Located.{Located, Form, Parts, at}
+use Rattle.cedar_grammar.specs.grammar.LooseExpressions as l
+use Rattle.cedar_grammar.specs.grammar.LooseExpressions.{ReadsExpr, ReadsRelation, ReadsAdd, ReadsMember, ReadsAccesses, ReadsAccess, ReadsPrimary, ReadsExprs, ReadsRecInits, ReadsRecInit, ReadsSlot, lone_add, lone_expr, if_name}
+use Rattle.cedar_grammar.specs.grammar.LooseWords.{ReadsAny, ReadsLiteral, ReadsName, ReadsRef}
+use Rattle.cedar_grammar.specs.grammar.Place.{placed}
+use Rattle.cedar_syntax.specs.printing.Printed.{Texts, printed, in_order, ident_texts, slot_texts}
+use Rattle.cedar_syntax.specs.tokens.Tokens.{Spot, one}
+use Rattle.cedar_syntax.specs.trees.Tree as t
+use Rattle.cedar_syntax.specs.trees.Tree.{Level, disjunction, conjunction, relation, sum, product}
+use Rattle.cedar_syntax.specs.trees.Trees.{Cell, if_of, has_of, like_of, is_of, member_of, rec_init_of, name_of}
+use Rattle.cedar_syntax.specs.trees.Unlocated.{unlocated, unlocated_form, unlocated_parts, unlocated_literal, unlocated_name, unlocated_ref}
+use Rattle.cedar_syntax.specs.trees.Unplaced.{unplaced_tree, unplaced_tree_form, unplaced_tree_parts, literal_tree, name_tree, ref_tree}
 use Rattle.cedar_syntax.proofs.FormLevels as form
 use Rattle.cedar_lexer.specs.Words.{TokenText, words_of}
-use Rattle.cedar_grammar.specs.SameWords.{Again}
+use Rattle.cedar_grammar.specs.printing.SameWords.{Again}
 use Rattle.cedar_grammar.proofs.again.Rereading.{AllSpelled, texts-append, both_spelled, same_as, infix_as, beside_as, token_as, prefix_as, Reworded}
 use Rattle.cedar_grammar.proofs.again.Chains.{print_node, print_form, print_order, print_items, bare, placed_here, snoc, snoc_bare, snoc_order, NodeOf, bare_items}
 use Rattle.cedar_grammar.proofs.again.Expressions.{word, joined, bracketed, member_bare, init_bare, if_bare, has_bare, like_bare, is_bare, is_in_bare, alone, lone_sum, lone_whole, lone_sum_bare, lone_whole_bare}

@@ -6,19 +6,19 @@ use Rattle.std.proofs.lemmas.List.{replicate_more}
 use Rattle.cedar_lexer.specs.declared.token.TokenKind.{TokenKind}
 use Rattle.cedar_lexer.specs.Spelling.{Spells}
 use Rattle.cedar_lexer.specs.Token.{Lexeme}
-use Rattle.cedar_syntax.specs.Forms.{located, parts_of}
-use Rattle.cedar_grammar.specs.Grammar.{Rule}
-use Rattle.cedar_syntax.specs.Located.{Located, Form, Parts, at, none, more}
-use Rattle.cedar_grammar.specs.Place.{placed}
-use Rattle.cedar_syntax.specs.Printed.{Texts, operator_texts, printed, in_order, item_texts, each_behind}
-use Rattle.cedar_syntax.specs.Signs.{ReadsSigns, one_sign, more_signs}
-use Rattle.cedar_syntax.specs.Tokens.{Spot, one}
-use Rattle.cedar_syntax.specs.Tree.{Operator, beside}
-use Rattle.cedar_syntax.specs.Trees.{Cell}
-use Rattle.cedar_syntax.specs.Unlocated.{unlocated, unlocated_form, unlocated_parts}
-use Rattle.cedar_syntax.specs.Unplaced.{unplaced_tree, unplaced_tree_form, unplaced_tree_parts}
+use Rattle.cedar_syntax.specs.trees.Forms.{located, parts_of}
+use Rattle.cedar_grammar.specs.grammar.Grammar.{Rule}
+use Rattle.cedar_syntax.specs.trees.Located.{Located, Form, Parts, at, none, more}
+use Rattle.cedar_grammar.specs.grammar.Place.{placed}
+use Rattle.cedar_syntax.specs.printing.Printed.{Texts, operator_texts, printed, in_order, item_texts, each_behind}
+use Rattle.cedar_syntax.specs.tokens.Signs.{ReadsSigns, one_sign, more_signs}
+use Rattle.cedar_syntax.specs.tokens.Tokens.{Spot, one}
+use Rattle.cedar_syntax.specs.trees.Tree.{Operator, beside}
+use Rattle.cedar_syntax.specs.trees.Trees.{Cell}
+use Rattle.cedar_syntax.specs.trees.Unlocated.{unlocated, unlocated_form, unlocated_parts}
+use Rattle.cedar_syntax.specs.trees.Unplaced.{unplaced_tree, unplaced_tree_form, unplaced_tree_parts}
 use Rattle.cedar_lexer.specs.Words.{TokenText, words_of, texts_of, AreSpelled}
-use Rattle.cedar_grammar.specs.SameWords.{Again}
+use Rattle.cedar_grammar.specs.printing.SameWords.{Again}
 use Rattle.cedar_grammar.proofs.again.Rereading.{texts-append, both_spelled, ReadAs, same_as, infix_as, token_as, suffix_as, Reworded}
 
 -- ---- what is printed of trees with places

@@ -24,25 +24,25 @@ use Rattle.cedar_syntax.specs.declared.cst.Member.{Member}
 use Rattle.cedar_syntax.specs.declared.cst.MemAccess.{MemAccess}
 use Rattle.cedar_syntax.specs.declared.cst.Primary.{Primary}
 use Rattle.cedar_syntax.specs.declared.cst.Expr.TheViews.{out-roll-Or, out-roll-Add, out-roll-Mult, out-roll-Unary}
-use Rattle.cedar_syntax.specs.Forms.{located, parts_of, expr_form, or_form, and_form, relation_form, add_form, mult_form, unary_form, member_form, primary_form, init_form, or_operand, and_operand, relation_operand, add_operand, mult_operand, listed_access}
-use Rattle.cedar_grammar.specs.Grammar.{Rule}
-use Rattle.cedar_syntax.specs.Located as f
-use Rattle.cedar_syntax.specs.Located.{Located, Form, at}
-use Rattle.cedar_grammar.specs.LooseExpressions as l
-use Rattle.cedar_grammar.specs.LooseExpressions.{ReadsUnary, ReadsMember, ReadsRelOp, ReadsMultOp, lone_add, lone_expr}
-use Rattle.cedar_grammar.specs.Place.{placed}
-use Rattle.cedar_syntax.specs.Printed.{Texts, printed, neg_op_texts, operator_texts}
-use Rattle.cedar_syntax.specs.Signs.{ReadsSigns, ReadsAddOp, one_sign, more_signs, sign_limit}
-use Rattle.cedar_syntax.specs.Signs as signs
-use Rattle.cedar_syntax.specs.Tokens.{Spot, one}
-use Rattle.cedar_syntax.specs.Tree as t
-use Rattle.cedar_syntax.specs.Tree.{Operator, Level, disjunction, conjunction, relation, sum, product}
-use Rattle.cedar_syntax.specs.Trees.{Cell, bangs_of, dashes_of, expr_of, if_of, or_of, and_of, common_of, has_of, like_of, is_of, add_of, mult_of, unary_of, member_of, rec_init_of}
-use Rattle.cedar_syntax.specs.Unlocated.{unlocated, unlocated_form, unlocated_parts}
-use Rattle.cedar_syntax.specs.Unplaced.{unplaced_tree, unplaced_tree_form}
+use Rattle.cedar_syntax.specs.trees.Forms.{located, parts_of, expr_form, or_form, and_form, relation_form, add_form, mult_form, unary_form, member_form, primary_form, init_form, or_operand, and_operand, relation_operand, add_operand, mult_operand, listed_access}
+use Rattle.cedar_grammar.specs.grammar.Grammar.{Rule}
+use Rattle.cedar_syntax.specs.trees.Located as f
+use Rattle.cedar_syntax.specs.trees.Located.{Located, Form, at}
+use Rattle.cedar_grammar.specs.grammar.LooseExpressions as l
+use Rattle.cedar_grammar.specs.grammar.LooseExpressions.{ReadsUnary, ReadsMember, ReadsRelOp, ReadsMultOp, lone_add, lone_expr}
+use Rattle.cedar_grammar.specs.grammar.Place.{placed}
+use Rattle.cedar_syntax.specs.printing.Printed.{Texts, printed, neg_op_texts, operator_texts}
+use Rattle.cedar_syntax.specs.tokens.Signs.{ReadsSigns, ReadsAddOp, one_sign, more_signs, sign_limit}
+use Rattle.cedar_syntax.specs.tokens.Signs as signs
+use Rattle.cedar_syntax.specs.tokens.Tokens.{Spot, one}
+use Rattle.cedar_syntax.specs.trees.Tree as t
+use Rattle.cedar_syntax.specs.trees.Tree.{Operator, Level, disjunction, conjunction, relation, sum, product}
+use Rattle.cedar_syntax.specs.trees.Trees.{Cell, bangs_of, dashes_of, expr_of, if_of, or_of, and_of, common_of, has_of, like_of, is_of, add_of, mult_of, unary_of, member_of, rec_init_of}
+use Rattle.cedar_syntax.specs.trees.Unlocated.{unlocated, unlocated_form, unlocated_parts}
+use Rattle.cedar_syntax.specs.trees.Unplaced.{unplaced_tree, unplaced_tree_form}
 use Rattle.cedar_syntax.proofs.FormLevels as form
 use Rattle.cedar_lexer.specs.Words.{TokenText, texts_of, AreSpelled}
-use Rattle.cedar_grammar.specs.SameWords.{Again}
+use Rattle.cedar_grammar.specs.printing.SameWords.{Again}
 use Rattle.cedar_grammar.proofs.again.Rereading.{texts-append, both_spelled, same_as, infix_as, beside_as, bracket_as, Reworded}
 use Rattle.cedar_grammar.proofs.again.Chains.{print_form, bare, placed_here, Row, bare_row, RowRule, NodeOf, RowOf, signs_as}
 

@@ -18,22 +18,22 @@ use Rattle.cedar_syntax.specs.declared.cst.Ref.{Ref}
 use Rattle.cedar_syntax.specs.declared.cst.RelOp.{RelOp}
 use Rattle.cedar_syntax.specs.declared.cst.Str.{Str}
 use Rattle.cedar_syntax.specs.declared.cst.VariableDef.{VariableDef}
-use Rattle.cedar_syntax.specs.Forms.{expr_form, add_form, primary_form}
-use Rattle.cedar_grammar.specs.Grammar.{Rule, IsTreeOf}
-use Rattle.cedar_grammar.specs.LooseExpressions.{ReadsExpr, ReadsPrimary}
-use Rattle.cedar_grammar.specs.LoosePolicies.{ReadsPolicy, ReadsPolicies}
-use Rattle.cedar_grammar.specs.LooseWords.{ReadsIdent, ReadsName, ReadsRef}
-use Rattle.cedar_grammar.specs.Place.{placed_or_start}
-use Rattle.cedar_syntax.specs.Printed.{tokens_text, printed}
-use Rattle.cedar_syntax.specs.Tree as t
-use Rattle.cedar_syntax.specs.Tree.{Tree, Rest, beside}
-use Rattle.cedar_syntax.specs.Trees.{Cell}
-use Rattle.cedar_syntax.specs.Unlocated.{unlocated_name, unlocated_ref}
-use Rattle.cedar_syntax.specs.Unplaced.{expr_tree, add_tree, primary_tree, name_tree, ref_tree, ident_tree, annotation_tree, variable_def_tree, comparison_rest, condition_tree, cond_tree, policy_tree, policies_tree, optional, or_missing, tree_at, unplaced_node, rest_behind, unplaced_tree_form}
-use Rattle.cedar_syntax.specs.UnlocatedTrees.{unlocated_expr, bare_cell, bare_cells, unlocated_add, unlocated_annotation, unlocated_constraint, unlocated_element, unlocated_clause, unlocated_policy, unlocated_policies, comparison_of, element_tree, clause_with, clause_tree, rest_cells, bare_tree, unlocated_primary, unlocated_ident}
+use Rattle.cedar_syntax.specs.trees.Forms.{expr_form, add_form, primary_form}
+use Rattle.cedar_grammar.specs.grammar.Grammar.{Rule, IsTreeOf}
+use Rattle.cedar_grammar.specs.grammar.LooseExpressions.{ReadsExpr, ReadsPrimary}
+use Rattle.cedar_grammar.specs.grammar.LoosePolicies.{ReadsPolicy, ReadsPolicies}
+use Rattle.cedar_grammar.specs.grammar.LooseWords.{ReadsIdent, ReadsName, ReadsRef}
+use Rattle.cedar_grammar.specs.grammar.Place.{placed_or_start}
+use Rattle.cedar_syntax.specs.printing.Printed.{tokens_text, printed}
+use Rattle.cedar_syntax.specs.trees.Tree as t
+use Rattle.cedar_syntax.specs.trees.Tree.{Tree, Rest, beside}
+use Rattle.cedar_syntax.specs.trees.Trees.{Cell}
+use Rattle.cedar_syntax.specs.trees.Unlocated.{unlocated_name, unlocated_ref}
+use Rattle.cedar_syntax.specs.trees.Unplaced.{expr_tree, add_tree, primary_tree, name_tree, ref_tree, ident_tree, annotation_tree, variable_def_tree, comparison_rest, condition_tree, cond_tree, policy_tree, policies_tree, optional, or_missing, tree_at, unplaced_node, rest_behind, unplaced_tree_form}
+use Rattle.cedar_syntax.specs.trees.UnlocatedTrees.{unlocated_expr, bare_cell, bare_cells, unlocated_add, unlocated_annotation, unlocated_constraint, unlocated_element, unlocated_clause, unlocated_policy, unlocated_policies, comparison_of, element_tree, clause_with, clause_tree, rest_cells, bare_tree, unlocated_primary, unlocated_ident}
 use Rattle.cedar_grammar.proofs.again.Rereading.{AllSpelled, PrintsAgain}
-use Rattle.cedar_grammar.specs.PrintLaw.{SameUpToPlaces, HasSameTree, node_text, PrintLaw}
-use Rattle.cedar_grammar.specs.FirstFault.{HasOneTree}
+use Rattle.cedar_grammar.specs.printing.PrintLaw.{SameUpToPlaces, HasSameTree, node_text, PrintLaw}
+use Rattle.cedar_grammar.specs.faults.FirstFault.{HasOneTree}
 use Rattle.cedar_grammar.proofs.again.Induction.{primary_again}
 use Rattle.cedar_grammar.proofs.again.Leaves.{any_again, name_again}
 use Rattle.cedar_grammar.proofs.again.Lists.{ref_again, leaves}

@@ -9,14 +9,14 @@ use Rattle.cedar_syntax.specs.declared.cst.Literal.{Literal}
 use Rattle.cedar_syntax.specs.declared.cst.Ident.{Ident}
 use Rattle.cedar_syntax.specs.declared.cst.Ident.TheVariants as ident
 use Rattle.cedar_syntax.specs.declared.cst.Name.{Name}
-use Rattle.cedar_grammar.specs.Grammar.{Rule}
-use Rattle.cedar_grammar.specs.LooseWords as w
-use Rattle.cedar_grammar.specs.LooseWords.{ReadsLiteral, ReadsAny, ReadsPath, ReadsName, is_common}
-use Rattle.cedar_grammar.specs.Place.{placed}
-use Rattle.cedar_syntax.specs.Printed.{Texts, printed, ident_texts, path_texts, option_texts, quoted_text}
-use Rattle.cedar_syntax.specs.Tokens.{one, number_of, between_quotes, any_of}
-use Rattle.cedar_syntax.specs.Trees.{Cell, name_of}
-use Rattle.cedar_syntax.specs.Unlocated.{unlocated_literal, unlocated_name, unlocated_node}
+use Rattle.cedar_grammar.specs.grammar.Grammar.{Rule}
+use Rattle.cedar_grammar.specs.grammar.LooseWords as w
+use Rattle.cedar_grammar.specs.grammar.LooseWords.{ReadsLiteral, ReadsAny, ReadsPath, ReadsName, is_common}
+use Rattle.cedar_grammar.specs.grammar.Place.{placed}
+use Rattle.cedar_syntax.specs.printing.Printed.{Texts, printed, ident_texts, path_texts, option_texts, quoted_text}
+use Rattle.cedar_syntax.specs.tokens.Tokens.{one, number_of, between_quotes, any_of}
+use Rattle.cedar_syntax.specs.trees.Trees.{Cell, name_of}
+use Rattle.cedar_syntax.specs.trees.Unlocated.{unlocated_literal, unlocated_name, unlocated_node}
 use Rattle.cedar_lexer.specs.Words.{TokenText}
 use Rattle.cedar_grammar.proofs.again.Rereading.{AllSpelled, texts-append, both_spelled, left_of, right_of, same_as, infix_as, token_as, Reworded}
 use Rattle.std.specs.Prelude.{decimal, IsTrue, nat_lt, ◌^◌, take, drop, length, ◌-◌}

@@ -5,24 +5,24 @@ use Rattle.cedar_lexer.specs.Cut.{Layout, nothing, skip, Cuts}
 use Rattle.cedar_lexer.specs.Token.{Lexeme}
 use Rattle.cedar_syntax.specs.declared.cst.Policies.{Policies}
 use Rattle.cedar_syntax.specs.declared.cst.Policy.{Policy}
-use Rattle.cedar_grammar.specs.Grammar.{IsTreeOf}
-use Rattle.cedar_grammar.specs.LoosePolicies.{ReadsPolicy, ReadsPolicies, ReadsMany}
-use Rattle.cedar_grammar.specs.Place.{placed_or_start, placed}
-use Rattle.cedar_syntax.specs.Printed.{tokens_text, printed}
-use Rattle.cedar_syntax.specs.Tree.{Tree}
-use Rattle.cedar_syntax.specs.Trees.{Cell, policies_of}
-use Rattle.cedar_syntax.specs.Unplaced.{policy_tree, or_missing}
+use Rattle.cedar_grammar.specs.grammar.Grammar.{IsTreeOf}
+use Rattle.cedar_grammar.specs.grammar.LoosePolicies.{ReadsPolicy, ReadsPolicies, ReadsMany}
+use Rattle.cedar_grammar.specs.grammar.Place.{placed_or_start, placed}
+use Rattle.cedar_syntax.specs.printing.Printed.{tokens_text, printed}
+use Rattle.cedar_syntax.specs.trees.Tree.{Tree}
+use Rattle.cedar_syntax.specs.trees.Trees.{Cell, policies_of}
+use Rattle.cedar_syntax.specs.trees.Unplaced.{policy_tree, or_missing}
 use Rattle.cedar_lexer.specs.Words.{TokenText, words_of, texts_of, AreSpelled}
-use Rattle.cedar_grammar.specs.SameWords.{Again}
+use Rattle.cedar_grammar.specs.printing.SameWords.{Again}
 use Rattle.cedar_grammar.proofs.again.Rereading.{AllSpelled, PrintsAgain, ReadAs, beside_as, halves, words-append}
-use Rattle.cedar_syntax.specs.UnlocatedTrees.{BarePolicy, bare_cell, bare_cells, unlocated_policy, unlocated_policies, bare_tree}
-use Rattle.cedar_grammar.specs.PrintLaw.{SameUpToPlaces, HasSameTree, node_text}
-use Rattle.cedar_grammar.specs.FirstFault.{HasOneTree}
+use Rattle.cedar_syntax.specs.trees.UnlocatedTrees.{BarePolicy, bare_cell, bare_cells, unlocated_policy, unlocated_policies, bare_tree}
+use Rattle.cedar_grammar.specs.printing.PrintLaw.{SameUpToPlaces, HasSameTree, node_text}
+use Rattle.cedar_grammar.specs.faults.FirstFault.{HasOneTree}
 use Rattle.cedar_lexer.proofs.Spaced.{tokens_from, words_are, behind, some_laid, feed_at}
 use Rattle.std.proofs.lemmas.List.{length-append, map-append}
 use Rattle.cedar_lexer.proofs.Cuts.{laid_on}
-use Rattle.cedar_grammar.specs.LoosePolicies as l
-use Rattle.cedar_grammar.specs.Formatted.{lines_text, formatted_in, formatted}
+use Rattle.cedar_grammar.specs.grammar.LoosePolicies as l
+use Rattle.cedar_grammar.specs.printing.Formatted.{lines_text, formatted_in, formatted}
 use Rattle.cedar_lexer.proofs.Ends.{broken, feed_breaks}
 use Rattle.cedar_grammar.proofs.again.Law.{all_spelled, one_cut, policy_prints, same_policy}
 use Rattle.cedar_grammar.proofs.again.PolicyParts.{ManyRule}

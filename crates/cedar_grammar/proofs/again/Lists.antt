@@ -7,26 +7,26 @@ use Rattle.cedar_syntax.specs.declared.cst.Literal.{Literal}
 use Rattle.cedar_syntax.specs.declared.cst.Ident.{Ident}
 use Rattle.cedar_syntax.specs.declared.cst.Name.{Name}
 use Rattle.cedar_syntax.specs.declared.cst.Ref.{Ref}
-use Rattle.cedar_grammar.specs.Grammar.{Rule}
-use Rattle.cedar_grammar.specs.LooseWords as w
-use Rattle.cedar_grammar.specs.LooseWords.{ReadsItems, ReadsList, ReadsPath, ReadsRefInit, ReadsRef}
-use Rattle.cedar_grammar.specs.Place.{placed}
-use Rattle.cedar_syntax.specs.Printed.{Texts, printed, item_texts, each_behind, quoted_text}
-use Rattle.cedar_syntax.specs.Tokens.{Spot, one, between_quotes}
-use Rattle.cedar_syntax.specs.Trees.{Cell, name_of, ref_init_of}
-use Rattle.cedar_syntax.specs.Unlocated.{unlocated_literal, unlocated_ref, unlocated_ref_init}
+use Rattle.cedar_grammar.specs.grammar.Grammar.{Rule}
+use Rattle.cedar_grammar.specs.grammar.LooseWords as w
+use Rattle.cedar_grammar.specs.grammar.LooseWords.{ReadsItems, ReadsList, ReadsPath, ReadsRefInit, ReadsRef}
+use Rattle.cedar_grammar.specs.grammar.Place.{placed}
+use Rattle.cedar_syntax.specs.printing.Printed.{Texts, printed, item_texts, each_behind, quoted_text}
+use Rattle.cedar_syntax.specs.tokens.Tokens.{Spot, one, between_quotes}
+use Rattle.cedar_syntax.specs.trees.Trees.{Cell, name_of, ref_init_of}
+use Rattle.cedar_syntax.specs.trees.Unlocated.{unlocated_literal, unlocated_ref, unlocated_ref_init}
 use Rattle.cedar_lexer.specs.Words.{TokenText, words_of, texts_of, AreSpelled}
-use Rattle.cedar_grammar.specs.SameWords.{Again}
+use Rattle.cedar_grammar.specs.printing.SameWords.{Again}
 use Rattle.cedar_grammar.proofs.again.Rereading.{AllSpelled, texts-append, both_spelled, halves, left_of, right_of, ReadAs, same_as, infix_as, token_as, bracket_as, Reworded}
 use Rattle.std.proofs.lemmas.List.{map-append}
 use Rattle.cedar_syntax.specs.declared.cst.Str.TheVariants as str
 use Rattle.cedar_syntax.specs.declared.cst.Ref.TheVariants as refs
 use Rattle.cedar_syntax.specs.declared.cst.RefInit.{RefInit}
-use Rattle.cedar_syntax.specs.Tree.{Tree}
-use Rattle.cedar_syntax.specs.Unplaced.{unplaced_node, content, ref_init_tree}
+use Rattle.cedar_syntax.specs.trees.Tree.{Tree}
+use Rattle.cedar_syntax.specs.trees.Unplaced.{unplaced_node, content, ref_init_tree}
 use Rattle.cedar_grammar.proofs.again.Expressions.{word}
 use Rattle.cedar_grammar.proofs.again.Cases.{Leaves, ref_texts, there}
-use Rattle.cedar_syntax.specs.UnlocatedTrees.{bare_cell, bare_cells, rest_cells}
+use Rattle.cedar_syntax.specs.trees.UnlocatedTrees.{bare_cell, bare_cells, rest_cells}
 use Rattle.cedar_grammar.proofs.again.Leaves.{AnyOf, any_again, LiteralOf, literal_read_again, Path, bare_path, PathOf, path_again, name_again, quoted, colons}
 
 -- ---- items separated by commas, of any rule: what they hold without places, and what is printed of it

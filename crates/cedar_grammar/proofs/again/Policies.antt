@@ -3,26 +3,26 @@ use Rattle.std.proofs.Common.{◌≡◌, ℕ, List, [], ◌∷◌, ◌++◌, cod
 use Rattle.cedar_lexer.specs.Token.{Lexeme}
 use Rattle.cedar_lexer.specs.declared.token.TokenKind.TheVariants as kind
 use Rattle.cedar_syntax.specs.declared.cst.Ident.{Ident}
-use Rattle.cedar_grammar.specs.LooseWords.{ReadsList, ReadsAny}
-use Rattle.cedar_grammar.specs.Place.{placed}
-use Rattle.cedar_syntax.specs.Printed.{Texts, printed, ident_texts, option_texts}
-use Rattle.cedar_syntax.specs.Tokens.{Spot, one}
-use Rattle.cedar_syntax.specs.Trees.{Cell, policy_of, policies_of}
+use Rattle.cedar_grammar.specs.grammar.LooseWords.{ReadsList, ReadsAny}
+use Rattle.cedar_grammar.specs.grammar.Place.{placed}
+use Rattle.cedar_syntax.specs.printing.Printed.{Texts, printed, ident_texts, option_texts}
+use Rattle.cedar_syntax.specs.tokens.Tokens.{Spot, one}
+use Rattle.cedar_syntax.specs.trees.Trees.{Cell, policy_of, policies_of}
 use Rattle.cedar_lexer.specs.Words.{open_word, close_word, TokenText}
 use Rattle.cedar_grammar.proofs.again.Rereading.{AllSpelled, texts-append, both_spelled, halves, left_of, right_of, same_as, infix_as, beside_as, Reworded, suffix_as}
-use Rattle.cedar_syntax.specs.Unlocated.{unlocated_node}
+use Rattle.cedar_syntax.specs.trees.Unlocated.{unlocated_node}
 use Rattle.cedar_grammar.proofs.again.Expressions.{word}
 use Rattle.cedar_grammar.proofs.again.Cases.{there}
-use Rattle.cedar_syntax.specs.UnlocatedTrees.{bare_cells, unlocated_annotation, BareElement, unlocated_element, BareCondition, unlocated_clause, BarePolicy, unlocated_policy, unlocated_policies, element_tree, clause_tree, bare_tree}
+use Rattle.cedar_syntax.specs.trees.UnlocatedTrees.{bare_cells, unlocated_annotation, BareElement, unlocated_element, BareCondition, unlocated_clause, BarePolicy, unlocated_policy, unlocated_policies, element_tree, clause_tree, bare_tree}
 use Rattle.cedar_grammar.proofs.again.Leaves.{AnyOf, any_again}
 use Rattle.cedar_syntax.specs.declared.cst.Annotation.{Annotation}
 use Rattle.cedar_syntax.specs.declared.cst.Cond.{Cond}
 use Rattle.cedar_syntax.specs.declared.cst.Policies.{Policies}
 use Rattle.cedar_syntax.specs.declared.cst.Policy.{Policy}
 use Rattle.cedar_syntax.specs.declared.cst.VariableDef.{VariableDef}
-use Rattle.cedar_grammar.specs.LoosePolicies as l
-use Rattle.cedar_grammar.specs.LoosePolicies.{ReadsMany, ReadsAnnotation, ReadsTypeName, ReadsEntityType, ReadsConstraint, ReadsVariableDef, ReadsBody, ReadsCond, ReadsPolicy, ReadsPolicies}
-use Rattle.cedar_syntax.specs.Unplaced.{annotation_tree}
+use Rattle.cedar_grammar.specs.grammar.LoosePolicies as l
+use Rattle.cedar_grammar.specs.grammar.LoosePolicies.{ReadsMany, ReadsAnnotation, ReadsTypeName, ReadsEntityType, ReadsConstraint, ReadsVariableDef, ReadsBody, ReadsCond, ReadsPolicy, ReadsPolicies}
+use Rattle.cedar_syntax.specs.trees.Unplaced.{annotation_tree}
 use Rattle.cedar_grammar.proofs.again.Lists.{cells_print, ListRule, list_again}
 use Rattle.cedar_grammar.proofs.again.PolicyParts.{many_print, ManyOf, many_again, annotation_again, element_again, clause_again}
 

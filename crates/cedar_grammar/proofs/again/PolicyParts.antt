@@ -6,34 +6,34 @@ use Rattle.cedar_lexer.specs.declared.token.TokenKind.TheVariants as kind
 use Rattle.cedar_syntax.specs.declared.cst.Expr.{Expr}
 use Rattle.cedar_syntax.specs.declared.cst.Ident.{Ident}
 use Rattle.cedar_syntax.specs.declared.cst.Name.{Name}
-use Rattle.cedar_grammar.specs.Grammar.{Rule}
-use Rattle.cedar_syntax.specs.Located.{Form}
-use Rattle.cedar_grammar.specs.LooseWords.{ReadsAny}
-use Rattle.cedar_grammar.specs.Place.{placed}
-use Rattle.cedar_syntax.specs.Printed.{Texts, printed, in_order, each_behind, ident_texts, option_texts, quoted_text}
-use Rattle.cedar_syntax.specs.Tokens.{Spot, one, between_quotes}
-use Rattle.cedar_syntax.specs.Trees.{Cell, annotation_of, variable_def_of, cond_of}
-use Rattle.cedar_syntax.specs.Unlocated.{unlocated_name, unlocated_node}
-use Rattle.cedar_syntax.specs.Unplaced.{unplaced_tree_form, name_tree, unplaced_node, content, optional, tree_at, annotation_tree}
+use Rattle.cedar_grammar.specs.grammar.Grammar.{Rule}
+use Rattle.cedar_syntax.specs.trees.Located.{Form}
+use Rattle.cedar_grammar.specs.grammar.LooseWords.{ReadsAny}
+use Rattle.cedar_grammar.specs.grammar.Place.{placed}
+use Rattle.cedar_syntax.specs.printing.Printed.{Texts, printed, in_order, each_behind, ident_texts, option_texts, quoted_text}
+use Rattle.cedar_syntax.specs.tokens.Tokens.{Spot, one, between_quotes}
+use Rattle.cedar_syntax.specs.trees.Trees.{Cell, annotation_of, variable_def_of, cond_of}
+use Rattle.cedar_syntax.specs.trees.Unlocated.{unlocated_name, unlocated_node}
+use Rattle.cedar_syntax.specs.trees.Unplaced.{unplaced_tree_form, name_tree, unplaced_node, content, optional, tree_at, annotation_tree}
 use Rattle.cedar_lexer.specs.Words.{open_word, close_word, TokenText, words_of}
-use Rattle.cedar_grammar.specs.SameWords.{Again}
+use Rattle.cedar_grammar.specs.printing.SameWords.{Again}
 use Rattle.cedar_grammar.proofs.again.Rereading.{AllSpelled, texts-append, both_spelled, halves, left_of, right_of, ReadAs, same_as, infix_as, beside_as, prefix_as, Reworded, suffix_as}
 use Rattle.std.specs.Prelude.{option_map}
 use Rattle.std.proofs.lemmas.List.{map-append}
 use Rattle.cedar_syntax.specs.declared.cst.Str.{Str}
 use Rattle.cedar_syntax.specs.declared.cst.Str.TheVariants as str
-use Rattle.cedar_syntax.specs.Tree.{Tree}
+use Rattle.cedar_syntax.specs.trees.Tree.{Tree}
 use Rattle.cedar_grammar.proofs.again.Expressions.{word, rel_word, rel_spelled, rel_prints, rel_reads}
 use Rattle.cedar_grammar.proofs.again.Cases.{name_texts, there}
-use Rattle.cedar_syntax.specs.UnlocatedTrees.{bare_cell, bare_cells, rest_cells, unlocated_expr, unlocated_add, unlocated_annotation, BareElement, unlocated_constraint, unlocated_element, BareCondition, unlocated_clause, comparison_of, element_tree, clause_tree}
+use Rattle.cedar_syntax.specs.trees.UnlocatedTrees.{bare_cell, bare_cells, rest_cells, unlocated_expr, unlocated_add, unlocated_annotation, BareElement, unlocated_constraint, unlocated_element, BareCondition, unlocated_clause, comparison_of, element_tree, clause_tree}
 use Rattle.cedar_grammar.proofs.again.Leaves.{AnyOf, any_again, name_again}
 use Rattle.cedar_syntax.specs.declared.cst.Add.{Add}
 use Rattle.cedar_syntax.specs.declared.cst.Annotation.{Annotation}
 use Rattle.cedar_syntax.specs.declared.cst.Cond.{Cond}
 use Rattle.cedar_syntax.specs.declared.cst.RelOp.{RelOp}
 use Rattle.cedar_syntax.specs.declared.cst.VariableDef.{VariableDef}
-use Rattle.cedar_grammar.specs.LoosePolicies as l
-use Rattle.cedar_grammar.specs.LoosePolicies.{ReadsMany, ReadsAnnotation, ReadsTypeName, ReadsEntityType, ReadsConstraint, ReadsVariableDef, ReadsBody, ReadsCond, ReadsPolicy, ReadsPolicies}
+use Rattle.cedar_grammar.specs.grammar.LoosePolicies as l
+use Rattle.cedar_grammar.specs.grammar.LoosePolicies.{ReadsMany, ReadsAnnotation, ReadsTypeName, ReadsEntityType, ReadsConstraint, ReadsVariableDef, ReadsBody, ReadsCond, ReadsPolicy, ReadsPolicies}
 use Rattle.cedar_grammar.proofs.again.Chains.{print_form, bare}
 use Rattle.cedar_grammar.proofs.again.Induction.{expr_again, add_again}
 use Rattle.cedar_grammar.proofs.again.Lists.{EachAgain, ReadsId, id, id_again, leaves}

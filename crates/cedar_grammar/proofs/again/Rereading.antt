@@ -2,12 +2,12 @@
 use Rattle.std.proofs.Common.{◌≡◌, ℕ, List, [], ◌∷◌, ◌++◌, refl, sym, ap, ap₂, ◌∙◌, subst, append_assoc}
 use Rattle.cedar_lexer.specs.declared.token.TokenKind.{TokenKind}
 use Rattle.cedar_lexer.specs.Token.{Lexeme}
-use Rattle.cedar_grammar.specs.Grammar.{Rule}
-use Rattle.cedar_syntax.specs.Printed.{Texts, printed}
-use Rattle.cedar_syntax.specs.Tree.{Tree}
-use Rattle.cedar_syntax.specs.Tokens.{Spot, one}
+use Rattle.cedar_grammar.specs.grammar.Grammar.{Rule}
+use Rattle.cedar_syntax.specs.printing.Printed.{Texts, printed}
+use Rattle.cedar_syntax.specs.trees.Tree.{Tree}
+use Rattle.cedar_syntax.specs.tokens.Tokens.{Spot, one}
 use Rattle.cedar_lexer.specs.Words.{TokenText, written, words_of, texts_of, AreSpelled}
-use Rattle.cedar_grammar.specs.SameWords.{Again}
+use Rattle.cedar_grammar.specs.printing.SameWords.{Again}
 
 abbrev pub AllSpelled : List Lexeme → Type 0
 AllSpelled ts = AreSpelled (words_of ts)

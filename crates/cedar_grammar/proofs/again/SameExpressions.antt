@@ -27,20 +27,20 @@ use Rattle.cedar_syntax.specs.declared.cst.Name.{Name}
 use Rattle.cedar_syntax.specs.declared.cst.Ref.{Ref}
 use Rattle.cedar_syntax.specs.declared.cst.RecInit.{RecInit}
 use Rattle.cedar_syntax.specs.declared.node.Node.{Node}
-use Rattle.cedar_syntax.specs.Forms.{located, expr_form, or_form, and_form, relation_form, add_form, mult_form, unary_form, member_form, access_form, primary_form, init_form, or_operand, and_operand, relation_operand, add_operand, mult_operand, listed_access}
-use Rattle.cedar_grammar.specs.Grammar.{Rule}
-use Rattle.cedar_syntax.specs.Located as f
-use Rattle.cedar_syntax.specs.Located.{Located, Form, Parts, at, none, more}
-use Rattle.cedar_grammar.specs.LooseExpressions as l
-use Rattle.cedar_grammar.specs.LooseExpressions.{ReadsExpr, ReadsOr, ReadsAnds, ReadsAnd, ReadsRelations, ReadsRelation, ReadsAdds, ReadsAdd, ReadsMults, ReadsMult, ReadsUnaries, ReadsUnary, ReadsMember, ReadsAccesses, ReadsAccess, ReadsPrimary, ReadsExprs, ReadsExprItems, ReadsRecInits, ReadsInitItems, ReadsRecInit, ReadsSlot, lone_add, lone_expr, if_name}
-use Rattle.cedar_grammar.specs.LooseWords.{ReadsAny, ReadsLiteral, ReadsName, ReadsRef}
-use Rattle.cedar_grammar.specs.Place.{placed}
-use Rattle.cedar_syntax.specs.Signs.{ReadsSigns, one_sign, more_signs}
-use Rattle.cedar_syntax.specs.Tokens.{Spot, one}
-use Rattle.cedar_syntax.specs.Tree as t
-use Rattle.cedar_syntax.specs.Tree.{Operator, Level, disjunction, conjunction, relation, sum, product, beside}
-use Rattle.cedar_syntax.specs.Trees.{Cell, bangs_of, dashes_of, expr_of, if_of, or_of, and_of, common_of, has_of, like_of, is_of, add_of, mult_of, unary_of, member_of, rec_init_of}
-use Rattle.cedar_syntax.specs.Unlocated.{unlocated, unlocated_form, unlocated_parts, unlocated_literal, unlocated_name, unlocated_ref}
+use Rattle.cedar_syntax.specs.trees.Forms.{located, expr_form, or_form, and_form, relation_form, add_form, mult_form, unary_form, member_form, access_form, primary_form, init_form, or_operand, and_operand, relation_operand, add_operand, mult_operand, listed_access}
+use Rattle.cedar_grammar.specs.grammar.Grammar.{Rule}
+use Rattle.cedar_syntax.specs.trees.Located as f
+use Rattle.cedar_syntax.specs.trees.Located.{Located, Form, Parts, at, none, more}
+use Rattle.cedar_grammar.specs.grammar.LooseExpressions as l
+use Rattle.cedar_grammar.specs.grammar.LooseExpressions.{ReadsExpr, ReadsOr, ReadsAnds, ReadsAnd, ReadsRelations, ReadsRelation, ReadsAdds, ReadsAdd, ReadsMults, ReadsMult, ReadsUnaries, ReadsUnary, ReadsMember, ReadsAccesses, ReadsAccess, ReadsPrimary, ReadsExprs, ReadsExprItems, ReadsRecInits, ReadsInitItems, ReadsRecInit, ReadsSlot, lone_add, lone_expr, if_name}
+use Rattle.cedar_grammar.specs.grammar.LooseWords.{ReadsAny, ReadsLiteral, ReadsName, ReadsRef}
+use Rattle.cedar_grammar.specs.grammar.Place.{placed}
+use Rattle.cedar_syntax.specs.tokens.Signs.{ReadsSigns, one_sign, more_signs}
+use Rattle.cedar_syntax.specs.tokens.Tokens.{Spot, one}
+use Rattle.cedar_syntax.specs.trees.Tree as t
+use Rattle.cedar_syntax.specs.trees.Tree.{Operator, Level, disjunction, conjunction, relation, sum, product, beside}
+use Rattle.cedar_syntax.specs.trees.Trees.{Cell, bangs_of, dashes_of, expr_of, if_of, or_of, and_of, common_of, has_of, like_of, is_of, add_of, mult_of, unary_of, member_of, rec_init_of}
+use Rattle.cedar_syntax.specs.trees.Unlocated.{unlocated, unlocated_form, unlocated_parts, unlocated_literal, unlocated_name, unlocated_ref}
 use Rattle.cedar_syntax.proofs.FormLevels as form
 use Rattle.cedar_grammar.proofs.again.Rereading.{ReadAs, same_as, token_as, prefix_as}
 use Rattle.cedar_grammar.proofs.again.Chains.{bare, placed_here, Row, bare_row, RowRule, rowed, snoc, snoc_bare, one_part, more_parts, bare_items, row_first, row_next, signs_rule, count}

@@ -14,16 +14,16 @@ use Rattle.cedar_syntax.specs.declared.cst.Policy.{Policy}
 use Rattle.cedar_syntax.specs.declared.cst.RelOp.{RelOp}
 use Rattle.cedar_syntax.specs.declared.cst.Str.TheVariants as str
 use Rattle.cedar_syntax.specs.declared.cst.VariableDef.{VariableDef}
-use Rattle.cedar_grammar.specs.Grammar.{Rule}
-use Rattle.cedar_grammar.specs.LoosePolicies as l
-use Rattle.cedar_grammar.specs.LoosePolicies.{ReadsMany, ReadsAnnotation, ReadsTypeName, ReadsEntityType, ReadsConstraint, ReadsVariableDef, ReadsBody, ReadsCond, ReadsPolicy, ReadsPolicies}
-use Rattle.cedar_grammar.specs.LooseWords.{ReadsAny}
-use Rattle.cedar_grammar.specs.Place.{placed}
-use Rattle.cedar_syntax.specs.Tokens.{Spot, one, between_quotes}
-use Rattle.cedar_syntax.specs.Trees.{Cell, annotation_of, variable_def_of, cond_of, policies_of}
-use Rattle.cedar_syntax.specs.Located.{Form}
-use Rattle.cedar_syntax.specs.Unlocated.{unlocated_node, unlocated_name}
-use Rattle.cedar_syntax.specs.UnlocatedTrees.{bare_cell, bare_cells, unlocated_expr, unlocated_add, unlocated_annotation, BareElement, unlocated_element, BareCondition, unlocated_clause, unlocated_policy, unlocated_policies}
+use Rattle.cedar_grammar.specs.grammar.Grammar.{Rule}
+use Rattle.cedar_grammar.specs.grammar.LoosePolicies as l
+use Rattle.cedar_grammar.specs.grammar.LoosePolicies.{ReadsMany, ReadsAnnotation, ReadsTypeName, ReadsEntityType, ReadsConstraint, ReadsVariableDef, ReadsBody, ReadsCond, ReadsPolicy, ReadsPolicies}
+use Rattle.cedar_grammar.specs.grammar.LooseWords.{ReadsAny}
+use Rattle.cedar_grammar.specs.grammar.Place.{placed}
+use Rattle.cedar_syntax.specs.tokens.Tokens.{Spot, one, between_quotes}
+use Rattle.cedar_syntax.specs.trees.Trees.{Cell, annotation_of, variable_def_of, cond_of, policies_of}
+use Rattle.cedar_syntax.specs.trees.Located.{Form}
+use Rattle.cedar_syntax.specs.trees.Unlocated.{unlocated_node, unlocated_name}
+use Rattle.cedar_syntax.specs.trees.UnlocatedTrees.{bare_cell, bare_cells, unlocated_expr, unlocated_add, unlocated_annotation, BareElement, unlocated_element, BareCondition, unlocated_clause, unlocated_policy, unlocated_policies}
 use Rattle.cedar_grammar.proofs.again.Rereading.{same_as, prefix_as}
 use Rattle.cedar_grammar.proofs.again.Cases.{there}
 use Rattle.cedar_grammar.proofs.again.PolicyParts.{ManyRule, key_read, keyed_read, Keyed, bare_keyed, bare_type, bare_entity, bare_against, BareEnds, bare_ends, BareSides, sides_rule, bare_sides, sides_read, element_of, bare_body, begun_read, begun_rule, bare_begun, clause_of, ReadsKey, key, ReadsKeyed, keyed, ReadsEnds, ends, sides, begun}

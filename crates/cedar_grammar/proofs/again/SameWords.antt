@@ -14,16 +14,16 @@ use Rattle.cedar_syntax.specs.declared.cst.Ref.{Ref}
 use Rattle.cedar_syntax.specs.declared.cst.Ref.TheVariants as refs
 use Rattle.cedar_syntax.specs.declared.cst.RefInit.{RefInit}
 use Rattle.cedar_syntax.specs.declared.cst.Str.TheVariants as str
-use Rattle.cedar_grammar.specs.Grammar.{Rule}
-use Rattle.cedar_grammar.specs.LooseWords as w
-use Rattle.cedar_grammar.specs.LooseWords.{ReadsItems, ReadsList, ReadsLiteral, ReadsAny, ReadsPath, ReadsName, ReadsRefInit, ReadsRef, is_common}
-use Rattle.cedar_grammar.specs.Place.{placed}
-use Rattle.cedar_syntax.specs.Tokens.{Spot, one, number_of, fits, between_quotes, any_of}
-use Rattle.cedar_syntax.specs.Trees.{Cell, name_of, ref_init_of}
-use Rattle.cedar_syntax.specs.Unlocated.{unlocated_literal, unlocated_name, unlocated_ref, unlocated_ref_init}
-use Rattle.cedar_syntax.specs.UnlocatedTrees.{bare_cell, bare_cells}
+use Rattle.cedar_grammar.specs.grammar.Grammar.{Rule}
+use Rattle.cedar_grammar.specs.grammar.LooseWords as w
+use Rattle.cedar_grammar.specs.grammar.LooseWords.{ReadsItems, ReadsList, ReadsLiteral, ReadsAny, ReadsPath, ReadsName, ReadsRefInit, ReadsRef, is_common}
+use Rattle.cedar_grammar.specs.grammar.Place.{placed}
+use Rattle.cedar_syntax.specs.tokens.Tokens.{Spot, one, number_of, fits, between_quotes, any_of}
+use Rattle.cedar_syntax.specs.trees.Trees.{Cell, name_of, ref_init_of}
+use Rattle.cedar_syntax.specs.trees.Unlocated.{unlocated_literal, unlocated_name, unlocated_ref, unlocated_ref_init}
+use Rattle.cedar_syntax.specs.trees.UnlocatedTrees.{bare_cell, bare_cells}
 use Rattle.cedar_lexer.specs.Words.{TokenText, words_of}
-use Rattle.cedar_grammar.specs.SameWords.{Again}
+use Rattle.cedar_grammar.specs.printing.SameWords.{Again}
 use Rattle.cedar_grammar.proofs.again.Rereading.{words-append, ReadAs, same_as, infix_as, beside_as, token_as, suffix_as, bracket_as}
 use Rattle.cedar_grammar.proofs.again.Cases.{any_rule, by_itself, there}
 use Rattle.cedar_grammar.proofs.again.Leaves.{Path, path_rule, bare_path, bare_longer}

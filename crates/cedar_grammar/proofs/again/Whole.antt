@@ -10,17 +10,17 @@ use Rattle.cedar_syntax.specs.declared.cst.Name.{Name}
 use Rattle.cedar_syntax.specs.declared.cst.Ref.{Ref}
 use Rattle.cedar_syntax.specs.declared.cst.Ref.TheVariants as refs
 use Rattle.cedar_syntax.specs.declared.cst.RefInit.{RefInit}
-use Rattle.cedar_syntax.specs.Forms.{expr_form}
-use Rattle.cedar_syntax.specs.Located as f
-use Rattle.cedar_syntax.specs.Located.{Located, Form, Parts}
-use Rattle.cedar_grammar.specs.LooseExpressions.{ReadsExpr}
-use Rattle.cedar_syntax.specs.Printed.{printed}
-use Rattle.cedar_syntax.specs.Tree as t
-use Rattle.cedar_syntax.specs.Tree.{Tree, Rest, beside}
-use Rattle.cedar_syntax.specs.Trees.{Cell}
-use Rattle.cedar_syntax.specs.Unlocated.{unlocated, unlocated_form, unlocated_parts, unlocated_cell, unlocated_node, unlocated_literal, unlocated_name, unlocated_ref_init, unlocated_ref}
-use Rattle.cedar_syntax.specs.Unplaced.{unplaced_tree, unplaced_tree_form, unplaced_tree_parts, literal_in, name_in, ref_in, ref_init_tree, rest_behind, unplaced_node, expr_tree}
-use Rattle.cedar_syntax.specs.UnlocatedTrees.{unlocated_expr}
+use Rattle.cedar_syntax.specs.trees.Forms.{expr_form}
+use Rattle.cedar_syntax.specs.trees.Located as f
+use Rattle.cedar_syntax.specs.trees.Located.{Located, Form, Parts}
+use Rattle.cedar_grammar.specs.grammar.LooseExpressions.{ReadsExpr}
+use Rattle.cedar_syntax.specs.printing.Printed.{printed}
+use Rattle.cedar_syntax.specs.trees.Tree as t
+use Rattle.cedar_syntax.specs.trees.Tree.{Tree, Rest, beside}
+use Rattle.cedar_syntax.specs.trees.Trees.{Cell}
+use Rattle.cedar_syntax.specs.trees.Unlocated.{unlocated, unlocated_form, unlocated_parts, unlocated_cell, unlocated_node, unlocated_literal, unlocated_name, unlocated_ref_init, unlocated_ref}
+use Rattle.cedar_syntax.specs.trees.Unplaced.{unplaced_tree, unplaced_tree_form, unplaced_tree_parts, literal_in, name_in, ref_in, ref_init_tree, rest_behind, unplaced_node, expr_tree}
+use Rattle.cedar_syntax.specs.trees.UnlocatedTrees.{unlocated_expr}
 use Rattle.cedar_grammar.proofs.again.Rereading.{AllSpelled, PrintsAgain}
 use Rattle.cedar_grammar.proofs.again.Induction.{expr_again}
 use Rattle.cedar_grammar.proofs.again.Lists.{leaves}

@@ -14,9 +14,9 @@ use Rattle.cedar_syntax.specs.declared.err.faults.Failure.{Failure}
 use Rattle.cedar_syntax.specs.declared.err.faults.Failure.TheVariants.{Memory, Errors}
 use Rattle.cedar_grammar.specs.declared.reading.extent.Extent.{Extent}
 use Rattle.cedar_grammar.specs.declared.reading.expected.Narrowing.{Narrowing}
-use Rattle.cedar_grammar.specs.FirstFault.{end_at, tokens_end, early_at}
-use Rattle.cedar_grammar.specs.Place.{joint_extent, extent_of, extent}
-use Rattle.cedar_grammar.specs.WrittenTokens.{IsWritten}
+use Rattle.cedar_grammar.specs.faults.FirstFault.{end_at, tokens_end, early_at}
+use Rattle.cedar_grammar.specs.grammar.Place.{joint_extent, extent_of, extent}
+use Rattle.cedar_grammar.specs.grammar.WrittenTokens.{IsWritten}
 use Rattle.cedar_grammar.specs.machines.Door.{next, Machine, answer_state, Comes}
 use Rattle.cedar_grammar.specs.machines.Judged.{wanted_kinds, IsRead, IsFault, GivesToken, StopsBadly, stop_fault, IsStop, StopsAtToken, StopsAtEnd}
 use Rattle.cedar_grammar.proofs.machines.Laws.{then_steps}

@@ -3,7 +3,7 @@ use Rattle.std.proofs.Common.{◌≡◌, Some, None, true}
 use Rattle.cedar_lexer.specs.Token.{Lexeme}
 use Rattle.cedar_lexer.specs.declared.token.TokenKind.{TokenKind}
 use Rattle.cedar_syntax.specs.declared.cst.Ident.{Ident}
-use Rattle.cedar_syntax.specs.Tokens.{Spot, any_of}
+use Rattle.cedar_syntax.specs.tokens.Tokens.{Spot, any_of}
 use Rattle.cedar_grammar.specs.machines.Door.{Machine, ended, refused, is_taken}
 
 -- the tree of no tokens

@@ -5,8 +5,8 @@ use Rattle.cedar_lexer.specs.Token.{Lexeme}
 use Rattle.cedar_lexer.specs.declared.token.TokenKind.{TokenKind}
 use Rattle.cedar_lexer.specs.declared.token.TokenKind.TheVariants as kind
 use Rattle.cedar_grammar.specs.declared.reading.expected.Narrowing.{Narrowing}
-use Rattle.cedar_grammar.specs.Expected.{by_name, is_closer, can_narrow, IsNarrowed, Picks, no_kind, picked, passed, IsIn, here, there, IsExpected, all_allowed, closers}
-use Rattle.cedar_grammar.specs.Sentences.{Allowed}
+use Rattle.cedar_grammar.specs.faults.Expected.{by_name, is_closer, can_narrow, IsNarrowed, Picks, no_kind, picked, passed, IsIn, here, there, IsExpected, all_allowed, closers}
+use Rattle.cedar_grammar.specs.grammar.Sentences.{Allowed}
 use Rattle.cedar_grammar.specs.machines.Judged.{any_closer, is_narrowed, picks, picked_kinds, wanted_kinds}
 use Rattle.cedar_grammar.proofs.machines.Laws.{false_true}
 

@@ -3,8 +3,8 @@ use Rattle.std.proofs.Common.{◌≡◌, List, [], ◌∷◌, ◌++◌, Option, 
 use Rattle.cedar_lexer.specs.Token.{Lexeme}
 use Rattle.cedar_lexer.specs.declared.token.TokenKind.{TokenKind}
 use Rattle.cedar_grammar.specs.declared.reading.extent.Extent.{Extent}
-use Rattle.cedar_grammar.specs.Place.{joint_extent, extent_of, extent}
-use Rattle.cedar_syntax.specs.Tokens.{Spot, one}
+use Rattle.cedar_grammar.specs.grammar.Place.{joint_extent, extent_of, extent}
+use Rattle.cedar_syntax.specs.tokens.Tokens.{Spot, one}
 
 pub join-assoc : (a b c : Option Extent) → joint_extent (joint_extent a b) c ≡ joint_extent a (joint_extent b c)
 join-assoc None b c = refl

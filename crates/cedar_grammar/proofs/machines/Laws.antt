@@ -3,7 +3,7 @@ use Rattle.std.specs.Prelude.{IsTrue, ◌↔◌}
 use Rattle.std.proofs.Common.{◌≡◌, List, [], ◌∷◌, ◌++◌, Option, Some, None, Bool, true, false, refl, sym, ◌∙◌, ap, subst, IfSome}
 use Rattle.cedar_lexer.specs.Token.{Lexeme}
 use Rattle.cedar_lexer.specs.declared.token.TokenKind.{TokenKind}
-use Rattle.cedar_grammar.specs.Sentences.{kinds, Starts, Sentence, Allowed, IsFirstRefused}
+use Rattle.cedar_grammar.specs.grammar.Sentences.{kinds, Starts, Sentence, Allowed, IsFirstRefused}
 use Rattle.cedar_grammar.specs.machines.Door.{Machine, Answer, next, ended, refused, too_large, answer_state, step_from, steps, Comes, RunsTo, AnswersRightly, Door, is_taken, is_some, allows, IsShape, option_image, Shapes}
 
 -- some token of a kind

@@ -7,8 +7,8 @@ use Rattle.cedar_syntax.specs.declared.cst.Ident.{Ident}
 use Rattle.cedar_syntax.specs.declared.cst.RelOp.{RelOp}
 use Rattle.cedar_grammar.specs.declared.reading.mark.Mark.{Mark}
 use Rattle.cedar_grammar.specs.declared.reading.mark.Mark.TheVariants as mark
-use Rattle.cedar_syntax.specs.Tokens.{any_of, fits}
-use Rattle.cedar_grammar.specs.LooseExpressions.{ReadsRelOp, less, less_eq, greater_eq, greater, not_eq, equal, within, single_eq}
+use Rattle.cedar_syntax.specs.tokens.Tokens.{any_of, fits}
+use Rattle.cedar_grammar.specs.grammar.LooseExpressions.{ReadsRelOp, less, less_eq, greater_eq, greater, not_eq, equal, within, single_eq}
 use Rattle.cedar_grammar.specs.machines.Marks.{mark_of, relation_of}
 use Rattle.cedar_grammar.proofs.machines.Laws.{false_true}
 

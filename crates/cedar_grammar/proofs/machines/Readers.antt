@@ -7,8 +7,8 @@ use Rattle.cedar_lexer.specs.declared.token.TokenKind.TheVariants as kind
 use Rattle.cedar_syntax.specs.declared.err.to_cst.RawFault.{RawFault}
 use Rattle.cedar_grammar.specs.declared.reading.expected.Narrowing.{Narrowing}
 use Rattle.cedar_grammar.specs.declared.reading.expected.Narrowing.TheVariants as narrowing
-use Rattle.cedar_grammar.specs.Expected.{by_name, is_closer, can_narrow}
-use Rattle.cedar_grammar.specs.FirstFault.{tokens_end, unexpected_fault, early_at}
+use Rattle.cedar_grammar.specs.faults.Expected.{by_name, is_closer, can_narrow}
+use Rattle.cedar_grammar.specs.faults.FirstFault.{tokens_end, unexpected_fault, early_at}
 use Rattle.cedar_grammar.specs.machines.Door.{Machine, next, ended, refused, too_large, AnswersRightly, Reader, done_answer, end_answer, planned_answer, machine_of, allowed_by, allows, Outline, outline_machine, IsDone, IsOutline, IsShape, option_image, Shapes, is_some, is_taken, Door}
 use Rattle.cedar_grammar.specs.machines.Judged.{may_take, ReadsBy, any_closer, is_narrowed, picks, picked_kinds, wanted_kinds, large_fault, stop_fault}
 use Rattle.cedar_grammar.specs.machines.Mending.{refused_fault}

@@ -14,14 +14,14 @@ use Rattle.cedar_syntax.specs.declared.err.faults.Failure.{Failure}
 use Rattle.cedar_syntax.specs.declared.err.faults.Failure.TheVariants.{Memory, Errors}
 use Rattle.cedar_syntax.specs.declared.err.to_cst.RawFault.{RawFault}
 use Rattle.cedar_grammar.specs.declared.reading.expected.Narrowing.{Narrowing}
-use Rattle.cedar_grammar.specs.Expected.{IsExpected}
-use Rattle.cedar_grammar.specs.FirstFault.{tokens_end, unexpected_fault, early_at, large_at, FirstFault, unexpected, early_end, large_number, bad_place, IsFaultIn, IsRefusal}
-use Rattle.cedar_syntax.specs.ParseErrors.{IsMemory}
-use Rattle.cedar_grammar.specs.Grammar.{Rule, IsNodeOf, IsTreeOf}
-use Rattle.cedar_grammar.specs.Place.{placed_or_start}
-use Rattle.cedar_syntax.specs.Tokens.{fits}
-use Rattle.cedar_syntax.specs.Trees.{Cell}
-use Rattle.cedar_grammar.specs.Sentences.{kinds, HasTree, Starts, Sentence, Allowed, IsFirstRefused}
+use Rattle.cedar_grammar.specs.faults.Expected.{IsExpected}
+use Rattle.cedar_grammar.specs.faults.FirstFault.{tokens_end, unexpected_fault, early_at, large_at, FirstFault, unexpected, early_end, large_number, bad_place, IsFaultIn, IsRefusal}
+use Rattle.cedar_syntax.specs.faults.ParseErrors.{IsMemory}
+use Rattle.cedar_grammar.specs.grammar.Grammar.{Rule, IsNodeOf, IsTreeOf}
+use Rattle.cedar_grammar.specs.grammar.Place.{placed_or_start}
+use Rattle.cedar_syntax.specs.tokens.Tokens.{fits}
+use Rattle.cedar_syntax.specs.trees.Trees.{Cell}
+use Rattle.cedar_grammar.specs.grammar.Sentences.{kinds, HasTree, Starts, Sentence, Allowed, IsFirstRefused}
 use Rattle.cedar_grammar.specs.machines.Door.{Answer, next, ended, refused, too_large, Machine, answer_state, steps, Comes, RunsTo, AnswersRightly, is_some, Reader, machine_of, allowed_by}
 use Rattle.cedar_grammar.specs.machines.Judged.{may_take, ReadsBy, wanted_kinds, IsRead, large_fault, stop_fault, IsStop}
 use Rattle.cedar_grammar.proofs.machines.Laws.{some_is, none_some, false_true, steps-none, then_steps, starts_from, comes}

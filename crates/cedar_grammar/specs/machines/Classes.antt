@@ -19,8 +19,8 @@ use Rattle.cedar_grammar.specs.declared.reading.class.AccessStart.TheVariants as
 use Rattle.cedar_grammar.specs.declared.reading.class.SideWord.TheVariants as side
 use Rattle.cedar_grammar.specs.declared.reading.class.Operator.{Operator}
 use Rattle.cedar_grammar.specs.declared.reading.class.Operator.TheVariants as operator
-use Rattle.cedar_syntax.specs.Tokens.{any_of}
-use Rattle.cedar_syntax.specs.Signs.{sign_limit}
+use Rattle.cedar_syntax.specs.tokens.Tokens.{any_of}
+use Rattle.cedar_syntax.specs.tokens.Signs.{sign_limit}
 
 -- what a mark is where an operand is wanted; whether a number fits is found where it is read
 abbrev pub mark_class : TokenKind → Beginning

@@ -4,7 +4,7 @@ use Rattle.std.specs.Prelude.{◌≡◌, ℕ, Bool, true, false, List, [], ◌�
 use Rattle.cedar_lexer.specs.Token.{Lexeme}
 use Rattle.cedar_lexer.specs.declared.token.TokenKind.{TokenKind}
 use Rattle.cedar_lexer.specs.declared.token.TokenKind.TheVariants as kind
-use Rattle.cedar_syntax.specs.Tokens.{fits}
+use Rattle.cedar_syntax.specs.tokens.Tokens.{fits}
 
 -- what a machine answers to a token
 pub data Answer (S T : Type 0) : Type 0 where

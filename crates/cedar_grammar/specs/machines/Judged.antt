@@ -6,7 +6,7 @@ use Rattle.cedar_lexer.specs.LexerState.{LexerState, LexerAnswers, IsCutOrStop}
 use Rattle.cedar_lexer.specs.declared.token.Token.{Token}
 use Rattle.cedar_lexer.specs.declared.token.TokenKind.{TokenKind}
 use Rattle.cedar_lexer.specs.declared.token.TokenKind.TheVariants as kind
-use Rattle.cedar_syntax.specs.ParseErrors.{faults_of}
+use Rattle.cedar_syntax.specs.faults.ParseErrors.{faults_of}
 use Rattle.cedar_syntax.specs.declared.err.faults.Failure.{Failure}
 use Rattle.cedar_syntax.specs.declared.err.faults.Failure.TheVariants.{Memory, Errors}
 use Rattle.cedar_syntax.specs.declared.err.faults.ParseErrors.{ParseErrors}
@@ -14,9 +14,9 @@ use Rattle.cedar_syntax.specs.declared.err.faults.ParseError.TheVariants.{ToCST}
 use Rattle.cedar_syntax.specs.declared.err.to_cst.RawFault.{RawFault}
 use Rattle.cedar_syntax.specs.declared.err.to_cst.RawFault.TheVariants as fault
 use Rattle.cedar_grammar.specs.declared.reading.expected.Narrowing.{Narrowing}
-use Rattle.cedar_grammar.specs.Expected.{by_name, is_closer, can_narrow}
-use Rattle.cedar_grammar.specs.FirstFault.{tokens_end, unexpected_fault, early_at, large_at}
-use Rattle.cedar_grammar.specs.Sentences.{kinds, Allowed}
+use Rattle.cedar_grammar.specs.faults.Expected.{by_name, is_closer, can_narrow}
+use Rattle.cedar_grammar.specs.faults.FirstFault.{tokens_end, unexpected_fault, early_at, large_at}
+use Rattle.cedar_grammar.specs.grammar.Sentences.{kinds, Allowed}
 use Rattle.cedar_grammar.specs.machines.Door.{Answer, next, ended, refused, too_large, Machine, Comes, RunsTo, Door, is_some, Reader, machine_of, allowed_by}
 
 -- what an act made of a state: nothing is said of it where a number doesn't fit

@@ -6,8 +6,8 @@ use Rattle.cedar_lexer.specs.LexerState.{IsCutOrStop}
 use Rattle.cedar_lexer.specs.declared.token.Token.{Token}
 use Rattle.cedar_lexer.specs.declared.token.InvalidToken.{InvalidToken}
 use Rattle.cedar_lexer.specs.declared.token.TokenKind.{TokenKind}
-use Rattle.cedar_syntax.specs.NonEmpty.{list_of}
-use Rattle.cedar_syntax.specs.ParseErrors.{faults_of}
+use Rattle.cedar_syntax.specs.faults.NonEmpty.{list_of}
+use Rattle.cedar_syntax.specs.faults.ParseErrors.{faults_of}
 use Rattle.cedar_syntax.specs.declared.err.faults.Failure.{Failure}
 use Rattle.cedar_syntax.specs.declared.err.faults.Failure.TheVariants.{Memory, Errors}
 use Rattle.cedar_syntax.specs.declared.err.faults.ParseError.{ParseError}
@@ -20,8 +20,8 @@ use Rattle.cedar_grammar.specs.declared.reading.mending.Refusal.{Refusal}
 use Rattle.cedar_grammar.specs.declared.reading.mending.Refusal.TheVariants as refusal
 use Rattle.cedar_grammar.specs.declared.reading.mending.Run.{Run}
 use Rattle.cedar_grammar.specs.declared.reading.recovery.RecoveryWay.{RecoveryWay}
-use Rattle.cedar_grammar.specs.FirstFault.{unexpected_fault, early_at, large_at}
-use Rattle.cedar_grammar.specs.MendedFaults.{fault_of, faults_with_last}
+use Rattle.cedar_grammar.specs.faults.FirstFault.{unexpected_fault, early_at, large_at}
+use Rattle.cedar_grammar.specs.faults.MendedFaults.{fault_of, faults_with_last}
 use Rattle.cedar_grammar.specs.machines.Door.{Machine, Answer, next, ended, refused, too_large}
 use Rattle.cedar_grammar.specs.machines.Judged.{wanted_kinds}
 use Rattle.cedar_grammar.specs.machines.Marks.{mark_of}

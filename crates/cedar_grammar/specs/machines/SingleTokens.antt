@@ -4,9 +4,9 @@ use Rattle.cedar_lexer.specs.Token.{Lexeme}
 use Rattle.cedar_lexer.specs.declared.token.TokenKind.{TokenKind}
 use Rattle.cedar_syntax.specs.declared.cst.Str.{Str}
 use Rattle.cedar_syntax.specs.declared.cst.Str.TheVariants as str
-use Rattle.cedar_syntax.specs.Tokens.{any_of, between_quotes}
-use Rattle.cedar_syntax.specs.Trees.{Cell}
-use Rattle.cedar_grammar.specs.Place.{extent_of, node_at}
+use Rattle.cedar_syntax.specs.tokens.Tokens.{any_of, between_quotes}
+use Rattle.cedar_syntax.specs.trees.Trees.{Cell}
+use Rattle.cedar_grammar.specs.grammar.Place.{extent_of, node_at}
 use Rattle.cedar_grammar.specs.machines.Door.{is_some}
 
 -- this, where the kind is an identifier

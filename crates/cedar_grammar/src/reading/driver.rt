@@ -1,8 +1,8 @@
 //! Reads a whole text by one rule of the grammar, token after token, with one token of look-ahead.
 ghost use Rattle.std.specs.Prelude.{◌≡◌, Some, None, IfOk, MatchResult};
 ghost use Rattle.cedar_lexer.specs.Token.{lexeme_of};
-ghost use Rattle.cedar_grammar.specs.WrittenTokens.{IsWritten};
-ghost use Rattle.cedar_grammar.specs.FirstFault.{unexpected_fault, early_at, large_at};
+ghost use Rattle.cedar_grammar.specs.grammar.WrittenTokens.{IsWritten};
+ghost use Rattle.cedar_grammar.specs.faults.FirstFault.{unexpected_fault, early_at, large_at};
 ghost use Rattle.cedar_grammar.specs.machines.Door.{next, machine_of, allowed_by};
 ghost use Rattle.cedar_grammar.specs.machines.Judged.{wanted_kinds, IsRead, FailsWith, GivesToken, StopsBadly, StopsAtToken, StopsAtEnd, IsStop};
 
@@ -21,7 +21,7 @@ use std::alloc::{AllocError, Global};
 pub trait Entry<T: Drop>: Drop {
     ghost use Rattle.std.specs.Prelude.{◌≡◌, Some, IsTrue, IfOk};
     ghost use Rattle.cedar_lexer.specs.Token.{lexeme_of};
-    ghost use Rattle.cedar_grammar.specs.WrittenTokens.{IsWritten};
+    ghost use Rattle.cedar_grammar.specs.grammar.WrittenTokens.{IsWritten};
     ghost use Rattle.cedar_grammar.specs.machines.Door.{Reader};
     ghost use Rattle.cedar_grammar.specs.machines.Judged.{done_as};
 

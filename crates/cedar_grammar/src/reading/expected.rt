@@ -1,6 +1,6 @@
 //! The kinds of token that a refusal records as expected.
 ghost use Rattle.std.specs.Prelude.{◌≡◌, Some, IfOk};
-ghost use Rattle.cedar_grammar.specs.Expected.{is_closer, goes_behind, can_narrow};
+ghost use Rattle.cedar_grammar.specs.faults.Expected.{is_closer, goes_behind, can_narrow};
 ghost use Rattle.cedar_grammar.specs.machines.Door.{allowed_by};
 ghost use Rattle.cedar_grammar.specs.machines.Judged.{any_closer, is_narrowed, picked_kinds, wanted_kinds};
 

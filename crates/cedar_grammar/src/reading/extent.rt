@@ -1,6 +1,6 @@
 //! The bytes of what is begun.
 ghost use Rattle.std.specs.Prelude.{◌≡◌};
-ghost use Rattle.cedar_grammar.specs.Place.{joint_extent};
+ghost use Rattle.cedar_grammar.specs.grammar.Place.{joint_extent};
 
 /// From the first byte of some tokens to the end of their last.
 #[derive(Drop, Clone, Copy)]

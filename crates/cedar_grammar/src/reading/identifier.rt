@@ -1,6 +1,6 @@
 //! Words: what may be an identifier.
 ghost use Rattle.std.specs.Prelude.{◌≡◌, [], IfOk};
-ghost use Rattle.cedar_syntax.specs.Tokens.{any_of};
+ghost use Rattle.cedar_syntax.specs.tokens.Tokens.{any_of};
 ghost use Rattle.cedar_grammar.specs.machines.Door.{is_some};
 
 use cedar_expressions::Text;

@@ -2,8 +2,8 @@
 ghost use Rattle.std.specs.Prelude.{◌≡◌, ◌∷◌, [], ◌++◌, ℕ, List, Some, None, cond, codes};
 ghost use Rattle.std.specs.Str.Parse.{IsNumeral};
 ghost use Rattle.cedar_lexer.specs.declared.token.TokenKind.TheVariants as kind;
-ghost use Rattle.cedar_syntax.specs.Tokens.{between_quotes, fits, number_of};
-ghost use Rattle.cedar_grammar.specs.WrittenTokens.{Written};
+ghost use Rattle.cedar_syntax.specs.tokens.Tokens.{between_quotes, fits, number_of};
+ghost use Rattle.cedar_grammar.specs.grammar.WrittenTokens.{Written};
 
 /// The number that these digits write, if 64 bits hold it.
 pub fn as_number(text: &str) -> Option<u64>

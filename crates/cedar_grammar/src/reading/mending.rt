@@ -2,12 +2,12 @@
 ghost use Rattle.std.specs.Prelude.{◌≡◌, ℕ, List, [], Some, None, false, cond, IfOk, MatchResult, MatchOption};
 ghost use Rattle.cedar_lexer.specs.LexerState.{LexerAnswers};
 ghost use Rattle.cedar_lexer.specs.Token.{lexeme_of};
-ghost use Rattle.cedar_syntax.specs.NonEmpty.{list_of};
+ghost use Rattle.cedar_syntax.specs.faults.NonEmpty.{list_of};
 ghost use Rattle.cedar_grammar.specs.declared.reading.mending.Phase.TheVariants as phase;
-ghost use Rattle.cedar_grammar.specs.MendedFaults.{fault_of, faults_with_last};
-ghost use Rattle.cedar_grammar.specs.WrittenTokens.{IsWritten};
+ghost use Rattle.cedar_grammar.specs.faults.MendedFaults.{fault_of, faults_with_last};
+ghost use Rattle.cedar_grammar.specs.grammar.WrittenTokens.{IsWritten};
 ghost use Rattle.cedar_grammar.specs.machines.Judged.{IsRead};
-ghost use Rattle.cedar_grammar.specs.FirstFault.{large_at};
+ghost use Rattle.cedar_grammar.specs.faults.FirstFault.{large_at};
 ghost use Rattle.cedar_grammar.specs.machines.Door.{machine_of, allowed_by};
 ghost use Rattle.cedar_grammar.specs.machines.Marks.{mark_of};
 ghost use Rattle.cedar_grammar.specs.machines.Recovery.{stopped};
@@ -39,7 +39,7 @@ pub trait Telling: Drop {
 }
 
 impl Telling for ParseError {
-    ghost use Rattle.cedar_grammar.specs.MendedFaults.{fault_of};
+    ghost use Rattle.cedar_grammar.specs.faults.MendedFaults.{fault_of};
 
     ghost told = { λ src raw. fault_of src raw };
 

@@ -1,7 +1,7 @@
 //! Nodes with their places.
 ghost use Rattle.std.specs.Prelude.{◌≡◌, IfOk};
 ghost use Rattle.cedar_lexer.specs.Token.{lexeme_of};
-ghost use Rattle.cedar_grammar.specs.Place.{extent_of, loc_at, node_at};
+ghost use Rattle.cedar_grammar.specs.grammar.Place.{extent_of, loc_at, node_at};
 
 use crate::reading::extent::Extent;
 use cedar_expressions::Source;

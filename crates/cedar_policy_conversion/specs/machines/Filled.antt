@@ -17,9 +17,9 @@ use Rattle.cedar_policy_store.specs.TextMap.{text_order}
 use Rattle.cedar_syntax.specs.declared.err.faults.Failure.{Failure}
 use Rattle.cedar_syntax.specs.declared.err.faults.Failure.TheVariants.{Memory, Errors}
 use Rattle.cedar_syntax.specs.declared.loc.Loc.{Loc}
-use Rattle.cedar_syntax.specs.ParseErrors.{faults_of}
+use Rattle.cedar_syntax.specs.faults.ParseErrors.{faults_of}
 use Rattle.cedar_policy_conversion.specs.AnnotationKeys.{AnnotationContent, AnswersEach, Gathering, has_key, values_by_key}
-use Rattle.cedar_conversion.specs.Seen.{named_faults}
+use Rattle.cedar_conversion.specs.outcome.Seen.{named_faults}
 
 -- ---- annotations
 

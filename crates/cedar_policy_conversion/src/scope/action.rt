@@ -1,9 +1,9 @@
 //! The element of a scope that asks of the action.
 ghost use Rattle.std.specs.Prelude.{◌≡◌, Some, IfOk};
-ghost use Rattle.cedar_conversion.specs.Outcome.{invalid_action_type};
+ghost use Rattle.cedar_conversion.specs.outcome.Outcome.{invalid_action_type};
 ghost use Rattle.cedar_policy_conversion.specs.Scope as s;
-ghost use Rattle.cedar_conversion.specs.Seen.{Gives, itself};
-ghost use Rattle.cedar_conversion.specs.Table.{table_of};
+ghost use Rattle.cedar_conversion.specs.outcome.Seen.{Gives, itself};
+ghost use Rattle.cedar_conversion.specs.strict.Table.{table_of};
 ghost use Rattle.cedar_conversion.specs.machines.Views.{TellsAlone, empty_view};
 
 use crate::cst_to_ast::ExtStyles;

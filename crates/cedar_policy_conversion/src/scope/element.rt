@@ -5,13 +5,13 @@ ghost use Rattle.cedar_expressions.specs.Meaning.{expr_meaning};
 ghost use Rattle.cedar_expressions.specs.Value.{Value};
 ghost use Rattle.cedar_expressions.specs.declared.atoms.Var.TheVariants as vars;
 ghost use Rattle.cedar_syntax.specs.declared.cst.RelOp.TheVariants as rel;
-ghost use Rattle.cedar_syntax.specs.Forms.{located, expr_form};
-ghost use Rattle.cedar_conversion.specs.Conversion.{value_outcome};
-ghost use Rattle.cedar_conversion.specs.Outcome.{Outcome, invalid_scope_variable};
+ghost use Rattle.cedar_syntax.specs.trees.Forms.{located, expr_form};
+ghost use Rattle.cedar_conversion.specs.outcome.Conversion.{value_outcome};
+ghost use Rattle.cedar_conversion.specs.outcome.Outcome.{Outcome, invalid_scope_variable};
 ghost use Rattle.cedar_policy_conversion.specs.Scope as s;
 ghost use Rattle.cedar_policy_conversion.specs.machines.PolicyViews.{is_call};
-ghost use Rattle.cedar_conversion.specs.Seen.{Gives, Refuses, itself};
-ghost use Rattle.cedar_conversion.specs.Table.{table_of};
+ghost use Rattle.cedar_conversion.specs.outcome.Seen.{Gives, Refuses, itself};
+ghost use Rattle.cedar_conversion.specs.strict.Table.{table_of};
 ghost use Rattle.cedar_conversion.specs.machines.Views.{TellsAlone, empty_view};
 
 use crate::cst_to_ast::ExtStyles;

@@ -9,11 +9,11 @@ use Rattle.cedar_policy_machine.specs.declared.annotation.AnnotationState.{Annot
 use Rattle.cedar_policy_machine.specs.declared.annotation.AnnotationState.TheVariants as annotation
 use Rattle.cedar_policy_machine.specs.declared.annotation.AnnotationAct.{AnnotationAct}
 use Rattle.cedar_policy_machine.specs.declared.annotation.AnnotationAct.TheVariants as act
-use Rattle.cedar_syntax.specs.Tokens.{Spot, one, any_of}
-use Rattle.cedar_grammar.specs.Place.{placed}
-use Rattle.cedar_syntax.specs.Trees.{Cell, annotation_of}
-use Rattle.cedar_grammar.specs.LooseWords.{ReadsAny, any}
-use Rattle.cedar_grammar.specs.LoosePolicies.{ReadsAnnotation, key_alone, with_value}
+use Rattle.cedar_syntax.specs.tokens.Tokens.{Spot, one, any_of}
+use Rattle.cedar_grammar.specs.grammar.Place.{placed}
+use Rattle.cedar_syntax.specs.trees.Trees.{Cell, annotation_of}
+use Rattle.cedar_grammar.specs.grammar.LooseWords.{ReadsAny, any}
+use Rattle.cedar_grammar.specs.grammar.LoosePolicies.{ReadsAnnotation, key_alone, with_value}
 use Rattle.cedar_grammar.specs.machines.Door.{next, answer_state, steps, Comes, RunsTo, Completed, Door, IsDone, is_taken, is_some, option_image, planned_answer}
 use Rattle.cedar_grammar.specs.machines.SingleTokens.{token_node, string_node, if_any}
 use Rattle.cedar_policy_machine.specs.machines.Annotation.{any_node, AnnotationShape, no_annotation, behind_at, has_key, wants_value, has_value, whole_annotation, annotation_shape, annotation_mark_plan, annotation_open_plan, annotation_value_plan, annotation_close_plan, annotation_plan, annotation_act, annotation_finish, annotation_reader, annotations}

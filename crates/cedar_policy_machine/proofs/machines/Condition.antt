@@ -14,12 +14,12 @@ use Rattle.cedar_policy_machine.specs.declared.condition.ConditionPart.{Conditio
 use Rattle.cedar_policy_machine.specs.declared.condition.ConditionPart.TheVariants as part
 use Rattle.cedar_policy_machine.specs.declared.condition.ConditionAct.{ConditionAct}
 use Rattle.cedar_policy_machine.specs.declared.condition.ConditionAct.TheVariants as act
-use Rattle.cedar_syntax.specs.Tokens.{Spot, one, any_of}
-use Rattle.cedar_grammar.specs.Place.{placed}
-use Rattle.cedar_syntax.specs.Trees.{Cell, cond_of}
-use Rattle.cedar_grammar.specs.LooseWords.{ReadsAny, any}
-use Rattle.cedar_grammar.specs.LooseExpressions.{ReadsExpr}
-use Rattle.cedar_grammar.specs.LoosePolicies.{ReadsBody, no_body, body, ReadsCond, cond}
+use Rattle.cedar_syntax.specs.tokens.Tokens.{Spot, one, any_of}
+use Rattle.cedar_grammar.specs.grammar.Place.{placed}
+use Rattle.cedar_syntax.specs.trees.Trees.{Cell, cond_of}
+use Rattle.cedar_grammar.specs.grammar.LooseWords.{ReadsAny, any}
+use Rattle.cedar_grammar.specs.grammar.LooseExpressions.{ReadsExpr}
+use Rattle.cedar_grammar.specs.grammar.LoosePolicies.{ReadsBody, no_body, body, ReadsCond, cond}
 use Rattle.cedar_grammar.specs.machines.Door.{Answer, next, ended, refused, answer_state, steps, Comes, RunsTo, Completed, Door, IsOutside, Reader, machine_of, IsDone, option_image, is_some}
 use Rattle.cedar_policy_machine.specs.machines.Placing.{AsNode, as_node}
 use Rattle.cedar_grammar.specs.machines.SingleTokens.{token_node, if_any}

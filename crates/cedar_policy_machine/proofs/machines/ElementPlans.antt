@@ -10,9 +10,9 @@ use Rattle.cedar_policy_machine.specs.declared.scope.ElementPart.{ElementPart}
 use Rattle.cedar_policy_machine.specs.declared.scope.ElementPart.TheVariants as part
 use Rattle.cedar_policy_machine.specs.declared.scope.ElementAct.{ElementAct}
 use Rattle.cedar_policy_machine.specs.declared.scope.ElementAct.TheVariants as act
-use Rattle.cedar_syntax.specs.Tokens.{any_of}
-use Rattle.cedar_syntax.specs.Trees.{Cell}
-use Rattle.cedar_grammar.specs.LooseExpressions.{ReadsRelOp}
+use Rattle.cedar_syntax.specs.tokens.Tokens.{any_of}
+use Rattle.cedar_syntax.specs.trees.Trees.{Cell}
+use Rattle.cedar_grammar.specs.grammar.LooseExpressions.{ReadsRelOp}
 use Rattle.cedar_grammar.specs.machines.Door.{option_image}
 use Rattle.cedar_grammar.specs.machines.Marks.{relation_of}
 use Rattle.cedar_grammar.specs.machines.SingleTokens.{token_node, if_any}

@@ -8,9 +8,9 @@ use Rattle.cedar_lexer.specs.declared.token.TokenKind.{TokenKind}
 use Rattle.cedar_lexer.specs.declared.token.TokenKind.TheVariants as kind
 use Rattle.cedar_grammar.specs.declared.reading.recovery.RecoveryWay.{RecoveryWay}
 use Rattle.cedar_grammar.specs.declared.reading.recovery.RecoveryWay.TheVariants as way
-use Rattle.cedar_syntax.specs.Tokens.{fits}
-use Rattle.cedar_grammar.specs.Sentences.{kinds, Allowed, IsFirstRefused, first}
-use Rattle.cedar_grammar.specs.Mended.{Mended, head, Faults, no_fault, too_large, last_fault, more_faults}
+use Rattle.cedar_syntax.specs.tokens.Tokens.{fits}
+use Rattle.cedar_grammar.specs.grammar.Sentences.{kinds, Allowed, IsFirstRefused, first}
+use Rattle.cedar_grammar.specs.faults.Mended.{Mended, head, Faults, no_fault, too_large, last_fault, more_faults}
 use Rattle.cedar_grammar.specs.machines.Door.{Machine, Answer, next, ended, refused, answer_state, steps, Comes, AnswersRightly, Door, is_taken, is_some, allows, Shapes, no_tree}
 use Rattle.cedar_grammar.specs.machines.Door as door
 use Rattle.cedar_grammar.specs.machines.Recovery.{Recovers, reading, skipping, stopped, judgment, RunFaults, run_faults, told_reading, told_all}

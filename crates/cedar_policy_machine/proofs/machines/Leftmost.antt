@@ -18,14 +18,14 @@ use Rattle.cedar_syntax.specs.declared.err.faults.ParseError.{ParseError}
 use Rattle.cedar_syntax.specs.declared.err.to_cst.RawFault.{RawFault}
 use Rattle.cedar_grammar.specs.declared.reading.expected.Narrowing.{Narrowing}
 use Rattle.cedar_grammar.specs.declared.reading.expected.Narrowing.TheVariants as narrowing
-use Rattle.cedar_grammar.specs.Expected.{IsNarrowed, Picks, no_kind, picked, passed, IsExpected, all_allowed, closers}
-use Rattle.cedar_grammar.specs.FirstFault.{tokens_end, FirstFault, unexpected, early_end, large_number, bad_place, IsFaultIn}
-use Rattle.cedar_grammar.specs.Grammar.{Rule, IsNodeOf}
-use Rattle.cedar_grammar.specs.Leftmost.{IsFitting, NumbersFit, start_of, IsBefore, StartsBefore, StandsLeftmost, HasLeftmost}
-use Rattle.cedar_grammar.specs.Mended.{Mended, to_brace, to_end, Faults, no_fault, too_large, last_fault, more_faults, short_policy, head}
-use Rattle.cedar_grammar.specs.MendedFaults.{fault_of, Unallowed, a_token, the_end, IsLarge, faults_with_last, FaultsOf, IsListed, IsFaultList, IsMendedRefusal}
-use Rattle.cedar_grammar.specs.Sentences.{kinds, Starts, Allowed, IsFirstRefused, first}
-use Rattle.cedar_syntax.specs.Tokens.{Spot, one}
+use Rattle.cedar_grammar.specs.faults.Expected.{IsNarrowed, Picks, no_kind, picked, passed, IsExpected, all_allowed, closers}
+use Rattle.cedar_grammar.specs.faults.FirstFault.{tokens_end, FirstFault, unexpected, early_end, large_number, bad_place, IsFaultIn}
+use Rattle.cedar_grammar.specs.grammar.Grammar.{Rule, IsNodeOf}
+use Rattle.cedar_grammar.specs.faults.Leftmost.{IsFitting, NumbersFit, start_of, IsBefore, StartsBefore, StandsLeftmost, HasLeftmost}
+use Rattle.cedar_grammar.specs.faults.Mended.{Mended, to_brace, to_end, Faults, no_fault, too_large, last_fault, more_faults, short_policy, head}
+use Rattle.cedar_grammar.specs.faults.MendedFaults.{fault_of, Unallowed, a_token, the_end, IsLarge, faults_with_last, FaultsOf, IsListed, IsFaultList, IsMendedRefusal}
+use Rattle.cedar_grammar.specs.grammar.Sentences.{kinds, Starts, Allowed, IsFirstRefused, first}
+use Rattle.cedar_syntax.specs.tokens.Tokens.{Spot, one}
 use Rattle.cedar_grammar.proofs.machines.Laws.{some_is, false_true, kinds-append}
 use Rattle.cedar_policy_machine.proofs.machines.Recovery.{end_from, end_from-append}
 use Rattle.cedar_policy_machine.proofs.machines.Telling.{end_is}

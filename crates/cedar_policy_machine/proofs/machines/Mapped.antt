@@ -5,11 +5,11 @@ use Rattle.cedar_syntax.specs.declared.cst.Policy.{Policy}
 use Rattle.cedar_syntax.specs.declared.cst.Policies.{Policies}
 use Rattle.cedar_grammar.specs.declared.reading.extent.Extent.{Extent}
 use Rattle.cedar_policy_machine.specs.declared.sequence.Spanned.{Spanned}
-use Rattle.cedar_grammar.specs.Grammar.{IsNodeOf}
-use Rattle.cedar_grammar.specs.LoosePolicies.{ReadsMany, ReadsPolicy, ReadsPolicies}
-use Rattle.cedar_grammar.specs.LoosePolicies as loose
-use Rattle.cedar_grammar.specs.Place.{joint_extent, extent_of, extent, loc_at, placed, placed_or_start}
-use Rattle.cedar_syntax.specs.Trees.{Cell, policies_of}
+use Rattle.cedar_grammar.specs.grammar.Grammar.{IsNodeOf}
+use Rattle.cedar_grammar.specs.grammar.LoosePolicies.{ReadsMany, ReadsPolicy, ReadsPolicies}
+use Rattle.cedar_grammar.specs.grammar.LoosePolicies as loose
+use Rattle.cedar_grammar.specs.grammar.Place.{joint_extent, extent_of, extent, loc_at, placed, placed_or_start}
+use Rattle.cedar_syntax.specs.trees.Trees.{Cell, policies_of}
 use Rattle.cedar_grammar.specs.machines.Door.{steps, Comes, Door, option_image, Reader, machine_of, Outline, no_tree}
 use Rattle.cedar_policy_machine.specs.machines.Placing.{loc_or_start, policies_node, AsNode, as_node, spanned_state, placing_reader, mapped_reader}
 use Rattle.cedar_grammar.proofs.machines.Laws.{some_is}

@@ -12,13 +12,13 @@ use Rattle.cedar_syntax.specs.declared.err.faults.Failure.{Failure}
 use Rattle.cedar_syntax.specs.declared.err.faults.Failure.TheVariants.{Memory, Errors}
 use Rattle.cedar_syntax.specs.declared.err.faults.ParseError.{ParseError}
 use Rattle.cedar_grammar.specs.declared.reading.expected.Narrowing.TheVariants as narrowing
-use Rattle.cedar_syntax.specs.ParseErrors.{IsMemory}
-use Rattle.cedar_grammar.specs.Grammar.{Rule, IsNodeOf, IsTreeOf}
-use Rattle.cedar_grammar.specs.Leftmost.{NumbersFit, HasLeftmost}
-use Rattle.cedar_grammar.specs.Mended.{no_fault}
-use Rattle.cedar_grammar.specs.MendedFaults.{Unallowed, IsLarge, FaultsOf, faults_with_last, IsListed, IsFaultList, IsMendedRefusal}
-use Rattle.cedar_grammar.specs.Sentences.{HasTree}
-use Rattle.cedar_syntax.specs.Trees.{Cell}
+use Rattle.cedar_syntax.specs.faults.ParseErrors.{IsMemory}
+use Rattle.cedar_grammar.specs.grammar.Grammar.{Rule, IsNodeOf, IsTreeOf}
+use Rattle.cedar_grammar.specs.faults.Leftmost.{NumbersFit, HasLeftmost}
+use Rattle.cedar_grammar.specs.faults.Mended.{no_fault}
+use Rattle.cedar_grammar.specs.faults.MendedFaults.{Unallowed, IsLarge, FaultsOf, faults_with_last, IsListed, IsFaultList, IsMendedRefusal}
+use Rattle.cedar_grammar.specs.grammar.Sentences.{HasTree}
+use Rattle.cedar_syntax.specs.trees.Trees.{Cell}
 use Rattle.cedar_grammar.specs.machines.Door.{Machine, Reader, machine_of, allowed_by}
 use Rattle.cedar_grammar.specs.machines.Judged.{IsRead}
 use Rattle.cedar_grammar.specs.machines.Mending.{IsTold}

@@ -14,14 +14,14 @@ use Rattle.cedar_policy_machine.specs.declared.condition.ConditionPart.TheVarian
 use Rattle.cedar_grammar.specs.declared.reading.recovery.RecoveryWay.{RecoveryWay}
 use Rattle.cedar_grammar.specs.declared.reading.recovery.RecoveryWay.TheVariants as way
 use Rattle.cedar_policy_machine.specs.declared.sequence.Spanned.{Spanned}
-use Rattle.cedar_syntax.specs.Tokens.{Spot, one}
-use Rattle.cedar_grammar.specs.Place.{joint_extent, extent, placed}
-use Rattle.cedar_syntax.specs.Trees.{Cell}
-use Rattle.cedar_grammar.specs.LooseWords.{ReadsAny, any}
-use Rattle.cedar_grammar.specs.LooseExpressions.{ReadsExpr}
-use Rattle.cedar_grammar.specs.LoosePolicies.{ReadsBody, no_body, body, ReadsCond}
-use Rattle.cedar_grammar.specs.Mended.{OpenPolicy, open_policy}
-use Rattle.cedar_grammar.specs.Sentences.{HasTree, Starts}
+use Rattle.cedar_syntax.specs.tokens.Tokens.{Spot, one}
+use Rattle.cedar_grammar.specs.grammar.Place.{joint_extent, extent, placed}
+use Rattle.cedar_syntax.specs.trees.Trees.{Cell}
+use Rattle.cedar_grammar.specs.grammar.LooseWords.{ReadsAny, any}
+use Rattle.cedar_grammar.specs.grammar.LooseExpressions.{ReadsExpr}
+use Rattle.cedar_grammar.specs.grammar.LoosePolicies.{ReadsBody, no_body, body, ReadsCond}
+use Rattle.cedar_grammar.specs.faults.Mended.{OpenPolicy, open_policy}
+use Rattle.cedar_grammar.specs.grammar.Sentences.{HasTree, Starts}
 use Rattle.cedar_grammar.specs.machines.Door.{Machine, answer_state, steps, Comes, Door, Reader, machine_of}
 use Rattle.cedar_policy_machine.specs.machines.Placing.{AsNode, as_node, spanned_state, placing_reader, placing}
 use Rattle.cedar_policy_machine.specs.machines.Sequences.{sequence, many}

@@ -3,8 +3,8 @@ use Rattle.std.proofs.Common.{◌≡◌, ℕ, List, [], ◌∷◌, Option, Some,
 use Rattle.cedar_lexer.specs.Token.{Lexeme}
 use Rattle.cedar_grammar.specs.declared.reading.extent.Extent.{Extent}
 use Rattle.cedar_policy_machine.specs.declared.sequence.Spanned.{Spanned}
-use Rattle.cedar_grammar.specs.Place.{joint_extent, extent_of, extent, node_at}
-use Rattle.cedar_syntax.specs.Trees.{Cell}
+use Rattle.cedar_grammar.specs.grammar.Place.{joint_extent, extent_of, extent, node_at}
+use Rattle.cedar_syntax.specs.trees.Trees.{Cell}
 use Rattle.cedar_grammar.specs.machines.Door.{Machine, Answer, next, ended, refused, too_large, answer_state, steps, RunsTo, AnswersRightly, Door, is_taken, is_some, Reader, machine_of, done_answer, end_answer, planned_answer, option_image}
 use Rattle.cedar_policy_machine.specs.machines.Placing.{AsNode, as_node, spanned_state, spanned_by, node_if, placing_reader, placing}
 use Rattle.cedar_grammar.proofs.machines.Laws.{some_is, none_some, steps-none}

@@ -2,7 +2,7 @@
 use Rattle.std.proofs.Common.{◌≡◌, ℕ, List, refl, sym, ap, subst}
 use Rattle.cedar_lexer.specs.declared.token.TokenKind.{TokenKind}
 use Rattle.cedar_lexer.specs.declared.token.TokenKind.TheVariants as kind
-use Rattle.cedar_grammar.specs.LoosePolicies.{ReadsMany, ReadsAnnotation, ReadsVariableDef, ReadsCond, ReadsPolicy}
+use Rattle.cedar_grammar.specs.grammar.LoosePolicies.{ReadsMany, ReadsAnnotation, ReadsVariableDef, ReadsCond, ReadsPolicy}
 use Rattle.cedar_grammar.specs.machines.Door.{ended, Door, IsOutside, Shapes, machine_of, outline_machine, no_tree}
 use Rattle.cedar_grammar.specs.machines.Marks.{mark_of}
 use Rattle.cedar_policy_machine.specs.machines.Placing.{AsNode, placing, placing_reader}

@@ -18,12 +18,12 @@ use Rattle.cedar_policy_machine.specs.declared.policy.Section.TheVariants as sec
 use Rattle.cedar_policy_machine.specs.declared.policy.PolicyAct.{PolicyAct}
 use Rattle.cedar_policy_machine.specs.declared.policy.PolicyAct.TheVariants as act
 use Rattle.cedar_policy_machine.specs.declared.sequence.Sequence.{Sequence}
-use Rattle.cedar_syntax.specs.Tokens.{Spot, one, any_of}
-use Rattle.cedar_grammar.specs.Place.{placed}
-use Rattle.cedar_syntax.specs.Trees.{Cell, policy_of}
-use Rattle.cedar_grammar.specs.LooseWords.{ReadsAny, any, ReadsList}
-use Rattle.cedar_grammar.specs.LoosePolicies.{ReadsMany, ReadsAnnotation, ReadsVariableDef, ReadsCond, ReadsPolicy}
-use Rattle.cedar_grammar.specs.LoosePolicies as loose
+use Rattle.cedar_syntax.specs.tokens.Tokens.{Spot, one, any_of}
+use Rattle.cedar_grammar.specs.grammar.Place.{placed}
+use Rattle.cedar_syntax.specs.trees.Trees.{Cell, policy_of}
+use Rattle.cedar_grammar.specs.grammar.LooseWords.{ReadsAny, any, ReadsList}
+use Rattle.cedar_grammar.specs.grammar.LoosePolicies.{ReadsMany, ReadsAnnotation, ReadsVariableDef, ReadsCond, ReadsPolicy}
+use Rattle.cedar_grammar.specs.grammar.LoosePolicies as loose
 use Rattle.cedar_grammar.specs.machines.Door.{Answer, next, ended, refused, too_large, answer_state, steps, Comes, RunsTo, Completed, AnswersRightly, Door, is_some, option_image, machine_of, done_answer, planned_answer}
 use Rattle.cedar_grammar.specs.machines.Marks.{mark_of}
 use Rattle.cedar_policy_machine.specs.machines.Annotation.{any_node}

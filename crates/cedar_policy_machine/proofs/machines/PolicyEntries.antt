@@ -9,12 +9,12 @@ use Rattle.cedar_grammar.specs.declared.reading.expected.Narrowing.TheVariants a
 use Rattle.cedar_grammar.specs.declared.reading.recovery.RecoveryWay.TheVariants as way
 use Rattle.cedar_policy_machine.specs.declared.sequence.Spanned.{Spanned}
 use Rattle.cedar_policy_machine.specs.declared.sequence.SequenceAct.{SequenceAct}
-use Rattle.cedar_grammar.specs.FirstFault.{large_at}
-use Rattle.cedar_grammar.specs.Grammar.{IsNodeOf}
-use Rattle.cedar_grammar.specs.LoosePolicies.{ReadsMany, ReadsPolicy, ReadsPolicies}
-use Rattle.cedar_grammar.specs.MendedFaults.{fault_of, Unallowed, IsLarge, PoliciesBefore, NothingBefore}
-use Rattle.cedar_grammar.specs.Place.{placed}
-use Rattle.cedar_syntax.specs.Trees.{Cell}
+use Rattle.cedar_grammar.specs.faults.FirstFault.{large_at}
+use Rattle.cedar_grammar.specs.grammar.Grammar.{IsNodeOf}
+use Rattle.cedar_grammar.specs.grammar.LoosePolicies.{ReadsMany, ReadsPolicy, ReadsPolicies}
+use Rattle.cedar_grammar.specs.faults.MendedFaults.{fault_of, Unallowed, IsLarge, PoliciesBefore, NothingBefore}
+use Rattle.cedar_grammar.specs.grammar.Place.{placed}
+use Rattle.cedar_syntax.specs.trees.Trees.{Cell}
 use Rattle.cedar_grammar.specs.machines.Door.{Door, Reader, machine_of, allowed_by, outline_machine}
 use Rattle.cedar_policy_machine.specs.machines.Placing.{policies_node, AsNode, as_node, placing_reader, mapped_reader}
 use Rattle.cedar_grammar.specs.machines.Judged.{ReadsBy}

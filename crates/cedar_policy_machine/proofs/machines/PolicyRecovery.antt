@@ -17,14 +17,14 @@ use Rattle.cedar_policy_machine.specs.declared.policy.Section.TheVariants as sec
 use Rattle.cedar_grammar.specs.declared.reading.recovery.RecoveryWay.{RecoveryWay}
 use Rattle.cedar_grammar.specs.declared.reading.recovery.RecoveryWay.TheVariants as way
 use Rattle.cedar_policy_machine.specs.declared.sequence.Spanned.{Spanned}
-use Rattle.cedar_syntax.specs.Tokens.{Spot, one}
-use Rattle.cedar_grammar.specs.Place.{placed}
-use Rattle.cedar_syntax.specs.Trees.{Cell}
-use Rattle.cedar_grammar.specs.LooseWords.{any, no_item}
-use Rattle.cedar_grammar.specs.LoosePolicies.{ReadsMany, none, ReadsPolicy}
-use Rattle.cedar_grammar.specs.LoosePolicies as loose
-use Rattle.cedar_grammar.specs.Sentences.{HasTree}
-use Rattle.cedar_grammar.specs.Mended.{InBraces, in_braces, EndsInBraces, BegunPolicy, stub_token, short_policy}
+use Rattle.cedar_syntax.specs.tokens.Tokens.{Spot, one}
+use Rattle.cedar_grammar.specs.grammar.Place.{placed}
+use Rattle.cedar_syntax.specs.trees.Trees.{Cell}
+use Rattle.cedar_grammar.specs.grammar.LooseWords.{any, no_item}
+use Rattle.cedar_grammar.specs.grammar.LoosePolicies.{ReadsMany, none, ReadsPolicy}
+use Rattle.cedar_grammar.specs.grammar.LoosePolicies as loose
+use Rattle.cedar_grammar.specs.grammar.Sentences.{HasTree}
+use Rattle.cedar_grammar.specs.faults.Mended.{InBraces, in_braces, EndsInBraces, BegunPolicy, stub_token, short_policy}
 use Rattle.cedar_grammar.specs.machines.Door.{Machine, Answer, next, ended, refused, too_large, answer_state, steps, Comes, option_image, outline_machine}
 use Rattle.cedar_policy_machine.specs.machines.Placing.{AsNode, as_node, spanned_state, node_if}
 use Rattle.cedar_policy_machine.specs.machines.Sequences.{many}

@@ -7,9 +7,9 @@ use Rattle.cedar_lexer.specs.declared.token.TokenKind.TheVariants as kind
 use Rattle.cedar_grammar.specs.declared.reading.mark.Mark.TheVariants as mark
 use Rattle.cedar_grammar.specs.declared.reading.recovery.RecoveryWay.{RecoveryWay}
 use Rattle.cedar_grammar.specs.declared.reading.recovery.RecoveryWay.TheVariants as way
-use Rattle.cedar_syntax.specs.Tokens.{Spot, one}
-use Rattle.cedar_grammar.specs.Sentences.{first}
-use Rattle.cedar_grammar.specs.Mended.{InBraces, EndsInBraces, BegunPolicy, NoneIs, short_policy, Mended, to_brace, to_end, head}
+use Rattle.cedar_syntax.specs.tokens.Tokens.{Spot, one}
+use Rattle.cedar_grammar.specs.grammar.Sentences.{first}
+use Rattle.cedar_grammar.specs.faults.Mended.{InBraces, EndsInBraces, BegunPolicy, NoneIs, short_policy, Mended, to_brace, to_end, head}
 use Rattle.cedar_grammar.specs.machines.Door.{Machine, Answer, next, ended, refused, answer_state, steps, Comes, AnswersRightly, Door, is_taken, is_some, allows, IsShape, Shapes, no_tree}
 use Rattle.cedar_grammar.specs.machines.Door as door
 use Rattle.cedar_grammar.specs.machines.Marks.{mark_of}

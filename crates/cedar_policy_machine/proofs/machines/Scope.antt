@@ -16,12 +16,12 @@ use Rattle.cedar_policy_machine.specs.declared.scope.ElementPart.{ElementPart}
 use Rattle.cedar_policy_machine.specs.declared.scope.ElementPart.TheVariants as part
 use Rattle.cedar_policy_machine.specs.declared.scope.ElementAct.{ElementAct}
 use Rattle.cedar_policy_machine.specs.declared.scope.ElementAct.TheVariants as act
-use Rattle.cedar_syntax.specs.Tokens.{Spot, one}
-use Rattle.cedar_grammar.specs.Place.{placed}
-use Rattle.cedar_syntax.specs.Trees.{Cell, variable_def_of}
-use Rattle.cedar_grammar.specs.LooseWords.{ReadsAny, any, ReadsName}
-use Rattle.cedar_grammar.specs.LooseExpressions.{ReadsRelOp, less, less_eq, greater_eq, greater, not_eq, equal, within, single_eq, ReadsExpr, ReadsAdd}
-use Rattle.cedar_grammar.specs.LoosePolicies.{ReadsTypeName, no_type_name, type_name, ReadsEntityType, no_entity_type, entity_type, ReadsConstraint, no_constraint, constraint, ReadsVariableDef, variable_def}
+use Rattle.cedar_syntax.specs.tokens.Tokens.{Spot, one}
+use Rattle.cedar_grammar.specs.grammar.Place.{placed}
+use Rattle.cedar_syntax.specs.trees.Trees.{Cell, variable_def_of}
+use Rattle.cedar_grammar.specs.grammar.LooseWords.{ReadsAny, any, ReadsName}
+use Rattle.cedar_grammar.specs.grammar.LooseExpressions.{ReadsRelOp, less, less_eq, greater_eq, greater, not_eq, equal, within, single_eq, ReadsExpr, ReadsAdd}
+use Rattle.cedar_grammar.specs.grammar.LoosePolicies.{ReadsTypeName, no_type_name, type_name, ReadsEntityType, no_entity_type, entity_type, ReadsConstraint, no_constraint, constraint, ReadsVariableDef, variable_def}
 use Rattle.cedar_grammar.specs.machines.Door.{next, answer_state, steps, Comes, RunsTo, Completed, Door, machine_of, IsDone, option_image, is_some}
 use Rattle.cedar_grammar.specs.machines.Marks.{relation_of}
 use Rattle.cedar_policy_machine.specs.machines.Placing.{AsNode, as_node}

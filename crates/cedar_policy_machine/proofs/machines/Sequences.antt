@@ -7,11 +7,11 @@ use Rattle.cedar_grammar.specs.declared.reading.mark.Mark.{Mark}
 use Rattle.cedar_grammar.specs.declared.reading.mark.Mark.TheVariants as mark
 use Rattle.cedar_policy_machine.specs.declared.sequence.Sequence.{Sequence}
 use Rattle.cedar_policy_machine.specs.declared.sequence.SequenceAct.TheVariants as act
-use Rattle.cedar_syntax.specs.Tokens.{Spot, one, fits}
-use Rattle.cedar_grammar.specs.Place.{placed}
-use Rattle.cedar_syntax.specs.Trees.{Cell}
-use Rattle.cedar_grammar.specs.LooseWords.{ReadsItems, one_item, more_items, ReadsList, no_item, items, items_comma}
-use Rattle.cedar_grammar.specs.LoosePolicies.{ReadsMany, none, more}
+use Rattle.cedar_syntax.specs.tokens.Tokens.{Spot, one, fits}
+use Rattle.cedar_grammar.specs.grammar.Place.{placed}
+use Rattle.cedar_syntax.specs.trees.Trees.{Cell}
+use Rattle.cedar_grammar.specs.grammar.LooseWords.{ReadsItems, one_item, more_items, ReadsList, no_item, items, items_comma}
+use Rattle.cedar_grammar.specs.grammar.LoosePolicies.{ReadsMany, none, more}
 use Rattle.cedar_grammar.specs.machines.Door.{Machine, Answer, next, ended, refused, too_large, answer_state, steps, Comes, RunsTo, Completed, AnswersRightly, Door, is_taken, is_some, Reader, machine_of, done_answer, planned_answer, option_image}
 use Rattle.cedar_grammar.specs.machines.Marks.{mark_of}
 use Rattle.cedar_policy_machine.specs.machines.Placing.{AsNode, as_node}

@@ -7,15 +7,15 @@ use Rattle.cedar_syntax.specs.declared.err.faults.Failure.{Failure}
 use Rattle.cedar_syntax.specs.declared.err.faults.Failure.TheVariants.{Memory, Errors}
 use Rattle.cedar_syntax.specs.declared.err.faults.ParseError.{ParseError}
 use Rattle.cedar_grammar.specs.declared.reading.expected.Narrowing.TheVariants as narrowing
-use Rattle.cedar_grammar.specs.Expected.{IsExpected}
-use Rattle.cedar_grammar.specs.FirstFault.{end_at, tokens_end, unexpected_fault, early_at}
-use Rattle.cedar_syntax.specs.ParseErrors.{faults_of}
-use Rattle.cedar_grammar.specs.Grammar.{Rule, IsNodeOf}
-use Rattle.cedar_syntax.specs.Trees.{Cell}
-use Rattle.cedar_grammar.specs.MendedFaults.{fault_of, Unallowed, a_token, the_end, IsLarge, faults_with_last, IsListed, IsFaultList, IsMendedRefusal}
+use Rattle.cedar_grammar.specs.faults.Expected.{IsExpected}
+use Rattle.cedar_grammar.specs.faults.FirstFault.{end_at, tokens_end, unexpected_fault, early_at}
+use Rattle.cedar_syntax.specs.faults.ParseErrors.{faults_of}
+use Rattle.cedar_grammar.specs.grammar.Grammar.{Rule, IsNodeOf}
+use Rattle.cedar_syntax.specs.trees.Trees.{Cell}
+use Rattle.cedar_grammar.specs.faults.MendedFaults.{fault_of, Unallowed, a_token, the_end, IsLarge, faults_with_last, IsListed, IsFaultList, IsMendedRefusal}
 use Rattle.cedar_grammar.specs.declared.reading.extent.Extent.{Extent}
-use Rattle.cedar_grammar.specs.Place.{joint_extent, extent_of, extent}
-use Rattle.cedar_grammar.specs.Sentences.{kinds}
+use Rattle.cedar_grammar.specs.grammar.Place.{joint_extent, extent_of, extent}
+use Rattle.cedar_grammar.specs.grammar.Sentences.{kinds}
 use Rattle.cedar_grammar.specs.machines.Door.{Machine, Answer, next, ended, refused, too_large, Comes, is_some, Reader, machine_of, allowed_by}
 use Rattle.cedar_grammar.specs.machines.Judged.{may_take, wanted_kinds, ReadsBy}
 use Rattle.cedar_grammar.specs.machines.Marks.{mark_of}

@@ -10,8 +10,8 @@ use Rattle.cedar_policy_machine.specs.declared.annotation.AnnotationState.{Annot
 use Rattle.cedar_policy_machine.specs.declared.annotation.AnnotationState.TheVariants as annotation
 use Rattle.cedar_policy_machine.specs.declared.annotation.AnnotationAct.{AnnotationAct}
 use Rattle.cedar_policy_machine.specs.declared.annotation.AnnotationAct.TheVariants as act
-use Rattle.cedar_syntax.specs.Tokens.{any_of}
-use Rattle.cedar_syntax.specs.Trees.{Cell, annotation_of}
+use Rattle.cedar_syntax.specs.tokens.Tokens.{any_of}
+use Rattle.cedar_syntax.specs.trees.Trees.{Cell, annotation_of}
 use Rattle.cedar_grammar.specs.machines.Door.{Machine, Reader, machine_of, option_image}
 use Rattle.cedar_grammar.specs.machines.SingleTokens.{token_node, string_node, if_any}
 

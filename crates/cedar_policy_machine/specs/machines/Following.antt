@@ -2,7 +2,7 @@
 use Rattle.cedar_lexer.specs.declared.token.TokenKind.{TokenKind}
 use Rattle.cedar_lexer.specs.declared.token.TokenKind.TheVariants as kind
 use Rattle.cedar_syntax.specs.declared.cst.RelOp.{RelOp}
-use Rattle.cedar_grammar.specs.LooseExpressions.{ReadsRelOp}
+use Rattle.cedar_grammar.specs.grammar.LooseExpressions.{ReadsRelOp}
 
 -- behind an element
 pub data IsParting : TokenKind → Type 0 where

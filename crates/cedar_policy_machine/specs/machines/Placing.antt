@@ -7,8 +7,8 @@ use Rattle.cedar_syntax.specs.declared.cst.Policy.{Policy}
 use Rattle.cedar_syntax.specs.declared.loc.Loc.{Loc}
 use Rattle.cedar_grammar.specs.declared.reading.extent.Extent.{Extent}
 use Rattle.cedar_policy_machine.specs.declared.sequence.Spanned.{Spanned}
-use Rattle.cedar_grammar.specs.Place.{joint_extent, extent_of, loc_at, node_at, placed}
-use Rattle.cedar_syntax.specs.Trees.{Cell, policies_of}
+use Rattle.cedar_grammar.specs.grammar.Place.{joint_extent, extent_of, loc_at, node_at, placed}
+use Rattle.cedar_syntax.specs.trees.Trees.{Cell, policies_of}
 use Rattle.cedar_grammar.specs.machines.Door.{Machine, Reader, machine_of, option_image}
 
 -- the tree that the relation gives, as a node at the place of the tokens

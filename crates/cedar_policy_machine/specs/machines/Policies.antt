@@ -23,7 +23,7 @@ use Rattle.cedar_grammar.specs.declared.reading.recovery.RecoveryWay.TheVariants
 use Rattle.cedar_policy_machine.specs.declared.sequence.Spanned.{Spanned}
 use Rattle.cedar_policy_machine.specs.declared.sequence.Sequence.{Sequence}
 use Rattle.cedar_policy_machine.specs.declared.sequence.SequenceAct.{SequenceAct}
-use Rattle.cedar_syntax.specs.Trees.{Cell}
+use Rattle.cedar_syntax.specs.trees.Trees.{Cell}
 use Rattle.cedar_grammar.specs.machines.Door.{Machine, Reader, machine_of, Outline}
 use Rattle.cedar_policy_machine.specs.machines.Placing.{spanned_state, placing_reader}
 use Rattle.cedar_policy_machine.specs.machines.Sequences.{sequence, many_reader, list_reader}

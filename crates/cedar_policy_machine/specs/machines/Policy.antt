@@ -15,8 +15,8 @@ use Rattle.cedar_policy_machine.specs.declared.policy.Section.TheVariants as sec
 use Rattle.cedar_policy_machine.specs.declared.policy.PolicyAct.{PolicyAct}
 use Rattle.cedar_policy_machine.specs.declared.policy.PolicyAct.TheVariants as act
 use Rattle.cedar_policy_machine.specs.declared.sequence.Sequence.{Sequence}
-use Rattle.cedar_syntax.specs.Tokens.{any_of}
-use Rattle.cedar_syntax.specs.Trees.{Cell, policy_of}
+use Rattle.cedar_syntax.specs.tokens.Tokens.{any_of}
+use Rattle.cedar_syntax.specs.trees.Trees.{Cell, policy_of}
 use Rattle.cedar_grammar.specs.machines.Door.{Machine, Reader, machine_of, option_image, is_some}
 use Rattle.cedar_policy_machine.specs.machines.Annotation.{any_node}
 use Rattle.cedar_policy_machine.specs.machines.Sequences.{sequence}

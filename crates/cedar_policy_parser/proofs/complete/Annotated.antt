@@ -13,19 +13,19 @@ use Rattle.cedar_syntax.specs.declared.cst.Annotation.{Annotation}
 use Rattle.cedar_syntax.specs.declared.cst.Ident.{Ident}
 use Rattle.cedar_syntax.specs.declared.cst.Ident.TheVariants as ident
 use Rattle.cedar_syntax.specs.declared.cst.Str.TheVariants as str
-use Rattle.cedar_grammar.specs.LoosePolicies as l
-use Rattle.cedar_grammar.specs.LoosePolicies.{ReadsAnnotation, ReadsMany}
-use Rattle.cedar_grammar.specs.LooseWords as lw
-use Rattle.cedar_grammar.specs.LooseWords.{ReadsAny}
-use Rattle.cedar_grammar.specs.Place.{placed}
-use Rattle.cedar_syntax.specs.Tokens.{Spot, one, between_quotes}
-use Rattle.cedar_syntax.specs.Trees.{Cell, annotation_of}
+use Rattle.cedar_grammar.specs.grammar.LoosePolicies as l
+use Rattle.cedar_grammar.specs.grammar.LoosePolicies.{ReadsAnnotation, ReadsMany}
+use Rattle.cedar_grammar.specs.grammar.LooseWords as lw
+use Rattle.cedar_grammar.specs.grammar.LooseWords.{ReadsAny}
+use Rattle.cedar_grammar.specs.grammar.Place.{placed}
+use Rattle.cedar_syntax.specs.tokens.Tokens.{Spot, one, between_quotes}
+use Rattle.cedar_syntax.specs.trees.Trees.{Cell, annotation_of}
 use Rattle.cedar_policy_conversion.specs.AnnotationKeys.{AnnotationContent, annotation_at, annotation_outcome, gathering_with_node, gathering, has_key, converted_key, empty_gathering, key_value_outcome, with_new_key}
-use Rattle.cedar_conversion.specs.Names.{any_ident, any_ident_of}
-use Rattle.cedar_conversion.specs.Outcome.{Outcome, both, next, item_more}
-use Rattle.cedar_policy_parser.specs.StrictPolicy as m
-use Rattle.cedar_policy_parser.specs.StrictPolicy.{AreAnnotations, IsAnnotation, IsAnyWord}
-use Rattle.cedar_conversion.specs.StrictWords as w
+use Rattle.cedar_conversion.specs.parts.Names.{any_ident, any_ident_of}
+use Rattle.cedar_conversion.specs.outcome.Outcome.{Outcome, both, next, item_more}
+use Rattle.cedar_policy_parser.specs.meaning.StrictPolicy as m
+use Rattle.cedar_policy_parser.specs.meaning.StrictPolicy.{AreAnnotations, IsAnnotation, IsAnyWord}
+use Rattle.cedar_conversion.specs.strict.StrictWords as w
 use Rattle.cedar_conversion.proofs.Loops.{map_snoc}
 use Rattle.cedar_policy_conversion.proofs.MappedValues.{fold_snoc}
 use Rattle.cedar_conversion.proofs.Quoted.{text_expected}

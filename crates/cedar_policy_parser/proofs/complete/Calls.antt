@@ -4,11 +4,11 @@ use Rattle.cedar_expressions.specs.Value as v
 use Rattle.cedar_expressions.specs.Value.{Value, values}
 use Rattle.cedar_syntax.specs.declared.loc.Loc.{Loc}
 use Rattle.cedar_conversion.specs.declared.primaries.methods.Standard.{Standard}
-use Rattle.cedar_conversion.specs.Extensions.{Extensions}
-use Rattle.cedar_conversion.specs.Members.{method_outcome, method_by, function_outcome}
-use Rattle.cedar_conversion.specs.StrictCalls as m
-use Rattle.cedar_conversion.specs.StrictCalls.{CallsMethod, IsFunction, standard_method, names_method}
-use Rattle.cedar_conversion.specs.StrictWords.{path_value}
+use Rattle.cedar_conversion.specs.strict.Extensions.{Extensions}
+use Rattle.cedar_conversion.specs.parts.Members.{method_outcome, method_by, function_outcome}
+use Rattle.cedar_conversion.specs.strict.StrictCalls as m
+use Rattle.cedar_conversion.specs.strict.StrictCalls.{CallsMethod, IsFunction, standard_method, names_method}
+use Rattle.cedar_conversion.specs.strict.StrictWords.{path_value}
 
 by_table : (e : Extensions) (place : Option Loc) (id : List ℕ) (o : Option Standard) (a : Value) (args : List Value) → o ≡ None → e.methods id ≡ true
     → method_by e place id o a args ≡ Ok (v.call_extension_fn (path_value [] id) (values (a ∷ args)))

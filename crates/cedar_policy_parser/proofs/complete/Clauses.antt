@@ -8,21 +8,21 @@ use Rattle.cedar_expressions.specs.Value.{Value}
 use Rattle.cedar_syntax.specs.declared.loc.Loc.{Loc}
 use Rattle.cedar_syntax.specs.declared.cst.Cond.{Cond}
 use Rattle.cedar_syntax.specs.declared.cst.Ident.TheVariants as ident
-use Rattle.cedar_syntax.specs.Signs.{sign_limit}
-use Rattle.cedar_syntax.specs.Forms.{located, expr_form}
-use Rattle.cedar_grammar.specs.LoosePolicies as l
-use Rattle.cedar_grammar.specs.LoosePolicies.{ReadsCond, ReadsMany}
-use Rattle.cedar_grammar.specs.LooseWords as lw
-use Rattle.cedar_grammar.specs.Place.{placed}
-use Rattle.cedar_syntax.specs.Tokens.{one}
-use Rattle.cedar_syntax.specs.Trees.{Cell, cond_of}
+use Rattle.cedar_syntax.specs.tokens.Signs.{sign_limit}
+use Rattle.cedar_syntax.specs.trees.Forms.{located, expr_form}
+use Rattle.cedar_grammar.specs.grammar.LoosePolicies as l
+use Rattle.cedar_grammar.specs.grammar.LoosePolicies.{ReadsCond, ReadsMany}
+use Rattle.cedar_grammar.specs.grammar.LooseWords as lw
+use Rattle.cedar_grammar.specs.grammar.Place.{placed}
+use Rattle.cedar_syntax.specs.tokens.Tokens.{one}
+use Rattle.cedar_syntax.specs.trees.Trees.{Cell, cond_of}
 use Rattle.cedar_policy_conversion.specs.Conditions.{condition_of, condition_outcome, conditions_outcome, condition_slot_fault, without_slots}
-use Rattle.cedar_conversion.specs.Conversion.{value_outcome}
-use Rattle.cedar_conversion.specs.Extensions.{Extensions}
-use Rattle.cedar_conversion.specs.Names.{all_of}
-use Rattle.cedar_conversion.specs.Outcome.{Outcome, both, next, faults_outcome}
-use Rattle.cedar_policy_parser.specs.StrictPolicy as m
-use Rattle.cedar_policy_parser.specs.StrictPolicy.{AreConditions, IsCondition}
+use Rattle.cedar_conversion.specs.outcome.Conversion.{value_outcome}
+use Rattle.cedar_conversion.specs.strict.Extensions.{Extensions}
+use Rattle.cedar_conversion.specs.parts.Names.{all_of}
+use Rattle.cedar_conversion.specs.outcome.Outcome.{Outcome, both, next, faults_outcome}
+use Rattle.cedar_policy_parser.specs.meaning.StrictPolicy as m
+use Rattle.cedar_policy_parser.specs.meaning.StrictPolicy.{AreConditions, IsCondition}
 use Rattle.cedar_expressions.specs.Slots.{slots_of}
 use Rattle.cedar_conversion.proofs.Inverted.{ok_is, next_ok, both_ok}
 use Rattle.cedar_policy_parser.proofs.complete.Whole.{complete}

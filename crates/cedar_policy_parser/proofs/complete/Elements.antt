@@ -23,23 +23,23 @@ use Rattle.cedar_syntax.specs.declared.cst.Ident.TheVariants as ident
 use Rattle.cedar_syntax.specs.declared.cst.RelOp.{RelOp}
 use Rattle.cedar_syntax.specs.declared.cst.RelOp.TheVariants as rel
 use Rattle.cedar_syntax.specs.declared.cst.VariableDef.{VariableDef}
-use Rattle.cedar_grammar.specs.LooseExpressions as lx
-use Rattle.cedar_grammar.specs.LoosePolicies as l
-use Rattle.cedar_grammar.specs.LoosePolicies.{ReadsConstraint, ReadsEntityType, ReadsVariableDef}
-use Rattle.cedar_grammar.specs.LooseWords as lw
-use Rattle.cedar_grammar.specs.Place.{placed}
-use Rattle.cedar_syntax.specs.Tokens.{Spot, one}
-use Rattle.cedar_syntax.specs.Trees.{Cell, variable_def_of}
+use Rattle.cedar_grammar.specs.grammar.LooseExpressions as lx
+use Rattle.cedar_grammar.specs.grammar.LoosePolicies as l
+use Rattle.cedar_grammar.specs.grammar.LoosePolicies.{ReadsConstraint, ReadsEntityType, ReadsVariableDef}
+use Rattle.cedar_grammar.specs.grammar.LooseWords as lw
+use Rattle.cedar_grammar.specs.grammar.Place.{placed}
+use Rattle.cedar_syntax.specs.tokens.Tokens.{Spot, one}
+use Rattle.cedar_syntax.specs.trees.Trees.{Cell, variable_def_of}
 use Rattle.cedar_policy_conversion.specs.declared.to_ref_or_refs.OneOrMultipleRefs.{OneOrMultipleRefs}
 use Rattle.cedar_policy_conversion.specs.declared.to_ref_or_refs.SingleEntity.{SingleEntity}
-use Rattle.cedar_conversion.specs.Extensions.{Extensions}
-use Rattle.cedar_conversion.specs.Held.{type_of_name}
-use Rattle.cedar_conversion.specs.Outcome.{Outcome, next}
+use Rattle.cedar_conversion.specs.strict.Extensions.{Extensions}
+use Rattle.cedar_conversion.specs.outcome.Held.{type_of_name}
+use Rattle.cedar_conversion.specs.outcome.Outcome.{Outcome, next}
 use Rattle.cedar_policy_conversion.specs.References.{entity_or_slot, one_or_multiple, referent_outcome, single_entity}
 use Rattle.cedar_policy_conversion.specs.Scope as s
-use Rattle.cedar_policy_parser.specs.StrictScope as z
-use Rattle.cedar_policy_parser.specs.StrictScope.{Asks, AsksAction}
-use Rattle.cedar_conversion.specs.StrictWords.{path_value}
+use Rattle.cedar_policy_parser.specs.meaning.StrictScope as z
+use Rattle.cedar_policy_parser.specs.meaning.StrictScope.{Asks, AsksAction}
+use Rattle.cedar_conversion.specs.strict.StrictWords.{path_value}
 use Rattle.cedar_policy_parser.proofs.complete.Lone.{type_read}
 use Rattle.cedar_policy_parser.proofs.complete.Referred.{actions_read, reference_read, single_read}
 use Rattle.cedar_policy_parser.proofs.sound.Elements.{within_is}

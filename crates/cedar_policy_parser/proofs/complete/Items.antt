@@ -8,18 +8,18 @@ use Rattle.cedar_expressions.specs.Value as v
 use Rattle.cedar_expressions.specs.Value.{Value, values, fields}
 use Rattle.cedar_syntax.specs.declared.loc.Loc.{Loc}
 use Rattle.cedar_syntax.specs.declared.cst.Primary.TheVariants as primary
-use Rattle.cedar_syntax.specs.Forms.{parts_of, listed_init}
-use Rattle.cedar_syntax.specs.Located.{Located}
-use Rattle.cedar_syntax.specs.Tree.{Operator, beside}
-use Rattle.cedar_grammar.specs.LooseExpressions as l
-use Rattle.cedar_grammar.specs.Place.{placed}
-use Rattle.cedar_syntax.specs.Tokens.{Spot, one}
-use Rattle.cedar_syntax.specs.Trees.{rec_init_of}
-use Rattle.cedar_conversion.specs.Conversion.{Part, operands, pairs_outcome, pair_outcome, set_value_outcome, record_outcome, expression_at}
-use Rattle.cedar_conversion.specs.Extensions.{Extensions}
-use Rattle.cedar_conversion.specs.Held.{Held, as_expression, as_attribute}
-use Rattle.cedar_conversion.specs.Outcome.{Outcome, both, next}
-use Rattle.cedar_conversion.specs.StrictWords.{IsKey}
+use Rattle.cedar_syntax.specs.trees.Forms.{parts_of, listed_init}
+use Rattle.cedar_syntax.specs.trees.Located.{Located}
+use Rattle.cedar_syntax.specs.trees.Tree.{Operator, beside}
+use Rattle.cedar_grammar.specs.grammar.LooseExpressions as l
+use Rattle.cedar_grammar.specs.grammar.Place.{placed}
+use Rattle.cedar_syntax.specs.tokens.Tokens.{Spot, one}
+use Rattle.cedar_syntax.specs.trees.Trees.{rec_init_of}
+use Rattle.cedar_conversion.specs.outcome.Conversion.{Part, operands, pairs_outcome, pair_outcome, set_value_outcome, record_outcome, expression_at}
+use Rattle.cedar_conversion.specs.strict.Extensions.{Extensions}
+use Rattle.cedar_conversion.specs.outcome.Held.{Held, as_expression, as_attribute}
+use Rattle.cedar_conversion.specs.outcome.Outcome.{Outcome, both, next}
+use Rattle.cedar_conversion.specs.strict.StrictWords.{IsKey}
 use Rattle.cedar_conversion.proofs.Inverted.{ok_is, value_from}
 use Rattle.cedar_conversion.proofs.Loops.{map_snoc}
 use Rattle.cedar_policy_parser.proofs.Made.{gives_set, gives_braces, gives_paren, gives_entry}

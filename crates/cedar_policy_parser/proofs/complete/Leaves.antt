@@ -19,23 +19,23 @@ use Rattle.cedar_syntax.specs.declared.cst.Literal.TheVariants as literal
 use Rattle.cedar_syntax.specs.declared.cst.Primary.TheVariants as primary
 use Rattle.cedar_syntax.specs.declared.cst.Slot.{Slot}
 use Rattle.cedar_syntax.specs.declared.cst.Slot.TheVariants as slot
-use Rattle.cedar_grammar.specs.LooseExpressions as l
-use Rattle.cedar_grammar.specs.LooseExpressions.{ReadsSlot}
-use Rattle.cedar_grammar.specs.LooseWords as lw
-use Rattle.cedar_grammar.specs.LooseWords.{ReadsLiteral, is_common}
-use Rattle.cedar_grammar.specs.Place.{placed}
-use Rattle.cedar_syntax.specs.Tokens.{Spot, one, number_of, any_of}
-use Rattle.cedar_syntax.specs.Trees.{name_of as tree_name}
-use Rattle.cedar_conversion.specs.Entities.{slot_id}
-use Rattle.cedar_conversion.specs.Extensions.{Extensions}
-use Rattle.cedar_conversion.specs.Held.{expression, as_expression}
-use Rattle.cedar_conversion.specs.Leaves.{slot_value, variable_or_name}
-use Rattle.cedar_conversion.specs.Literals.{literal_outcome}
-use Rattle.cedar_conversion.specs.Names.{variable_of}
-use Rattle.cedar_conversion.specs.Outcome.{next}
-use Rattle.cedar_conversion.specs.Strict.{largest, slot_there}
-use Rattle.cedar_conversion.specs.StrictWords as m
-use Rattle.cedar_conversion.specs.StrictWords.{IsVariable, IsText, IsEntity}
+use Rattle.cedar_grammar.specs.grammar.LooseExpressions as l
+use Rattle.cedar_grammar.specs.grammar.LooseExpressions.{ReadsSlot}
+use Rattle.cedar_grammar.specs.grammar.LooseWords as lw
+use Rattle.cedar_grammar.specs.grammar.LooseWords.{ReadsLiteral, is_common}
+use Rattle.cedar_grammar.specs.grammar.Place.{placed}
+use Rattle.cedar_syntax.specs.tokens.Tokens.{Spot, one, number_of, any_of}
+use Rattle.cedar_syntax.specs.trees.Trees.{name_of as tree_name}
+use Rattle.cedar_conversion.specs.parts.Entities.{slot_id}
+use Rattle.cedar_conversion.specs.strict.Extensions.{Extensions}
+use Rattle.cedar_conversion.specs.outcome.Held.{expression, as_expression}
+use Rattle.cedar_conversion.specs.parts.Leaves.{slot_value, variable_or_name}
+use Rattle.cedar_conversion.specs.parts.Literals.{literal_outcome}
+use Rattle.cedar_conversion.specs.parts.Names.{variable_of}
+use Rattle.cedar_conversion.specs.outcome.Outcome.{next}
+use Rattle.cedar_conversion.specs.strict.Strict.{largest, slot_there}
+use Rattle.cedar_conversion.specs.strict.StrictWords as m
+use Rattle.cedar_conversion.specs.strict.StrictWords.{IsVariable, IsText, IsEntity}
 use Rattle.cedar_conversion.proofs.Inverted.{value_from}
 use Rattle.cedar_policy_parser.proofs.Made.{gives_literally, gives_named, gives_slot, gives_referred}
 use Rattle.cedar_conversion.proofs.Quoted.{text_expected}

@@ -13,20 +13,20 @@ use Rattle.cedar_syntax.specs.declared.cst.Mult.{Mult}
 use Rattle.cedar_syntax.specs.declared.cst.MultOp.{MultOp}
 use Rattle.cedar_syntax.specs.declared.cst.MultOp.TheVariants as mul
 use Rattle.cedar_syntax.specs.declared.cst.Unary.{Unary}
-use Rattle.cedar_syntax.specs.Forms.{located, parts_of, and_form, relation_form, mult_form, unary_form, or_operand, and_operand, add_operand, mult_operand, listed_expr}
-use Rattle.cedar_syntax.specs.Located.{Located, Parts}
-use Rattle.cedar_syntax.specs.Tree.{Level, Operator, or_or, and_and, add, multiply, beside, disjunction, conjunction, sum, product}
-use Rattle.cedar_grammar.specs.LooseExpressions as l
-use Rattle.cedar_grammar.specs.LooseExpressions.{ReadsAnds, ReadsRelations, ReadsMults, ReadsUnaries, ReadsAddOp}
-use Rattle.cedar_grammar.specs.Place.{placed}
-use Rattle.cedar_syntax.specs.Tokens.{Spot, one}
-use Rattle.cedar_syntax.specs.Trees.{Cell, expr_of, or_of, and_of, add_of, mult_of}
-use Rattle.cedar_conversion.specs.Conversion.{Part, Converts, outcome, operands, chain_outcome, level_outcome, operator_limit, expression_at}
-use Rattle.cedar_conversion.specs.Extensions.{Extensions}
-use Rattle.cedar_conversion.specs.Held.{Held, as_expression}
-use Rattle.cedar_conversion.specs.Outcome.{Outcome, next}
-use Rattle.cedar_conversion.specs.Strict as m
-use Rattle.cedar_conversion.specs.Strict.{Sort}
+use Rattle.cedar_syntax.specs.trees.Forms.{located, parts_of, and_form, relation_form, mult_form, unary_form, or_operand, and_operand, add_operand, mult_operand, listed_expr}
+use Rattle.cedar_syntax.specs.trees.Located.{Located, Parts}
+use Rattle.cedar_syntax.specs.trees.Tree.{Level, Operator, or_or, and_and, add, multiply, beside, disjunction, conjunction, sum, product}
+use Rattle.cedar_grammar.specs.grammar.LooseExpressions as l
+use Rattle.cedar_grammar.specs.grammar.LooseExpressions.{ReadsAnds, ReadsRelations, ReadsMults, ReadsUnaries, ReadsAddOp}
+use Rattle.cedar_grammar.specs.grammar.Place.{placed}
+use Rattle.cedar_syntax.specs.tokens.Tokens.{Spot, one}
+use Rattle.cedar_syntax.specs.trees.Trees.{Cell, expr_of, or_of, and_of, add_of, mult_of}
+use Rattle.cedar_conversion.specs.outcome.Conversion.{Part, Converts, outcome, operands, chain_outcome, level_outcome, operator_limit, expression_at}
+use Rattle.cedar_conversion.specs.strict.Extensions.{Extensions}
+use Rattle.cedar_conversion.specs.outcome.Held.{Held, as_expression}
+use Rattle.cedar_conversion.specs.outcome.Outcome.{Outcome, next}
+use Rattle.cedar_conversion.specs.strict.Strict as m
+use Rattle.cedar_conversion.specs.strict.Strict.{Sort}
 use Rattle.cedar_conversion.specs.machines.Views.{one_more}
 use Rattle.cedar_conversion.proofs.Inverted.{value_from}
 use Rattle.cedar_conversion.proofs.Loops.{map_snoc}

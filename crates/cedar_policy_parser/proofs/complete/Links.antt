@@ -5,14 +5,14 @@ use Rattle.cedar_expressions.specs.Path.{Path}
 use Rattle.cedar_expressions.specs.Value as v
 use Rattle.cedar_expressions.specs.Value.{Value}
 use Rattle.cedar_syntax.specs.declared.loc.Loc.{Loc}
-use Rattle.cedar_syntax.specs.Forms.{parts_of}
-use Rattle.cedar_syntax.specs.Located.{Located}
-use Rattle.cedar_syntax.specs.Tree.{Operator}
-use Rattle.cedar_conversion.specs.Conversion.{accesses_outcome, access_outcome}
-use Rattle.cedar_conversion.specs.Extensions.{Extensions}
-use Rattle.cedar_conversion.specs.Held.{Held, expression, variable, bare_name, bare_truth, bare_string, as_expression}
-use Rattle.cedar_conversion.specs.Members.{Access, field, call, index, accesses_of, name_accesses, variable_accesses, some_accesses, member_outcome, method_outcome, function_outcome}
-use Rattle.cedar_conversion.specs.Outcome.{Outcome, both, next}
+use Rattle.cedar_syntax.specs.trees.Forms.{parts_of}
+use Rattle.cedar_syntax.specs.trees.Located.{Located}
+use Rattle.cedar_syntax.specs.trees.Tree.{Operator}
+use Rattle.cedar_conversion.specs.outcome.Conversion.{accesses_outcome, access_outcome}
+use Rattle.cedar_conversion.specs.strict.Extensions.{Extensions}
+use Rattle.cedar_conversion.specs.outcome.Held.{Held, expression, variable, bare_name, bare_truth, bare_string, as_expression}
+use Rattle.cedar_conversion.specs.parts.Members.{Access, field, call, index, accesses_of, name_accesses, variable_accesses, some_accesses, member_outcome, method_outcome, function_outcome}
+use Rattle.cedar_conversion.specs.outcome.Outcome.{Outcome, both, next}
 use Rattle.cedar_conversion.proofs.Inverted.{ok_is}
 use Rattle.cedar_policy_parser.proofs.sound.Items.{with_more, first_of}
 

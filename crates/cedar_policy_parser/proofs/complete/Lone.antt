@@ -11,27 +11,27 @@ use Rattle.cedar_syntax.specs.declared.cst.MemAccess.TheVariants as access
 use Rattle.cedar_syntax.specs.declared.cst.Primary.{Primary}
 use Rattle.cedar_syntax.specs.declared.cst.Primary.TheVariants as primary
 use Rattle.cedar_syntax.specs.declared.cst.Ident.{Ident}
-use Rattle.cedar_syntax.specs.Forms.{located, parts_of, member_form, primary_form, access_form, listed_access}
-use Rattle.cedar_syntax.specs.Located as f
-use Rattle.cedar_syntax.specs.Located.{Located, Form, Parts, at}
-use Rattle.cedar_syntax.specs.Tree.{Operator}
+use Rattle.cedar_syntax.specs.trees.Forms.{located, parts_of, member_form, primary_form, access_form, listed_access}
+use Rattle.cedar_syntax.specs.trees.Located as f
+use Rattle.cedar_syntax.specs.trees.Located.{Located, Form, Parts, at}
+use Rattle.cedar_syntax.specs.trees.Tree.{Operator}
 use Rattle.cedar_syntax.proofs.FormLevels.{primary_name, primary_literal, access_field}
-use Rattle.cedar_grammar.specs.LooseExpressions as l
-use Rattle.cedar_grammar.specs.LooseExpressions.{ReadsAdd, ReadsExpr, ReadsMember, ReadsPrimary, ReadsAccesses, lone_add, lone_expr}
-use Rattle.cedar_grammar.specs.LooseWords as lw
-use Rattle.cedar_syntax.specs.Pattern.{IsPattern}
-use Rattle.cedar_grammar.specs.Place.{placed}
-use Rattle.cedar_syntax.specs.Tokens.{Spot, one, between_quotes}
-use Rattle.cedar_syntax.specs.Trees.{Cell, member_of}
-use Rattle.cedar_conversion.specs.Conversion.{outcome, accesses_outcome}
-use Rattle.cedar_conversion.specs.Extensions.{Extensions}
-use Rattle.cedar_conversion.specs.HasSide.{Attributes, right_side, attributes_of, behind_first, fields_of, field_of, field_form}
-use Rattle.cedar_conversion.specs.Held.{Held, bare_string, as_entity_type, as_pattern, as_string, as_attribute, type_of_name}
-use Rattle.cedar_conversion.specs.Members.{member_outcome}
-use Rattle.cedar_conversion.specs.Names.{unreserved_ident}
-use Rattle.cedar_conversion.specs.Outcome.{Outcome, next}
-use Rattle.cedar_conversion.specs.StrictWords as m
-use Rattle.cedar_conversion.specs.StrictWords.{IsIdentifier, IsName, IsText, IsKey, IsSought, AreAttributes, path_value}
+use Rattle.cedar_grammar.specs.grammar.LooseExpressions as l
+use Rattle.cedar_grammar.specs.grammar.LooseExpressions.{ReadsAdd, ReadsExpr, ReadsMember, ReadsPrimary, ReadsAccesses, lone_add, lone_expr}
+use Rattle.cedar_grammar.specs.grammar.LooseWords as lw
+use Rattle.cedar_syntax.specs.strings.Pattern.{IsPattern}
+use Rattle.cedar_grammar.specs.grammar.Place.{placed}
+use Rattle.cedar_syntax.specs.tokens.Tokens.{Spot, one, between_quotes}
+use Rattle.cedar_syntax.specs.trees.Trees.{Cell, member_of}
+use Rattle.cedar_conversion.specs.outcome.Conversion.{outcome, accesses_outcome}
+use Rattle.cedar_conversion.specs.strict.Extensions.{Extensions}
+use Rattle.cedar_conversion.specs.parts.HasSide.{Attributes, right_side, attributes_of, behind_first, fields_of, field_of, field_form}
+use Rattle.cedar_conversion.specs.outcome.Held.{Held, bare_string, as_entity_type, as_pattern, as_string, as_attribute, type_of_name}
+use Rattle.cedar_conversion.specs.parts.Members.{member_outcome}
+use Rattle.cedar_conversion.specs.parts.Names.{unreserved_ident}
+use Rattle.cedar_conversion.specs.outcome.Outcome.{Outcome, next}
+use Rattle.cedar_conversion.specs.strict.StrictWords as m
+use Rattle.cedar_conversion.specs.strict.StrictWords.{IsIdentifier, IsName, IsText, IsKey, IsSought, AreAttributes, path_value}
 use Rattle.cedar_conversion.proofs.Inverted.{ok_is, next_ok}
 use Rattle.cedar_conversion.proofs.Loops.{map_snoc}
 use Rattle.cedar_policy_parser.proofs.Made.{gives_member, gives_named, gives_literally}

@@ -7,17 +7,17 @@ use Rattle.cedar_syntax.specs.declared.loc.Loc.{Loc}
 use Rattle.cedar_syntax.specs.declared.cst.Expr.{Expr}
 use Rattle.cedar_syntax.specs.declared.cst.Primary.{Primary}
 use Rattle.cedar_syntax.specs.declared.cst.Primary as P
-use Rattle.cedar_syntax.specs.Forms.{located, expr_form, primary_form}
-use Rattle.cedar_syntax.specs.Located.{Located, at}
-use Rattle.cedar_grammar.specs.LooseExpressions as l
-use Rattle.cedar_grammar.specs.LooseExpressions.{ReadsExpr, ReadsMember, ReadsPrimary, lone_expr}
-use Rattle.cedar_grammar.specs.Place.{placed}
-use Rattle.cedar_syntax.specs.Tokens.{Spot, one}
-use Rattle.cedar_syntax.specs.Trees.{add_of, and_of, common_of, member_of, mult_of, or_of, unary_of}
-use Rattle.cedar_conversion.specs.Conversion.{expression_at, outcome, tree_place, value_outcome}
-use Rattle.cedar_conversion.specs.Extensions.{Extensions}
-use Rattle.cedar_conversion.specs.Held.{as_expression}
-use Rattle.cedar_conversion.specs.Outcome.{Outcome, next}
+use Rattle.cedar_syntax.specs.trees.Forms.{located, expr_form, primary_form}
+use Rattle.cedar_syntax.specs.trees.Located.{Located, at}
+use Rattle.cedar_grammar.specs.grammar.LooseExpressions as l
+use Rattle.cedar_grammar.specs.grammar.LooseExpressions.{ReadsExpr, ReadsMember, ReadsPrimary, lone_expr}
+use Rattle.cedar_grammar.specs.grammar.Place.{placed}
+use Rattle.cedar_syntax.specs.tokens.Tokens.{Spot, one}
+use Rattle.cedar_syntax.specs.trees.Trees.{add_of, and_of, common_of, member_of, mult_of, or_of, unary_of}
+use Rattle.cedar_conversion.specs.outcome.Conversion.{expression_at, outcome, tree_place, value_outcome}
+use Rattle.cedar_conversion.specs.strict.Extensions.{Extensions}
+use Rattle.cedar_conversion.specs.outcome.Held.{as_expression}
+use Rattle.cedar_conversion.specs.outcome.Outcome.{Outcome, next}
 use Rattle.cedar_policy_conversion.specs.References.{lone, lone_form}
 use Rattle.cedar_policy_conversion.specs.Scope.{is_made_by_is}
 use Rattle.cedar_policy_parser.proofs.Made.{gives_paren}

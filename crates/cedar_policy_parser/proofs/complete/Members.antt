@@ -9,22 +9,22 @@ use Rattle.cedar_syntax.specs.declared.cst.Member.{Member}
 use Rattle.cedar_syntax.specs.declared.cst.MemAccess.{MemAccess}
 use Rattle.cedar_syntax.specs.declared.cst.MemAccess.TheVariants as access
 use Rattle.cedar_syntax.specs.declared.cst.Primary.TheVariants as primary
-use Rattle.cedar_syntax.specs.Forms.{located, parts_of, access_form, primary_form, member_form, listed_access, listed_expr}
-use Rattle.cedar_syntax.specs.Located.{at}
-use Rattle.cedar_syntax.specs.Tree.{beside}
-use Rattle.cedar_grammar.specs.LooseExpressions as l
-use Rattle.cedar_grammar.specs.LooseExpressions.{ReadsMember, ReadsAccess}
-use Rattle.cedar_grammar.specs.Place.{placed}
-use Rattle.cedar_syntax.specs.Tokens.{Spot, one}
-use Rattle.cedar_syntax.specs.Trees.{Cell, member_of}
-use Rattle.cedar_conversion.specs.Conversion.{Converts, Part, outcome, operands, accesses_outcome, access_outcome, bodies}
-use Rattle.cedar_conversion.specs.Extensions.{Extensions}
-use Rattle.cedar_conversion.specs.Held.{Held, expression, bare_name, as_expression}
-use Rattle.cedar_conversion.specs.Members.{Access, field, call, index, accesses_of, member_outcome, method_outcome, function_outcome}
-use Rattle.cedar_conversion.specs.Names.{unreserved_ident}
-use Rattle.cedar_conversion.specs.Outcome.{Outcome, next}
-use Rattle.cedar_conversion.specs.StrictCalls.{CallsMethod, IsFunction}
-use Rattle.cedar_conversion.specs.StrictWords.{IsIdentifier, IsName, IsText, IsVariableWord, path_value}
+use Rattle.cedar_syntax.specs.trees.Forms.{located, parts_of, access_form, primary_form, member_form, listed_access, listed_expr}
+use Rattle.cedar_syntax.specs.trees.Located.{at}
+use Rattle.cedar_syntax.specs.trees.Tree.{beside}
+use Rattle.cedar_grammar.specs.grammar.LooseExpressions as l
+use Rattle.cedar_grammar.specs.grammar.LooseExpressions.{ReadsMember, ReadsAccess}
+use Rattle.cedar_grammar.specs.grammar.Place.{placed}
+use Rattle.cedar_syntax.specs.tokens.Tokens.{Spot, one}
+use Rattle.cedar_syntax.specs.trees.Trees.{Cell, member_of}
+use Rattle.cedar_conversion.specs.outcome.Conversion.{Converts, Part, outcome, operands, accesses_outcome, access_outcome, bodies}
+use Rattle.cedar_conversion.specs.strict.Extensions.{Extensions}
+use Rattle.cedar_conversion.specs.outcome.Held.{Held, expression, bare_name, as_expression}
+use Rattle.cedar_conversion.specs.parts.Members.{Access, field, call, index, accesses_of, member_outcome, method_outcome, function_outcome}
+use Rattle.cedar_conversion.specs.parts.Names.{unreserved_ident}
+use Rattle.cedar_conversion.specs.outcome.Outcome.{Outcome, next}
+use Rattle.cedar_conversion.specs.strict.StrictCalls.{CallsMethod, IsFunction}
+use Rattle.cedar_conversion.specs.strict.StrictWords.{IsIdentifier, IsName, IsText, IsVariableWord, path_value}
 use Rattle.cedar_conversion.proofs.Inverted.{value_from}
 use Rattle.cedar_conversion.proofs.Loops.{map_snoc}
 use Rattle.cedar_policy_parser.proofs.Made.{gives_member, gives_field, gives_call, gives_index, gives_named}

@@ -15,17 +15,17 @@ use Rattle.cedar_syntax.specs.declared.cst.Unary.{Unary}
 use Rattle.cedar_syntax.specs.declared.cst.MemAccess.{MemAccess}
 use Rattle.cedar_syntax.specs.declared.cst.Primary.{Primary}
 use Rattle.cedar_syntax.specs.declared.cst.RecInit.{RecInit}
-use Rattle.cedar_syntax.specs.Forms.{parts_of, expr_form, or_form, and_form, relation_form, add_form, mult_form, unary_form, primary_form, init_form, listed_access, listed_expr, listed_init}
-use Rattle.cedar_syntax.specs.Located.{at}
-use Rattle.cedar_syntax.specs.Tree.{Operator, add, beside}
-use Rattle.cedar_grammar.specs.LooseExpressions.{ReadsExpr, ReadsOr, ReadsAnd, ReadsRelation, ReadsAdd, ReadsMult, ReadsUnary, ReadsAccesses, ReadsPrimary, ReadsExprItems, ReadsExprs, ReadsRecInit, ReadsInitItems, ReadsRecInits}
-use Rattle.cedar_syntax.specs.Trees.{Cell}
-use Rattle.cedar_conversion.specs.Conversion.{Part, Converts, outcome, operands, accesses_outcome, pair_outcome, pairs_outcome, bodies, sum_terms}
-use Rattle.cedar_conversion.specs.Extensions.{Extensions}
-use Rattle.cedar_conversion.specs.HasSide.{Attributes, right_side}
-use Rattle.cedar_conversion.specs.Held.{Held, as_expression}
-use Rattle.cedar_conversion.specs.Members.{Access, member_outcome}
-use Rattle.cedar_conversion.specs.Outcome.{Outcome, next}
+use Rattle.cedar_syntax.specs.trees.Forms.{parts_of, expr_form, or_form, and_form, relation_form, add_form, mult_form, unary_form, primary_form, init_form, listed_access, listed_expr, listed_init}
+use Rattle.cedar_syntax.specs.trees.Located.{at}
+use Rattle.cedar_syntax.specs.trees.Tree.{Operator, add, beside}
+use Rattle.cedar_grammar.specs.grammar.LooseExpressions.{ReadsExpr, ReadsOr, ReadsAnd, ReadsRelation, ReadsAdd, ReadsMult, ReadsUnary, ReadsAccesses, ReadsPrimary, ReadsExprItems, ReadsExprs, ReadsRecInit, ReadsInitItems, ReadsRecInits}
+use Rattle.cedar_syntax.specs.trees.Trees.{Cell}
+use Rattle.cedar_conversion.specs.outcome.Conversion.{Part, Converts, outcome, operands, accesses_outcome, pair_outcome, pairs_outcome, bodies, sum_terms}
+use Rattle.cedar_conversion.specs.strict.Extensions.{Extensions}
+use Rattle.cedar_conversion.specs.parts.HasSide.{Attributes, right_side}
+use Rattle.cedar_conversion.specs.outcome.Held.{Held, as_expression}
+use Rattle.cedar_conversion.specs.parts.Members.{Access, member_outcome}
+use Rattle.cedar_conversion.specs.outcome.Outcome.{Outcome, next}
 
 -- ---- one tree
 

@@ -19,27 +19,27 @@ use Rattle.cedar_syntax.specs.declared.cst.Primary as P
 use Rattle.cedar_syntax.specs.declared.cst.Ref.{Ref}
 use Rattle.cedar_syntax.specs.declared.cst.Slot.{Slot}
 use Rattle.cedar_syntax.specs.declared.cst.Slot.TheVariants as slot
-use Rattle.cedar_syntax.specs.Forms.{located, parts_of, expr_form, primary_form, listed_expr}
-use Rattle.cedar_syntax.specs.Located.{Form, at}
+use Rattle.cedar_syntax.specs.trees.Forms.{located, parts_of, expr_form, primary_form, listed_expr}
+use Rattle.cedar_syntax.specs.trees.Located.{Form, at}
 use Rattle.cedar_syntax.proofs.FormLevels.{primary_ref, primary_slot, primary_list}
-use Rattle.cedar_grammar.specs.LooseExpressions as l
-use Rattle.cedar_grammar.specs.LooseExpressions.{ReadsExprs, ReadsExprItems, ReadsPrimary}
-use Rattle.cedar_grammar.specs.Place.{placed}
-use Rattle.cedar_syntax.specs.Tokens.{Spot, one}
-use Rattle.cedar_syntax.specs.Trees.{Cell}
+use Rattle.cedar_grammar.specs.grammar.LooseExpressions as l
+use Rattle.cedar_grammar.specs.grammar.LooseExpressions.{ReadsExprs, ReadsExprItems, ReadsPrimary}
+use Rattle.cedar_grammar.specs.grammar.Place.{placed}
+use Rattle.cedar_syntax.specs.tokens.Tokens.{Spot, one}
+use Rattle.cedar_syntax.specs.trees.Trees.{Cell}
 use Rattle.cedar_policy_conversion.specs.declared.to_ref_or_refs.OneOrMultipleRefs.{OneOrMultipleRefs}
 use Rattle.cedar_policy_conversion.specs.declared.to_ref_or_refs.OneOrMultipleRefs.TheVariants as refs
-use Rattle.cedar_conversion.specs.Conversion.{Part, operands, outcome, set_value_outcome}
-use Rattle.cedar_conversion.specs.Entities.{entity_outcome}
-use Rattle.cedar_conversion.specs.Extensions.{Extensions}
-use Rattle.cedar_conversion.specs.Held.{as_expression, expression}
-use Rattle.cedar_conversion.specs.Outcome.{Outcome, both, next, item_more}
+use Rattle.cedar_conversion.specs.outcome.Conversion.{Part, operands, outcome, set_value_outcome}
+use Rattle.cedar_conversion.specs.parts.Entities.{entity_outcome}
+use Rattle.cedar_conversion.specs.strict.Extensions.{Extensions}
+use Rattle.cedar_conversion.specs.outcome.Held.{as_expression, expression}
+use Rattle.cedar_conversion.specs.outcome.Outcome.{Outcome, both, next, item_more}
 use Rattle.cedar_policy_conversion.specs.References.{RefKind, entities, entity_at, entity_form, entity_or_slot, lone, lone_form, lone_entity, one_or_multiple, referent_at, referred_form, single_entity}
-use Rattle.cedar_conversion.specs.Places.{place_mark}
+use Rattle.cedar_conversion.specs.outcome.Places.{place_mark}
 use Rattle.cedar_policy_conversion.specs.Scope.{is_made_by_is}
-use Rattle.cedar_policy_parser.specs.StrictScope as m
-use Rattle.cedar_policy_parser.specs.StrictScope.{AreActions, AreEntities, IsEntityAlone, IsEntityList, IsReference}
-use Rattle.cedar_conversion.specs.StrictWords.{IsEntity}
+use Rattle.cedar_policy_parser.specs.meaning.StrictScope as m
+use Rattle.cedar_policy_parser.specs.meaning.StrictScope.{AreActions, AreEntities, IsEntityAlone, IsEntityList, IsReference}
+use Rattle.cedar_conversion.specs.strict.StrictWords.{IsEntity}
 use Rattle.cedar_conversion.proofs.Loops.{map_snoc}
 use Rattle.cedar_policy_parser.proofs.Made.{gives_referred, gives_set, gives_slot}
 use Rattle.cedar_policy_parser.proofs.MadeLones as made

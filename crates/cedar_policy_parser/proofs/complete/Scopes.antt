@@ -8,17 +8,17 @@ use Rattle.cedar_policy_store.specs.declared.constraints.PrincipalOrResourceCons
 use Rattle.cedar_policy_store.specs.PlaceFree.{Constraint, constraint_meaning}
 use Rattle.cedar_syntax.specs.declared.loc.Loc.{Loc}
 use Rattle.cedar_syntax.specs.declared.cst.VariableDef.{VariableDef}
-use Rattle.cedar_grammar.specs.LoosePolicies.{ReadsVariableDef}
-use Rattle.cedar_grammar.specs.LooseWords as lw
-use Rattle.cedar_grammar.specs.LooseWords.{ReadsItems, ReadsList}
-use Rattle.cedar_grammar.specs.Place.{placed}
-use Rattle.cedar_syntax.specs.Tokens.{one}
-use Rattle.cedar_syntax.specs.Trees.{Cell}
-use Rattle.cedar_conversion.specs.Extensions.{Extensions}
+use Rattle.cedar_grammar.specs.grammar.LoosePolicies.{ReadsVariableDef}
+use Rattle.cedar_grammar.specs.grammar.LooseWords as lw
+use Rattle.cedar_grammar.specs.grammar.LooseWords.{ReadsItems, ReadsList}
+use Rattle.cedar_grammar.specs.grammar.Place.{placed}
+use Rattle.cedar_syntax.specs.tokens.Tokens.{one}
+use Rattle.cedar_syntax.specs.trees.Trees.{Cell}
+use Rattle.cedar_conversion.specs.strict.Extensions.{Extensions}
 use Rattle.cedar_policy_conversion.specs.Scope as s
 use Rattle.cedar_policy_conversion.specs.Scope.{Scope}
-use Rattle.cedar_policy_parser.specs.StrictScope as z
-use Rattle.cedar_policy_parser.specs.StrictScope.{IsLastComma, IsScope}
+use Rattle.cedar_policy_parser.specs.meaning.StrictScope as z
+use Rattle.cedar_policy_parser.specs.meaning.StrictScope.{IsLastComma, IsScope}
 use Rattle.cedar_policy_parser.proofs.complete.Elements.{ActionRead, ElementRead, action_read, element_read}
 use Rattle.cedar_policy_parser.proofs.sound.Referred.{principal, resource}
 

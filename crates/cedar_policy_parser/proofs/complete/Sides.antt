@@ -10,21 +10,21 @@ use Rattle.cedar_expressions.specs.Value.{Value}
 use Rattle.cedar_syntax.specs.declared.loc.Loc.{Loc}
 use Rattle.cedar_syntax.specs.declared.cst.RelOp.{RelOp}
 use Rattle.cedar_syntax.specs.declared.cst.RelOp.TheVariants as rel
-use Rattle.cedar_syntax.specs.Forms.{located, parts_of, add_form, relation_operand}
-use Rattle.cedar_syntax.specs.Located.{Located, none}
-use Rattle.cedar_syntax.specs.Tree.{Operator, compare, relation}
-use Rattle.cedar_grammar.specs.LooseExpressions as l
-use Rattle.cedar_grammar.specs.LooseExpressions.{ReadsRelOp}
-use Rattle.cedar_grammar.specs.Place.{placed}
-use Rattle.cedar_syntax.specs.Tokens.{Spot, one}
-use Rattle.cedar_syntax.specs.Trees.{if_of, common_of, has_of, like_of, is_of}
-use Rattle.cedar_conversion.specs.Conversion.{outcome, operands, comparison_outcome, expression_at, conditional_outcome, with_attributes, match_outcome, beside_type, type_test_outcome, type_within_outcome}
-use Rattle.cedar_conversion.specs.Extensions.{Extensions}
-use Rattle.cedar_conversion.specs.HasSide.{Attributes}
-use Rattle.cedar_conversion.specs.Held.{Held, as_expression, as_pattern, as_entity_type}
-use Rattle.cedar_conversion.specs.Outcome.{Outcome, both, next}
-use Rattle.cedar_conversion.specs.Strict as m
-use Rattle.cedar_conversion.specs.Strict.{Relates}
+use Rattle.cedar_syntax.specs.trees.Forms.{located, parts_of, add_form, relation_operand}
+use Rattle.cedar_syntax.specs.trees.Located.{Located, none}
+use Rattle.cedar_syntax.specs.trees.Tree.{Operator, compare, relation}
+use Rattle.cedar_grammar.specs.grammar.LooseExpressions as l
+use Rattle.cedar_grammar.specs.grammar.LooseExpressions.{ReadsRelOp}
+use Rattle.cedar_grammar.specs.grammar.Place.{placed}
+use Rattle.cedar_syntax.specs.tokens.Tokens.{Spot, one}
+use Rattle.cedar_syntax.specs.trees.Trees.{if_of, common_of, has_of, like_of, is_of}
+use Rattle.cedar_conversion.specs.outcome.Conversion.{outcome, operands, comparison_outcome, expression_at, conditional_outcome, with_attributes, match_outcome, beside_type, type_test_outcome, type_within_outcome}
+use Rattle.cedar_conversion.specs.strict.Extensions.{Extensions}
+use Rattle.cedar_conversion.specs.parts.HasSide.{Attributes}
+use Rattle.cedar_conversion.specs.outcome.Held.{Held, as_expression, as_pattern, as_entity_type}
+use Rattle.cedar_conversion.specs.outcome.Outcome.{Outcome, both, next}
+use Rattle.cedar_conversion.specs.strict.Strict as m
+use Rattle.cedar_conversion.specs.strict.Strict.{Relates}
 use Rattle.cedar_conversion.proofs.Inverted.{value_from}
 use Rattle.cedar_policy_parser.proofs.Made.{gives_if, gives_common, gives_has, gives_like, gives_is, gives_is_in}
 use Rattle.cedar_conversion.proofs.Outcomes.{operand, settled}

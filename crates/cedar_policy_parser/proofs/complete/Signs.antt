@@ -11,19 +11,19 @@ use Rattle.cedar_syntax.specs.declared.cst.Member.{Member}
 use Rattle.cedar_syntax.specs.declared.cst.MemAccess.{MemAccess}
 use Rattle.cedar_syntax.specs.declared.cst.Primary.{Primary}
 use Rattle.cedar_syntax.specs.declared.cst.Primary.TheVariants as primary
-use Rattle.cedar_syntax.specs.Forms.{located, member_form, primary_form}
-use Rattle.cedar_syntax.specs.Located.{at}
-use Rattle.cedar_grammar.specs.LooseExpressions as l
-use Rattle.cedar_grammar.specs.LooseExpressions.{ReadsSigns, ReadsMember, ReadsPrimary, ReadsAccesses}
-use Rattle.cedar_grammar.specs.LooseWords as lw
-use Rattle.cedar_grammar.specs.LooseWords.{ReadsLiteral}
-use Rattle.cedar_grammar.specs.Place.{placed}
-use Rattle.cedar_syntax.specs.Tokens.{Spot, one, number_of, fits}
-use Rattle.cedar_syntax.specs.Trees.{Cell, unary_of, member_of, bangs_of, dashes_of}
-use Rattle.cedar_syntax.specs.Signs.{sign_limit}
-use Rattle.cedar_conversion.specs.Conversion.{number_in, lone_literal, literal_alone}
-use Rattle.cedar_conversion.specs.Extensions.{Extensions}
-use Rattle.cedar_conversion.specs.Strict.{iteration, IsNumeral}
+use Rattle.cedar_syntax.specs.trees.Forms.{located, member_form, primary_form}
+use Rattle.cedar_syntax.specs.trees.Located.{at}
+use Rattle.cedar_grammar.specs.grammar.LooseExpressions as l
+use Rattle.cedar_grammar.specs.grammar.LooseExpressions.{ReadsSigns, ReadsMember, ReadsPrimary, ReadsAccesses}
+use Rattle.cedar_grammar.specs.grammar.LooseWords as lw
+use Rattle.cedar_grammar.specs.grammar.LooseWords.{ReadsLiteral}
+use Rattle.cedar_grammar.specs.grammar.Place.{placed}
+use Rattle.cedar_syntax.specs.tokens.Tokens.{Spot, one, number_of, fits}
+use Rattle.cedar_syntax.specs.trees.Trees.{Cell, unary_of, member_of, bangs_of, dashes_of}
+use Rattle.cedar_syntax.specs.tokens.Signs.{sign_limit}
+use Rattle.cedar_conversion.specs.outcome.Conversion.{number_in, lone_literal, literal_alone}
+use Rattle.cedar_conversion.specs.strict.Extensions.{Extensions}
+use Rattle.cedar_conversion.specs.strict.Strict.{iteration, IsNumeral}
 use Rattle.cedar_conversion.proofs.Inverted.{value_from}
 use Rattle.cedar_policy_parser.proofs.Lists.{no_snoc}
 use Rattle.cedar_policy_parser.proofs.Made.{gives_unary, lone_member, lone_accessed, lone_literally, lone_named, lone_slot, lone_referred, lone_paren, lone_set, lone_braces}

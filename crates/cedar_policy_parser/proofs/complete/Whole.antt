@@ -6,10 +6,10 @@ use Rattle.cedar_lexer.specs.declared.token.TokenKind.{TokenKind}
 use Rattle.cedar_lexer.specs.declared.token.TokenKind.TheVariants as kind
 use Rattle.cedar_expressions.specs.declared.operators.AddOp.{AddOp}
 use Rattle.cedar_expressions.specs.Value.{Value}
-use Rattle.cedar_syntax.specs.Signs.{sign_limit}
-use Rattle.cedar_conversion.specs.Extensions.{Extensions}
-use Rattle.cedar_conversion.specs.Strict as m
-use Rattle.cedar_conversion.specs.Strict.{Sort, Means, Joined, Added, Listed, Entries, JoinedEntries, Entry}
+use Rattle.cedar_syntax.specs.tokens.Signs.{sign_limit}
+use Rattle.cedar_conversion.specs.strict.Extensions.{Extensions}
+use Rattle.cedar_conversion.specs.strict.Strict as m
+use Rattle.cedar_conversion.specs.strict.Strict.{Sort, Means, Joined, Added, Listed, Entries, JoinedEntries, Entry}
 use Rattle.cedar_policy_parser.proofs.complete.Items.{no_list, list_read, list_comma, entry_read, one_pair, more_pairs, no_entries, entries_read, entries_comma, set_read, braces_read, paren_read}
 use Rattle.cedar_policy_parser.proofs.complete.Leaves.{true_read, false_read, number_read, string_read, variable_read, principal_slot_read, resource_slot_read, uid_read}
 use Rattle.cedar_policy_parser.proofs.complete.Levels.{Read, MultsRead, PartsRead, one_read, more_read, one_mult_read, more_mults, or_read, or_alone, and_read, and_alone, mult_read, mult_alone, add_read, add_alone, expr_read}

@@ -17,22 +17,22 @@ use Rattle.cedar_syntax.specs.declared.cst.Name.{Name}
 use Rattle.cedar_syntax.specs.declared.cst.Ref.{Ref}
 use Rattle.cedar_syntax.specs.declared.cst.Ref.TheVariants as ref
 use Rattle.cedar_syntax.specs.declared.cst.Str.TheVariants as str
-use Rattle.cedar_syntax.specs.Piece.{IsUnescaped}
-use Rattle.cedar_grammar.specs.Place.{placed}
-use Rattle.cedar_grammar.specs.LooseWords as l
-use Rattle.cedar_grammar.specs.LooseWords.{ReadsAny, ReadsLiteral, ReadsName, ReadsPath, ReadsRef, is_common}
-use Rattle.cedar_syntax.specs.Tokens.{Spot, one, between_quotes}
-use Rattle.cedar_syntax.specs.Trees.{Cell, name_of as tree_name}
-use Rattle.cedar_conversion.specs.Entities.{entity_of, reference_outcome}
-use Rattle.cedar_conversion.specs.Held.{Held, variable, bare_name, bare_string, as_entity_type, as_attribute, type_of_name}
-use Rattle.cedar_conversion.specs.HasSide.{attributes_of, behind_first}
-use Rattle.cedar_conversion.specs.Leaves.{name_leaf, variable_or_name}
-use Rattle.cedar_conversion.specs.Literals.{literal_outcome}
-use Rattle.cedar_conversion.specs.Names.{all_of, valid_ident, valid_ident_of, unreserved_ident, unreserved, path_outcome, variable_of}
-use Rattle.cedar_conversion.specs.Outcome.{Outcome, both, next}
-use Rattle.cedar_conversion.specs.StrictWords as m
-use Rattle.cedar_conversion.specs.StrictWords.{IsVariable, IsVariableWord, IsIdentifier, IsName, IsText, IsEntity, path_value}
-use Rattle.cedar_syntax.specs.Located.{Parts}
+use Rattle.cedar_syntax.specs.strings.Piece.{IsUnescaped}
+use Rattle.cedar_grammar.specs.grammar.Place.{placed}
+use Rattle.cedar_grammar.specs.grammar.LooseWords as l
+use Rattle.cedar_grammar.specs.grammar.LooseWords.{ReadsAny, ReadsLiteral, ReadsName, ReadsPath, ReadsRef, is_common}
+use Rattle.cedar_syntax.specs.tokens.Tokens.{Spot, one, between_quotes}
+use Rattle.cedar_syntax.specs.trees.Trees.{Cell, name_of as tree_name}
+use Rattle.cedar_conversion.specs.parts.Entities.{entity_of, reference_outcome}
+use Rattle.cedar_conversion.specs.outcome.Held.{Held, variable, bare_name, bare_string, as_entity_type, as_attribute, type_of_name}
+use Rattle.cedar_conversion.specs.parts.HasSide.{attributes_of, behind_first}
+use Rattle.cedar_conversion.specs.parts.Leaves.{name_leaf, variable_or_name}
+use Rattle.cedar_conversion.specs.parts.Literals.{literal_outcome}
+use Rattle.cedar_conversion.specs.parts.Names.{all_of, valid_ident, valid_ident_of, unreserved_ident, unreserved, path_outcome, variable_of}
+use Rattle.cedar_conversion.specs.outcome.Outcome.{Outcome, both, next}
+use Rattle.cedar_conversion.specs.strict.StrictWords as m
+use Rattle.cedar_conversion.specs.strict.StrictWords.{IsVariable, IsVariableWord, IsIdentifier, IsName, IsText, IsEntity, path_value}
+use Rattle.cedar_syntax.specs.trees.Located.{Parts}
 use Rattle.cedar_conversion.proofs.Inverted.{next_ok, both_ok, ok_is}
 use Rattle.cedar_conversion.proofs.Quoted.{text_expected}
 

@@ -15,20 +15,20 @@ use Rattle.cedar_syntax.specs.declared.loc.Loc.{Loc}
 use Rattle.cedar_syntax.specs.declared.cst.Annotation.{Annotation}
 use Rattle.cedar_syntax.specs.declared.cst.Ident.{Ident}
 use Rattle.cedar_syntax.specs.declared.cst.Str.TheVariants as str
-use Rattle.cedar_grammar.specs.LoosePolicies as l
-use Rattle.cedar_grammar.specs.LoosePolicies.{ReadsAnnotation, ReadsMany}
-use Rattle.cedar_grammar.specs.LooseWords as lw
-use Rattle.cedar_grammar.specs.LooseWords.{ReadsAny}
-use Rattle.cedar_grammar.specs.Place.{placed}
-use Rattle.cedar_syntax.specs.Tokens.{Spot, one, any_of, between_quotes}
-use Rattle.cedar_syntax.specs.Trees.{Cell}
+use Rattle.cedar_grammar.specs.grammar.LoosePolicies as l
+use Rattle.cedar_grammar.specs.grammar.LoosePolicies.{ReadsAnnotation, ReadsMany}
+use Rattle.cedar_grammar.specs.grammar.LooseWords as lw
+use Rattle.cedar_grammar.specs.grammar.LooseWords.{ReadsAny}
+use Rattle.cedar_grammar.specs.grammar.Place.{placed}
+use Rattle.cedar_syntax.specs.tokens.Tokens.{Spot, one, any_of, between_quotes}
+use Rattle.cedar_syntax.specs.trees.Trees.{Cell}
 use Rattle.cedar_policy_conversion.specs.AnnotationKeys.{AnnotationContent, annotation_at, annotation_map, annotation_outcome, gathering_with_node, gathering, has_key, with_annotation, kept_annotation, converted_key, empty_gathering, key_value_outcome, value_text_outcome, with_new_key}
-use Rattle.cedar_conversion.specs.Names.{any_ident, any_ident_of, content_outcome}
-use Rattle.cedar_conversion.specs.Outcome.{Outcome, both, next, item_more}
-use Rattle.cedar_conversion.specs.Strings.{text_outcome}
-use Rattle.cedar_policy_parser.specs.StrictPolicy as m
-use Rattle.cedar_policy_parser.specs.StrictPolicy.{AreAnnotations, IsAnnotation, IsAnyWord, by_key}
-use Rattle.cedar_conversion.specs.StrictWords as w
+use Rattle.cedar_conversion.specs.parts.Names.{any_ident, any_ident_of, content_outcome}
+use Rattle.cedar_conversion.specs.outcome.Outcome.{Outcome, both, next, item_more}
+use Rattle.cedar_conversion.specs.parts.Strings.{text_outcome}
+use Rattle.cedar_policy_parser.specs.meaning.StrictPolicy as m
+use Rattle.cedar_policy_parser.specs.meaning.StrictPolicy.{AreAnnotations, IsAnnotation, IsAnyWord, by_key}
+use Rattle.cedar_conversion.specs.strict.StrictWords as w
 use Rattle.cedar_conversion.proofs.Inverted.{ok_is, next_ok, both_ok, if_ok, unless_ok}
 use Rattle.cedar_conversion.proofs.Loops.{map_snoc}
 use Rattle.cedar_policy_conversion.proofs.MappedValues.{fold_snoc, with-empty, with-insert}

@@ -7,12 +7,12 @@ use Rattle.cedar_expressions.specs.Value.{Value, values}
 use Rattle.cedar_syntax.specs.declared.loc.Loc.{Loc}
 use Rattle.cedar_conversion.specs.declared.primaries.methods.Standard.{Standard}
 use Rattle.cedar_conversion.specs.declared.primaries.methods.Standard.TheVariants as standard
-use Rattle.cedar_conversion.specs.Extensions.{Extensions}
-use Rattle.cedar_conversion.specs.Members as g
-use Rattle.cedar_conversion.specs.Members.{takes_one, with_arguments, method_outcome, method_by, function_outcome}
-use Rattle.cedar_conversion.specs.StrictCalls as m
-use Rattle.cedar_conversion.specs.StrictCalls.{CallsMethod, IsFunction, names_method, standard_method}
-use Rattle.cedar_conversion.specs.StrictWords.{path_value}
+use Rattle.cedar_conversion.specs.strict.Extensions.{Extensions}
+use Rattle.cedar_conversion.specs.parts.Members as g
+use Rattle.cedar_conversion.specs.parts.Members.{takes_one, with_arguments, method_outcome, method_by, function_outcome}
+use Rattle.cedar_conversion.specs.strict.StrictCalls as m
+use Rattle.cedar_conversion.specs.strict.StrictCalls.{CallsMethod, IsFunction, names_method, standard_method}
+use Rattle.cedar_conversion.specs.strict.StrictWords.{path_value}
 use Rattle.cedar_conversion.proofs.Inverted.{ok_is}
 
 -- the six tests, one after another

@@ -23,29 +23,29 @@ use Rattle.cedar_syntax.specs.declared.cst.Name.{Name}
 use Rattle.cedar_syntax.specs.declared.cst.RelOp.{RelOp}
 use Rattle.cedar_syntax.specs.declared.cst.RelOp.TheVariants as rel
 use Rattle.cedar_syntax.specs.declared.cst.VariableDef.{VariableDef}
-use Rattle.cedar_syntax.specs.Forms.{located, add_form}
-use Rattle.cedar_grammar.specs.Place.{placed}
-use Rattle.cedar_grammar.specs.LooseExpressions as lx
-use Rattle.cedar_grammar.specs.LooseExpressions.{ReadsAdd, ReadsExpr, ReadsRelOp}
-use Rattle.cedar_grammar.specs.LoosePolicies as l
-use Rattle.cedar_grammar.specs.LoosePolicies.{ReadsConstraint, ReadsEntityType, ReadsTypeName, ReadsVariableDef}
-use Rattle.cedar_grammar.specs.LooseWords as lw
-use Rattle.cedar_grammar.specs.LooseWords.{ReadsAny}
-use Rattle.cedar_syntax.specs.Tokens.{Spot, one, any_of}
-use Rattle.cedar_syntax.specs.Trees.{Cell}
+use Rattle.cedar_syntax.specs.trees.Forms.{located, add_form}
+use Rattle.cedar_grammar.specs.grammar.Place.{placed}
+use Rattle.cedar_grammar.specs.grammar.LooseExpressions as lx
+use Rattle.cedar_grammar.specs.grammar.LooseExpressions.{ReadsAdd, ReadsExpr, ReadsRelOp}
+use Rattle.cedar_grammar.specs.grammar.LoosePolicies as l
+use Rattle.cedar_grammar.specs.grammar.LoosePolicies.{ReadsConstraint, ReadsEntityType, ReadsTypeName, ReadsVariableDef}
+use Rattle.cedar_grammar.specs.grammar.LooseWords as lw
+use Rattle.cedar_grammar.specs.grammar.LooseWords.{ReadsAny}
+use Rattle.cedar_syntax.specs.tokens.Tokens.{Spot, one, any_of}
+use Rattle.cedar_syntax.specs.trees.Trees.{Cell}
 use Rattle.cedar_policy_conversion.specs.declared.to_ref_or_refs.OneOrMultipleRefs.{OneOrMultipleRefs}
 use Rattle.cedar_policy_conversion.specs.declared.to_ref_or_refs.OneOrMultipleRefs.TheVariants as refs
-use Rattle.cedar_conversion.specs.Conversion.{outcome}
-use Rattle.cedar_conversion.specs.Extensions.{Extensions}
-use Rattle.cedar_conversion.specs.Held.{as_entity_type}
-use Rattle.cedar_conversion.specs.Names.{content_outcome}
-use Rattle.cedar_conversion.specs.Outcome.{next, is_in_action_scope}
+use Rattle.cedar_conversion.specs.outcome.Conversion.{outcome}
+use Rattle.cedar_conversion.specs.strict.Extensions.{Extensions}
+use Rattle.cedar_conversion.specs.outcome.Held.{as_entity_type}
+use Rattle.cedar_conversion.specs.parts.Names.{content_outcome}
+use Rattle.cedar_conversion.specs.outcome.Outcome.{next, is_in_action_scope}
 use Rattle.cedar_policy_conversion.specs.References.{entity_or_slot, one_or_multiple, referent_outcome, single_entity}
 use Rattle.cedar_policy_conversion.specs.Scope as s
-use Rattle.cedar_conversion.specs.Strict as m
-use Rattle.cedar_policy_parser.specs.StrictScope as z
-use Rattle.cedar_policy_parser.specs.StrictScope.{Asks, AsksAction}
-use Rattle.cedar_conversion.specs.StrictWords.{IsName, path_value}
+use Rattle.cedar_conversion.specs.strict.Strict as m
+use Rattle.cedar_policy_parser.specs.meaning.StrictScope as z
+use Rattle.cedar_policy_parser.specs.meaning.StrictScope.{Asks, AsksAction}
+use Rattle.cedar_conversion.specs.strict.StrictWords.{IsName, path_value}
 use Rattle.cedar_conversion.proofs.Inverted.{ok_is, next_ok, if_ok, unless_ok}
 use Rattle.cedar_policy_parser.proofs.sound.Bare.{held_type}
 use Rattle.cedar_policy_parser.proofs.sound.Referred.{SlotOf, principal, resource, reference_meant, several_meant, single_meant, uids_of}

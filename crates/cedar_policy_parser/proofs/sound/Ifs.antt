@@ -10,21 +10,21 @@ use Rattle.cedar_syntax.specs.declared.cst.Primary.{Primary}
 use Rattle.cedar_syntax.specs.declared.cst.Relation.{Relation}
 use Rattle.cedar_syntax.specs.declared.cst.MemAccess.{MemAccess}
 use Rattle.cedar_syntax.specs.declared.cst.Ident.TheVariants as ident
-use Rattle.cedar_syntax.specs.Forms.{located, parts_of, expr_form, add_form, mult_form, member_form, unary_form, primary_form, listed_access, and_form, relation_form}
-use Rattle.cedar_syntax.specs.Located as f
-use Rattle.cedar_syntax.specs.Located.{Located, at}
-use Rattle.cedar_syntax.specs.Tree.{Level, disjunction, conjunction, relation, sum, product}
+use Rattle.cedar_syntax.specs.trees.Forms.{located, parts_of, expr_form, add_form, mult_form, member_form, unary_form, primary_form, listed_access, and_form, relation_form}
+use Rattle.cedar_syntax.specs.trees.Located as f
+use Rattle.cedar_syntax.specs.trees.Located.{Located, at}
+use Rattle.cedar_syntax.specs.trees.Tree.{Level, disjunction, conjunction, relation, sum, product}
 use Rattle.cedar_syntax.proofs.FormLevels.{primary_name}
-use Rattle.cedar_grammar.specs.LooseExpressions.{if_name, lone_add, lone_expr}
-use Rattle.cedar_grammar.specs.Place.{placed}
-use Rattle.cedar_syntax.specs.Tokens.{Spot, one}
-use Rattle.cedar_syntax.specs.Trees.{Cell, or_of, and_of, common_of, mult_of, unary_of, member_of, name_of}
-use Rattle.cedar_conversion.specs.Conversion.{outcome, operands, accesses_outcome}
-use Rattle.cedar_conversion.specs.Extensions.{Extensions}
-use Rattle.cedar_conversion.specs.HasSide.{Attributes, right_side, right_form, begins_with, attributes_of}
-use Rattle.cedar_conversion.specs.Held.{Held}
-use Rattle.cedar_conversion.specs.Leaves.{name_leaf}
-use Rattle.cedar_conversion.specs.Outcome.{both}
+use Rattle.cedar_grammar.specs.grammar.LooseExpressions.{if_name, lone_add, lone_expr}
+use Rattle.cedar_grammar.specs.grammar.Place.{placed}
+use Rattle.cedar_syntax.specs.tokens.Tokens.{Spot, one}
+use Rattle.cedar_syntax.specs.trees.Trees.{Cell, or_of, and_of, common_of, mult_of, unary_of, member_of, name_of}
+use Rattle.cedar_conversion.specs.outcome.Conversion.{outcome, operands, accesses_outcome}
+use Rattle.cedar_conversion.specs.strict.Extensions.{Extensions}
+use Rattle.cedar_conversion.specs.parts.HasSide.{Attributes, right_side, right_form, begins_with, attributes_of}
+use Rattle.cedar_conversion.specs.outcome.Held.{Held}
+use Rattle.cedar_conversion.specs.parts.Leaves.{name_leaf}
+use Rattle.cedar_conversion.specs.outcome.Outcome.{both}
 use Rattle.cedar_conversion.proofs.Inverted.{next_ok, both_ok}
 use Rattle.cedar_policy_parser.proofs.Made.{gives_or_alone, gives_or, gives_and, gives_common, gives_add, gives_mult, gives_unary, gives_member, gives_named}
 use Rattle.cedar_conversion.proofs.Parts.{alone}

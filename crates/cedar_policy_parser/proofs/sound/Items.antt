@@ -8,18 +8,18 @@ use Rattle.cedar_expressions.specs.Keys.{repeats_key}
 use Rattle.cedar_expressions.specs.Value.{Value, fields}
 use Rattle.cedar_expressions.specs.Value as v
 use Rattle.cedar_syntax.specs.declared.loc.Loc.{Loc}
-use Rattle.cedar_syntax.specs.Signs.{sign_limit}
-use Rattle.cedar_syntax.specs.Forms.{parts_of}
-use Rattle.cedar_syntax.specs.Located.{Located}
-use Rattle.cedar_syntax.specs.Tree.{Operator}
-use Rattle.cedar_syntax.specs.Tokens.{Spot, one}
-use Rattle.cedar_conversion.specs.Conversion.{Part, bodies, accesses_outcome, access_outcome, pairs_outcome, pair_outcome, with_first, set_value_outcome, record_outcome}
-use Rattle.cedar_conversion.specs.Extensions.{Extensions}
-use Rattle.cedar_conversion.specs.Held.{Held, expression}
-use Rattle.cedar_conversion.specs.Members.{Access}
-use Rattle.cedar_conversion.specs.Outcome.{Outcome, both, next}
-use Rattle.cedar_conversion.specs.Strict as m
-use Rattle.cedar_conversion.specs.Strict.{Listed, Entries}
+use Rattle.cedar_syntax.specs.tokens.Signs.{sign_limit}
+use Rattle.cedar_syntax.specs.trees.Forms.{parts_of}
+use Rattle.cedar_syntax.specs.trees.Located.{Located}
+use Rattle.cedar_syntax.specs.trees.Tree.{Operator}
+use Rattle.cedar_syntax.specs.tokens.Tokens.{Spot, one}
+use Rattle.cedar_conversion.specs.outcome.Conversion.{Part, bodies, accesses_outcome, access_outcome, pairs_outcome, pair_outcome, with_first, set_value_outcome, record_outcome}
+use Rattle.cedar_conversion.specs.strict.Extensions.{Extensions}
+use Rattle.cedar_conversion.specs.outcome.Held.{Held, expression}
+use Rattle.cedar_conversion.specs.parts.Members.{Access}
+use Rattle.cedar_conversion.specs.outcome.Outcome.{Outcome, both, next}
+use Rattle.cedar_conversion.specs.strict.Strict as m
+use Rattle.cedar_conversion.specs.strict.Strict.{Listed, Entries}
 use Rattle.cedar_conversion.proofs.Inverted.{ok_is, next_ok, both_ok, unless_ok}
 use Rattle.cedar_policy_parser.proofs.sound.Bare.{HeldAs}
 use Rattle.cedar_policy_parser.proofs.sound.Leaves.{held_as}

@@ -13,24 +13,24 @@ use Rattle.cedar_syntax.specs.declared.cst.Name.{Name}
 use Rattle.cedar_syntax.specs.declared.cst.Ref.{Ref}
 use Rattle.cedar_syntax.specs.declared.cst.Slot.{Slot}
 use Rattle.cedar_syntax.specs.declared.cst.Literal.{Literal}
-use Rattle.cedar_grammar.specs.Place.{placed}
-use Rattle.cedar_grammar.specs.LooseExpressions as l
-use Rattle.cedar_grammar.specs.LooseExpressions.{ReadsSlot}
-use Rattle.cedar_grammar.specs.LooseWords as lw
-use Rattle.cedar_grammar.specs.LooseWords.{ReadsLiteral, ReadsAny, ReadsPath, ReadsName, ReadsRef}
-use Rattle.cedar_syntax.specs.Tokens.{Spot, one, number_of, any_of}
-use Rattle.cedar_syntax.specs.Trees.{Cell, name_of}
-use Rattle.cedar_conversion.specs.Extensions.{Extensions}
-use Rattle.cedar_conversion.specs.Entities.{entity_outcome}
-use Rattle.cedar_conversion.specs.Held.{Held, expression, as_expression}
-use Rattle.cedar_conversion.specs.Leaves.{name_leaf, variable_or_name, slot_leaf, entity_leaf}
-use Rattle.cedar_conversion.specs.Literals.{literal_outcome}
-use Rattle.cedar_conversion.specs.Names.{name_outcome, variable_in, lone_variable}
-use Rattle.cedar_conversion.specs.Outcome.{next}
-use Rattle.cedar_conversion.specs.Strict as m
-use Rattle.cedar_conversion.specs.Strict.{Sort, largest}
-use Rattle.cedar_conversion.specs.StrictWords as w
-use Rattle.cedar_conversion.specs.StrictWords.{IsVariable, IsVariableWord}
+use Rattle.cedar_grammar.specs.grammar.Place.{placed}
+use Rattle.cedar_grammar.specs.grammar.LooseExpressions as l
+use Rattle.cedar_grammar.specs.grammar.LooseExpressions.{ReadsSlot}
+use Rattle.cedar_grammar.specs.grammar.LooseWords as lw
+use Rattle.cedar_grammar.specs.grammar.LooseWords.{ReadsLiteral, ReadsAny, ReadsPath, ReadsName, ReadsRef}
+use Rattle.cedar_syntax.specs.tokens.Tokens.{Spot, one, number_of, any_of}
+use Rattle.cedar_syntax.specs.trees.Trees.{Cell, name_of}
+use Rattle.cedar_conversion.specs.strict.Extensions.{Extensions}
+use Rattle.cedar_conversion.specs.parts.Entities.{entity_outcome}
+use Rattle.cedar_conversion.specs.outcome.Held.{Held, expression, as_expression}
+use Rattle.cedar_conversion.specs.parts.Leaves.{name_leaf, variable_or_name, slot_leaf, entity_leaf}
+use Rattle.cedar_conversion.specs.parts.Literals.{literal_outcome}
+use Rattle.cedar_conversion.specs.parts.Names.{name_outcome, variable_in, lone_variable}
+use Rattle.cedar_conversion.specs.outcome.Outcome.{next}
+use Rattle.cedar_conversion.specs.strict.Strict as m
+use Rattle.cedar_conversion.specs.strict.Strict.{Sort, largest}
+use Rattle.cedar_conversion.specs.strict.StrictWords as w
+use Rattle.cedar_conversion.specs.strict.StrictWords.{IsVariable, IsVariableWord}
 use Rattle.cedar_conversion.proofs.Inverted.{ok_is, next_ok, unless_ok}
 use Rattle.cedar_conversion.proofs.Signed.{literal_value}
 use Rattle.cedar_policy_parser.proofs.sound.Bare.{HeldAs}

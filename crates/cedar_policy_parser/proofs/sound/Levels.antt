@@ -6,16 +6,16 @@ use Rattle.cedar_lexer.specs.declared.token.TokenKind.TheVariants as kind
 use Rattle.cedar_expressions.specs.declared.operators.AddOp.{AddOp}
 use Rattle.cedar_expressions.specs.Value.{Value}
 use Rattle.cedar_syntax.specs.declared.loc.Loc.{Loc}
-use Rattle.cedar_syntax.specs.Signs.{sign_limit}
-use Rattle.cedar_syntax.specs.Located.{Parts}
-use Rattle.cedar_syntax.specs.Tree.{Level, Operator, disjunction, conjunction, product}
-use Rattle.cedar_syntax.specs.Tokens.{Spot, one}
-use Rattle.cedar_conversion.specs.Conversion.{Part, chain_outcome, level_outcome, joint_outcome, operator_limit, bodies}
-use Rattle.cedar_conversion.specs.Extensions.{Extensions}
-use Rattle.cedar_conversion.specs.Held.{Held, as_expression}
-use Rattle.cedar_conversion.specs.Outcome.{Outcome, both}
-use Rattle.cedar_conversion.specs.Strict as m
-use Rattle.cedar_conversion.specs.Strict.{Sort, Joined, Added, Relates}
+use Rattle.cedar_syntax.specs.tokens.Signs.{sign_limit}
+use Rattle.cedar_syntax.specs.trees.Located.{Parts}
+use Rattle.cedar_syntax.specs.trees.Tree.{Level, Operator, disjunction, conjunction, product}
+use Rattle.cedar_syntax.specs.tokens.Tokens.{Spot, one}
+use Rattle.cedar_conversion.specs.outcome.Conversion.{Part, chain_outcome, level_outcome, joint_outcome, operator_limit, bodies}
+use Rattle.cedar_conversion.specs.strict.Extensions.{Extensions}
+use Rattle.cedar_conversion.specs.outcome.Held.{Held, as_expression}
+use Rattle.cedar_conversion.specs.outcome.Outcome.{Outcome, both}
+use Rattle.cedar_conversion.specs.strict.Strict as m
+use Rattle.cedar_conversion.specs.strict.Strict.{Sort, Joined, Added, Relates}
 use Rattle.cedar_conversion.proofs.Inverted.{ok_is, next_ok, both_ok}
 use Rattle.cedar_policy_parser.proofs.Lists.{no_snoc, bodies-snoc, length-bodies}
 use Rattle.cedar_policy_parser.proofs.sound.Bare.{Meant, HeldAs, held_means, held_up}

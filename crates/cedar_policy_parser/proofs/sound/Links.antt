@@ -7,15 +7,15 @@ use Rattle.cedar_expressions.specs.Path.{Path}
 use Rattle.cedar_expressions.specs.Value as v
 use Rattle.cedar_expressions.specs.Value.{Value, values}
 use Rattle.cedar_syntax.specs.declared.loc.Loc.{Loc}
-use Rattle.cedar_syntax.specs.Signs.{sign_limit}
-use Rattle.cedar_syntax.specs.Tokens.{Spot, one}
-use Rattle.cedar_conversion.specs.Extensions.{Extensions}
-use Rattle.cedar_conversion.specs.Held.{Held, expression, variable, bare_name, bare_truth, bare_string, as_expression}
-use Rattle.cedar_conversion.specs.Members.{Access, field, call, index, accesses_of, name_accesses, some_accesses, member_outcome, method_outcome, function_outcome}
-use Rattle.cedar_conversion.specs.Outcome.{next}
-use Rattle.cedar_conversion.specs.Strict as m
-use Rattle.cedar_conversion.specs.Strict.{Listed}
-use Rattle.cedar_conversion.specs.StrictWords.{IsIdentifier, IsText, IsName, IsVariableWord}
+use Rattle.cedar_syntax.specs.tokens.Signs.{sign_limit}
+use Rattle.cedar_syntax.specs.tokens.Tokens.{Spot, one}
+use Rattle.cedar_conversion.specs.strict.Extensions.{Extensions}
+use Rattle.cedar_conversion.specs.outcome.Held.{Held, expression, variable, bare_name, bare_truth, bare_string, as_expression}
+use Rattle.cedar_conversion.specs.parts.Members.{Access, field, call, index, accesses_of, name_accesses, some_accesses, member_outcome, method_outcome, function_outcome}
+use Rattle.cedar_conversion.specs.outcome.Outcome.{next}
+use Rattle.cedar_conversion.specs.strict.Strict as m
+use Rattle.cedar_conversion.specs.strict.Strict.{Listed}
+use Rattle.cedar_conversion.specs.strict.StrictWords.{IsIdentifier, IsText, IsName, IsVariableWord}
 use Rattle.cedar_conversion.proofs.Inverted.{ok_is, next_ok}
 use Rattle.cedar_policy_parser.proofs.sound.Bare.{Meant, HeldAs, means_at, held_means, held_up}
 use Rattle.cedar_policy_parser.proofs.sound.Calls.{method_meant, function_meant}

@@ -12,17 +12,17 @@ use Rattle.cedar_syntax.specs.declared.cst.Name.{Name}
 use Rattle.cedar_syntax.specs.declared.cst.Primary.{Primary}
 use Rattle.cedar_syntax.specs.declared.cst.Ref.{Ref}
 use Rattle.cedar_syntax.specs.declared.cst.Slot.{Slot}
-use Rattle.cedar_syntax.specs.Forms.{member_form, primary_form}
-use Rattle.cedar_syntax.specs.Located.{at}
-use Rattle.cedar_grammar.specs.Place.{placed}
-use Rattle.cedar_grammar.specs.LooseExpressions as l
-use Rattle.cedar_grammar.specs.LooseExpressions.{ReadsSlot, ReadsMember, ReadsPrimary, ReadsAccesses, ReadsAccess}
-use Rattle.cedar_grammar.specs.LooseWords as lw
-use Rattle.cedar_grammar.specs.LooseWords.{ReadsAny, ReadsLiteral, ReadsName, ReadsRef}
-use Rattle.cedar_syntax.specs.Tokens.{Spot, one, number_of, any_of}
-use Rattle.cedar_syntax.specs.Trees.{Cell, member_of}
-use Rattle.cedar_conversion.specs.Conversion.{number_in, lone_literal, literal_alone}
-use Rattle.cedar_conversion.specs.Strict.{IsNumeral}
+use Rattle.cedar_syntax.specs.trees.Forms.{member_form, primary_form}
+use Rattle.cedar_syntax.specs.trees.Located.{at}
+use Rattle.cedar_grammar.specs.grammar.Place.{placed}
+use Rattle.cedar_grammar.specs.grammar.LooseExpressions as l
+use Rattle.cedar_grammar.specs.grammar.LooseExpressions.{ReadsSlot, ReadsMember, ReadsPrimary, ReadsAccesses, ReadsAccess}
+use Rattle.cedar_grammar.specs.grammar.LooseWords as lw
+use Rattle.cedar_grammar.specs.grammar.LooseWords.{ReadsAny, ReadsLiteral, ReadsName, ReadsRef}
+use Rattle.cedar_syntax.specs.tokens.Tokens.{Spot, one, number_of, any_of}
+use Rattle.cedar_syntax.specs.trees.Trees.{Cell, member_of}
+use Rattle.cedar_conversion.specs.outcome.Conversion.{number_in, lone_literal, literal_alone}
+use Rattle.cedar_conversion.specs.strict.Strict.{IsNumeral}
 use Rattle.cedar_policy_parser.proofs.Made.{lone_member, lone_accessed, lone_literally, lone_named, lone_slot, lone_referred, lone_paren, lone_set, lone_braces}
 use Rattle.cedar_policy_parser.proofs.sound.Leaves.{path_head}
 

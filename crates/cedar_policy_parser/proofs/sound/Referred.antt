@@ -15,25 +15,25 @@ use Rattle.cedar_syntax.specs.declared.loc.Loc.{Loc}
 use Rattle.cedar_syntax.specs.declared.cst.Expr.{Expr}
 use Rattle.cedar_syntax.specs.declared.cst.Primary.{Primary}
 use Rattle.cedar_syntax.specs.declared.cst.Slot.{Slot}
-use Rattle.cedar_syntax.specs.Forms.{located, parts_of, expr_form, primary_form, listed_expr}
-use Rattle.cedar_syntax.specs.Located.{Form, at}
+use Rattle.cedar_syntax.specs.trees.Forms.{located, parts_of, expr_form, primary_form, listed_expr}
+use Rattle.cedar_syntax.specs.trees.Located.{Form, at}
 use Rattle.cedar_syntax.proofs.FormLevels.{primary_literal, primary_ref, primary_name, primary_slot, primary_expr, primary_list, primary_inits}
-use Rattle.cedar_grammar.specs.Place.{placed}
-use Rattle.cedar_grammar.specs.LooseExpressions as l
-use Rattle.cedar_grammar.specs.LooseExpressions.{ReadsExpr, ReadsExprs, ReadsExprItems, ReadsPrimary, ReadsSlot}
-use Rattle.cedar_syntax.specs.Tokens.{Spot, one}
-use Rattle.cedar_syntax.specs.Trees.{Cell}
+use Rattle.cedar_grammar.specs.grammar.Place.{placed}
+use Rattle.cedar_grammar.specs.grammar.LooseExpressions as l
+use Rattle.cedar_grammar.specs.grammar.LooseExpressions.{ReadsExpr, ReadsExprs, ReadsExprItems, ReadsPrimary, ReadsSlot}
+use Rattle.cedar_syntax.specs.tokens.Tokens.{Spot, one}
+use Rattle.cedar_syntax.specs.trees.Trees.{Cell}
 use Rattle.cedar_policy_conversion.specs.declared.to_ref_or_refs.OneOrMultipleRefs.{OneOrMultipleRefs}
 use Rattle.cedar_policy_conversion.specs.declared.to_ref_or_refs.OneOrMultipleRefs.TheVariants as refs
 use Rattle.cedar_policy_conversion.specs.declared.to_ref_or_refs.SingleEntity.{SingleEntity}
-use Rattle.cedar_conversion.specs.Conversion.{with_first}
-use Rattle.cedar_conversion.specs.Entities.{entity_outcome}
-use Rattle.cedar_conversion.specs.Outcome.{NamedFault, Outcome, both, item_more}
+use Rattle.cedar_conversion.specs.outcome.Conversion.{with_first}
+use Rattle.cedar_conversion.specs.parts.Entities.{entity_outcome}
+use Rattle.cedar_conversion.specs.outcome.Outcome.{NamedFault, Outcome, both, item_more}
 use Rattle.cedar_policy_conversion.specs.References.{RefKind, entities, entity_at, entity_form, entity_or_slot, lone, lone_entity, of_variable, one_or_multiple, referent_outcome, referent_at, referred_form, single_entity}
-use Rattle.cedar_conversion.specs.Places.{place_mark}
-use Rattle.cedar_policy_parser.specs.StrictScope as m
-use Rattle.cedar_policy_parser.specs.StrictScope.{AreActions, AreEntities, IsEntityAlone, IsEntityList, IsReference}
-use Rattle.cedar_conversion.specs.StrictWords.{IsEntity}
+use Rattle.cedar_conversion.specs.outcome.Places.{place_mark}
+use Rattle.cedar_policy_parser.specs.meaning.StrictScope as m
+use Rattle.cedar_policy_parser.specs.meaning.StrictScope.{AreActions, AreEntities, IsEntityAlone, IsEntityList, IsReference}
+use Rattle.cedar_conversion.specs.strict.StrictWords.{IsEntity}
 use Rattle.cedar_conversion.proofs.Inverted.{ok_is, next_ok, both_ok}
 use Rattle.cedar_conversion.proofs.Loops.{map_snoc}
 use Rattle.cedar_policy_conversion.proofs.ReferredNodes.{entities_snoc}

@@ -11,18 +11,18 @@ use Rattle.cedar_policy_store.specs.declared.constraints.ResourceConstraint.{Res
 use Rattle.cedar_policy_store.specs.PlaceFree.{Constraint, constraint_meaning}
 use Rattle.cedar_syntax.specs.declared.loc.Loc.{Loc}
 use Rattle.cedar_syntax.specs.declared.cst.VariableDef.{VariableDef}
-use Rattle.cedar_grammar.specs.LoosePolicies.{ReadsVariableDef}
-use Rattle.cedar_grammar.specs.LooseWords as lw
-use Rattle.cedar_grammar.specs.LooseWords.{ReadsItems, ReadsList}
-use Rattle.cedar_grammar.specs.Place.{placed}
-use Rattle.cedar_syntax.specs.Tokens.{Spot, one}
-use Rattle.cedar_syntax.specs.Trees.{Cell}
-use Rattle.cedar_conversion.specs.Extensions.{Extensions}
-use Rattle.cedar_conversion.specs.Outcome.{NamedFault, Outcome, both, next}
+use Rattle.cedar_grammar.specs.grammar.LoosePolicies.{ReadsVariableDef}
+use Rattle.cedar_grammar.specs.grammar.LooseWords as lw
+use Rattle.cedar_grammar.specs.grammar.LooseWords.{ReadsItems, ReadsList}
+use Rattle.cedar_grammar.specs.grammar.Place.{placed}
+use Rattle.cedar_syntax.specs.tokens.Tokens.{Spot, one}
+use Rattle.cedar_syntax.specs.trees.Trees.{Cell}
+use Rattle.cedar_conversion.specs.strict.Extensions.{Extensions}
+use Rattle.cedar_conversion.specs.outcome.Outcome.{NamedFault, Outcome, both, next}
 use Rattle.cedar_policy_conversion.specs.Scope as s
 use Rattle.cedar_policy_conversion.specs.Scope.{Scope}
-use Rattle.cedar_policy_parser.specs.StrictScope as z
-use Rattle.cedar_policy_parser.specs.StrictScope.{Asks, AsksAction, IsLastComma, IsScope}
+use Rattle.cedar_policy_parser.specs.meaning.StrictScope as z
+use Rattle.cedar_policy_parser.specs.meaning.StrictScope.{Asks, AsksAction, IsLastComma, IsScope}
 use Rattle.cedar_conversion.proofs.Inverted.{ok_is, next_ok, both_ok}
 use Rattle.cedar_policy_parser.proofs.Lists.{no_snoc, snoc_one}
 use Rattle.cedar_policy_parser.proofs.sound.Elements.{ActionMeant, ElementMeant, WordOf, principal_word, resource_word, action_meant, element_meant}

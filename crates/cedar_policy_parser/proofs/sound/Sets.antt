@@ -14,27 +14,27 @@ use Rattle.cedar_syntax.specs.declared.loc.Loc.{Loc}
 use Rattle.cedar_syntax.specs.declared.cst.Ident.{Ident}
 use Rattle.cedar_syntax.specs.declared.cst.Policies.{Policies}
 use Rattle.cedar_syntax.specs.declared.cst.Policy.{Policy}
-use Rattle.cedar_syntax.specs.Signs.{sign_limit}
-use Rattle.cedar_grammar.specs.LoosePolicies as l
-use Rattle.cedar_grammar.specs.LoosePolicies.{ReadsMany, ReadsPolicies, ReadsPolicy}
-use Rattle.cedar_grammar.specs.LooseWords as lw
-use Rattle.cedar_grammar.specs.LooseWords.{ReadsAny}
-use Rattle.cedar_grammar.specs.Place.{placed}
-use Rattle.cedar_syntax.specs.Tokens.{Spot, one, any_of}
-use Rattle.cedar_syntax.specs.Trees.{Cell}
+use Rattle.cedar_syntax.specs.tokens.Signs.{sign_limit}
+use Rattle.cedar_grammar.specs.grammar.LoosePolicies as l
+use Rattle.cedar_grammar.specs.grammar.LoosePolicies.{ReadsMany, ReadsPolicies, ReadsPolicy}
+use Rattle.cedar_grammar.specs.grammar.LooseWords as lw
+use Rattle.cedar_grammar.specs.grammar.LooseWords.{ReadsAny}
+use Rattle.cedar_grammar.specs.grammar.Place.{placed}
+use Rattle.cedar_syntax.specs.tokens.Tokens.{Spot, one, any_of}
+use Rattle.cedar_syntax.specs.trees.Trees.{Cell}
 use Rattle.cedar_expressions.specs.Keys.{repeats_key}
 use Rattle.cedar_policy_conversion.specs.AnnotationKeys.{AnnotationContent, annotations_outcome}
 use Rattle.cedar_policy_conversion.specs.Conditions.{conditions_outcome}
-use Rattle.cedar_conversion.specs.Conversion.{with_first}
-use Rattle.cedar_conversion.specs.Extensions.{Extensions}
-use Rattle.cedar_conversion.specs.Names.{content_outcome}
-use Rattle.cedar_conversion.specs.Outcome.{Outcome, both, next, item_more}
+use Rattle.cedar_conversion.specs.outcome.Conversion.{with_first}
+use Rattle.cedar_conversion.specs.strict.Extensions.{Extensions}
+use Rattle.cedar_conversion.specs.parts.Names.{content_outcome}
+use Rattle.cedar_conversion.specs.outcome.Outcome.{Outcome, both, next, item_more}
 use Rattle.cedar_policy_conversion.specs.Policies as k
 use Rattle.cedar_policy_conversion.specs.Policies.{TemplateParts}
 use Rattle.cedar_policy_conversion.specs.PolicyMeaning.{joint_condition, no_policies, policy_id, with_policy}
 use Rattle.cedar_policy_conversion.specs.Scope.{elements_outcome}
-use Rattle.cedar_policy_parser.specs.StrictPolicy as m
-use Rattle.cedar_policy_parser.specs.StrictPolicy.{ArePolicies, IsEffect, IsPolicy, IsPolicySet, by_key}
+use Rattle.cedar_policy_parser.specs.meaning.StrictPolicy as m
+use Rattle.cedar_policy_parser.specs.meaning.StrictPolicy.{ArePolicies, IsEffect, IsPolicy, IsPolicySet, by_key}
 use Rattle.cedar_conversion.proofs.Inverted.{ok_is, next_ok, both_ok}
 use Rattle.cedar_conversion.proofs.Loops.{map_snoc}
 use Rattle.cedar_policy_parser.proofs.sound.Annotated.{annotation_keys, annotations_meant, kept_by_key, texts}

@@ -7,15 +7,15 @@ use Rattle.cedar_expressions.specs.declared.atoms.PatternElem.{PatternElem}
 use Rattle.cedar_expressions.specs.Value as v
 use Rattle.cedar_expressions.specs.Value.{Value}
 use Rattle.cedar_syntax.specs.declared.loc.Loc.{Loc}
-use Rattle.cedar_syntax.specs.Pattern.{IsPattern}
-use Rattle.cedar_syntax.specs.Tokens.{Spot, one, between_quotes}
-use Rattle.cedar_conversion.specs.Conversion.{match_outcome, beside_type, type_test_outcome, type_within_outcome, with_attributes, conditional_outcome}
-use Rattle.cedar_conversion.specs.Extensions.{Extensions}
-use Rattle.cedar_conversion.specs.HasSide.{Attributes}
-use Rattle.cedar_conversion.specs.Held.{Held, as_pattern, as_entity_type}
-use Rattle.cedar_conversion.specs.Outcome.{Outcome, both, next}
-use Rattle.cedar_conversion.specs.Strict as m
-use Rattle.cedar_conversion.specs.StrictWords.{IsName, IsSought, path_value}
+use Rattle.cedar_syntax.specs.strings.Pattern.{IsPattern}
+use Rattle.cedar_syntax.specs.tokens.Tokens.{Spot, one, between_quotes}
+use Rattle.cedar_conversion.specs.outcome.Conversion.{match_outcome, beside_type, type_test_outcome, type_within_outcome, with_attributes, conditional_outcome}
+use Rattle.cedar_conversion.specs.strict.Extensions.{Extensions}
+use Rattle.cedar_conversion.specs.parts.HasSide.{Attributes}
+use Rattle.cedar_conversion.specs.outcome.Held.{Held, as_pattern, as_entity_type}
+use Rattle.cedar_conversion.specs.outcome.Outcome.{Outcome, both, next}
+use Rattle.cedar_conversion.specs.strict.Strict as m
+use Rattle.cedar_conversion.specs.strict.StrictWords.{IsName, IsSought, path_value}
 use Rattle.cedar_conversion.proofs.Inverted.{ok_is, next_ok, both_ok}
 use Rattle.cedar_policy_parser.proofs.sound.Bare.{Meant, HeldAs, held_pattern, held_type}
 use Rattle.cedar_policy_parser.proofs.sound.Leaves.{held_as}

@@ -7,17 +7,17 @@ use Rattle.cedar_expressions.specs.Value as v
 use Rattle.cedar_expressions.specs.Value.{Value}
 use Rattle.cedar_syntax.specs.declared.loc.Loc.{Loc}
 use Rattle.cedar_syntax.specs.declared.cst.NegOp.TheVariants as sign
-use Rattle.cedar_grammar.specs.LooseExpressions as l
-use Rattle.cedar_grammar.specs.LooseExpressions.{ReadsSigns}
-use Rattle.cedar_syntax.specs.Tokens.{number_of}
-use Rattle.cedar_syntax.specs.Trees.{bangs_of, dashes_of}
-use Rattle.cedar_syntax.specs.Signs.{sign_limit}
-use Rattle.cedar_conversion.specs.Conversion.{application_outcome, dashes_outcome, signs_outcome, expression_at, negative}
-use Rattle.cedar_conversion.specs.Extensions.{Extensions}
-use Rattle.cedar_conversion.specs.Held.{Held, expression, as_expression}
-use Rattle.cedar_conversion.specs.Outcome.{Outcome, next, integer_literal_too_large}
-use Rattle.cedar_conversion.specs.Strict as m
-use Rattle.cedar_conversion.specs.Strict.{largest}
+use Rattle.cedar_grammar.specs.grammar.LooseExpressions as l
+use Rattle.cedar_grammar.specs.grammar.LooseExpressions.{ReadsSigns}
+use Rattle.cedar_syntax.specs.tokens.Tokens.{number_of}
+use Rattle.cedar_syntax.specs.trees.Trees.{bangs_of, dashes_of}
+use Rattle.cedar_syntax.specs.tokens.Signs.{sign_limit}
+use Rattle.cedar_conversion.specs.outcome.Conversion.{application_outcome, dashes_outcome, signs_outcome, expression_at, negative}
+use Rattle.cedar_conversion.specs.strict.Extensions.{Extensions}
+use Rattle.cedar_conversion.specs.outcome.Held.{Held, expression, as_expression}
+use Rattle.cedar_conversion.specs.outcome.Outcome.{Outcome, next, integer_literal_too_large}
+use Rattle.cedar_conversion.specs.strict.Strict as m
+use Rattle.cedar_conversion.specs.strict.Strict.{largest}
 use Rattle.cedar_conversion.proofs.Inverted.{ok_is, next_ok, if_ok}
 use Rattle.cedar_conversion.proofs.Signed.{banged_value, bangs_value, dashed_value, dashes_value, literal_of}
 use Rattle.cedar_policy_parser.proofs.sound.Bare.{Meant, HeldAs, means_at}

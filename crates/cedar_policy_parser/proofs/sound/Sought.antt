@@ -16,26 +16,26 @@ use Rattle.cedar_syntax.specs.declared.cst.Member.{Member}
 use Rattle.cedar_syntax.specs.declared.cst.MemAccess.{MemAccess}
 use Rattle.cedar_syntax.specs.declared.cst.Primary.{Primary}
 use Rattle.cedar_syntax.specs.declared.cst.Expr.TheViews.{out-roll-Add, out-roll-Mult, out-roll-Unary}
-use Rattle.cedar_syntax.specs.Forms.{located, parts_of, add_form, mult_form, unary_form, member_form, primary_form, access_form, add_operand, mult_operand, listed_access}
-use Rattle.cedar_syntax.specs.Located as f
-use Rattle.cedar_syntax.specs.Located.{Located, Form, Parts, at}
-use Rattle.cedar_syntax.specs.Tree.{Level, Operator, sum, product}
+use Rattle.cedar_syntax.specs.trees.Forms.{located, parts_of, add_form, mult_form, unary_form, member_form, primary_form, access_form, add_operand, mult_operand, listed_access}
+use Rattle.cedar_syntax.specs.trees.Located as f
+use Rattle.cedar_syntax.specs.trees.Located.{Located, Form, Parts, at}
+use Rattle.cedar_syntax.specs.trees.Tree.{Level, Operator, sum, product}
 use Rattle.cedar_syntax.proofs.FormLevels.{add_out, mult_out, unary_out, member_out, access_field, access_call, access_index, primary_literal, primary_ref, primary_name, primary_slot, primary_expr, primary_list, primary_inits}
-use Rattle.cedar_grammar.specs.Place.{placed}
-use Rattle.cedar_grammar.specs.LooseExpressions as l
-use Rattle.cedar_grammar.specs.LooseExpressions.{ReadsAdd, ReadsMults, ReadsMult, ReadsUnaries, ReadsUnary, ReadsMember, ReadsPrimary, ReadsAccesses, ReadsAccess, ReadsSigns}
-use Rattle.cedar_syntax.specs.Tokens.{Spot, one}
-use Rattle.cedar_syntax.specs.Trees.{Cell, add_of, mult_of, unary_of, member_of, bangs_of, dashes_of}
-use Rattle.cedar_syntax.specs.Signs.{sign_limit}
-use Rattle.cedar_conversion.specs.Extensions.{Extensions}
-use Rattle.cedar_conversion.specs.HasSide.{Attributes, right_side, right_form, begins_with, beginning_outcome, attributes_of, behind_first, fields_of, field_of, field_form, string_alone, no_sign}
-use Rattle.cedar_conversion.specs.Held.{Held, expression, variable, bare_name, bare_truth, bare_string, unqualified, as_string}
-use Rattle.cedar_conversion.specs.Leaves.{name_leaf}
-use Rattle.cedar_conversion.specs.Literals.{literal_outcome}
-use Rattle.cedar_conversion.specs.Outcome.{Outcome, NamedFault, fault_outcome, invalid_has_rhs}
-use Rattle.cedar_conversion.specs.Strict as m
-use Rattle.cedar_conversion.specs.StrictWords as w
-use Rattle.cedar_conversion.specs.StrictWords.{IsIdentifier, AreAttributes, IsSought}
+use Rattle.cedar_grammar.specs.grammar.Place.{placed}
+use Rattle.cedar_grammar.specs.grammar.LooseExpressions as l
+use Rattle.cedar_grammar.specs.grammar.LooseExpressions.{ReadsAdd, ReadsMults, ReadsMult, ReadsUnaries, ReadsUnary, ReadsMember, ReadsPrimary, ReadsAccesses, ReadsAccess, ReadsSigns}
+use Rattle.cedar_syntax.specs.tokens.Tokens.{Spot, one}
+use Rattle.cedar_syntax.specs.trees.Trees.{Cell, add_of, mult_of, unary_of, member_of, bangs_of, dashes_of}
+use Rattle.cedar_syntax.specs.tokens.Signs.{sign_limit}
+use Rattle.cedar_conversion.specs.strict.Extensions.{Extensions}
+use Rattle.cedar_conversion.specs.parts.HasSide.{Attributes, right_side, right_form, begins_with, beginning_outcome, attributes_of, behind_first, fields_of, field_of, field_form, string_alone, no_sign}
+use Rattle.cedar_conversion.specs.outcome.Held.{Held, expression, variable, bare_name, bare_truth, bare_string, unqualified, as_string}
+use Rattle.cedar_conversion.specs.parts.Leaves.{name_leaf}
+use Rattle.cedar_conversion.specs.parts.Literals.{literal_outcome}
+use Rattle.cedar_conversion.specs.outcome.Outcome.{Outcome, NamedFault, fault_outcome, invalid_has_rhs}
+use Rattle.cedar_conversion.specs.strict.Strict as m
+use Rattle.cedar_conversion.specs.strict.StrictWords as w
+use Rattle.cedar_conversion.specs.strict.StrictWords.{IsIdentifier, AreAttributes, IsSought}
 use Rattle.cedar_conversion.proofs.Inverted.{ok_is, next_ok}
 use Rattle.cedar_conversion.proofs.Loops.{map_snoc}
 use Rattle.cedar_policy_parser.proofs.sound.Bare.{HeldAs, held_word, unqualified_word, held_string}

@@ -9,18 +9,18 @@ use Rattle.cedar_expressions.specs.Value.{Value, values, terms}
 use Rattle.cedar_syntax.specs.declared.loc.Loc.{Loc}
 use Rattle.cedar_syntax.specs.declared.cst.RelOp.{RelOp}
 use Rattle.cedar_syntax.specs.declared.cst.MultOp.{MultOp}
-use Rattle.cedar_syntax.specs.Forms.{parts_of}
-use Rattle.cedar_syntax.specs.Located.{Located, Parts}
-use Rattle.cedar_syntax.specs.Tree.{Operator, compare, add, multiply, relation, sum}
-use Rattle.cedar_grammar.specs.LooseExpressions as l
-use Rattle.cedar_grammar.specs.LooseExpressions.{ReadsRelOp, ReadsAddOp, ReadsMultOp}
-use Rattle.cedar_syntax.specs.Tokens.{Spot, one}
-use Rattle.cedar_conversion.specs.Conversion.{Part, value_outcome, operands, chain_outcome, comparison_outcome, relation_outcome, factor, sum_terms}
-use Rattle.cedar_conversion.specs.Extensions.{Extensions}
-use Rattle.cedar_conversion.specs.Held.{Held, expression, as_expression}
-use Rattle.cedar_conversion.specs.Outcome.{Outcome, next}
-use Rattle.cedar_conversion.specs.Strict as m
-use Rattle.cedar_conversion.specs.Strict.{Sort, Joined, Added, Relates}
+use Rattle.cedar_syntax.specs.trees.Forms.{parts_of}
+use Rattle.cedar_syntax.specs.trees.Located.{Located, Parts}
+use Rattle.cedar_syntax.specs.trees.Tree.{Operator, compare, add, multiply, relation, sum}
+use Rattle.cedar_grammar.specs.grammar.LooseExpressions as l
+use Rattle.cedar_grammar.specs.grammar.LooseExpressions.{ReadsRelOp, ReadsAddOp, ReadsMultOp}
+use Rattle.cedar_syntax.specs.tokens.Tokens.{Spot, one}
+use Rattle.cedar_conversion.specs.outcome.Conversion.{Part, value_outcome, operands, chain_outcome, comparison_outcome, relation_outcome, factor, sum_terms}
+use Rattle.cedar_conversion.specs.strict.Extensions.{Extensions}
+use Rattle.cedar_conversion.specs.outcome.Held.{Held, expression, as_expression}
+use Rattle.cedar_conversion.specs.outcome.Outcome.{Outcome, next}
+use Rattle.cedar_conversion.specs.strict.Strict as m
+use Rattle.cedar_conversion.specs.strict.Strict.{Sort, Joined, Added, Relates}
 use Rattle.cedar_conversion.proofs.Inverted.{ok_is, more_ok, one_operator}
 use Rattle.cedar_policy_parser.proofs.Lists.{no_snoc, snoc_one, added-snoc, length-added}
 use Rattle.cedar_conversion.proofs.Loops.{map_snoc}

@@ -7,7 +7,7 @@ use Rattle.cedar_lexer.specs.declared.token.TokenKind.TheVariants as kind
 use Rattle.cedar_expressions.specs.declared.operators.AddOp.{AddOp}
 use Rattle.cedar_expressions.specs.Value.{Value}
 use Rattle.cedar_syntax.specs.declared.loc.Loc.{Loc}
-use Rattle.cedar_syntax.specs.Signs.{sign_limit}
+use Rattle.cedar_syntax.specs.tokens.Signs.{sign_limit}
 use Rattle.cedar_syntax.specs.declared.cst.Expr.{Expr}
 use Rattle.cedar_syntax.specs.declared.cst.Or.{Or}
 use Rattle.cedar_syntax.specs.declared.cst.And.{And}
@@ -21,23 +21,23 @@ use Rattle.cedar_syntax.specs.declared.cst.Member.{Member}
 use Rattle.cedar_syntax.specs.declared.cst.MemAccess.{MemAccess}
 use Rattle.cedar_syntax.specs.declared.cst.Primary.{Primary}
 use Rattle.cedar_syntax.specs.declared.cst.RecInit.{RecInit}
-use Rattle.cedar_syntax.specs.Forms.{located, parts_of, expr_form, or_form, and_form, relation_form, add_form, mult_form, unary_form, member_form, primary_form, access_form, init_form, or_operand, and_operand, relation_operand, add_operand, mult_operand, listed_access, listed_expr, listed_init}
-use Rattle.cedar_syntax.specs.Located.{at}
-use Rattle.cedar_syntax.specs.Tree.{Operator, or_or, and_and, multiply, beside}
-use Rattle.cedar_grammar.specs.Place.{placed}
-use Rattle.cedar_grammar.specs.LooseExpressions as l
-use Rattle.cedar_grammar.specs.LooseExpressions.{ReadsExpr, ReadsOr, ReadsAnds, ReadsAnd, ReadsRelations, ReadsRelation, ReadsAdds, ReadsAdd, ReadsMults, ReadsMult, ReadsUnaries, ReadsUnary, ReadsMember, ReadsAccesses, ReadsAccess, ReadsPrimary, ReadsExprs, ReadsExprItems, ReadsRecInits, ReadsInitItems, ReadsRecInit, if_name, lone_add}
-use Rattle.cedar_syntax.specs.Tokens.{Spot, one}
-use Rattle.cedar_syntax.specs.Trees.{Cell, member_of, bangs_of, dashes_of}
-use Rattle.cedar_conversion.specs.Conversion.{Part, outcome, operands, value_outcome, accesses_outcome, access_outcome, pairs_outcome, pair_outcome, expression_at, number_in, lone_literal, bodies}
-use Rattle.cedar_conversion.specs.Extensions.{Extensions}
-use Rattle.cedar_conversion.specs.HasSide.{right_side}
-use Rattle.cedar_conversion.specs.Held.{Held, expression, as_expression, as_string, as_attribute}
-use Rattle.cedar_conversion.specs.Members.{Access, field, call, index, member_outcome}
-use Rattle.cedar_conversion.specs.Names.{unreserved_ident}
-use Rattle.cedar_conversion.specs.Outcome.{Outcome, both, next}
-use Rattle.cedar_conversion.specs.Strict as m
-use Rattle.cedar_conversion.specs.Strict.{Sort, Listed, Entries, JoinedEntries, Entry}
+use Rattle.cedar_syntax.specs.trees.Forms.{located, parts_of, expr_form, or_form, and_form, relation_form, add_form, mult_form, unary_form, member_form, primary_form, access_form, init_form, or_operand, and_operand, relation_operand, add_operand, mult_operand, listed_access, listed_expr, listed_init}
+use Rattle.cedar_syntax.specs.trees.Located.{at}
+use Rattle.cedar_syntax.specs.trees.Tree.{Operator, or_or, and_and, multiply, beside}
+use Rattle.cedar_grammar.specs.grammar.Place.{placed}
+use Rattle.cedar_grammar.specs.grammar.LooseExpressions as l
+use Rattle.cedar_grammar.specs.grammar.LooseExpressions.{ReadsExpr, ReadsOr, ReadsAnds, ReadsAnd, ReadsRelations, ReadsRelation, ReadsAdds, ReadsAdd, ReadsMults, ReadsMult, ReadsUnaries, ReadsUnary, ReadsMember, ReadsAccesses, ReadsAccess, ReadsPrimary, ReadsExprs, ReadsExprItems, ReadsRecInits, ReadsInitItems, ReadsRecInit, if_name, lone_add}
+use Rattle.cedar_syntax.specs.tokens.Tokens.{Spot, one}
+use Rattle.cedar_syntax.specs.trees.Trees.{Cell, member_of, bangs_of, dashes_of}
+use Rattle.cedar_conversion.specs.outcome.Conversion.{Part, outcome, operands, value_outcome, accesses_outcome, access_outcome, pairs_outcome, pair_outcome, expression_at, number_in, lone_literal, bodies}
+use Rattle.cedar_conversion.specs.strict.Extensions.{Extensions}
+use Rattle.cedar_conversion.specs.parts.HasSide.{right_side}
+use Rattle.cedar_conversion.specs.outcome.Held.{Held, expression, as_expression, as_string, as_attribute}
+use Rattle.cedar_conversion.specs.parts.Members.{Access, field, call, index, member_outcome}
+use Rattle.cedar_conversion.specs.parts.Names.{unreserved_ident}
+use Rattle.cedar_conversion.specs.outcome.Outcome.{Outcome, both, next}
+use Rattle.cedar_conversion.specs.strict.Strict as m
+use Rattle.cedar_conversion.specs.strict.Strict.{Sort, Listed, Entries, JoinedEntries, Entry}
 use Rattle.cedar_conversion.proofs.Inverted.{ok_is, next_ok, both_ok}
 use Rattle.cedar_policy_parser.proofs.Lists.{bodies-snoc}
 use Rattle.cedar_conversion.proofs.Loops.{map_snoc}

@@ -10,17 +10,17 @@ use Rattle.cedar_syntax.specs.declared.loc.Loc.{Loc}
 use Rattle.cedar_syntax.specs.declared.cst.Ident.{Ident}
 use Rattle.cedar_syntax.specs.declared.cst.Name.{Name}
 use Rattle.cedar_syntax.specs.declared.cst.Ref.{Ref}
-use Rattle.cedar_grammar.specs.Place.{placed}
-use Rattle.cedar_grammar.specs.LooseWords as l
-use Rattle.cedar_grammar.specs.LooseWords.{ReadsAny, ReadsPath, ReadsName, ReadsRef}
-use Rattle.cedar_syntax.specs.Tokens.{Spot, one, any_of, between_quotes}
-use Rattle.cedar_syntax.specs.Trees.{Cell, name_of}
-use Rattle.cedar_conversion.specs.Entities.{entity_of, reference_outcome}
-use Rattle.cedar_conversion.specs.Names.{content_outcome, all_of, valid_ident_of, valid_ident, unreserved, unreserved_ident, path_of, identifiers, path_outcome, name_outcome}
-use Rattle.cedar_conversion.specs.Outcome.{Outcome, both, next}
-use Rattle.cedar_conversion.specs.Strings.{text_outcome}
-use Rattle.cedar_conversion.specs.StrictWords as m
-use Rattle.cedar_conversion.specs.StrictWords.{IsVariable, IsIdentifier, IsName, IsText, IsEntity}
+use Rattle.cedar_grammar.specs.grammar.Place.{placed}
+use Rattle.cedar_grammar.specs.grammar.LooseWords as l
+use Rattle.cedar_grammar.specs.grammar.LooseWords.{ReadsAny, ReadsPath, ReadsName, ReadsRef}
+use Rattle.cedar_syntax.specs.tokens.Tokens.{Spot, one, any_of, between_quotes}
+use Rattle.cedar_syntax.specs.trees.Trees.{Cell, name_of}
+use Rattle.cedar_conversion.specs.parts.Entities.{entity_of, reference_outcome}
+use Rattle.cedar_conversion.specs.parts.Names.{content_outcome, all_of, valid_ident_of, valid_ident, unreserved, unreserved_ident, path_of, identifiers, path_outcome, name_outcome}
+use Rattle.cedar_conversion.specs.outcome.Outcome.{Outcome, both, next}
+use Rattle.cedar_conversion.specs.parts.Strings.{text_outcome}
+use Rattle.cedar_conversion.specs.strict.StrictWords as m
+use Rattle.cedar_conversion.specs.strict.StrictWords.{IsVariable, IsIdentifier, IsName, IsText, IsEntity}
 use Rattle.cedar_conversion.proofs.Inverted.{ok_is, next_ok, both_ok, if_ok, unless_ok}
 use Rattle.cedar_conversion.proofs.Quoted.{text_meant}
 

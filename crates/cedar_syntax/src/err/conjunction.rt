@@ -2,7 +2,7 @@
 ghost use Rattle.std.specs.Prelude.{List, ℕ, map, codes, ◌++◌};
 ghost use Rattle.std.specs.List.{flat_map};
 ghost use Rattle.std.specs.Fmt.{WritesOnOk};
-ghost use Rattle.cedar_syntax.specs.Conjoined.{list_text};
+ghost use Rattle.cedar_syntax.specs.messages.Conjoined.{list_text};
 
 use std::fmt;
 

@@ -143,7 +143,7 @@ impl Clone for UnescapeError {
 /// With the piece in backquotes; with nothing in them where the range is none of the text on
 /// character boundaries.
 impl fmt::Display for UnescapeError {
-    ghost use Rattle.cedar_syntax.specs.Messages.{escape_message};
+    ghost use Rattle.cedar_syntax.specs.messages.Messages.{escape_message};
 
     ghost output = { λ fault. Some (escape_message fault) };
 
@@ -215,7 +215,7 @@ impl Clone for UnescapeFailure {
 
 /// Want of memory, or the first piece's text.
 impl fmt::Display for UnescapeFailure {
-    ghost use Rattle.cedar_syntax.specs.Messages.{unescape_message};
+    ghost use Rattle.cedar_syntax.specs.messages.Messages.{unescape_message};
 
     ghost output = { λ failure. Some (unescape_message failure) };
 

@@ -7,7 +7,7 @@ ghost use Rattle.std.specs.BTreeSet as tree;
 ghost use Rattle.std.specs.Ordering.{nat_cmp};
 ghost use Rattle.std.specs.Map.{lookup, keys_of};
 ghost use Rattle.std.specs.Cmp.Lexicographic.{slice_cmp};
-ghost use Rattle.cedar_syntax.specs.Kept.{rules_of, is_in, is_among, are_distinct, table_texts, policy_rules, friendly_of, friendly_names, kept_token_names, without, shown_name, with_backquotes as backquoted, AreInOrder, SaysExpected};
+ghost use Rattle.cedar_syntax.specs.messages.Kept.{rules_of, is_in, is_among, are_distinct, table_texts, policy_rules, friendly_of, friendly_names, kept_token_names, without, shown_name, with_backquotes as backquoted, AreInOrder, SaysExpected};
 
 use crate::err::conjunction::{Listed, write_list};
 use std::alloc::{AllocError, Global};
@@ -50,7 +50,7 @@ struct Alternatives<'a> {
 }
 
 impl fmt::Display for Alternatives<'_> {
-    ghost use Rattle.cedar_syntax.specs.Conjoined.{list_text};
+    ghost use Rattle.cedar_syntax.specs.messages.Conjoined.{list_text};
 
     ghost output = { λ names. Some (list_text (codes "or") (string_bytes names.first.now)
         (map (λ text. string_bytes text) names.others.now)) };

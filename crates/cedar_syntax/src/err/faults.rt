@@ -3,7 +3,7 @@ ghost use Rattle.std.specs.Prelude.{◌≡◌, [], ◌∷◌, ◌++◌, length, 
 ghost use Rattle.std.specs.Option.{option_copied};
 ghost use Rattle.std.specs.Borrow.{sem};
 ghost use Rattle.std.proofs.Common.{Some};
-ghost use Rattle.cedar_syntax.specs.NonEmpty.{remaining_items};
+ghost use Rattle.cedar_syntax.specs.faults.NonEmpty.{remaining_items};
 
 use crate::err::non_empty::Iter;
 use crate::err::{NonEmpty, ToASTError, ToCSTError, non_empty};
@@ -23,8 +23,8 @@ pub enum ParseError {
 impl ParseError {
     ghost use Rattle.std.specs.Prelude.{string_bytes};
     ghost use Rattle.std.specs.Option.{option_map};
-    ghost use Rattle.cedar_syntax.specs.Help.{SaysLabel, fault_help};
-    ghost use Rattle.cedar_syntax.specs.ParseErrors.{span_of};
+    ghost use Rattle.cedar_syntax.specs.messages.Help.{SaysLabel, fault_help};
+    ghost use Rattle.cedar_syntax.specs.faults.ParseErrors.{span_of};
 
     /// The bytes at which the fault stands, or `None` where it has no place.
     pub fn primary_source_span(&self) -> Option<SourceSpan>
@@ -105,7 +105,7 @@ impl From<ToASTError> for ParseError {
 }
 
 impl fmt::Display for ParseError {
-    ghost use Rattle.cedar_syntax.specs.Messages.{fault_message};
+    ghost use Rattle.cedar_syntax.specs.messages.Messages.{fault_message};
 
     ghost output = { λ fault. Some (fault_message fault) };
 
@@ -133,8 +133,8 @@ impl Drop for ParseErrors {
 }
 
 impl ParseErrors {
-    ghost use Rattle.cedar_syntax.specs.ParseErrors.{faults_of, span_of};
-    ghost use Rattle.cedar_syntax.specs.Lending.{LendsFaults};
+    ghost use Rattle.cedar_syntax.specs.faults.ParseErrors.{faults_of, span_of};
+    ghost use Rattle.cedar_syntax.specs.faults.Lending.{LendsFaults};
 
     /// One fault alone; it takes no memory.
     pub fn from_parse_error(alloc: Global, fault: ParseError) -> ParseErrors
@@ -251,7 +251,7 @@ pub struct IntoIter {
 
 impl Iterator for IntoIter {
     ghost use Rattle.std.specs.Iterator.{YieldsFirst, item_count};
-    ghost use Rattle.cedar_syntax.specs.ParseErrors.{remaining_faults};
+    ghost use Rattle.cedar_syntax.specs.faults.ParseErrors.{remaining_faults};
 
     type Item = ParseError;
 
@@ -265,7 +265,7 @@ impl Iterator for IntoIter {
 }
 
 impl IntoIterator for ParseErrors {
-    ghost use Rattle.cedar_syntax.specs.ParseErrors.{faults_of, remaining_faults};
+    ghost use Rattle.cedar_syntax.specs.faults.ParseErrors.{faults_of, remaining_faults};
 
     type Item = ParseError;
 
@@ -282,7 +282,7 @@ impl IntoIterator for ParseErrors {
 }
 
 impl<'a> IntoIterator for &'a ParseErrors {
-    ghost use Rattle.cedar_syntax.specs.ParseErrors.{faults_of};
+    ghost use Rattle.cedar_syntax.specs.faults.ParseErrors.{faults_of};
 
     type Item = &'a ParseError;
 
@@ -297,7 +297,7 @@ impl<'a> IntoIterator for &'a ParseErrors {
 
 /// The first fault alone.
 impl fmt::Display for ParseErrors {
-    ghost use Rattle.cedar_syntax.specs.Messages.{fault_message};
+    ghost use Rattle.cedar_syntax.specs.messages.Messages.{fault_message};
 
     ghost output = { λ errors. Some (fault_message errors.faults.head) };
 
@@ -373,7 +373,7 @@ impl From<ParseErrors> for Failure {
 
 /// Want of memory, or the first fault's text.
 impl fmt::Display for Failure {
-    ghost use Rattle.cedar_syntax.specs.Messages.{failure_message};
+    ghost use Rattle.cedar_syntax.specs.messages.Messages.{failure_message};
 
     ghost output = { λ failure. Some (failure_message failure) };
 

@@ -1,7 +1,7 @@
 //! Hints at what to change where a tree has no value.
 ghost use Rattle.std.specs.Prelude.{◌≡◌, IfOk, Some, string_bytes, unwrap_or};
 ghost use Rattle.std.specs.Option.{option_map};
-ghost use Rattle.cedar_syntax.specs.Help.{kind_help, plain_help, policy_help, expression_help};
+ghost use Rattle.cedar_syntax.specs.messages.Help.{kind_help, plain_help, policy_help, expression_help};
 
 use crate::cst::SIGN_LIMIT;
 use crate::err::ToASTErrorKind;

@@ -1,7 +1,7 @@
 //! Why a text is no literal.
 ghost use Rattle.std.specs.Prelude.{◌≡◌, IfOk};
 ghost use Rattle.std.proofs.Common.{Some};
-ghost use Rattle.cedar_syntax.specs.Messages.{literal_message};
+ghost use Rattle.cedar_syntax.specs.messages.Messages.{literal_message};
 
 use crate::err::ParseErrors;
 use cedar_expressions::{Expr, TryClone};

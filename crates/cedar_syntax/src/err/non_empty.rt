@@ -2,7 +2,7 @@
 ghost use Rattle.std.specs.Prelude.{◌≡◌, [], ◌∷◌, ◌++◌, length, min, slice_get, OnOk, OnErr, IfOk};
 ghost use Rattle.std.specs.Option.{option_copied};
 ghost use Rattle.std.specs.Iterator.{YieldsFirst, YieldsFirstRef, item_count};
-ghost use Rattle.cedar_syntax.specs.NonEmpty.{list_of, remaining_items, remaining_elements};
+ghost use Rattle.cedar_syntax.specs.faults.NonEmpty.{list_of, remaining_items, remaining_elements};
 
 use cedar_expressions::{Items, TryClone};
 use std::alloc::{AllocError, Global};

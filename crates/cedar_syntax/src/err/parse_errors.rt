@@ -1,7 +1,7 @@
 //! The faults of trees that are types of their own.
 ghost use Rattle.std.specs.Prelude.{◌≡◌, IfOk};
 ghost use Rattle.std.proofs.Common.{Some};
-ghost use Rattle.cedar_syntax.specs.Faults.{static_policy_message, template_message, condition_slot_message, action_type_message, argument_text, argument_message, quoted_entity};
+ghost use Rattle.cedar_syntax.specs.messages.Faults.{static_policy_message, template_message, condition_slot_message, action_type_message, argument_text, argument_message, quoted_entity};
 
 use crate::err::NonEmpty;
 use crate::err::conjunction::{Listed, write_list};

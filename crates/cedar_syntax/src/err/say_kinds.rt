@@ -2,7 +2,7 @@
 ghost use Rattle.std.proofs.Common.{Some};
 ghost use Rattle.std.specs.Prelude.{◌≡◌};
 ghost use Rattle.std.specs.Fmt.{WritesOnOk};
-ghost use Rattle.cedar_syntax.specs.Messages.{kind_message, unnormalized_message, arity_message, arguments_word};
+ghost use Rattle.cedar_syntax.specs.messages.Messages.{kind_message, unnormalized_message, arity_message, arguments_word};
 
 use crate::err::ToASTErrorKind;
 use cedar_expressions::Text;

@@ -12,8 +12,8 @@ use crate::err::parse_errors::{
 };
 use crate::loc::{Loc, SourceSpan};
 use cedar_expressions::{
-    AnyId, Boxed, ExpressionConstructionError, Name, OwnedText, ReservedNameError, Slot, Text, TryClone,
-    UnaryOp, UnreservedId, Var,
+    AnyId, Boxed, ExpressionConstructionError, Name, OwnedText, ReservedNameError, Slot, Text,
+    TryClone, UnaryOp, UnreservedId, Var,
 };
 use cedar_policy_store::PolicyID;
 use either::Either;
@@ -348,8 +348,8 @@ impl Drop for ToASTError {
 }
 
 impl ToASTError {
-    ghost use Rattle.cedar_syntax.specs.Help.{kind_help};
-    ghost use Rattle.cedar_syntax.specs.ToASTError.{span_of_ast};
+    ghost use Rattle.cedar_syntax.specs.messages.Help.{kind_help};
+    ghost use Rattle.cedar_syntax.specs.faults.ToASTError.{span_of_ast};
 
     /// The fault `kind` at the place `loc`.
     pub fn new(kind: ToASTErrorKind, loc: Option<Loc>) -> ToASTError
@@ -405,7 +405,7 @@ impl Clone for ToASTError {
 }
 
 impl fmt::Display for ToASTError {
-    ghost use Rattle.cedar_syntax.specs.Messages.{kind_message};
+    ghost use Rattle.cedar_syntax.specs.messages.Messages.{kind_message};
 
     ghost output = { λ fault. Some (kind_message fault.kind) };
 

@@ -49,7 +49,7 @@ pub enum RawFault {
 }
 
 impl RawFault {
-    ghost use Rattle.cedar_syntax.specs.RawFault.{variant_number, byte_range, text_of, expected_of, own_words_place};
+    ghost use Rattle.cedar_syntax.specs.faults.RawFault.{variant_number, byte_range, text_of, expected_of, own_words_place};
 
     /// A copy that equals its source, places included.
     pub fn try_clone(&self) -> Result<RawFault, AllocError>
@@ -170,7 +170,7 @@ fn copy_kinds(kinds: &Items<TokenKind>) -> Result<Items<TokenKind>, AllocError>
 
 /// Looks at the place of the parser's own words too, which a node leaves out.
 impl PartialEq for RawFault {
-    ghost use Rattle.cedar_syntax.specs.RawFault.{variant_number, byte_range, text_of, expected_of, own_words_place};
+    ghost use Rattle.cedar_syntax.specs.faults.RawFault.{variant_number, byte_range, text_of, expected_of, own_words_place};
     ghost use Rattle.cedar_syntax.specs.contracts.loc.LocEq.TheImpl.Laws as place;
     ghost use Rattle.cedar_lexer.specs.contracts.token.TokenKindEq.TheImpl.Laws as kind;
     ghost use Rattle.std.specs.Prelude.{nat_eq};
@@ -205,7 +205,7 @@ impl PartialEq for RawFault {
 }
 
 impl Eq for RawFault {
-    ghost use Rattle.cedar_syntax.specs.RawFault.{variant_number, byte_range, text_of, expected_of, own_words_place};
+    ghost use Rattle.cedar_syntax.specs.faults.RawFault.{variant_number, byte_range, text_of, expected_of, own_words_place};
     ghost use Rattle.cedar_syntax.specs.contracts.loc.LocEq.TheImpl.Laws as place;
     ghost use Rattle.cedar_lexer.specs.contracts.token.TokenKindEq.TheImpl.Laws as kind;
     ghost use Rattle.std.specs.Cmp.{on_equiv, and_equiv, nat_eq_equiv};
@@ -248,9 +248,9 @@ impl Drop for ToCSTError {
 }
 
 impl ToCSTError {
-    ghost use Rattle.cedar_syntax.specs.Kept.{SaysExpected, policy_rules};
-    ghost use Rattle.cedar_syntax.specs.Messages.{raw_help};
-    ghost use Rattle.cedar_syntax.specs.RawFault.{expected_of, span_of_raw};
+    ghost use Rattle.cedar_syntax.specs.messages.Kept.{SaysExpected, policy_rules};
+    ghost use Rattle.cedar_syntax.specs.messages.Messages.{raw_help};
+    ghost use Rattle.cedar_syntax.specs.faults.RawFault.{expected_of, span_of_raw};
 
     /// The fault `raw` of the text `src`.
     pub fn new(raw: RawFault, src: RcStr) -> ToCSTError
@@ -356,7 +356,7 @@ impl Clone for ToCSTError {
 }
 
 impl fmt::Display for ToCSTError {
-    ghost use Rattle.cedar_syntax.specs.Messages.{raw_message};
+    ghost use Rattle.cedar_syntax.specs.messages.Messages.{raw_message};
 
     ghost output = { λ fault. Some (raw_message fault.raw) };
 

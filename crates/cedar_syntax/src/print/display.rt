@@ -1,7 +1,7 @@
 //! `Display` of each tree: its tokens' texts, one space between two.
 ghost use Rattle.std.specs.Prelude.{Some};
-ghost use Rattle.cedar_syntax.specs.Printed.{tokens_text, printed, rel_op_texts, mult_op_texts, neg_op_texts};
-ghost use Rattle.cedar_syntax.specs.Unplaced.{policies_tree, annotation_tree, str_tree, policy_impl_tree, policy_tree, variable_def_tree, ident_tree, cond_tree, impl_tree, expr_tree, data_tree, or_tree, and_tree, relation_tree, add_tree, mult_tree, unary_tree, member_tree, access_tree, primary_tree, name_tree, ref_tree, ref_init_tree, init_tree, literal_tree, slot_tree};
+ghost use Rattle.cedar_syntax.specs.printing.Printed.{tokens_text, printed, rel_op_texts, mult_op_texts, neg_op_texts};
+ghost use Rattle.cedar_syntax.specs.trees.Unplaced.{policies_tree, annotation_tree, str_tree, policy_impl_tree, policy_tree, variable_def_tree, ident_tree, cond_tree, impl_tree, expr_tree, data_tree, or_tree, and_tree, relation_tree, add_tree, mult_tree, unary_tree, member_tree, access_tree, primary_tree, name_tree, ref_tree, ref_init_tree, init_tree, literal_tree, slot_tree};
 
 use crate::cst::{
     Add, And, Annotation, Cond, Expr, ExprData, ExprImpl, Ident, Literal, MemAccess, Member, Mult,

@@ -1,8 +1,8 @@
 //! The tokens of expressions.
 ghost use Rattle.std.specs.Prelude.{◌≡◌};
 ghost use Rattle.cedar_syntax.specs.declared.cst.Expr.TheVariants as variants;
-ghost use Rattle.cedar_syntax.specs.Printed.{printed};
-ghost use Rattle.cedar_syntax.specs.Unplaced.{expr_tree, data_tree, access_tree, primary_tree, relation_tree, add_tree, and_tree, impl_tree, member_tree, mult_tree, or_tree, init_tree, unary_tree};
+ghost use Rattle.cedar_syntax.specs.printing.Printed.{printed};
+ghost use Rattle.cedar_syntax.specs.trees.Unplaced.{expr_tree, data_tree, access_tree, primary_tree, relation_tree, add_tree, and_tree, impl_tree, member_tree, mult_tree, or_tree, init_tree, unary_tree};
 
 use crate::cst::{
     Add, And, Expr, ExprData, ExprImpl, MemAccess, Member, Mult, Or, Primary, RecInit, Relation,

@@ -1,8 +1,8 @@
 //! The tokens of the trees that hold no expression.
-#![tactic(auto, unfolding(crate::specs::Printed::printed))]
+#![tactic(auto, unfolding(crate::specs::printing::Printed::printed))]
 
-ghost use Rattle.cedar_syntax.specs.Printed.{printed, rel_op_texts, add_op_texts, mult_op_texts, neg_op_texts};
-ghost use Rattle.cedar_syntax.specs.Unplaced.{ident_tree, name_tree, str_tree, literal_tree, slot_tree, ref_tree, ref_init_tree};
+ghost use Rattle.cedar_syntax.specs.printing.Printed.{printed, rel_op_texts, add_op_texts, mult_op_texts, neg_op_texts};
+ghost use Rattle.cedar_syntax.specs.trees.Unplaced.{ident_tree, name_tree, str_tree, literal_tree, slot_tree, ref_tree, ref_init_tree};
 
 use crate::cst::{
     AddOp, Ident, Literal, MultOp, Name, NegOp, Ref, RefInit, RelOp, SIGN_LIMIT, Slot, Str,

@@ -1,8 +1,8 @@
 //! The tokens of policies and their parts.
 ghost use Rattle.std.specs.Prelude.{◌≡◌};
 ghost use Rattle.cedar_syntax.specs.declared.cst.Policy.TheVariants as variants;
-ghost use Rattle.cedar_syntax.specs.Printed.{printed};
-ghost use Rattle.cedar_syntax.specs.Unplaced.{annotation_tree, variable_def_tree, cond_tree, policy_impl_tree, policy_tree, policies_tree};
+ghost use Rattle.cedar_syntax.specs.printing.Printed.{printed};
+ghost use Rattle.cedar_syntax.specs.trees.Unplaced.{annotation_tree, variable_def_tree, cond_tree, policy_impl_tree, policy_tree, policies_tree};
 
 use crate::cst::{Annotation, Cond, Policies, Policy, PolicyImpl, VariableDef};
 use crate::print::tokens::{Tokens, write_between, write_opt_marked, write_token};

@@ -1,7 +1,7 @@
 //! Writes tokens with one space between two.
 ghost use Rattle.std.specs.Prelude.{◌≡◌, [], ◌∷◌, ◌++◌, decimal, replicate};
-ghost use Rattle.cedar_syntax.specs.Printed.{Texts, option_texts, quoted_text};
-ghost use Rattle.cedar_syntax.specs.Printing.{Prints, texts_behind_mark, in_row, between, option_behind_mark, texts_before_mark, node_texts, pair_texts};
+ghost use Rattle.cedar_syntax.specs.printing.Printed.{Texts, option_texts, quoted_text};
+ghost use Rattle.cedar_syntax.specs.printing.Printing.{Prints, texts_behind_mark, in_row, between, option_behind_mark, texts_before_mark, node_texts, pair_texts};
 
 use crate::node::Node;
 use cedar_expressions::{Boxed, Items};

@@ -15,7 +15,7 @@ pub struct Digits {
 }
 
 impl Digits {
-    ghost use Rattle.cedar_syntax.specs.PieceAhead.{tally_of, tally, with_digit, brace_outcome};
+    ghost use Rattle.cedar_syntax.specs.strings.PieceAhead.{tally_of, tally, with_digit, brace_outcome};
 
     /// The first digit.
     pub fn new(digit: u32) -> Digits

@@ -16,7 +16,7 @@ pub struct Faults<'a> {
 }
 
 impl<'a> Faults<'a> {
-    ghost use Rattle.cedar_syntax.specs.EscapeFaults.{found_faults, fault_between};
+    ghost use Rattle.cedar_syntax.specs.strings.EscapeFaults.{found_faults, fault_between};
 
     /// No fault yet; it takes no memory.
     pub fn new(alloc: Global, raw: &'a str) -> Faults<'a>

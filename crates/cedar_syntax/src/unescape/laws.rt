@@ -1,7 +1,7 @@
 //! Laws of the pieces of a raw text. Each is a function that does nothing: its contract is the
 //! law.
 ghost use Rattle.std.specs.Prelude.{◌≡◌, ℕ, List};
-ghost use Rattle.cedar_syntax.specs.Piece.{Placed, IsLaidOut};
+ghost use Rattle.cedar_syntax.specs.strings.Piece.{Placed, IsLaidOut};
 
 /// A raw text is laid out of pieces in exactly one way.
 pub fn one_layout()

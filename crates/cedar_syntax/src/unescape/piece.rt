@@ -1,8 +1,8 @@
 //! The pieces of a raw text, each found by its first characters.
 ghost use Rattle.std.specs.Prelude.{◌≡◌, ◌<◌, ◌≤◌, Some, None, MatchOption, [], length};
 ghost use Rattle.std.specs.Str.{chars};
-ghost use Rattle.cedar_syntax.specs.Piece.{short_escape};
-ghost use Rattle.cedar_syntax.specs.PieceAhead.{piece_ahead_of, first_of, hex_digit, hex_escape, unicode_escape, behind_brace, inside_braces, tally_of, unskipped_text, escape, first_piece, begins_escaped_star};
+ghost use Rattle.cedar_syntax.specs.strings.Piece.{short_escape};
+ghost use Rattle.cedar_syntax.specs.strings.PieceAhead.{piece_ahead_of, first_of, hex_digit, hex_escape, unicode_escape, behind_brace, inside_braces, tally_of, unskipped_text, escape, first_piece, begins_escaped_star};
 
 use crate::err::EscapeError;
 use crate::unescape::digits::Digits;

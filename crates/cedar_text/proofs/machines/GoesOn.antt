@@ -9,10 +9,10 @@ use Rattle.cedar_lexer.specs.Token.{Lexeme}
 use Rattle.cedar_lexer.specs.declared.token.TokenKind.{TokenKind}
 use Rattle.cedar_lexer.proofs.Cuts.{laid_on}
 use Rattle.cedar_lexer.proofs.Runs.{stand_in_order}
-use Rattle.cedar_grammar.specs.Grammar.{Rule, IsNodeOf}
-use Rattle.cedar_grammar.specs.Place.{placed_or_start}
-use Rattle.cedar_grammar.specs.Sentences.{kinds, Starts}
-use Rattle.cedar_syntax.specs.Trees.{Cell}
+use Rattle.cedar_grammar.specs.grammar.Grammar.{Rule, IsNodeOf}
+use Rattle.cedar_grammar.specs.grammar.Place.{placed_or_start}
+use Rattle.cedar_grammar.specs.grammar.Sentences.{kinds, Starts}
+use Rattle.cedar_syntax.specs.trees.Trees.{Cell}
 use Rattle.cedar_grammar.specs.machines.Door.{Answer, next, ended, refused, too_large, Machine, answer_state, steps, AnswersRightly, Door, Shapes}
 use Rattle.cedar_grammar.proofs.machines.Laws.{none_some, steps-none, kinds-append, comes}
 use Rattle.cedar_text.specs.GoesOn.{GoesOnInText}

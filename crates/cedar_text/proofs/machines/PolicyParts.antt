@@ -1,9 +1,9 @@
 -- Policies over the readers of names, sums and expressions, and how they recover.
 use Rattle.std.proofs.Common.{ℕ, List, refl}
 use Rattle.cedar_syntax.specs.declared.err.faults.ParseError.{ParseError}
-use Rattle.cedar_grammar.specs.Grammar.{IsNodeOf}
-use Rattle.cedar_grammar.specs.LoosePolicies.{ReadsPolicies, ReadsPolicy}
-use Rattle.cedar_grammar.specs.MendedFaults.{NothingBefore, PoliciesBefore}
+use Rattle.cedar_grammar.specs.grammar.Grammar.{IsNodeOf}
+use Rattle.cedar_grammar.specs.grammar.LoosePolicies.{ReadsPolicies, ReadsPolicy}
+use Rattle.cedar_grammar.specs.faults.MendedFaults.{NothingBefore, PoliciesBefore}
 use Rattle.cedar_grammar.specs.machines.Door.{outline_machine}
 use Rattle.cedar_grammar.specs.machines.Judged.{ReadsBy}
 use Rattle.cedar_grammar.specs.machines.Recovery.{Recovers}

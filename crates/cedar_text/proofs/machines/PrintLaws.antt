@@ -1,17 +1,17 @@
 -- The print law of each rule, of which tokens have at most one tree.
 use Rattle.std.specs.Prelude.{IfOk}
 use Rattle.std.proofs.Common.{ℕ, List, Result, Ok, Err}
-use Rattle.cedar_grammar.specs.FirstFault.{HasOneTree}
-use Rattle.cedar_grammar.specs.Grammar.{Rule, IsTreeOf}
-use Rattle.cedar_grammar.specs.LooseExpressions.{ReadsExpr, ReadsPrimary}
-use Rattle.cedar_grammar.specs.LoosePolicies.{ReadsPolicies, ReadsPolicy}
-use Rattle.cedar_grammar.specs.LooseWords.{ReadsIdent, ReadsName, ReadsRef}
-use Rattle.cedar_grammar.specs.PrintLaw.{PrintLaw, HasSameTree, node_text}
-use Rattle.cedar_syntax.specs.Tree.{Tree}
-use Rattle.cedar_syntax.specs.Trees.{Cell}
-use Rattle.cedar_syntax.specs.Unlocated.{unlocated_name, unlocated_ref}
-use Rattle.cedar_syntax.specs.UnlocatedTrees.{unlocated_expr, unlocated_ident, unlocated_primary, unlocated_policy, unlocated_policies}
-use Rattle.cedar_syntax.specs.Unplaced.{expr_tree, primary_tree, name_tree, ref_tree, ident_tree, policy_tree, policies_tree}
+use Rattle.cedar_grammar.specs.faults.FirstFault.{HasOneTree}
+use Rattle.cedar_grammar.specs.grammar.Grammar.{Rule, IsTreeOf}
+use Rattle.cedar_grammar.specs.grammar.LooseExpressions.{ReadsExpr, ReadsPrimary}
+use Rattle.cedar_grammar.specs.grammar.LoosePolicies.{ReadsPolicies, ReadsPolicy}
+use Rattle.cedar_grammar.specs.grammar.LooseWords.{ReadsIdent, ReadsName, ReadsRef}
+use Rattle.cedar_grammar.specs.printing.PrintLaw.{PrintLaw, HasSameTree, node_text}
+use Rattle.cedar_syntax.specs.trees.Tree.{Tree}
+use Rattle.cedar_syntax.specs.trees.Trees.{Cell}
+use Rattle.cedar_syntax.specs.trees.Unlocated.{unlocated_name, unlocated_ref}
+use Rattle.cedar_syntax.specs.trees.UnlocatedTrees.{unlocated_expr, unlocated_ident, unlocated_primary, unlocated_policy, unlocated_policies}
+use Rattle.cedar_syntax.specs.trees.Unplaced.{expr_tree, primary_tree, name_tree, ref_tree, ident_tree, policy_tree, policies_tree}
 use Rattle.cedar_grammar.proofs.again.Law as again
 use Rattle.cedar_grammar.proofs.machines.Told.{follows, one_tree}
 use Rattle.cedar_expression_machine.proofs.machines.Entries.{names_read, refs_read, idents_read}

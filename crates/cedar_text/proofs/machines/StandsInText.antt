@@ -4,11 +4,11 @@ use Rattle.std.proofs.Common.{◌≡◌, ℕ, List, [], ◌∷◌, Option, Some,
 use Rattle.cedar_lexer.specs.Token.{Lexeme}
 use Rattle.cedar_lexer.specs.declared.token.TokenKind.{TokenKind}
 use Rattle.cedar_lexer.specs.declared.token.TokenKind.TheVariants as kind
-use Rattle.cedar_grammar.specs.Grammar.{Rule, IsNodeOf}
-use Rattle.cedar_grammar.specs.Place.{placed_or_start}
-use Rattle.cedar_grammar.specs.Sentences.{kinds, HasTree}
-use Rattle.cedar_syntax.specs.Tokens.{fits}
-use Rattle.cedar_syntax.specs.Trees.{Cell}
+use Rattle.cedar_grammar.specs.grammar.Grammar.{Rule, IsNodeOf}
+use Rattle.cedar_grammar.specs.grammar.Place.{placed_or_start}
+use Rattle.cedar_grammar.specs.grammar.Sentences.{kinds, HasTree}
+use Rattle.cedar_syntax.specs.tokens.Tokens.{fits}
+use Rattle.cedar_syntax.specs.trees.Trees.{Cell}
 use Rattle.cedar_grammar.specs.machines.Door.{Answer, next, ended, refused, too_large, Machine, answer_state, steps, Comes, AnswersRightly, Door, is_some, IsShape, Shapes}
 use Rattle.cedar_grammar.proofs.machines.Laws.{some_is, none_some, false_true, steps-none, steps_shaped, ends_alike}
 use Rattle.cedar_text.specs.StandsInText.{StandsInText}

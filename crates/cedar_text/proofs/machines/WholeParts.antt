@@ -12,10 +12,10 @@ use Rattle.cedar_expression_machine.specs.declared.expression.state.OperandPlace
 use Rattle.cedar_expression_machine.specs.declared.expression.state.OperandPlace.TheVariants as place
 use Rattle.cedar_expression_machine.specs.declared.expression.state.Wanted.{Wanted}
 use Rattle.cedar_expression_machine.specs.declared.expression.state.Wanted.TheVariants as form
-use Rattle.cedar_grammar.specs.Grammar.{IsNodeOf, Rule}
-use Rattle.cedar_grammar.specs.LooseWords.{ReadsName}
-use Rattle.cedar_grammar.specs.LooseExpressions.{ReadsRelOp, less, less_eq, greater_eq, greater, not_eq, equal, within, single_eq, ReadsExpr, ReadsAdd}
-use Rattle.cedar_syntax.specs.Trees.{Cell}
+use Rattle.cedar_grammar.specs.grammar.Grammar.{IsNodeOf, Rule}
+use Rattle.cedar_grammar.specs.grammar.LooseWords.{ReadsName}
+use Rattle.cedar_grammar.specs.grammar.LooseExpressions.{ReadsRelOp, less, less_eq, greater_eq, greater, not_eq, equal, within, single_eq, ReadsExpr, ReadsAdd}
+use Rattle.cedar_syntax.specs.trees.Trees.{Cell}
 use Rattle.cedar_grammar.specs.machines.Door.{refused, Door, IsOutside, is_some, option_image, ends_with}
 use Rattle.cedar_policy_machine.specs.machines.Following.{IsParting, comma, close_paren, FollowsSum, operator, parting, FollowsName, is_word, as_sum}
 use Rattle.cedar_expression_machine.specs.machines.Closing.{node_of}

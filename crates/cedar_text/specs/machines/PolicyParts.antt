@@ -12,7 +12,7 @@ use Rattle.cedar_policy_machine.specs.declared.sequence.SequenceAct.{SequenceAct
 use Rattle.cedar_policy_machine.specs.declared.sequence.Spanned.{Spanned}
 use Rattle.cedar_expression_machine.specs.declared.words.state.PathAct.{PathAct}
 use Rattle.cedar_expression_machine.specs.declared.words.state.PathState.{PathState}
-use Rattle.cedar_syntax.specs.Trees.{Cell}
+use Rattle.cedar_syntax.specs.trees.Trees.{Cell}
 use Rattle.cedar_grammar.specs.machines.Door.{Machine, Reader, machine_of}
 use Rattle.cedar_policy_machine.specs.machines.Placing.{policies_node, placing_reader, mapped_reader}
 use Rattle.cedar_policy_machine.specs.machines.PartOutlines.{PartOutlines}

@@ -1,4 +1,4 @@
-use Rattle.cedar_conversion.specs.Table.{table_of}
+use Rattle.cedar_conversion.specs.strict.Table.{table_of}
 use Rattle.cedar_command.specs.declared.request.Command.TheVariants as command
 use Rattle.cedar_command.proofs.WrittenAnswers.{faults_written}
 use Rattle.cedar_command.proofs.format.format.Goals as goal

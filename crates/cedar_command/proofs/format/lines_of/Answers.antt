@@ -1,4 +1,4 @@
-use Rattle.cedar_conversion.specs.Table.{table_of}
+use Rattle.cedar_conversion.specs.strict.Table.{table_of}
 use Rattle.cedar_command.proofs.MeantSets.{lines_meant, lines_only}
 use Rattle.cedar_command.proofs.format.lines_of.Goals as goal
 

@@ -1,4 +1,4 @@
-use Rattle.cedar_conversion.specs.Table.{table_of}
+use Rattle.cedar_conversion.specs.strict.Table.{table_of}
 use Rattle.cedar_policy_store.specs.PlaceFree.{set_meaning}
 use Rattle.cedar_command.proofs.MeantSets.{set_meant, set_only}
 use Rattle.cedar_command.proofs.policies.set_of.Goals as goal

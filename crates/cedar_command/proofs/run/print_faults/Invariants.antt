@@ -1,5 +1,5 @@
 use Rattle.std.proofs.Common.{length, take, flat_map}
-use Rattle.cedar_syntax.specs.ParseErrors.{faults_of}
+use Rattle.cedar_syntax.specs.faults.ParseErrors.{faults_of}
 use Rattle.cedar_command.specs.FaultLines.{fault_line}
 use Rattle.cedar_command.specs.Streams.{writing, AreBytesWritten}
 use Rattle.cedar_command.proofs.run.print_faults.Given as goal

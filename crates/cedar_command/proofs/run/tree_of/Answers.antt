@@ -1,7 +1,7 @@
 use Rattle.std.proofs.Common.{inl, inr}
-use Rattle.cedar_syntax.specs.ParseErrors.{IsMemory}
-use Rattle.cedar_policy_parser.specs.Refused.{RefusesText}
-use Rattle.cedar_conversion.specs.Table.{table_of}
+use Rattle.cedar_syntax.specs.faults.ParseErrors.{IsMemory}
+use Rattle.cedar_policy_parser.specs.faults.Refused.{RefusesText}
+use Rattle.cedar_conversion.specs.strict.Table.{table_of}
 use Rattle.cedar_command.proofs.Verdicts.{meant_by, read_only, refused_for_memory, err_on}
 use Rattle.cedar_command.proofs.run.tree_of.Goals as goal
 

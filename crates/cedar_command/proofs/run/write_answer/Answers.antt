@@ -1,4 +1,4 @@
-use Rattle.cedar_conversion.specs.Table.{table_of}
+use Rattle.cedar_conversion.specs.strict.Table.{table_of}
 use Rattle.cedar_command.proofs.WrittenAnswers.{passed}
 use Rattle.cedar_command.proofs.run.write_answer.Goals as goal
 

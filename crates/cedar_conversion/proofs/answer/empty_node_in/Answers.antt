@@ -1,5 +1,5 @@
-use Rattle.cedar_conversion.specs.Held.{Held}
-use Rattle.cedar_conversion.specs.Outcome.{empty_node}
+use Rattle.cedar_conversion.specs.outcome.Held.{Held}
+use Rattle.cedar_conversion.specs.outcome.Outcome.{empty_node}
 use Rattle.cedar_conversion.proofs.Outcomes.{refused_at}
 use Rattle.cedar_conversion.proofs.answer.empty_node_in.Goals as goal
 

@@ -2,7 +2,7 @@ use Rattle.std.proofs.Common.{◌≡◌, true, false, ◌&&◌, ℕ, List, [], g
 use Rattle.std.specs.BTreeSet.{BTreeSet, contains}
 use Rattle.cedar_expressions.specs.Path.{Path, is_unreserved_identifier}
 use Rattle.cedar_expressions.specs.contracts.names.NameOrd.TheImpl as name_order
-use Rattle.cedar_conversion.specs.CedarExtensions.{is_word_alone}
+use Rattle.cedar_conversion.specs.strict.CedarExtensions.{is_word_alone}
 use Rattle.cedar_conversion.proofs.FilledSets.{none_more, one_more, same_function}
 use Rattle.cedar_conversion.proofs.styles.functions_named.Goals as goal
 use Rattle.cedar_conversion.proofs.styles.functions_named.Goals.{in-Some+in_ok-insert, in_default}

@@ -3,7 +3,7 @@ use Rattle.std.specs.BTreeSet.{contains}
 use Rattle.std.specs.List.{list_any}
 use Rattle.cedar_expressions.specs.Path.{Path, is_unreserved_identifier}
 use Rattle.cedar_expressions.specs.contracts.names.NameOrd.TheImpl as name_order
-use Rattle.cedar_conversion.specs.CedarExtensions.{is_word_alone}
+use Rattle.cedar_conversion.specs.strict.CedarExtensions.{is_word_alone}
 use Rattle.cedar_conversion.proofs.styles.functions_named.Given as goal
 
 -- the set holds the words so far

@@ -23,10 +23,10 @@ use Rattle.cedar_expression_machine.specs.declared.expression.state.Mode.{Mode}
 use Rattle.cedar_expression_machine.specs.declared.expression.state.Mode.TheVariants as mode
 use Rattle.cedar_expression_machine.specs.declared.expression.state.State.{State}
 use Rattle.cedar_grammar.specs.declared.reading.extent.Extent.{Extent}
-use Rattle.cedar_grammar.specs.Place.{joint_extent, extent, node_at, placed}
-use Rattle.cedar_syntax.specs.Tokens.{Spot, one}
-use Rattle.cedar_syntax.specs.Trees.{Cell, member_of, rec_init_of}
-use Rattle.cedar_grammar.specs.LooseExpressions.{if_name, lone_expr}
+use Rattle.cedar_grammar.specs.grammar.Place.{joint_extent, extent, node_at, placed}
+use Rattle.cedar_syntax.specs.tokens.Tokens.{Spot, one}
+use Rattle.cedar_syntax.specs.trees.Trees.{Cell, member_of, rec_init_of}
+use Rattle.cedar_grammar.specs.grammar.LooseExpressions.{if_name, lone_expr}
 use Rattle.cedar_expression_machine.specs.machines.Named.{joins_words}
 use Rattle.cedar_expression_machine.specs.machines.Closing.{ranged_tree, node_of, whole, fresh, with_access}
 use Rattle.cedar_expression_machine.specs.machines.ExpressionStates.{state, opening, has_operand, has_primary}

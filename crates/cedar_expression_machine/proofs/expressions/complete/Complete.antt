@@ -34,10 +34,10 @@ use Rattle.cedar_expression_machine.specs.declared.expression.state.State.{State
 use Rattle.cedar_expression_machine.specs.declared.expression.state.Wanted.TheVariants as form
 use Rattle.cedar_expression_machine.specs.declared.expression.state.Reach.TheVariants as reach
 use Rattle.cedar_grammar.specs.declared.reading.extent.Extent.{Extent}
-use Rattle.cedar_grammar.specs.Place.{extent, placed}
-use Rattle.cedar_syntax.specs.Tokens.{Spot, one}
-use Rattle.cedar_syntax.specs.Trees.{Cell, bangs_of, dashes_of}
-use Rattle.cedar_grammar.specs.LooseExpressions.{if_name, ReadsExpr, or_expr, if_expr, ReadsOr, or, ReadsAnds, one_and, more_and, ReadsAnd, and, ReadsRelations, one_relation, more_relation, ReadsRelation, common, has, has_if, like, is, is_in, ReadsAdds, one_add, more_add, ReadsAdd, add, ReadsMults, one_mult, more_mult, ReadsMult, mult, ReadsUnaries, one_unary, more_unary, ReadsUnary, plain, banged, dashed, ReadsMember, member, ReadsAccesses, no_access, more_access, ReadsAccess, field, call, index, ReadsPrimary, literally, referred, named, slotted, paren, set, in_braces, ReadsExprs, no_expr, exprs, exprs_comma, ReadsExprItems, one_expr, more_exprs, ReadsRecInits, no_init, inits, inits_comma, ReadsInitItems, one_init, more_inits, ReadsRecInit, rec_init, if_init}
+use Rattle.cedar_grammar.specs.grammar.Place.{extent, placed}
+use Rattle.cedar_syntax.specs.tokens.Tokens.{Spot, one}
+use Rattle.cedar_syntax.specs.trees.Trees.{Cell, bangs_of, dashes_of}
+use Rattle.cedar_grammar.specs.grammar.LooseExpressions.{if_name, ReadsExpr, or_expr, if_expr, ReadsOr, or, ReadsAnds, one_and, more_and, ReadsAnd, and, ReadsRelations, one_relation, more_relation, ReadsRelation, common, has, has_if, like, is, is_in, ReadsAdds, one_add, more_add, ReadsAdd, add, ReadsMults, one_mult, more_mult, ReadsMult, mult, ReadsUnaries, one_unary, more_unary, ReadsUnary, plain, banged, dashed, ReadsMember, member, ReadsAccesses, no_access, more_access, ReadsAccess, field, call, index, ReadsPrimary, literally, referred, named, slotted, paren, set, in_braces, ReadsExprs, no_expr, exprs, exprs_comma, ReadsExprItems, one_expr, more_exprs, ReadsRecInits, no_init, inits, inits_comma, ReadsInitItems, one_init, more_inits, ReadsRecInit, rec_init, if_init}
 use Rattle.cedar_grammar.specs.machines.Door.{Machine, machine_of, answer_state, steps, RunsTo, option_image}
 use Rattle.cedar_expression_machine.specs.machines.Closing.{made_mult, made_add, made_and, made_or, whole, add_at, fresh, no_signs, signs_of, operand_with, ranged_tree}
 use Rattle.cedar_expression_machine.specs.machines.ExpressionStates.{state, opening}

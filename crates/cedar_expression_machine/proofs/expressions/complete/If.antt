@@ -21,10 +21,10 @@ use Rattle.cedar_expression_machine.specs.declared.expression.state.OperandPlace
 use Rattle.cedar_expression_machine.specs.declared.expression.state.Mode.{Mode}
 use Rattle.cedar_expression_machine.specs.declared.expression.state.Mode.TheVariants as mode
 use Rattle.cedar_expression_machine.specs.declared.expression.state.State.{State}
-use Rattle.cedar_grammar.specs.Place.{placed}
-use Rattle.cedar_syntax.specs.Tokens.{Spot, one}
-use Rattle.cedar_syntax.specs.Trees.{name_of}
-use Rattle.cedar_grammar.specs.LooseWords.{any, one_word}
+use Rattle.cedar_grammar.specs.grammar.Place.{placed}
+use Rattle.cedar_syntax.specs.tokens.Tokens.{Spot, one}
+use Rattle.cedar_syntax.specs.trees.Trees.{name_of}
+use Rattle.cedar_grammar.specs.grammar.LooseWords.{any, one_word}
 use Rattle.cedar_grammar.specs.machines.Door.{option_image}
 use Rattle.cedar_expression_machine.specs.machines.Closing.{no_signs, if_operand, if_key, fresh}
 use Rattle.cedar_grammar.specs.machines.Classes.{beginning_of, operator_of}

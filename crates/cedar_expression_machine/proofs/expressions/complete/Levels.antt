@@ -23,9 +23,9 @@ use Rattle.cedar_expression_machine.specs.declared.expression.state.OperandPlace
 use Rattle.cedar_expression_machine.specs.declared.expression.state.Mode.{Mode}
 use Rattle.cedar_expression_machine.specs.declared.expression.state.Reach.{Reach}
 use Rattle.cedar_grammar.specs.declared.reading.extent.Extent.{Extent}
-use Rattle.cedar_grammar.specs.Place.{joint_extent, extent, placed}
-use Rattle.cedar_syntax.specs.Tokens.{Spot, one}
-use Rattle.cedar_syntax.specs.Trees.{Cell, expr_of, if_of, or_of, and_of}
+use Rattle.cedar_grammar.specs.grammar.Place.{joint_extent, extent, placed}
+use Rattle.cedar_syntax.specs.tokens.Tokens.{Spot, one}
+use Rattle.cedar_syntax.specs.trees.Trees.{Cell, expr_of, if_of, or_of, and_of}
 use Rattle.cedar_expression_machine.specs.machines.Closing.{ranged_tree, Plain, plain_chain, onward, unary_at, made_mult, made_add, made_and, made_or, made_expr, marked_chain, relation_with_sum, with_branches, whole, levels_of, fresh}
 use Rattle.cedar_expression_machine.specs.machines.ExpressionStates.{state, opening}
 use Rattle.cedar_expression_machine.specs.machines.Having.{conjunction_beginning, disjunction_beginning, branch_of, frame_ending}

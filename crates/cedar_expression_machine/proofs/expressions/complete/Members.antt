@@ -26,11 +26,11 @@ use Rattle.cedar_expression_machine.specs.declared.expression.state.Mode.TheVari
 use Rattle.cedar_expression_machine.specs.declared.expression.state.Reach.{Reach}
 use Rattle.cedar_expression_machine.specs.declared.expression.state.Reach.TheVariants as reach
 use Rattle.cedar_grammar.specs.declared.reading.extent.Extent.{Extent}
-use Rattle.cedar_grammar.specs.Place.{joint_extent, extent, node_at, placed, extent_of}
-use Rattle.cedar_syntax.specs.Tokens.{Spot, one, any_of}
-use Rattle.cedar_syntax.specs.Trees.{Cell, unary_of, member_of, bangs_of, dashes_of}
-use Rattle.cedar_grammar.specs.LooseWords.{ReadsAny, any}
-use Rattle.cedar_grammar.specs.LooseExpressions.{ReadsSigns, one_sign, more_signs}
+use Rattle.cedar_grammar.specs.grammar.Place.{joint_extent, extent, node_at, placed, extent_of}
+use Rattle.cedar_syntax.specs.tokens.Tokens.{Spot, one, any_of}
+use Rattle.cedar_syntax.specs.trees.Trees.{Cell, unary_of, member_of, bangs_of, dashes_of}
+use Rattle.cedar_grammar.specs.grammar.LooseWords.{ReadsAny, any}
+use Rattle.cedar_grammar.specs.grammar.LooseExpressions.{ReadsSigns, one_sign, more_signs}
 use Rattle.cedar_expression_machine.specs.machines.Closing.{ranged_tree, unary_at, signs_of, no_signs, operand_with, with_access}
 use Rattle.cedar_expression_machine.specs.machines.ExpressionStates.{state, wants, has_operand, around}
 use Rattle.cedar_expression_machine.specs.machines.ExpressionPlans.{edge, may_sign, sign_may_stand}
@@ -41,7 +41,7 @@ use Rattle.cedar_grammar.specs.declared.reading.class.Operator.TheVariants as op
 use Rattle.cedar_syntax.specs.declared.cst.NegOp.TheVariants as neg
 use Rattle.cedar_expression_machine.specs.declared.expression.state.Act.TheVariants as act
 use Rattle.cedar_expression_machine.specs.declared.expression.state.Begin.TheVariants as begin
-use Rattle.cedar_syntax.specs.Signs.{sign_limit}
+use Rattle.cedar_syntax.specs.tokens.Signs.{sign_limit}
 use Rattle.cedar_grammar.specs.machines.Door.{is_some, option_image}
 use Rattle.cedar_expression_machine.specs.machines.ExpressionShapes.{op_sign}
 use Rattle.cedar_expression_machine.specs.machines.Expressions.{want_act, dot_act}

@@ -29,10 +29,10 @@ use Rattle.cedar_expression_machine.specs.declared.expression.state.Mode.{Mode}
 use Rattle.cedar_expression_machine.specs.declared.expression.state.Mode.TheVariants as mode
 use Rattle.cedar_expression_machine.specs.declared.expression.state.Reach.TheVariants as reach
 use Rattle.cedar_grammar.specs.declared.reading.extent.Extent.{Extent}
-use Rattle.cedar_grammar.specs.Place.{joint_extent, extent, node_at, placed}
-use Rattle.cedar_syntax.specs.Tokens.{Spot, one}
-use Rattle.cedar_syntax.specs.Trees.{Cell, common_of, has_of, like_of, is_of, add_of, mult_of, unary_of, member_of}
-use Rattle.cedar_grammar.specs.LooseExpressions.{ReadsRelOp, less, less_eq, greater_eq, greater, not_eq, equal, within, single_eq, if_name, lone_add}
+use Rattle.cedar_grammar.specs.grammar.Place.{joint_extent, extent, node_at, placed}
+use Rattle.cedar_syntax.specs.tokens.Tokens.{Spot, one}
+use Rattle.cedar_syntax.specs.trees.Trees.{Cell, common_of, has_of, like_of, is_of, add_of, mult_of, unary_of, member_of}
+use Rattle.cedar_grammar.specs.grammar.LooseExpressions.{ReadsRelOp, less, less_eq, greater_eq, greater, not_eq, equal, within, single_eq, if_name, lone_add}
 use Rattle.cedar_expression_machine.specs.machines.Closing.{ranged_tree, Marked, marked_chain, pending, unary_at, made_mult, made_add, made_common, relation_with_sum, add_at, levels_of, no_signs, operand_with, if_operand}
 use Rattle.cedar_expression_machine.specs.machines.ExpressionStates.{state}
 use Rattle.cedar_expression_machine.specs.machines.ExpressionPlans.{edge, may_compare}

@@ -21,8 +21,8 @@ use Rattle.cedar_expression_machine.specs.declared.expression.state.Wanted.{Want
 use Rattle.cedar_expression_machine.specs.declared.expression.state.Reach.{Reach}
 use Rattle.cedar_expression_machine.specs.declared.expression.state.Reach.TheVariants as reach
 use Rattle.cedar_grammar.specs.declared.reading.extent.Extent.{Extent}
-use Rattle.cedar_grammar.specs.Place.{joint_extent, extent_of}
-use Rattle.cedar_syntax.specs.Tokens.{Spot, one}
+use Rattle.cedar_grammar.specs.grammar.Place.{joint_extent, extent_of}
+use Rattle.cedar_syntax.specs.tokens.Tokens.{Spot, one}
 use Rattle.cedar_grammar.specs.machines.Door.{machine_of, option_image}
 use Rattle.cedar_expression_machine.specs.machines.ExpressionStates.{state}
 use Rattle.cedar_expression_machine.specs.machines.ExpressionPlans.{edge, may_follow, if_follows}

@@ -21,10 +21,10 @@ use Rattle.cedar_expression_machine.specs.declared.expression.state.Mode.{Mode}
 use Rattle.cedar_expression_machine.specs.declared.expression.state.State.{State}
 use Rattle.cedar_expression_machine.specs.declared.expression.state.Reach.{Reach}
 use Rattle.cedar_grammar.specs.declared.reading.extent.Extent.{Extent}
-use Rattle.cedar_grammar.specs.Place.{extent, placed}
-use Rattle.cedar_syntax.specs.Tokens.{Spot, one}
-use Rattle.cedar_syntax.specs.Trees.{Cell, add_of, mult_of}
-use Rattle.cedar_grammar.specs.LooseExpressions.{ReadsAddOp, plus, minus, ReadsMultOp, times, divide, modulo}
+use Rattle.cedar_grammar.specs.grammar.Place.{extent, placed}
+use Rattle.cedar_syntax.specs.tokens.Tokens.{Spot, one}
+use Rattle.cedar_syntax.specs.trees.Trees.{Cell, add_of, mult_of}
+use Rattle.cedar_grammar.specs.grammar.LooseExpressions.{ReadsAddOp, plus, minus, ReadsMultOp, times, divide, modulo}
 use Rattle.cedar_expression_machine.specs.machines.Closing.{Marked, plain_chain, marked_chain, onward, pending, unary_at, made_mult, made_add, levels_of}
 use Rattle.cedar_expression_machine.specs.machines.ExpressionStates.{state, wants}
 use Rattle.cedar_expression_machine.specs.machines.ExpressionPlans.{edge}

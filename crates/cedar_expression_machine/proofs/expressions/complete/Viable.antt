@@ -18,7 +18,7 @@ use Rattle.cedar_expression_machine.specs.declared.expression.state.Mode.TheVari
 use Rattle.cedar_expression_machine.specs.declared.expression.state.State.{State}
 use Rattle.cedar_expression_machine.specs.declared.expression.state.Wanted.TheVariants as form
 use Rattle.cedar_expression_machine.specs.declared.expression.state.Alone.TheVariants as alone
-use Rattle.cedar_syntax.specs.Tokens.{Spot, one}
+use Rattle.cedar_syntax.specs.tokens.Tokens.{Spot, one}
 use Rattle.cedar_grammar.specs.machines.Door.{machine_of, Completed, option_image}
 use Rattle.cedar_expression_machine.specs.machines.Closing.{ranged_tree, operand_of, whole, add_at}
 use Rattle.cedar_expression_machine.specs.machines.ExpressionStates.{state, has_operand}
@@ -27,7 +27,7 @@ use Rattle.cedar_expression_machine.specs.machines.ExpressionShapes.{WordOutline
 use Rattle.cedar_expression_machine.specs.machines.Wanting.{record_with}
 use Rattle.cedar_expression_machine.specs.declared.expression.state.Key.{Key}
 use Rattle.cedar_syntax.specs.declared.cst.RecInit.{RecInit}
-use Rattle.cedar_syntax.specs.Trees.{Cell}
+use Rattle.cedar_syntax.specs.trees.Trees.{Cell}
 use Rattle.cedar_grammar.specs.declared.reading.extent.Extent.{Extent}
 use Rattle.cedar_expression_machine.proofs.expressions.Held.{Held}
 use Rattle.cedar_expression_machine.proofs.expressions.Stepping.{Names, takes_so}

@@ -26,11 +26,11 @@ use Rattle.cedar_expression_machine.specs.declared.expression.state.Mode.{Mode}
 use Rattle.cedar_expression_machine.specs.declared.expression.state.Mode.TheVariants as mode
 use Rattle.cedar_expression_machine.specs.declared.expression.state.State.{State}
 use Rattle.cedar_expression_machine.specs.declared.expression.state.Alone.TheVariants as alone
-use Rattle.cedar_grammar.specs.Place.{extent, extent_of, placed}
-use Rattle.cedar_syntax.specs.Tokens.{Spot, one, number_of, fits, any_of}
-use Rattle.cedar_syntax.specs.Trees.{Cell, name_of}
-use Rattle.cedar_grammar.specs.LooseWords.{ReadsLiteral, truth, falsity, number, string, any, ReadsPath, one_word, more_words, is_common, ReadsName, common, qualified, ReadsRef, uid, with_inits}
-use Rattle.cedar_grammar.specs.LooseExpressions.{ReadsSlot, principal_slot, resource_slot, other_slot}
+use Rattle.cedar_grammar.specs.grammar.Place.{extent, extent_of, placed}
+use Rattle.cedar_syntax.specs.tokens.Tokens.{Spot, one, number_of, fits, any_of}
+use Rattle.cedar_syntax.specs.trees.Trees.{Cell, name_of}
+use Rattle.cedar_grammar.specs.grammar.LooseWords.{ReadsLiteral, truth, falsity, number, string, any, ReadsPath, one_word, more_words, is_common, ReadsName, common, qualified, ReadsRef, uid, with_inits}
+use Rattle.cedar_grammar.specs.grammar.LooseExpressions.{ReadsSlot, principal_slot, resource_slot, other_slot}
 use Rattle.cedar_grammar.specs.machines.Door.{Answer, next, ended, refused, too_large, answer_state, machine_of, steps, is_some, option_image}
 use Rattle.cedar_expression_machine.specs.machines.Closing.{ranged_tree, operand_of}
 use Rattle.cedar_grammar.specs.machines.Classes.{class_or_word, operator_of}

@@ -39,7 +39,7 @@ use Rattle.cedar_expression_machine.specs.declared.expression.state.OperandPlace
 use Rattle.cedar_expression_machine.specs.declared.expression.state.Reach.{Reach}
 use Rattle.cedar_expression_machine.specs.declared.expression.state.State.{State}
 use Rattle.cedar_grammar.specs.declared.reading.extent.Extent.{Extent}
-use Rattle.cedar_syntax.specs.Trees.{Cell}
+use Rattle.cedar_syntax.specs.trees.Trees.{Cell}
 use Rattle.cedar_grammar.specs.machines.Door.{is_some}
 use Rattle.cedar_grammar.specs.machines.Classes.{with_sign}
 use Rattle.cedar_expression_machine.specs.machines.Closing.{add_at, whole}

@@ -20,8 +20,8 @@ use Rattle.cedar_expression_machine.specs.declared.expression.state.OperandPlace
 use Rattle.cedar_expression_machine.specs.declared.expression.state.State.{State}
 use Rattle.cedar_expression_machine.specs.declared.expression.state.Wanted.{Wanted}
 use Rattle.cedar_grammar.specs.declared.reading.extent.Extent.{Extent}
-use Rattle.cedar_grammar.specs.Place.{extent_of}
-use Rattle.cedar_syntax.specs.Tokens.{fits, any_of}
+use Rattle.cedar_grammar.specs.grammar.Place.{extent_of}
+use Rattle.cedar_syntax.specs.tokens.Tokens.{fits, any_of}
 use Rattle.cedar_grammar.specs.machines.Classes.{beginning_of, class_or_word, mark_class, operator_of}
 use Rattle.cedar_grammar.specs.machines.Door.{Reader, is_some, option_image, IsDone}
 use Rattle.cedar_expression_machine.specs.machines.Closing.{fresh, no_signs}

@@ -24,8 +24,8 @@ use Rattle.cedar_expression_machine.specs.declared.expression.state.OperandPlace
 use Rattle.cedar_expression_machine.specs.declared.expression.state.State.{State}
 use Rattle.cedar_expression_machine.specs.declared.expression.state.Wanted.{Wanted}
 use Rattle.cedar_expression_machine.specs.declared.expression.state.Wanted.TheVariants as form
-use Rattle.cedar_grammar.specs.Place.{extent_of}
-use Rattle.cedar_syntax.specs.Tokens.{any_of}
+use Rattle.cedar_grammar.specs.grammar.Place.{extent_of}
+use Rattle.cedar_syntax.specs.tokens.Tokens.{any_of}
 use Rattle.cedar_grammar.specs.machines.Door.{is_some, option_image, IsOutline, no_tree, ends_with}
 use Rattle.cedar_expression_machine.specs.machines.Closing.{fresh, no_signs, add_at, whole}
 use Rattle.cedar_expression_machine.specs.machines.Named.{NameOrEntity}

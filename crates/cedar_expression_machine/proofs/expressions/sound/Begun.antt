@@ -36,10 +36,10 @@ use Rattle.cedar_expression_machine.specs.declared.expression.state.State.{State
 use Rattle.cedar_expression_machine.specs.declared.expression.state.Wanted.{Wanted}
 use Rattle.cedar_expression_machine.specs.declared.expression.state.Reach.{Reach}
 use Rattle.cedar_expression_machine.specs.declared.expression.state.Reach.TheVariants as reach
-use Rattle.cedar_grammar.specs.Place.{extent, placed}
-use Rattle.cedar_syntax.specs.Tokens.{Spot, one}
-use Rattle.cedar_syntax.specs.Trees.{Cell, member_of, bangs_of, dashes_of}
-use Rattle.cedar_grammar.specs.LooseExpressions.{ReadsRelOp, ReadsAddOp, ReadsMultOp, ReadsSigns, if_name, lone_expr, ReadsExpr, ReadsAnds, ReadsRelations, ReadsAdds, ReadsAdd, ReadsMults, ReadsUnaries, ReadsAccesses, ReadsPrimary, ReadsExprItems, ReadsInitItems}
+use Rattle.cedar_grammar.specs.grammar.Place.{extent, placed}
+use Rattle.cedar_syntax.specs.tokens.Tokens.{Spot, one}
+use Rattle.cedar_syntax.specs.trees.Trees.{Cell, member_of, bangs_of, dashes_of}
+use Rattle.cedar_grammar.specs.grammar.LooseExpressions.{ReadsRelOp, ReadsAddOp, ReadsMultOp, ReadsSigns, if_name, lone_expr, ReadsExpr, ReadsAnds, ReadsRelations, ReadsAdds, ReadsAdd, ReadsMults, ReadsUnaries, ReadsAccesses, ReadsPrimary, ReadsExprItems, ReadsInitItems}
 pub use Rattle.cedar_grammar.proofs.machines.Extents.{at}
 use Rattle.cedar_expression_machine.specs.machines.Closing.{ranged_tree, Plain, onward, pending, levels_of, fresh, signs_of, no_signs, operand_with, operand_of}
 use Rattle.cedar_grammar.specs.machines.Door.{Reader, machine_of, Comes}

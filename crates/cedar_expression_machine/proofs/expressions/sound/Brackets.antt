@@ -27,10 +27,10 @@ use Rattle.cedar_expression_machine.specs.declared.expression.state.Wanted.{Want
 use Rattle.cedar_expression_machine.specs.declared.expression.state.Reach.{Reach}
 use Rattle.cedar_expression_machine.specs.declared.expression.state.Reach.TheVariants as reach
 use Rattle.cedar_grammar.specs.declared.reading.extent.Extent.{Extent}
-use Rattle.cedar_grammar.specs.Place.{joint_extent, extent, placed, node_at}
-use Rattle.cedar_syntax.specs.Tokens.{Spot, one}
-use Rattle.cedar_syntax.specs.Trees.{Cell, rec_init_of}
-use Rattle.cedar_grammar.specs.LooseExpressions.{if_name, ReadsExpr, more_access, ReadsAccess, call, index, ReadsPrimary, paren, set, in_braces, ReadsExprs, no_expr, exprs, exprs_comma, ReadsExprItems, one_expr, more_exprs, ReadsRecInits, no_init, inits, inits_comma, ReadsInitItems, one_init, more_inits, ReadsRecInit, rec_init, if_init}
+use Rattle.cedar_grammar.specs.grammar.Place.{joint_extent, extent, placed, node_at}
+use Rattle.cedar_syntax.specs.tokens.Tokens.{Spot, one}
+use Rattle.cedar_syntax.specs.trees.Trees.{Cell, rec_init_of}
+use Rattle.cedar_grammar.specs.grammar.LooseExpressions.{if_name, ReadsExpr, more_access, ReadsAccess, call, index, ReadsPrimary, paren, set, in_braces, ReadsExprs, no_expr, exprs, exprs_comma, ReadsExprItems, one_expr, more_exprs, ReadsRecInits, no_init, inits, inits_comma, ReadsInitItems, one_init, more_inits, ReadsRecInit, rec_init, if_init}
 use Rattle.cedar_expression_machine.specs.machines.Closing.{ranged_tree, whole, no_signs, operand_with, with_access}
 use Rattle.cedar_grammar.specs.machines.Door.{Reader}
 use Rattle.cedar_expression_machine.specs.machines.ExpressionStates.{opening, has_operand, has_primary, around}

@@ -24,10 +24,10 @@ use Rattle.cedar_expression_machine.specs.declared.expression.state.Left.TheVari
 use Rattle.cedar_expression_machine.specs.declared.expression.state.Levels.{Levels}
 use Rattle.cedar_expression_machine.specs.declared.expression.state.Operand.{Operand}
 use Rattle.cedar_grammar.specs.declared.reading.extent.Extent.{Extent}
-use Rattle.cedar_grammar.specs.Place.{joint_extent, extent, placed}
-use Rattle.cedar_syntax.specs.Tokens.{Spot, one}
-use Rattle.cedar_syntax.specs.Trees.{Cell, if_of, unary_of}
-use Rattle.cedar_grammar.specs.LooseExpressions.{ReadsRelOp, ReadsAddOp, ReadsMultOp, ReadsExpr, or_expr, if_expr, ReadsOr, or, ReadsAnds, one_and, more_and, ReadsAnd, and, ReadsRelations, one_relation, more_relation, ReadsRelation, common, has, has_if, like, is, is_in, ReadsAdds, one_add, more_add, ReadsAdd, add, ReadsMults, one_mult, more_mult, ReadsMult, mult, ReadsUnaries, one_unary, more_unary, ReadsUnary, plain, banged, dashed, member}
+use Rattle.cedar_grammar.specs.grammar.Place.{joint_extent, extent, placed}
+use Rattle.cedar_syntax.specs.tokens.Tokens.{Spot, one}
+use Rattle.cedar_syntax.specs.trees.Trees.{Cell, if_of, unary_of}
+use Rattle.cedar_grammar.specs.grammar.LooseExpressions.{ReadsRelOp, ReadsAddOp, ReadsMultOp, ReadsExpr, or_expr, if_expr, ReadsOr, or, ReadsAnds, one_and, more_and, ReadsAnd, and, ReadsRelations, one_relation, more_relation, ReadsRelation, common, has, has_if, like, is, is_in, ReadsAdds, one_add, more_add, ReadsAdd, add, ReadsMults, one_mult, more_mult, ReadsMult, mult, ReadsUnaries, one_unary, more_unary, ReadsUnary, plain, banged, dashed, member}
 use Rattle.cedar_expression_machine.specs.machines.Closing.{ranged_tree, Plain, Marked, plain_chain, marked_chain, onward, pending, unary_at, made_mult, made_add, made_common, relation_with_sum, made_and, made_or, made_expr, with_branches, add_at, whole, levels_of, fresh}
 use Rattle.cedar_expression_machine.specs.machines.Having.{before}
 use Rattle.cedar_expression_machine.proofs.expressions.Basics.{extent-append, chain_extent}

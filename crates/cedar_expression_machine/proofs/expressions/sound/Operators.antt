@@ -28,9 +28,9 @@ use Rattle.cedar_expression_machine.specs.declared.expression.state.State.{State
 use Rattle.cedar_expression_machine.specs.declared.expression.state.Wanted.{Wanted}
 use Rattle.cedar_expression_machine.specs.declared.expression.state.Reach.{Reach}
 use Rattle.cedar_expression_machine.specs.declared.expression.state.Reach.TheVariants as reach
-use Rattle.cedar_grammar.specs.Place.{extent, placed}
-use Rattle.cedar_syntax.specs.Tokens.{Spot, one}
-use Rattle.cedar_grammar.specs.LooseExpressions.{ReadsAddOp, ReadsMultOp, ReadsRelation, has_if, ReadsAdd, no_access, ReadsPrimary}
+use Rattle.cedar_grammar.specs.grammar.Place.{extent, placed}
+use Rattle.cedar_syntax.specs.tokens.Tokens.{Spot, one}
+use Rattle.cedar_grammar.specs.grammar.LooseExpressions.{ReadsAddOp, ReadsMultOp, ReadsRelation, has_if, ReadsAdd, no_access, ReadsPrimary}
 use Rattle.cedar_expression_machine.specs.machines.Closing.{Plain, plain_chain, marked_chain, onward, pending, unary_at, made_mult, relation_with_sum, add_at, relation_at, and_at, levels_of, fresh, no_signs, operand_with, operand_of}
 use Rattle.cedar_grammar.specs.machines.Door.{Reader}
 use Rattle.cedar_expression_machine.specs.machines.ExpressionStates.{opening, going_on, has_primary}

@@ -29,9 +29,9 @@ use Rattle.cedar_expression_machine.specs.declared.expression.state.OperandPlace
 use Rattle.cedar_expression_machine.specs.declared.expression.state.Wanted.{Wanted}
 use Rattle.cedar_expression_machine.specs.declared.expression.state.Reach.{Reach}
 use Rattle.cedar_expression_machine.specs.declared.expression.state.Reach.TheVariants as reach
-use Rattle.cedar_grammar.specs.Place.{joint_extent, placed}
-use Rattle.cedar_syntax.specs.Tokens.{Spot, one}
-use Rattle.cedar_grammar.specs.LooseExpressions.{ReadsRelOp, within, ReadsAdds, ReadsAdd}
+use Rattle.cedar_grammar.specs.grammar.Place.{joint_extent, placed}
+use Rattle.cedar_syntax.specs.tokens.Tokens.{Spot, one}
+use Rattle.cedar_grammar.specs.grammar.LooseExpressions.{ReadsRelOp, within, ReadsAdds, ReadsAdd}
 use Rattle.cedar_expression_machine.specs.machines.Closing.{Plain, Marked, marked_chain, pending, unary_at, made_mult, made_add, levels_of}
 use Rattle.cedar_grammar.specs.machines.Door.{Reader}
 use Rattle.cedar_expression_machine.specs.machines.ExpressionStates.{state, wants}

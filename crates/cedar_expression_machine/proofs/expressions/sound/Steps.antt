@@ -28,11 +28,11 @@ use Rattle.cedar_expression_machine.specs.declared.expression.state.State.{State
 use Rattle.cedar_expression_machine.specs.declared.expression.state.Wanted.{Wanted}
 use Rattle.cedar_expression_machine.specs.declared.expression.state.Alone.TheVariants as alone
 use Rattle.cedar_expression_machine.specs.declared.expression.state.Reach.TheVariants as reach
-use Rattle.cedar_grammar.specs.Place.{extent_of, placed}
-use Rattle.cedar_syntax.specs.Tokens.{Spot, one, any_of}
-use Rattle.cedar_syntax.specs.Trees.{Cell, name_of}
-use Rattle.cedar_grammar.specs.LooseExpressions.{no_access, field, ReadsPrimary, literally, referred, named}
-use Rattle.cedar_grammar.specs.LooseWords.{common as common_name, truth, falsity, any, one_word, more_words, qualified}
+use Rattle.cedar_grammar.specs.grammar.Place.{extent_of, placed}
+use Rattle.cedar_syntax.specs.tokens.Tokens.{Spot, one, any_of}
+use Rattle.cedar_syntax.specs.trees.Trees.{Cell, name_of}
+use Rattle.cedar_grammar.specs.grammar.LooseExpressions.{no_access, field, ReadsPrimary, literally, referred, named}
+use Rattle.cedar_grammar.specs.grammar.LooseWords.{common as common_name, truth, falsity, any, one_word, more_words, qualified}
 use Rattle.cedar_expression_machine.specs.machines.Closing.{fresh, no_signs, operand_of, if_operand}
 use Rattle.cedar_grammar.specs.machines.Door.{Machine, machine_of, next, Comes, step_from, answer_state, option_image}
 use Rattle.cedar_grammar.specs.machines.Classes.{beginning_of, operator_of}

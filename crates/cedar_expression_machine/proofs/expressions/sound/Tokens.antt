@@ -25,11 +25,11 @@ use Rattle.cedar_expression_machine.specs.declared.expression.state.Wanted.{Want
 use Rattle.cedar_expression_machine.specs.declared.expression.state.Reach.{Reach}
 use Rattle.cedar_expression_machine.specs.declared.expression.state.Reach.TheVariants as reach
 use Rattle.cedar_grammar.specs.declared.reading.extent.Extent.{Extent}
-use Rattle.cedar_grammar.specs.Place.{joint_extent, extent}
-use Rattle.cedar_syntax.specs.Tokens.{Spot, one, fits}
-use Rattle.cedar_syntax.specs.Trees.{bangs_of, dashes_of}
-use Rattle.cedar_grammar.specs.LooseExpressions.{less, less_eq, greater_eq, greater, not_eq, equal, within, single_eq, plus, minus, times, divide, modulo, one_sign, more_signs, principal_slot, resource_slot, other_slot, literally, slotted}
-use Rattle.cedar_grammar.specs.LooseWords.{number, string}
+use Rattle.cedar_grammar.specs.grammar.Place.{joint_extent, extent}
+use Rattle.cedar_syntax.specs.tokens.Tokens.{Spot, one, fits}
+use Rattle.cedar_syntax.specs.trees.Trees.{bangs_of, dashes_of}
+use Rattle.cedar_grammar.specs.grammar.LooseExpressions.{less, less_eq, greater_eq, greater, not_eq, equal, within, single_eq, plus, minus, times, divide, modulo, one_sign, more_signs, principal_slot, resource_slot, other_slot, literally, slotted}
+use Rattle.cedar_grammar.specs.grammar.LooseWords.{number, string}
 use Rattle.cedar_expression_machine.specs.machines.Closing.{signs_of}
 use Rattle.cedar_grammar.specs.machines.Door.{Reader, machine_of, Comes, option_image}
 use Rattle.cedar_grammar.specs.machines.Classes.{operator_of, with_sign}

@@ -24,11 +24,11 @@ use Rattle.cedar_expression_machine.specs.declared.expression.state.Wanted.{Want
 use Rattle.cedar_expression_machine.specs.declared.expression.state.Wanted.TheVariants as form
 use Rattle.cedar_expression_machine.specs.declared.expression.state.Reach.{Reach}
 use Rattle.cedar_expression_machine.specs.declared.expression.state.Reach.TheVariants as reach
-use Rattle.cedar_grammar.specs.Place.{placed}
-use Rattle.cedar_syntax.specs.Tokens.{Spot, one, any_of}
-use Rattle.cedar_syntax.specs.Trees.{Cell, name_of}
-use Rattle.cedar_grammar.specs.LooseExpressions.{ReadsExpr, ReadsAdd, no_access, ReadsPrimary, literally, referred, named}
-use Rattle.cedar_grammar.specs.LooseWords.{common as common_name, truth, falsity, any, one_word, more_words, qualified}
+use Rattle.cedar_grammar.specs.grammar.Place.{placed}
+use Rattle.cedar_syntax.specs.tokens.Tokens.{Spot, one, any_of}
+use Rattle.cedar_syntax.specs.trees.Trees.{Cell, name_of}
+use Rattle.cedar_grammar.specs.grammar.LooseExpressions.{ReadsExpr, ReadsAdd, no_access, ReadsPrimary, literally, referred, named}
+use Rattle.cedar_grammar.specs.grammar.LooseWords.{common as common_name, truth, falsity, any, one_word, more_words, qualified}
 use Rattle.cedar_expression_machine.specs.machines.Closing.{add_at, whole, if_operand}
 use Rattle.cedar_grammar.specs.machines.Door.{Machine, machine_of, Comes, steps, answer_state, Door, option_image}
 use Rattle.cedar_expression_machine.specs.machines.ExpressionStates.{opening}

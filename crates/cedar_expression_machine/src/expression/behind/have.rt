@@ -2,7 +2,7 @@
 //! what happens at each token clears no room.
 ghost use Rattle.std.specs.Prelude.{◌≡◌, [], Some, None, IfOk, OnOk};
 ghost use Rattle.cedar_lexer.specs.Token.{lexeme_of};
-ghost use Rattle.cedar_grammar.specs.Place.{extent_of};
+ghost use Rattle.cedar_grammar.specs.grammar.Place.{extent_of};
 ghost use Rattle.cedar_grammar.specs.declared.reading.class.Closing.TheVariants as closing;
 ghost use Rattle.cedar_grammar.specs.declared.reading.class.Operator.TheVariants as operators;
 ghost use Rattle.cedar_expression_machine.specs.declared.expression.state.Mode.TheVariants as mode;

@@ -1,6 +1,6 @@
 //! Comparisons, and the words `has`, `like` and `is` behind a left side.
 ghost use Rattle.std.specs.Prelude.{◌≡◌, Some, None, IfOk, OnOk};
-ghost use Rattle.cedar_grammar.specs.Place.{joint_extent};
+ghost use Rattle.cedar_grammar.specs.grammar.Place.{joint_extent};
 ghost use Rattle.cedar_grammar.specs.declared.reading.class.Operator.TheVariants as operators;
 ghost use Rattle.cedar_expression_machine.specs.declared.expression.state.Left.TheVariants as left;
 ghost use Rattle.cedar_expression_machine.specs.machines.Closing.{marked_chain, node_of, pending};

@@ -2,9 +2,9 @@
 //! since memory can be refused to them; behind the last, each tree is made of the one below it and
 //! nothing is dropped, so that the compiler makes them all where they stay.
 ghost use Rattle.std.specs.Prelude.{◌≡◌, [], Some, IfOk};
-ghost use Rattle.cedar_syntax.specs.Trees.{unary_of, member_of, mult_of, add_of, common_of, and_of, or_of};
+ghost use Rattle.cedar_syntax.specs.trees.Trees.{unary_of, member_of, mult_of, add_of, common_of, and_of, or_of};
 ghost use Rattle.cedar_expression_machine.specs.machines.Closing.{fresh, mult_at, add_at, relation_at, or_at, made_expr};
-ghost use Rattle.cedar_grammar.specs.Place.{joint_extent};
+ghost use Rattle.cedar_grammar.specs.grammar.Place.{joint_extent};
 ghost use Rattle.cedar_expression_machine.specs.machines.AlonePlaces.{places_of, upper_places};
 
 use crate::expression::state::{Operand, Ranged};

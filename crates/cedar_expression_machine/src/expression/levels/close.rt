@@ -1,8 +1,8 @@
 //! Closes what is begun: a level is taken out of its slot, and becomes a tree with its last
 //! operand.
 ghost use Rattle.std.specs.Prelude.{◌≡◌, [], None, IfOk, OnOk, IsTrue};
-ghost use Rattle.cedar_grammar.specs.Place.{joint_extent};
-ghost use Rattle.cedar_syntax.specs.Trees.{if_of};
+ghost use Rattle.cedar_grammar.specs.grammar.Place.{joint_extent};
+ghost use Rattle.cedar_syntax.specs.trees.Trees.{if_of};
 ghost use Rattle.cedar_expression_machine.specs.machines.Closing.{add_at, and_at, fresh, levels_of, made_and, made_expr, made_or, mult_at, node_of, or_at, plain_chain, ranged_tree, relation_at, unary_at, whole, with_branches};
 ghost use Rattle.cedar_expression_machine.specs.machines.ExpressionModes.{HasNoRelation, HasNoSum};
 

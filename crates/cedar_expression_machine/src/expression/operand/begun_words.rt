@@ -1,7 +1,7 @@
 //! What expressions ask of the machine of words that they hold.
 ghost use Rattle.std.specs.Prelude.{◌≡◌, [], Some, IsTrue, IfOk};
 ghost use Rattle.cedar_lexer.specs.Token.{lexeme_of};
-ghost use Rattle.cedar_syntax.specs.Tokens.{any_of};
+ghost use Rattle.cedar_syntax.specs.tokens.Tokens.{any_of};
 ghost use Rattle.cedar_grammar.specs.machines.Door.{is_some, option_image};
 ghost use Rattle.cedar_expression_machine.specs.machines.Expressions.{alone_of};
 ghost use Rattle.cedar_expression_machine.specs.machines.Named.{named_reader};

@@ -1,8 +1,8 @@
 //! What words are read as, once the token behind them is there.
 ghost use Rattle.std.specs.Prelude.{◌≡◌, [], ◌∷◌, Some, IfOk, OnOk};
 ghost use Rattle.cedar_lexer.specs.Token.{lexeme_of};
-ghost use Rattle.cedar_syntax.specs.Trees.{name_of};
-ghost use Rattle.cedar_grammar.specs.WrittenTokens.{IsWritten};
+ghost use Rattle.cedar_syntax.specs.trees.Trees.{name_of};
+ghost use Rattle.cedar_grammar.specs.grammar.WrittenTokens.{IsWritten};
 ghost use Rattle.cedar_syntax.specs.declared.cst.Primary.TheVariants as primary;
 ghost use Rattle.cedar_grammar.specs.machines.Judged.{done_as};
 ghost use Rattle.cedar_expression_machine.specs.declared.expression.state.Act.TheVariants as acts;

@@ -1,8 +1,8 @@
 //! A token where an operand is wanted.
 ghost use Rattle.std.specs.Prelude.{◌≡◌, Some, IfOk, OnOk};
 ghost use Rattle.cedar_lexer.specs.Token.{lexeme_of};
-ghost use Rattle.cedar_grammar.specs.Place.{extent_of};
-ghost use Rattle.cedar_grammar.specs.WrittenTokens.{IsWritten};
+ghost use Rattle.cedar_grammar.specs.grammar.Place.{extent_of};
+ghost use Rattle.cedar_grammar.specs.grammar.WrittenTokens.{IsWritten};
 ghost use Rattle.cedar_grammar.specs.machines.Judged.{done_as};
 ghost use Rattle.cedar_expression_machine.specs.declared.expression.state.Act.TheVariants as acts;
 ghost use Rattle.cedar_expression_machine.specs.declared.expression.state.Begin.TheVariants as begins;

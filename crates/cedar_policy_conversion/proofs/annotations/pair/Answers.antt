@@ -2,7 +2,7 @@ use Rattle.std.proofs.Common.{ℕ, List, Option, option_map, string_bytes}
 use Rattle.std.specs.declared.alloc.Global.{Global}
 use Rattle.std.specs.declared.string.String.{String}
 use Rattle.cedar_policy_conversion.specs.AnnotationKeys.{annotation_at}
-use Rattle.cedar_conversion.specs.Seen.{itself}
+use Rattle.cedar_conversion.specs.outcome.Seen.{itself}
 use Rattle.cedar_conversion.proofs.Outcomes.{both_gives, then_gives}
 use Rattle.cedar_policy_conversion.proofs.annotations.pair.Goals as goal
 

@@ -1,7 +1,7 @@
 use Rattle.std.proofs.Common.{refl}
 use Rattle.cedar_expressions.specs.Meaning.{unplaced}
 use Rattle.cedar_policy_conversion.specs.Conditions.{condition_outcome}
-use Rattle.cedar_conversion.specs.Table.{table_of}
+use Rattle.cedar_conversion.specs.strict.Table.{table_of}
 use Rattle.cedar_conversion.proofs.Identifiers.{all_next}
 use Rattle.cedar_conversion.proofs.Loops.{take_whole}
 use Rattle.cedar_conversion.proofs.Outcomes.{gives_at, grown_gives}

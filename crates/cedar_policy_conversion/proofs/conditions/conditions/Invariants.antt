@@ -1,7 +1,7 @@
 use Rattle.std.proofs.Common.{take}
 use Rattle.cedar_policy_conversion.specs.Conditions.{conditions_outcome}
-use Rattle.cedar_conversion.specs.Seen.{Gives}
-use Rattle.cedar_conversion.specs.Table.{table_of}
+use Rattle.cedar_conversion.specs.outcome.Seen.{Gives}
+use Rattle.cedar_conversion.specs.strict.Table.{table_of}
 use Rattle.cedar_policy_conversion.proofs.conditions.conditions.Given as goal
 use Rattle.cedar_policy_conversion.specs.machines.PolicyViews.{meanings}
 

@@ -1,5 +1,5 @@
 use Rattle.std.proofs.Common.{sym, ◌∙◌}
-use Rattle.cedar_syntax.specs.Forms.{expr_form, or_form, and_form, relation_form, add_form, mult_form, unary_form, member_form, primary_form}
+use Rattle.cedar_syntax.specs.trees.Forms.{expr_form, or_form, and_form, relation_form, add_form, mult_form, unary_form, member_form, primary_form}
 use Rattle.cedar_policy_conversion.proofs.LonePrimaries as lone
 use Rattle.cedar_conversion.proofs.Outcomes.{gives_at, refuses}
 use Rattle.cedar_policy_conversion.proofs.lone.+lone.Goals as goal

@@ -1,4 +1,4 @@
-use Rattle.cedar_conversion.specs.Seen.{itself}
+use Rattle.cedar_conversion.specs.outcome.Seen.{itself}
 use Rattle.cedar_conversion.specs.machines.Views.{empty_view}
 use Rattle.cedar_conversion.proofs.Outcomes.{both_gives, both_refused, refused_next, passed_on}
 use Rattle.cedar_policy_conversion.proofs.scope.join_elements.Goals as goal

@@ -1,5 +1,5 @@
 use Rattle.std.proofs.Common.{option_copied}
-use Rattle.cedar_conversion.specs.Table.{table_of}
+use Rattle.cedar_conversion.specs.strict.Table.{table_of}
 use Rattle.cedar_policy_conversion.proofs.ScopeParts.{elements_given, got}
 use Rattle.cedar_policy_conversion.proofs.scope.scope_of.Goals as goal
 

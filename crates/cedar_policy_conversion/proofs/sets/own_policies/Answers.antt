@@ -7,8 +7,8 @@ use Rattle.std.proofs.lemmas.List.{length_push}
 use Rattle.std.proofs.lemmas.List.FromFn.{length-enumerate_from}
 use Rattle.cedar_policy_conversion.specs.Policies.{policies_from, set_outcome, template_outcome}
 use Rattle.cedar_policy_conversion.specs.PolicyMeaning.{policy_id}
-use Rattle.cedar_conversion.specs.Seen.{Gives}
-use Rattle.cedar_conversion.specs.Table.{table_of}
+use Rattle.cedar_conversion.specs.outcome.Seen.{Gives}
+use Rattle.cedar_conversion.specs.strict.Table.{table_of}
 use Rattle.cedar_policy_conversion.specs.Policies.{either_outcome, either_parts}
 use Rattle.cedar_policy_conversion.specs.machines.Filled.{set_view}
 use Rattle.cedar_conversion.proofs.Loops.{take_whole}

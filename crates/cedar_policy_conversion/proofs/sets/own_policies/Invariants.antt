@@ -1,7 +1,7 @@
 use Rattle.std.proofs.Common.{length, take}
 use Rattle.cedar_policy_conversion.specs.Policies.{set_outcome}
-use Rattle.cedar_conversion.specs.Seen.{Gives}
-use Rattle.cedar_conversion.specs.Table.{table_of}
+use Rattle.cedar_conversion.specs.outcome.Seen.{Gives}
+use Rattle.cedar_conversion.specs.strict.Table.{table_of}
 use Rattle.cedar_policy_conversion.specs.machines.Filled.{set_view}
 use Rattle.cedar_policy_conversion.proofs.FreeNames.{IsFreeFrom}
 use Rattle.cedar_policy_conversion.proofs.sets.own_policies.Given as goal

@@ -1,5 +1,5 @@
 use Rattle.std.proofs.Common.{◌≡◌, Some, subst, sym}
-use Rattle.cedar_conversion.specs.Table.{table_of}
+use Rattle.cedar_conversion.specs.strict.Table.{table_of}
 use Rattle.cedar_policy_conversion.specs.GeneratedIds.{GivesNext, named_policies, remaining_nodes}
 use Rattle.cedar_policy_conversion.proofs.NumberedSets.{first_kept, next_free, next_kept, whole_kept}
 use Rattle.cedar_policy_conversion.proofs.sets.policies.Goals as goal

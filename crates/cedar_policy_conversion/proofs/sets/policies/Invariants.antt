@@ -1,4 +1,4 @@
-use Rattle.cedar_conversion.specs.Table.{table_of}
+use Rattle.cedar_conversion.specs.strict.Table.{table_of}
 use Rattle.cedar_policy_conversion.proofs.NumberedSets.{AreKept}
 use Rattle.cedar_policy_conversion.proofs.sets.policies.Given as goal
 

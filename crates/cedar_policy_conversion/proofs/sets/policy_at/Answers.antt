@@ -1,7 +1,7 @@
 use Rattle.std.proofs.Common.{subst}
 use Rattle.cedar_policy_conversion.specs.Policies.{either_outcome, either_parts}
-use Rattle.cedar_conversion.specs.Seen.{Gives}
-use Rattle.cedar_conversion.specs.Table.{table_of}
+use Rattle.cedar_conversion.specs.outcome.Seen.{Gives}
+use Rattle.cedar_conversion.specs.strict.Table.{table_of}
 use Rattle.cedar_policy_conversion.proofs.sets.policy_at.Goals as goal
 
 pub returns : goal.returns

@@ -1,6 +1,6 @@
 use Rattle.std.proofs.Common.{◌≡◌, ◌++◌}
-use Rattle.cedar_syntax.specs.ParseErrors.{faults_of}
-use Rattle.cedar_conversion.specs.Seen.{named_faults}
+use Rattle.cedar_syntax.specs.faults.ParseErrors.{faults_of}
+use Rattle.cedar_conversion.specs.outcome.Seen.{named_faults}
 use Rattle.cedar_policy_conversion.proofs.templates.add_faults.Given as goal
 
 abbrev pub invariant-loop-fault : goal.invariant-loop-fault

@@ -1,4 +1,4 @@
-use Rattle.cedar_conversion.specs.Seen.{itself}
+use Rattle.cedar_conversion.specs.outcome.Seen.{itself}
 use Rattle.cedar_conversion.proofs.Outcomes.{both_gives}
 use Rattle.cedar_policy_conversion.proofs.templates.parts.Goals as goal
 use Rattle.cedar_policy_conversion.specs.machines.PolicyViews.{meanings}

@@ -1,6 +1,6 @@
 use Rattle.std.proofs.Common.{sym, subst, ◌∙◌}
-use Rattle.cedar_syntax.specs.ParseErrors.{faults_of}
-use Rattle.cedar_conversion.specs.Seen.{Refuses, named_faults}
+use Rattle.cedar_syntax.specs.faults.ParseErrors.{faults_of}
+use Rattle.cedar_conversion.specs.outcome.Seen.{Refuses, named_faults}
 use Rattle.cedar_conversion.proofs.Outcomes.{kept_refusal}
 use Rattle.cedar_policy_conversion.specs.Policies.{only_static}
 use Rattle.cedar_policy_conversion.proofs.PolicySides.{static_faulty}

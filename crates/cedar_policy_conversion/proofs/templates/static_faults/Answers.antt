@@ -1,8 +1,8 @@
 use Rattle.std.proofs.Common.{length}
 use Rattle.std.proofs.lemmas.Iterator.Consumers.{YieldsList-from_first, YieldsList-turn, YieldsList-end}
 use Rattle.std.proofs.lemmas.List.{length_push}
-use Rattle.cedar_syntax.specs.NonEmpty.{remaining_items}
-use Rattle.cedar_syntax.specs.ParseErrors.{faults_of}
+use Rattle.cedar_syntax.specs.faults.NonEmpty.{remaining_items}
+use Rattle.cedar_syntax.specs.faults.ParseErrors.{faults_of}
 use Rattle.cedar_policy_conversion.proofs.PolicyLists.{static_more, static_whole}
 use Rattle.cedar_policy_conversion.proofs.templates.static_faults.Goals as goal
 

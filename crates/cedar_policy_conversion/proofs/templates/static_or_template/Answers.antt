@@ -1,5 +1,5 @@
 use Rattle.cedar_policy_conversion.specs.Policies.{template_outcome}
-use Rattle.cedar_conversion.specs.Table.{table_of}
+use Rattle.cedar_conversion.specs.strict.Table.{table_of}
 use Rattle.cedar_policy_conversion.proofs.ConditionFree.{template_free}
 use Rattle.cedar_policy_conversion.proofs.PolicySides.{no_slots, on_left, on_right}
 use Rattle.cedar_policy_conversion.proofs.templates.static_or_template.Goals as goal

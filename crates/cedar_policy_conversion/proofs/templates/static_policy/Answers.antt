@@ -1,6 +1,6 @@
 use Rattle.std.proofs.Common.{ap}
 use Rattle.cedar_policy_conversion.specs.Policies.{only_static, template_outcome, template_parts}
-use Rattle.cedar_conversion.specs.Table.{table_of}
+use Rattle.cedar_conversion.specs.strict.Table.{table_of}
 use Rattle.cedar_policy_conversion.proofs.ConditionFree.{template_free}
 use Rattle.cedar_conversion.proofs.Outcomes.{gives_at}
 use Rattle.cedar_policy_conversion.proofs.templates.static_policy.Goals as goal

@@ -1,5 +1,5 @@
 use Rattle.std.proofs.Common.{refl}
-use Rattle.cedar_syntax.specs.Forms.{listed_expr}
+use Rattle.cedar_syntax.specs.trees.Forms.{listed_expr}
 use Rattle.cedar_conversion.proofs.Loops.{take_whole}
 use Rattle.cedar_conversion.proofs.Outcomes.{items_grown}
 use Rattle.cedar_policy_conversion.proofs.ReferredNodes.{entity_next}

@@ -1,7 +1,7 @@
 use Rattle.std.proofs.Common.{map, take}
-use Rattle.cedar_syntax.specs.Forms.{listed_expr, parts_of}
+use Rattle.cedar_syntax.specs.trees.Forms.{listed_expr, parts_of}
 use Rattle.cedar_policy_conversion.specs.References.{entities}
-use Rattle.cedar_conversion.specs.Seen.{Gives}
+use Rattle.cedar_conversion.specs.outcome.Seen.{Gives}
 use Rattle.cedar_conversion.proofs.Identifiers.{items_of}
 use Rattle.cedar_policy_conversion.proofs.to_ref_or_refs.entities.Given as goal
 

@@ -1,4 +1,4 @@
-use Rattle.cedar_conversion.specs.Seen.{itself}
+use Rattle.cedar_conversion.specs.outcome.Seen.{itself}
 use Rattle.cedar_conversion.proofs.Outcomes.{gives_at, refuses}
 use Rattle.cedar_policy_conversion.proofs.ReferredNodes as node
 use Rattle.cedar_policy_conversion.proofs.to_ref_or_refs.referred_at.Goals as goal

@@ -1,6 +1,6 @@
 use Rattle.std.proofs.Common.{string_bytes, sym, ap, ◌∙◌}
 use Rattle.std.specs.Option.{option_copied}
-use Rattle.cedar_policy_parser.proofs.Formatting.{empty_line}
+use Rattle.cedar_policy_parser.proofs.meaning.Formatting.{empty_line}
 use Rattle.cedar_policy_parser.proofs.formatter.add_line.Goals as goal
 
 pub returns-in-None : goal.returns-in-None

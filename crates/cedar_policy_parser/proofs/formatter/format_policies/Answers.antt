@@ -1,7 +1,7 @@
 use Rattle.std.proofs.Common.{string_bytes}
 use Rattle.cedar_policy_store.specs.PlaceFree.{set_meaning}
-use Rattle.cedar_conversion.specs.Table.{table_of}
-use Rattle.cedar_policy_parser.proofs.Formatting.{no_tree, mean_the_same, stay, once_more}
+use Rattle.cedar_conversion.specs.strict.Table.{table_of}
+use Rattle.cedar_policy_parser.proofs.meaning.Formatting.{no_tree, mean_the_same, stay, once_more}
 use Rattle.cedar_policy_parser.proofs.formatter.format_policies.Goals as goal
 
 pub returns-in_err-tree-clause-formats : goal.returns-in_err-tree-clause-formats

@@ -1,4 +1,4 @@
-use Rattle.cedar_policy_parser.proofs.Formatting.{line_next}
+use Rattle.cedar_policy_parser.proofs.meaning.Formatting.{line_next}
 use Rattle.cedar_conversion.proofs.Loops.{take_whole}
 use Rattle.cedar_policy_parser.proofs.formatter.lines.Goals as goal
 

@@ -1,5 +1,5 @@
 use Rattle.std.proofs.Common.{◌≡◌, string_bytes, take}
-use Rattle.cedar_grammar.specs.Formatted.{lines_text}
+use Rattle.cedar_grammar.specs.printing.Formatted.{lines_text}
 use Rattle.cedar_policy_parser.proofs.formatter.lines.Given as goal
 
 abbrev pub invariant-loop-policy : goal.invariant-loop-policy

@@ -1,4 +1,4 @@
-use Rattle.cedar_grammar.specs.Place.{placed}
+use Rattle.cedar_grammar.specs.grammar.Place.{placed}
 use Rattle.cedar_policy_parser.proofs.sound.Whole.{sound_value}
 use Rattle.cedar_policy_parser.proofs.laws.converted_is_meant.Goals as goal
 

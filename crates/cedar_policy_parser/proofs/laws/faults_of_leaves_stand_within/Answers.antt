@@ -1,4 +1,4 @@
-use Rattle.cedar_policy_parser.proofs.StandingAlone.{primary_faults, entity_faults, ident_faults}
+use Rattle.cedar_policy_parser.proofs.standing.StandingAlone.{primary_faults, entity_faults, ident_faults}
 use Rattle.cedar_policy_parser.proofs.laws.faults_of_leaves_stand_within.Goals as goal
 
 pub returns-clause-strings : goal.returns-clause-strings

@@ -1,4 +1,4 @@
-use Rattle.cedar_grammar.specs.Place.{placed}
+use Rattle.cedar_grammar.specs.grammar.Place.{placed}
 use Rattle.cedar_policy_parser.proofs.complete.Whole.{complete}
 use Rattle.cedar_policy_parser.proofs.laws.meant_is_converted.Goals as goal
 

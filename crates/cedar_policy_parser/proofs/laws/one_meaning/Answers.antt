@@ -1,4 +1,4 @@
-use Rattle.cedar_policy_parser.proofs.Meaning.{one_value}
+use Rattle.cedar_policy_parser.proofs.meaning.Meaning.{one_value}
 use Rattle.cedar_policy_parser.proofs.laws.one_meaning.Goals as goal
 
 pub returns : goal.returns

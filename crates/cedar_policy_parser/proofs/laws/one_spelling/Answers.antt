@@ -1,4 +1,4 @@
-use Rattle.cedar_policy_parser.proofs.Spellings.{named, spelled}
+use Rattle.cedar_policy_parser.proofs.meaning.Spellings.{named, spelled}
 use Rattle.cedar_policy_parser.proofs.laws.one_spelling.Goals as goal
 
 pub returns : goal.returns

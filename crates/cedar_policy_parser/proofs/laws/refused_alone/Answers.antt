@@ -1,5 +1,5 @@
 use Rattle.cedar_policy_parser.proofs.Alone as alone
-use Rattle.cedar_policy_parser.proofs.OwnPlaces as places
+use Rattle.cedar_policy_parser.proofs.standing.OwnPlaces as places
 use Rattle.cedar_policy_parser.proofs.laws.refused_alone.Goals as goal
 
 pub returns-clause-ambiguous : goal.returns-clause-ambiguous

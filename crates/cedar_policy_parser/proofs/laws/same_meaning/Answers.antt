@@ -1,5 +1,5 @@
-use Rattle.cedar_grammar.specs.Place.{placed}
-use Rattle.cedar_policy_parser.proofs.Meaning.{same_value}
+use Rattle.cedar_grammar.specs.grammar.Place.{placed}
+use Rattle.cedar_policy_parser.proofs.meaning.Meaning.{same_value}
 use Rattle.cedar_policy_parser.proofs.sound.Whole.{sound_value}
 use Rattle.cedar_policy_parser.proofs.laws.same_meaning.Goals as goal
 

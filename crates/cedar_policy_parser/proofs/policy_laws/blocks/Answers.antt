@@ -1,4 +1,4 @@
-use Rattle.cedar_policy_parser.proofs.InBlocks.{policy_blocks, set_blocks}
+use Rattle.cedar_policy_parser.proofs.standing.InBlocks.{policy_blocks, set_blocks}
 use Rattle.cedar_policy_parser.proofs.policy_laws.blocks.Goals as goal
 
 pub returns-clause-set : goal.returns-clause-set

@@ -1,4 +1,4 @@
-use Rattle.cedar_policy_parser.proofs.RaisedLimit.{raised}
+use Rattle.cedar_policy_parser.proofs.meaning.RaisedLimit.{raised}
 use Rattle.cedar_policy_parser.proofs.policy_laws.old_meaning_is_kept.Goals as goal
 
 pub returns : goal.returns

@@ -1,4 +1,4 @@
-use Rattle.cedar_policy_parser.proofs.StandingTexts.{policy_faults, set_faults, member_faults, part_faults, member_part_faults}
+use Rattle.cedar_policy_parser.proofs.standing.StandingTexts.{policy_faults, set_faults, member_faults, part_faults, member_part_faults}
 use Rattle.cedar_policy_parser.proofs.policy_laws.policy_faults_stand_within.Goals as goal
 
 pub returns-clause-policies : goal.returns-clause-policies

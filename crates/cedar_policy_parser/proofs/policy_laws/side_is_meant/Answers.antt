@@ -1,4 +1,4 @@
-use Rattle.cedar_policy_parser.proofs.StaticMeaning.{left_meant, left_read, right_meant, right_read}
+use Rattle.cedar_policy_parser.proofs.meaning.StaticMeaning.{left_meant, left_read, right_meant, right_read}
 use Rattle.cedar_policy_parser.proofs.policy_laws.side_is_meant.Goals as goal
 
 pub returns-clause-static_policies : goal.returns-clause-static_policies

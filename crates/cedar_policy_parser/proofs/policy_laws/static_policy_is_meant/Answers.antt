@@ -1,4 +1,4 @@
-use Rattle.cedar_policy_parser.proofs.StaticMeaning.{static_meant, static_read}
+use Rattle.cedar_policy_parser.proofs.meaning.StaticMeaning.{static_meant, static_read}
 use Rattle.cedar_policy_parser.proofs.policy_laws.static_policy_is_meant.Goals as goal
 
 pub returns-clause-converted : goal.returns-clause-converted

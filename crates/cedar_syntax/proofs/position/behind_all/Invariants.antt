@@ -1,5 +1,5 @@
 use Rattle.std.proofs.Common.{◌≡◌, ◌≤◌, ◌+◌, take}
-use Rattle.cedar_syntax.specs.Position.{line_behind, column_behind}
+use Rattle.cedar_syntax.specs.places.Position.{line_behind, column_behind}
 use Rattle.cedar_syntax.proofs.position.behind_all.Given as goal
 
 -- the position is that behind the bytes so far; neither number is past theirs and one

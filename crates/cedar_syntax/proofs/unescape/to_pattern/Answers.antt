@@ -8,10 +8,10 @@ use Rattle.cedar_syntax.specs.declared.err.escape.EscapeError.{EscapeError}
 use Rattle.cedar_syntax.specs.declared.err.escape.UnescapeError.{UnescapeError}
 use Rattle.cedar_syntax.specs.declared.unescape.piece.PieceValue.{PieceValue}
 use Rattle.cedar_syntax.specs.declared.unescape.piece.PieceValue.TheVariants.{Nothing, Character, Fault}
-use Rattle.cedar_syntax.specs.EscapeFaults.{found_faults, fault_between}
-use Rattle.cedar_syntax.specs.Pattern.{character_elem, elem_of, is_escaped_star, pattern_fault_of}
-use Rattle.cedar_syntax.specs.Piece.{Placed}
-use Rattle.cedar_syntax.specs.PieceAhead.{piece_ahead, first_of, first_piece, begins_escaped_star}
+use Rattle.cedar_syntax.specs.strings.EscapeFaults.{found_faults, fault_between}
+use Rattle.cedar_syntax.specs.strings.Pattern.{character_elem, elem_of, is_escaped_star, pattern_fault_of}
+use Rattle.cedar_syntax.specs.strings.Piece.{Placed}
+use Rattle.cedar_syntax.specs.strings.PieceAhead.{piece_ahead, first_of, first_piece, begins_escaped_star}
 use Rattle.cedar_syntax.proofs.Answering.{answered, pattern_gives, pattern_tells, pattern_ok, pattern_err, pattern_succeeds, pattern_fails}
 use Rattle.cedar_syntax.proofs.Layouts.{step, goes_on_as, placed_between, finish, first_of-some, escaped_star}
 use Rattle.cedar_syntax.proofs.unescape.to_pattern.Goals as goal

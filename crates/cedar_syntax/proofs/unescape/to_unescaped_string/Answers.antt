@@ -5,8 +5,8 @@ use Rattle.cedar_syntax.specs.declared.err.escape.EscapeError.{EscapeError}
 use Rattle.cedar_syntax.specs.declared.err.escape.UnescapeError.{UnescapeError}
 use Rattle.cedar_syntax.specs.declared.unescape.piece.PieceValue.{PieceValue}
 use Rattle.cedar_syntax.specs.declared.unescape.piece.PieceValue.TheVariants.{Nothing, Character, Fault}
-use Rattle.cedar_syntax.specs.EscapeFaults.{found_faults, fault_between}
-use Rattle.cedar_syntax.specs.Piece.{Placed, unescaped_piece, piece_value_faults}
+use Rattle.cedar_syntax.specs.strings.EscapeFaults.{found_faults, fault_between}
+use Rattle.cedar_syntax.specs.strings.Piece.{Placed, unescaped_piece, piece_value_faults}
 use Rattle.cedar_syntax.proofs.Layouts.{step, goes_on_as, placed_between, finish}
 use Rattle.cedar_syntax.proofs.Answering.{answered, text_gives, text_tells, text_ok, text_err, text_succeeds, text_fails}
 use Rattle.cedar_syntax.proofs.unescape.to_unescaped_string.Goals as goal

@@ -1,7 +1,7 @@
 use Rattle.std.proofs.Common.{◌≡◌, ◌≤◌, length, string_bytes}
 use denote.Text.{Utf8}
 use denote.Shadow.{shadow}
-use Rattle.cedar_syntax.specs.EscapeFaults.{found_faults}
+use Rattle.cedar_syntax.specs.strings.EscapeFaults.{found_faults}
 use Rattle.cedar_syntax.proofs.Answering.{text_gives, text_tells}
 use Rattle.cedar_syntax.proofs.Layouts.{Continues}
 use Rattle.cedar_syntax.proofs.unescape.to_unescaped_string.Given as goal

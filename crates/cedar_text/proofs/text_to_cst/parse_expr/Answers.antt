@@ -1,6 +1,6 @@
-use Rattle.cedar_grammar.specs.LooseExpressions.{ReadsExpr}
-use Rattle.cedar_syntax.specs.UnlocatedTrees.{unlocated_expr}
-use Rattle.cedar_syntax.specs.Unplaced.{expr_tree}
+use Rattle.cedar_grammar.specs.grammar.LooseExpressions.{ReadsExpr}
+use Rattle.cedar_syntax.specs.trees.UnlocatedTrees.{unlocated_expr}
+use Rattle.cedar_syntax.specs.trees.Unplaced.{expr_tree}
 use Rattle.cedar_expression_machine.proofs.machines.WholeExpressions.{expressions_read}
 use Rattle.cedar_grammar.proofs.machines.Told.{follows, found_clause, only_clause, refused_clause, places_clause}
 use Rattle.cedar_grammar.proofs.ExpressionPlaces.{expr_places_lie}

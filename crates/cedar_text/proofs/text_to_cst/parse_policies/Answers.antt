@@ -1,7 +1,7 @@
-use Rattle.cedar_grammar.specs.LoosePolicies.{ReadsPolicies}
-use Rattle.cedar_syntax.specs.UnlocatedTrees.{unlocated_policies}
-use Rattle.cedar_syntax.specs.Unplaced.{policies_tree}
-use Rattle.cedar_grammar.specs.MendedFaults.{PoliciesBefore}
+use Rattle.cedar_grammar.specs.grammar.LoosePolicies.{ReadsPolicies}
+use Rattle.cedar_syntax.specs.trees.UnlocatedTrees.{unlocated_policies}
+use Rattle.cedar_syntax.specs.trees.Unplaced.{policies_tree}
+use Rattle.cedar_grammar.specs.faults.MendedFaults.{PoliciesBefore}
 use Rattle.cedar_policy_machine.proofs.machines.MendedClauses.{found_clause, only_clause, refused_clause, leftmost_clause}
 use Rattle.cedar_text.proofs.machines.PolicyParts.{policies_mend}
 use Rattle.cedar_grammar.proofs.machines.Told.{places_clause}

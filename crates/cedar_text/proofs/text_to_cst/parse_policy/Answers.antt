@@ -1,7 +1,7 @@
-use Rattle.cedar_grammar.specs.LoosePolicies.{ReadsPolicy}
-use Rattle.cedar_syntax.specs.UnlocatedTrees.{unlocated_policy}
-use Rattle.cedar_syntax.specs.Unplaced.{policy_tree}
-use Rattle.cedar_grammar.specs.MendedFaults.{NothingBefore}
+use Rattle.cedar_grammar.specs.grammar.LoosePolicies.{ReadsPolicy}
+use Rattle.cedar_syntax.specs.trees.UnlocatedTrees.{unlocated_policy}
+use Rattle.cedar_syntax.specs.trees.Unplaced.{policy_tree}
+use Rattle.cedar_grammar.specs.faults.MendedFaults.{NothingBefore}
 use Rattle.cedar_policy_machine.proofs.machines.MendedClauses.{found_clause, only_clause, refused_clause, leftmost_clause}
 use Rattle.cedar_text.proofs.machines.PolicyParts.{policy_mends}
 use Rattle.cedar_grammar.proofs.machines.Told.{places_clause}

@@ -1,6 +1,6 @@
-use Rattle.cedar_grammar.specs.LooseExpressions.{ReadsPrimary}
-use Rattle.cedar_syntax.specs.UnlocatedTrees.{unlocated_primary}
-use Rattle.cedar_syntax.specs.Unplaced.{primary_tree}
+use Rattle.cedar_grammar.specs.grammar.LooseExpressions.{ReadsPrimary}
+use Rattle.cedar_syntax.specs.trees.UnlocatedTrees.{unlocated_primary}
+use Rattle.cedar_syntax.specs.trees.Unplaced.{primary_tree}
 use Rattle.cedar_expression_machine.proofs.machines.WholeExpressions.{primaries_read}
 use Rattle.cedar_grammar.proofs.machines.Told.{follows, found_clause, only_clause, refused_clause, places_clause}
 use Rattle.cedar_grammar.proofs.ExpressionPlaces.{primary_places_lie}

@@ -1,6 +1,6 @@
-use Rattle.cedar_grammar.specs.LooseWords.{ReadsRef}
-use Rattle.cedar_syntax.specs.Unlocated.{unlocated_ref}
-use Rattle.cedar_syntax.specs.Unplaced.{ref_tree}
+use Rattle.cedar_grammar.specs.grammar.LooseWords.{ReadsRef}
+use Rattle.cedar_syntax.specs.trees.Unlocated.{unlocated_ref}
+use Rattle.cedar_syntax.specs.trees.Unplaced.{ref_tree}
 use Rattle.cedar_expression_machine.proofs.machines.Entries.{refs_read}
 use Rattle.cedar_grammar.proofs.machines.Told.{follows, found_clause, only_clause, refused_clause, places_clause}
 use Rattle.cedar_grammar.proofs.WordPlaces.{ref_places_lie}

@@ -1,5 +1,5 @@
 use Rattle.std.proofs.Common.{sym}
-use Rattle.cedar_conversion.specs.Outcome.{fault_outcome}
+use Rattle.cedar_conversion.specs.outcome.Outcome.{fault_outcome}
 use Rattle.cedar_conversion.specs.machines.Views.{empty_view}
 use Rattle.cedar_conversion.proofs.FaultLists.{one_behind, one_told}
 use Rattle.cedar_conversion.proofs.Outcomes.{both_refused, gives_at, kept_refusal, passed_on, refused_next}

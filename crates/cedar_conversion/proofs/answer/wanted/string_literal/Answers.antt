@@ -1,7 +1,7 @@
 use Rattle.std.proofs.Common.{ap, ◌∙◌}
-use Rattle.cedar_syntax.specs.Forms.{primary_form}
+use Rattle.cedar_syntax.specs.trees.Forms.{primary_form}
 use Rattle.cedar_syntax.proofs.FormLevels.{primary_literal, primary_ref, primary_name, primary_slot, primary_expr, primary_list, primary_inits}
-use Rattle.cedar_conversion.specs.Seen.{itself}
+use Rattle.cedar_conversion.specs.outcome.Seen.{itself}
 use Rattle.cedar_conversion.proofs.Outcomes.{gives_at, refuses}
 use Rattle.cedar_conversion.proofs.StringLiterals.{string_at, no_string}
 use Rattle.cedar_conversion.proofs.answer.wanted.string_literal.Goals as goal

@@ -1,4 +1,4 @@
-use Rattle.cedar_conversion.specs.Seen.{itself}
+use Rattle.cedar_conversion.specs.outcome.Seen.{itself}
 use Rattle.cedar_conversion.proofs.Outcomes.{both_refused, passed_on, refused_next}
 use Rattle.cedar_conversion.proofs.leaves.entities.reference.Goals as goal
 

@@ -1,5 +1,5 @@
 use Rattle.std.proofs.Common.{sym, ap, ◌∙◌}
-use Rattle.cedar_syntax.specs.Forms.{primary_form}
+use Rattle.cedar_syntax.specs.trees.Forms.{primary_form}
 use Rattle.cedar_syntax.proofs.FormLevels.{primary_literal, primary_ref, primary_name, primary_slot, primary_expr, primary_list, primary_inits}
 use Rattle.cedar_conversion.proofs.Bare.{alone_at}
 use Rattle.cedar_conversion.proofs.leaves.literals.literal_alone.Goals as goal

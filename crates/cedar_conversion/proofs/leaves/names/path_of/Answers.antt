@@ -1,5 +1,5 @@
 use Rattle.std.proofs.Common.{refl}
-use Rattle.cedar_conversion.specs.Names.{valid_ident}
+use Rattle.cedar_conversion.specs.parts.Names.{valid_ident}
 use Rattle.cedar_conversion.proofs.Identifiers.{all_next}
 use Rattle.cedar_conversion.proofs.Loops.{take_whole}
 use Rattle.cedar_conversion.proofs.Outcomes.{items_grown}

@@ -1,6 +1,6 @@
 use Rattle.std.proofs.Common.{take}
-use Rattle.cedar_conversion.specs.Names.{all_of, valid_ident}
-use Rattle.cedar_conversion.specs.Seen.{Gives}
+use Rattle.cedar_conversion.specs.parts.Names.{all_of, valid_ident}
+use Rattle.cedar_conversion.specs.outcome.Seen.{Gives}
 use Rattle.cedar_conversion.proofs.Identifiers.{items_of}
 use Rattle.cedar_conversion.proofs.leaves.names.path_of.Given as goal
 

@@ -1,5 +1,5 @@
 use Rattle.std.proofs.Common.{map}
-use Rattle.cedar_syntax.specs.Forms.{listed_access, parts_of}
+use Rattle.cedar_syntax.specs.trees.Forms.{listed_access, parts_of}
 use Rattle.cedar_conversion.specs.machines.Applied.{seen_attributes}
 use Rattle.cedar_conversion.proofs.Outcomes.{gives_at, refuses}
 use Rattle.cedar_conversion.proofs.RightSides.{literal_begins, name_begins, ref_begins, slot_begins, parens_begin, list_begins, inits_begin, no_primary}

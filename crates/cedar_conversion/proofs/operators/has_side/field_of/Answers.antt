@@ -1,4 +1,4 @@
-use Rattle.cedar_conversion.specs.Seen.{itself}
+use Rattle.cedar_conversion.specs.outcome.Seen.{itself}
 use Rattle.cedar_conversion.proofs.Fields.{is_call, is_field, is_index}
 use Rattle.cedar_conversion.proofs.Outcomes.{gives_at, refuses}
 use Rattle.cedar_conversion.proofs.operators.has_side.field_of.Goals as goal

@@ -1,4 +1,4 @@
-use Rattle.cedar_syntax.specs.Forms.{mult_form}
+use Rattle.cedar_syntax.specs.trees.Forms.{mult_form}
 use Rattle.cedar_conversion.specs.machines.Applied.{seen_attributes}
 use Rattle.cedar_conversion.proofs.Outcomes.{gives_at, refuses}
 use Rattle.cedar_conversion.proofs.RightSides.{mult_side, no_side, on_none, on_part}

@@ -1,4 +1,4 @@
-use Rattle.cedar_syntax.specs.Forms.{unary_form}
+use Rattle.cedar_syntax.specs.trees.Forms.{unary_form}
 use Rattle.cedar_conversion.specs.machines.Applied.{seen_attributes}
 use Rattle.cedar_conversion.proofs.Outcomes.{gives_at, refuses}
 use Rattle.cedar_conversion.proofs.RightSides.{unary_side, no_side, on_none, on_part}

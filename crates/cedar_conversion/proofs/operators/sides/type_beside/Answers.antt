@@ -1,5 +1,5 @@
-use Rattle.cedar_conversion.specs.Conversion.{beside_type}
-use Rattle.cedar_conversion.specs.Seen.{itself}
+use Rattle.cedar_conversion.specs.outcome.Conversion.{beside_type}
+use Rattle.cedar_conversion.specs.outcome.Seen.{itself}
 use Rattle.cedar_conversion.specs.machines.Applied.{seen_type}
 use Rattle.cedar_conversion.proofs.Outcomes.{both_gives, given_next, gives_at}
 use Rattle.cedar_conversion.proofs.operators.sides.type_beside.Goals as goal

@@ -1,4 +1,4 @@
-use Rattle.cedar_syntax.specs.Tree.{beside}
+use Rattle.cedar_syntax.specs.trees.Tree.{beside}
 use Rattle.cedar_conversion.proofs.Parts.{call_made}
 use Rattle.cedar_conversion.proofs.primaries.collections.call_from.Goals as goal
 

@@ -1,4 +1,4 @@
-use Rattle.cedar_conversion.specs.Seen.{itself}
+use Rattle.cedar_conversion.specs.outcome.Seen.{itself}
 use Rattle.cedar_conversion.specs.machines.Applied.{seen_pair}
 use Rattle.cedar_conversion.proofs.Outcomes.{both_gives, given_next, gives_at}
 use Rattle.cedar_conversion.proofs.primaries.collections.pair_from.Goals as goal

@@ -1,4 +1,4 @@
-use Rattle.cedar_conversion.specs.Outcome.{expression_construction_error}
+use Rattle.cedar_conversion.specs.outcome.Outcome.{expression_construction_error}
 use Rattle.cedar_conversion.specs.machines.Views.{plain}
 use Rattle.cedar_conversion.proofs.Outcomes.{gives_at, refuses}
 use Rattle.cedar_conversion.proofs.Parts.{record_made, record_refused}

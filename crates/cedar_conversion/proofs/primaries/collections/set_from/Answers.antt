@@ -1,4 +1,4 @@
-use Rattle.cedar_syntax.specs.Tree.{beside}
+use Rattle.cedar_syntax.specs.trees.Tree.{beside}
 use Rattle.cedar_conversion.specs.machines.Views.{plain}
 use Rattle.cedar_conversion.proofs.Outcomes.{gives_at}
 use Rattle.cedar_conversion.proofs.Parts.{set_made}

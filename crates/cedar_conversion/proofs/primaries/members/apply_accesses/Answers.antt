@@ -2,10 +2,10 @@ use Rattle.std.proofs.Common.{◌≤◌, ◌∙◌, length, ap, arith}
 use Rattle.std.proofs.lemmas.Iterator.Adapters.{YieldsList-from_vec}
 use Rattle.std.proofs.lemmas.Iterator.Consumers.{YieldsList-turn, YieldsList-end}
 use Rattle.std.proofs.lemmas.List.{length_push}
-use Rattle.cedar_conversion.specs.Table.{table_of}
+use Rattle.cedar_conversion.specs.strict.Table.{table_of}
 use Rattle.cedar_conversion.specs.machines.Views.{plain}
 use Rattle.cedar_conversion.proofs.Accesses.{access_given, access_refused, none_left}
-use Rattle.cedar_conversion.specs.Held.{expression}
+use Rattle.cedar_conversion.specs.outcome.Held.{expression}
 use Rattle.cedar_conversion.proofs.Inverted.{given_as, ok_is}
 use Rattle.cedar_conversion.proofs.Outcomes.{gives_at, passed_on}
 use Rattle.cedar_conversion.proofs.primaries.members.apply_accesses.Goals as goal

@@ -1,5 +1,5 @@
 use Rattle.std.proofs.Common.{◌≡◌, length}
-use Rattle.cedar_conversion.specs.Table.{table_of}
+use Rattle.cedar_conversion.specs.strict.Table.{table_of}
 use Rattle.cedar_conversion.proofs.Accesses.{given_by, left_to}
 use Rattle.cedar_conversion.proofs.primaries.members.apply_accesses.Given as goal
 

@@ -1,5 +1,5 @@
 use Rattle.std.proofs.Common.{ap}
-use Rattle.cedar_conversion.specs.Table.{table_of}
+use Rattle.cedar_conversion.specs.strict.Table.{table_of}
 use Rattle.cedar_conversion.specs.machines.Applied.{seen_access, seen_accesses}
 use Rattle.cedar_conversion.proofs.Accesses.{field_of_name}
 use Rattle.cedar_conversion.proofs.primaries.members.of_name.Goals as goal

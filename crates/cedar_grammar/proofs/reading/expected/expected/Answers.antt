@@ -1,5 +1,5 @@
 use Rattle.std.proofs.Common.{◌≡◌, IfOk, subst}
-use Rattle.cedar_grammar.specs.Expected.{by_name}
+use Rattle.cedar_grammar.specs.faults.Expected.{by_name}
 use Rattle.cedar_grammar.specs.machines.Door.{allowed_by}
 use Rattle.cedar_grammar.specs.machines.Judged.{picked_kinds}
 use Rattle.cedar_grammar.proofs.reading.expected.expected.Goals as goal

@@ -1,6 +1,6 @@
 use Rattle.std.proofs.Common.{subst}
-use Rattle.cedar_syntax.specs.NonEmpty.{list_of}
-use Rattle.cedar_grammar.specs.MendedFaults.{fault_of}
+use Rattle.cedar_syntax.specs.faults.NonEmpty.{list_of}
+use Rattle.cedar_grammar.specs.faults.MendedFaults.{fault_of}
 use Rattle.cedar_grammar.specs.machines.Door.{machine_of, allowed_by}
 use Rattle.cedar_grammar.specs.machines.Mending.{bad_fault, recovers_of, AreAllFaults, IsToldBy}
 use Rattle.cedar_grammar.proofs.reading.mending.parse_on.Goals as goal

@@ -1,7 +1,7 @@
 use Rattle.std.proofs.Common.{Ok, ap, sym, ◌∙◌}
 use Rattle.cedar_expressions.specs.declared.atoms.Var.TheVariants as vars
 use Rattle.cedar_syntax.specs.declared.cst.RelOp.TheVariants as rel
-use Rattle.cedar_conversion.specs.Table.{table_of}
+use Rattle.cedar_conversion.specs.strict.Table.{table_of}
 use Rattle.cedar_policy_conversion.specs.References.{one_or_multiple}
 use Rattle.cedar_policy_conversion.proofs.LoneValues.{made_right}
 use Rattle.cedar_policy_conversion.proofs.scope.action.action_in.Goals as goal

@@ -1,5 +1,5 @@
-use Rattle.cedar_conversion.specs.Seen.{itself}
-use Rattle.cedar_conversion.specs.Table.{table_of}
+use Rattle.cedar_conversion.specs.outcome.Seen.{itself}
+use Rattle.cedar_conversion.specs.strict.Table.{table_of}
 use Rattle.cedar_conversion.proofs.Outcomes.{gives_at}
 use Rattle.cedar_policy_conversion.specs.References.{entity_or_slot}
 use Rattle.cedar_policy_conversion.proofs.LoneValues.{made_right}

@@ -1,4 +1,4 @@
-use Rattle.cedar_syntax.specs.Kept.{rules_of}
+use Rattle.cedar_syntax.specs.messages.Kept.{rules_of}
 use Rattle.cedar_syntax.proofs.KeptLemmas.{texts, order_of, forms_of, says_nothing, says_text, no_names}
 use Rattle.cedar_syntax.proofs.err.expected.expected_to_string.Goals as goal
 

@@ -1,6 +1,6 @@
 use Rattle.std.proofs.Common.{sym, subst, List, ℕ, Bor}
 use Rattle.std.proofs.lemmas.Result.{IfOk-weaker}
-use Rattle.cedar_syntax.specs.Kept.{AreInOrder}
+use Rattle.cedar_syntax.specs.messages.Kept.{AreInOrder}
 use Rattle.cedar_syntax.proofs.KeptLemmas.{texts, in_order_texts}
 use Rattle.cedar_syntax.proofs.err.expected.in_order.Goals as goal
 

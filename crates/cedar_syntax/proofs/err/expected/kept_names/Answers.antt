@@ -1,7 +1,7 @@
 use Rattle.std.proofs.Common.{sym, ap, ◌∙◌, ℕ, List, Bool, bytes_eq, not, filter, Bor, ◌≡◌}
 use Rattle.std.specs.List.{list_any}
 use Rattle.std.proofs.lemmas.Result.{IfOk-weaker}
-use Rattle.cedar_syntax.specs.Kept.{rules_of}
+use Rattle.cedar_syntax.specs.messages.Kept.{rules_of}
 use Rattle.cedar_syntax.proofs.KeptLemmas.{kept-possible, kept-general, kept-rest}
 use Rattle.cedar_syntax.proofs.err.expected.kept_names.Goals as goal
 

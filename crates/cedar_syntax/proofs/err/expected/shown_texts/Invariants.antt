@@ -1,5 +1,5 @@
 use Rattle.std.proofs.Common.{◌≡◌, map, take, string_bytes}
-use Rattle.cedar_syntax.specs.Kept.{rules_of, shown_name}
+use Rattle.cedar_syntax.specs.messages.Kept.{rules_of, shown_name}
 use Rattle.cedar_syntax.proofs.err.expected.shown_texts.Given as goal
 
 abbrev pub invariant-loop-name : goal.invariant-loop-name

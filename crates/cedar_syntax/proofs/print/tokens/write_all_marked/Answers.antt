@@ -1,6 +1,6 @@
 use Rattle.std.proofs.Common.{subst, sym}
-use Rattle.cedar_syntax.specs.Printed.{Texts}
-use Rattle.cedar_syntax.specs.Printing.{HasPrinted}
+use Rattle.cedar_syntax.specs.printing.Printed.{Texts}
+use Rattle.cedar_syntax.specs.printing.Printing.{HasPrinted}
 use Rattle.cedar_syntax.proofs.Printing.{printed-append, marked-take}
 use Rattle.cedar_syntax.proofs.print.tokens.write_all_marked.Goals as goal
 

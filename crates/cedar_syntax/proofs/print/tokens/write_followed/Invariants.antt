@@ -1,6 +1,6 @@
 use Rattle.std.proofs.Common.{take}
 use Rattle.std.specs.Fmt.{IsPlainFormatter}
-use Rattle.cedar_syntax.specs.Printing.{HasPrinted, texts_before_mark}
+use Rattle.cedar_syntax.specs.printing.Printing.{HasPrinted, texts_before_mark}
 use Rattle.cedar_syntax.proofs.print.tokens.write_followed.Given as goal
 
 abbrev pub invariant-loop-item : goal.invariant-loop-item

@@ -1,5 +1,5 @@
 use Rattle.std.proofs.Common.{◌∷◌, [], ap, sym}
-use Rattle.cedar_syntax.specs.Printing.{option_behind_mark}
+use Rattle.cedar_syntax.specs.printing.Printing.{option_behind_mark}
 use Rattle.cedar_syntax.proofs.Printing.{prints-then, prints-of_eq}
 use Rattle.cedar_syntax.proofs.print.tokens.write_opt_marked.Goals as goal
 

@@ -1,7 +1,7 @@
 use Rattle.std.proofs.Common.{subst}
 use Rattle.std.proofs.lemmas.List.{replicate_more}
-use Rattle.cedar_syntax.specs.Printed.{Texts}
-use Rattle.cedar_syntax.specs.Printing.{HasPrinted}
+use Rattle.cedar_syntax.specs.printing.Printed.{Texts}
+use Rattle.cedar_syntax.specs.printing.Printing.{HasPrinted}
 use Rattle.cedar_syntax.proofs.Printing.{printed-append}
 use Rattle.cedar_syntax.proofs.print.tokens.write_repeated.Goals as goal
 

@@ -1,6 +1,6 @@
 use Rattle.std.proofs.Common.{replicate}
 use Rattle.std.specs.Fmt.{IsPlainFormatter}
-use Rattle.cedar_syntax.specs.Printing.{HasPrinted}
+use Rattle.cedar_syntax.specs.printing.Printing.{HasPrinted}
 use Rattle.cedar_syntax.proofs.print.tokens.write_repeated.Given as goal
 
 abbrev pub invariant-loop-i : goal.invariant-loop-i

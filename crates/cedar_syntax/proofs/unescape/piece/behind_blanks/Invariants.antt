@@ -2,7 +2,7 @@ use Rattle.std.proofs.Common.{◌≡◌, length}
 use denote.Text.{Utf8}
 use denote.Shadow.{shadow}
 use Rattle.std.specs.Str.{chars}
-use Rattle.cedar_syntax.specs.PieceAhead.{unskipped_text}
+use Rattle.cedar_syntax.specs.strings.PieceAhead.{unskipped_text}
 use Rattle.cedar_syntax.proofs.unescape.piece.behind_blanks.Given as goal
 
 -- what is left of the text has the same characters behind its blanks

@@ -2,7 +2,7 @@ use Rattle.std.proofs.Common.{◌≡◌, length}
 use denote.Text.{Utf8}
 use denote.Shadow.{shadow}
 use Rattle.std.specs.Str.{chars}
-use Rattle.cedar_syntax.specs.PieceAhead.{inside_braces, tally_of}
+use Rattle.cedar_syntax.specs.strings.PieceAhead.{inside_braces, tally_of}
 use Rattle.cedar_syntax.proofs.unescape.piece.inside_braces.Given as goal
 
 -- the digits so far and what is left of the text are read to the same end

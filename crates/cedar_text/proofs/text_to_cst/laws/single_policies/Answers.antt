@@ -1,4 +1,4 @@
-use Rattle.cedar_grammar.specs.MendedFaults.{NothingBefore}
+use Rattle.cedar_grammar.specs.faults.MendedFaults.{NothingBefore}
 use Rattle.cedar_grammar.specs.machines.Door.{outline_machine, no_tree}
 use Rattle.cedar_policy_machine.specs.machines.Policies.{one_policy_outline, one_policy_shape}
 use Rattle.cedar_text.specs.machines.PolicyParts.{policy_part_outlines, whole_policy}

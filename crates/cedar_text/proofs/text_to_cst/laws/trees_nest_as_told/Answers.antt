@@ -1,6 +1,6 @@
-use Rattle.cedar_grammar.specs.LooseExpressions.{ReadsExpr, ReadsPrimary}
-use Rattle.cedar_grammar.specs.LoosePolicies.{ReadsPolicies, ReadsPolicy}
-use Rattle.cedar_syntax.specs.Unplaced.{expr_tree, primary_tree, policy_tree, policies_tree}
+use Rattle.cedar_grammar.specs.grammar.LooseExpressions.{ReadsExpr, ReadsPrimary}
+use Rattle.cedar_grammar.specs.grammar.LoosePolicies.{ReadsPolicies, ReadsPolicy}
+use Rattle.cedar_syntax.specs.trees.Unplaced.{expr_tree, primary_tree, policy_tree, policies_tree}
 use Rattle.cedar_text.proofs.SpannedPolicies.{within, expr_within, primary_within, policy_within, policies_within}
 use Rattle.cedar_text.proofs.text_to_cst.laws.trees_nest_as_told.Goals as goal
 

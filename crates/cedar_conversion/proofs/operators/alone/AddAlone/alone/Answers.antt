@@ -1,9 +1,9 @@
 use Rattle.std.proofs.Common.{ap, sym, ◌∙◌}
 use Rattle.cedar_syntax.specs.declared.cst.Add.{out-Add}
-use Rattle.cedar_syntax.specs.Forms.{mult_form, add_operand}
-use Rattle.cedar_syntax.specs.Tree.{sum}
+use Rattle.cedar_syntax.specs.trees.Forms.{mult_form, add_operand}
+use Rattle.cedar_syntax.specs.trees.Tree.{sum}
 use Rattle.cedar_syntax.proofs.FormLevels.{add_out}
-use Rattle.cedar_conversion.specs.LonePart.{lone_part}
+use Rattle.cedar_conversion.specs.outcome.LonePart.{lone_part}
 use Rattle.cedar_conversion.proofs.LoneParts.{only_below, only_of_chain}
 use Rattle.cedar_conversion.proofs.operators.alone.AddAlone.alone.Goals as goal
 

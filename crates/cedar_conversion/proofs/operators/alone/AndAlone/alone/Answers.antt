@@ -1,8 +1,8 @@
 use Rattle.std.proofs.Common.{ap, sym, ◌∙◌}
-use Rattle.cedar_syntax.specs.Forms.{relation_form, and_operand}
-use Rattle.cedar_syntax.specs.Tree.{conjunction}
+use Rattle.cedar_syntax.specs.trees.Forms.{relation_form, and_operand}
+use Rattle.cedar_syntax.specs.trees.Tree.{conjunction}
 use Rattle.cedar_syntax.proofs.FormLevels.{and_out}
-use Rattle.cedar_conversion.specs.LonePart.{lone_part}
+use Rattle.cedar_conversion.specs.outcome.LonePart.{lone_part}
 use Rattle.cedar_conversion.proofs.LoneParts.{only_below, only_of_chain}
 use Rattle.cedar_conversion.proofs.operators.alone.AndAlone.alone.Goals as goal
 

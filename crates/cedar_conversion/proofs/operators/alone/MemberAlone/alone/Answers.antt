@@ -1,7 +1,7 @@
 use Rattle.std.proofs.Common.{ap, sym, ◌∙◌}
-use Rattle.cedar_syntax.specs.Forms.{primary_form, listed_access}
+use Rattle.cedar_syntax.specs.trees.Forms.{primary_form, listed_access}
 use Rattle.cedar_syntax.proofs.FormLevels.{member_out}
-use Rattle.cedar_conversion.specs.LonePart.{lone_part}
+use Rattle.cedar_conversion.specs.outcome.LonePart.{lone_part}
 use Rattle.cedar_conversion.proofs.LoneParts.{only_below, only_of_member}
 use Rattle.cedar_conversion.proofs.operators.alone.MemberAlone.alone.Goals as goal
 

@@ -1,9 +1,9 @@
 use Rattle.std.proofs.Common.{ap, sym, ◌∙◌}
 use Rattle.cedar_syntax.specs.declared.cst.Mult.{out-Mult}
-use Rattle.cedar_syntax.specs.Forms.{unary_form, mult_operand}
-use Rattle.cedar_syntax.specs.Tree.{product}
+use Rattle.cedar_syntax.specs.trees.Forms.{unary_form, mult_operand}
+use Rattle.cedar_syntax.specs.trees.Tree.{product}
 use Rattle.cedar_syntax.proofs.FormLevels.{mult_out}
-use Rattle.cedar_conversion.specs.LonePart.{lone_part}
+use Rattle.cedar_conversion.specs.outcome.LonePart.{lone_part}
 use Rattle.cedar_conversion.proofs.LoneParts.{only_below, only_of_chain}
 use Rattle.cedar_conversion.proofs.operators.alone.MultAlone.alone.Goals as goal
 

@@ -1,9 +1,9 @@
 use Rattle.std.proofs.Common.{ap, sym, ◌∙◌}
 use Rattle.cedar_syntax.specs.declared.cst.Or.{out-Or}
-use Rattle.cedar_syntax.specs.Forms.{and_form, or_operand}
-use Rattle.cedar_syntax.specs.Tree.{disjunction}
+use Rattle.cedar_syntax.specs.trees.Forms.{and_form, or_operand}
+use Rattle.cedar_syntax.specs.trees.Tree.{disjunction}
 use Rattle.cedar_syntax.proofs.FormLevels.{or_out}
-use Rattle.cedar_conversion.specs.LonePart.{lone_part}
+use Rattle.cedar_conversion.specs.outcome.LonePart.{lone_part}
 use Rattle.cedar_conversion.proofs.LoneParts.{only_below, only_of_chain}
 use Rattle.cedar_conversion.proofs.operators.alone.OrAlone.alone.Goals as goal
 

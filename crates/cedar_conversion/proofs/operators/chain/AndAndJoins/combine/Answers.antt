@@ -1,4 +1,4 @@
-use Rattle.cedar_syntax.specs.Tree.{and_and}
+use Rattle.cedar_syntax.specs.trees.Tree.{and_and}
 use Rattle.cedar_conversion.proofs.Outcomes.{gives_at}
 use Rattle.cedar_conversion.proofs.Parts.{and_made}
 use Rattle.cedar_conversion.proofs.operators.chain.AndAndJoins.combine.Goals as goal

@@ -1,4 +1,4 @@
-use Rattle.cedar_syntax.specs.Tree.{multiply}
+use Rattle.cedar_syntax.specs.trees.Tree.{multiply}
 use Rattle.cedar_conversion.proofs.Outcomes.{gives_at}
 use Rattle.cedar_conversion.proofs.Parts.{mult_made}
 use Rattle.cedar_conversion.proofs.operators.chain.MultOpJoins.combine.Goals as goal

@@ -1,4 +1,4 @@
-use Rattle.cedar_syntax.specs.Tree.{or_or}
+use Rattle.cedar_syntax.specs.trees.Tree.{or_or}
 use Rattle.cedar_conversion.proofs.Outcomes.{gives_at}
 use Rattle.cedar_conversion.proofs.Parts.{or_made}
 use Rattle.cedar_conversion.proofs.operators.chain.OrOrJoins.combine.Goals as goal

@@ -1,7 +1,7 @@
 use Rattle.std.proofs.Common.{◌≡◌, ap, ◌∙◌, Some, inl, inr}
 use Rattle.cedar_lexer.specs.Token.{lexeme_of}
 use Rattle.cedar_grammar.specs.declared.reading.extent.Extent.{Extent}
-use Rattle.cedar_grammar.specs.Place.{joint_extent}
+use Rattle.cedar_grammar.specs.grammar.Place.{joint_extent}
 use Rattle.cedar_expression_machine.proofs.expressions.Acted.{field_read}
 use Rattle.cedar_expression_machine.proofs.expressions.PlannedActs.{is_field}
 use Rattle.cedar_expression_machine.proofs.expression.state.State.read_field.Goals as goal

@@ -1,0 +1,7 @@
+pub mod Causes
+pub mod Conversion
+pub mod Held
+pub mod LonePart
+pub mod Outcome
+pub mod Places
+pub mod Seen

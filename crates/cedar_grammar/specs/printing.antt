@@ -1,0 +1,3 @@
+pub mod Formatted
+pub mod PrintLaw
+pub mod SameWords

@@ -1,0 +1,9 @@
+pub mod Enclosed
+pub mod Formatting
+pub mod Meaning
+pub mod NoSlash
+pub mod OneSet
+pub mod RaisedLimit
+pub mod Spellings
+pub mod StaticMeaning
+pub mod VariedTexts

@@ -1,0 +1,14 @@
+pub mod Fitting
+pub mod InBlocks
+pub mod Nested
+pub mod NestedPolicies
+pub mod NestedTrees
+pub mod OwnPlaces
+pub mod Standing
+pub mod StandingAlone
+pub mod StandingLeaves
+pub mod StandingMembers
+pub mod StandingPolicies
+pub mod StandingScopes
+pub mod StandingTexts
+pub mod StandingTrees

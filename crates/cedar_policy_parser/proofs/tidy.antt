@@ -1,0 +1,4 @@
+pub mod Tidy
+pub mod TidyPolicies
+pub mod TidyTrees
+pub mod TidyWords

@@ -1,0 +1,6 @@
+pub mod Formatted
+pub mod OldMeaning
+pub mod StandsWhole
+pub mod StrictPolicy
+pub mod StrictScope
+pub mod VariedTexts

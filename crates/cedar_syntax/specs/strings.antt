@@ -1,0 +1,5 @@
+pub mod EscapeFaults
+pub mod Pattern
+pub mod Piece
+pub mod PieceAhead
+pub mod UnescapeFailure

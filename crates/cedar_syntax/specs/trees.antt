@@ -1,0 +1,10 @@
+pub mod Forms
+pub mod Located
+pub mod Node
+pub mod Slots
+pub mod Tree
+pub mod TreePlaces
+pub mod Trees
+pub mod Unlocated
+pub mod UnlocatedTrees
+pub mod Unplaced
