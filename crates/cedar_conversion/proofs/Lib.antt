@@ -11,6 +11,7 @@ pub mod Loops
 pub mod Nodes
 pub mod Outcomes
 pub mod Parts
+pub mod PlainText
 pub mod Quoted
 pub mod RightSides
 pub mod Signed

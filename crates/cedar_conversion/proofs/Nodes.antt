@@ -34,6 +34,8 @@ use Rattle.cedar_syntax.specs.trees.Located.{Located, Form}
 use Rattle.cedar_syntax.specs.trees.Tree.{disjunction, conjunction, relation, sum, product}
 use Rattle.cedar_syntax.proofs.FormLevels.{expr_out, impl_out, data_or, data_if, or_out, and_out, relation_common, relation_has, relation_like, relation_typed, add_out, mult_out, unary_out, member_out, primary_literal, primary_ref, primary_name, primary_slot, primary_expr, primary_list, primary_inits, access_field, access_call, access_index, init_out}
 use Rattle.cedar_conversion.specs.outcome.Conversion.{outcome, form_outcome, operands, chain_outcome, conditional_outcome, signs_outcome, number_in, lone_literal, literal_outcome, expression_at, tree_place, accesses_outcome, pairs_outcome, with_attributes, beside_type, match_outcome, type_test_outcome, type_within_outcome, set_value_outcome, record_outcome, access_outcome, access_form_outcome, pair_outcome, pair_form_outcome, value_outcome, bodies}
+use Rattle.cedar_conversion.specs.machines.Views.{alike_outcome}
+use Rattle.cedar_conversion.proofs.Parts.{alike_chain}
 use Rattle.cedar_conversion.specs.parts.HasSide.{right_side}
 use Rattle.cedar_conversion.specs.parts.Leaves.{name_leaf, slot_leaf, entity_leaf}
 use Rattle.cedar_conversion.specs.outcome.LonePart.{lone_part, no_sign}
@@ -111,10 +113,19 @@ pub or_node : (e : Extensions) (place : Option Loc) (d : Or)
 unfolding form_outcome
 or_node e place d = ap (λ t. form_outcome e place t) (or_out d)
 
+-- the same, since only relations are limited
+pub or_alike : (e : Extensions) (place : Option Loc) (d : Or)
+    → form_outcome e place (or_form d) ≡ next (both (outcome e (located and_form (out-Or d).initial)) (operands e place (parts_of (map or_operand (out-Or d).extended)))) (alike_outcome disjunction place)
+or_alike e place d = or_node e place d ∙ alike_chain disjunction place (parts_of (map or_operand (out-Or d).extended)) (outcome e (located and_form (out-Or d).initial)) (operands e place (parts_of (map or_operand (out-Or d).extended))) refl
+
 pub and_node : (e : Extensions) (place : Option Loc) (d : And)
     → form_outcome e place (and_form d) ≡ chain_outcome conjunction place (parts_of (map and_operand d.extended)) (outcome e (located relation_form d.initial)) (operands e place (parts_of (map and_operand d.extended)))
 unfolding form_outcome
 and_node e place d = ap (λ t. form_outcome e place t) (and_out d)
+
+pub and_alike : (e : Extensions) (place : Option Loc) (d : And)
+    → form_outcome e place (and_form d) ≡ next (both (outcome e (located relation_form d.initial)) (operands e place (parts_of (map and_operand d.extended)))) (alike_outcome conjunction place)
+and_alike e place d = and_node e place d ∙ alike_chain conjunction place (parts_of (map and_operand d.extended)) (outcome e (located relation_form d.initial)) (operands e place (parts_of (map and_operand d.extended))) refl
 
 pub common_node : (e : Extensions) (place : Option Loc) (d : Relation) (a : Node (Option Add)) (xs : List (RelOp × Node (Option Add))) → d ≡ relations.Common a xs
     → form_outcome e place (relation_form d) ≡ chain_outcome relation place (parts_of (map relation_operand xs)) (outcome e (located add_form a)) (operands e place (parts_of (map relation_operand xs)))

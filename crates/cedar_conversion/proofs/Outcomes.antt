@@ -16,7 +16,7 @@ use Rattle.cedar_conversion.specs.outcome.Conversion.{Part, operands, with_part,
 use Rattle.cedar_conversion.specs.strict.Extensions.{Extensions}
 use Rattle.cedar_conversion.specs.outcome.Outcome.{Kind, Outcome, both, next, fault_outcome, item_more}
 use Rattle.cedar_conversion.specs.outcome.Seen.{Refuses, Gives, itself, named_faults, named_fault}
-use Rattle.cedar_conversion.specs.machines.Views.{TellsAlone, Grows, one_more, rest_view}
+use Rattle.cedar_conversion.specs.machines.Views.{TellsAlone, Grows, alike_view, refused, one_more, rest_view}
 use Rattle.cedar_conversion.proofs.Loops.{take_next, map_snoc}
 
 -- ---- faults
@@ -59,6 +59,10 @@ pub next_next : {X Y Z : Type 0} (o : Outcome X) (f : X → Outcome Y) (g : Y �
 next_next (Ok x) f g = refl
 next_next (Err fs) f g = refl
 
+pub both_with : {X Y Z : Type 0} (x : Outcome X) (y : Y) (f : X × Y → Outcome Z) → next (both x (Ok y)) f ≡ next x (λ h. f (h, y))
+both_with (Ok h) y f = refl
+both_with (Err fs) y f = refl
+
 joined_faults : (es fs gs : List ParseError) → es ≡ fs ++ gs → named_faults fs ++ named_faults gs ≡ named_faults es
 joined_faults es fs gs e = sym (told-append fs gs) ∙ ap named_faults (sym e)
 
@@ -73,6 +77,16 @@ both_refused u v (Ok a) (Err (Errors gs)) x y (Errors es) h k t = rw (h, k) (ap 
 both_refused u v (Err (Errors gs)) (Ok b) x y (Errors es) h k t = rw (h, k) (ap (λ fs. Err (named_faults fs)) (sym (t.0 ∙ append-nil (faults_of gs))))
 both_refused u v (Err (Errors gs)) (Err (Memory e)) x y (Errors es) h k t = absurd (t.2 tt)
 both_refused u v (Err (Errors fs)) (Err (Errors gs)) x y (Errors es) h k t = rw (h, k) (ap Err (joined_faults (faults_of es) (faults_of fs) (faults_of gs) t.0))
+
+-- the same of a failure behind a part
+pub behind_refused : {A X Y : Type 0} (u : A → X) (a : Result A Failure) (failure : Failure) (x : Outcome X) (y : Outcome Y) (f : Failure) → Gives u a x → Refuses failure y → TellsBoth f a (refused failure)
+    → Refuses f (both x y)
+behind_refused u a g x y (Memory e) h k t = tt
+behind_refused u (Ok a) (Memory e) x y (Errors es) h k t = absurd (t.2 tt)
+behind_refused u (Ok a) (Errors gs) x y (Errors es) h k t = rw (h, k) (ap (λ fs. Err (named_faults fs)) (sym t.0))
+behind_refused u (Err (Memory e)) g x y (Errors es) h k t = absurd (t.1 tt)
+behind_refused u (Err (Errors fs)) (Memory e) x y (Errors es) h k t = absurd (t.2 tt)
+behind_refused u (Err (Errors fs)) (Errors gs) x y (Errors es) h k t = rw (h, k) (ap Err (joined_faults (faults_of es) (faults_of fs) (faults_of gs) t.0))
 
 pub both_given : {A B X Y : Type 0} (u : A → X) (v : B → Y) (a : Result A Failure) (b : Result B Failure) (x : Outcome X) (y : Outcome Y) (p : A) (q : B) → Gives u a x → Gives v b y → a ≡ Ok p → b ≡ Ok q
     → both x y ≡ Ok (u p, v q)
@@ -119,6 +133,11 @@ gives_left u place r o p i e h = rw (i, e) h
 pub given_in : {X Y : Type 0} (u : X → Y) (r place : Result X Failure) (o : Outcome Y) → r ≡ place → Gives u place o → Gives u r o
 given_in u r place o i h = rw i h
 
+-- what refuses what is given is want of memory, and so refuses anything
+pub nothing_refused : {X Y : Type 0} (f : Failure) (x : X) (o : Outcome Y) → Refuses {Y = X} f (Ok x) → Refuses f o
+nothing_refused (Memory e) x o h = tt
+nothing_refused (Errors es) x o h = cc
+
 -- ---- lists that grow
 
 -- a list that has grown is the outcome with one item more
@@ -142,6 +161,18 @@ item_behind op (Ok ps) (Ok v) = refl
 item_behind op (Ok ps) (Err gs) = refl
 item_behind op (Err fs) (Ok v) = refl
 item_behind op (Err fs) (Err gs) = refl
+
+-- the same of a value behind the one operator of all
+pub alike_grown : {E : Type 0} (op : Operator) (m : E → Value) (all : Result (Vec E Global) Failure) (e : Result E Failure) (grown : Result (Vec E Global) Failure) (ps : Outcome (List Part)) (x : Outcome Value)
+    → Gives (alike_view op m) all ps → Gives m e x → Grows all e grown → Gives (alike_view op m) grown (one_more op ps x)
+alike_grown op m all e grown ps x h k l =
+    gives_at (alike_view op m) grown (one_more op ps x) (item_more ps (next x (λ v. Ok (op, v)))) (sym (item_behind op ps x))
+    (grown_gives (λ e. (op, m e)) all e grown ps (next x (λ v. Ok (op, v))) h (then_gives m (λ v. (op, v)) e x k) l)
+
+-- a list with nothing in it yet
+pub empty_gives : {T X : Type 0} (u : T → X) (r : Result (Vec T Global) Failure) → Gives (λ v. v.items) r (Ok []) → Gives (λ v. map u v.items) r (Ok [])
+empty_gives u (Ok v) h = let none : v.items ≡ [] = cc in rw none refl
+empty_gives {T} {X} u (Err f) h = nothing_refused {X = List T} {Y = List X} f [] (Ok []) h
 
 -- the same of a value behind an operator
 pub value_grown : {O E : Type 0} (operator : O → Operator) (m : E → Value) (all : Result (Vec (O × E) Global) Failure) (op : O) (e : E) (grown : Result (Vec (O × E) Global) Failure) (ps : Outcome (List Part)) (x : Outcome Value)

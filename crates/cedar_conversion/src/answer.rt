@@ -3,17 +3,18 @@
 //! A large value that a call returns is copied into the frame of each caller that hands it on.
 //! With its place handed down instead, a level of nesting holds a copy only where it has several
 //! parts, and one part alone goes through its levels without a frame.
-ghost use Rattle.std.specs.Prelude.{◌≡◌, List};
+ghost use Rattle.std.specs.Prelude.{◌≡◌, ◌∷◌, [], List};
 ghost use Rattle.cedar_expressions.specs.Value.{Value};
 ghost use Rattle.cedar_syntax.specs.trees.Tree.{Operator};
 ghost use Rattle.cedar_conversion.specs.outcome.Conversion.{Part, conditional_outcome, expression_at as made_at};
 ghost use Rattle.cedar_conversion.specs.outcome.Held.{Held, as_expression};
-ghost use Rattle.cedar_conversion.specs.parts.Members.{Access as Given, member_outcome};
+ghost use Rattle.cedar_conversion.specs.parts.Members.{Access as Given, member_outcome, some_accesses};
 ghost use Rattle.cedar_conversion.specs.outcome.Outcome.{Outcome, both, empty_node, next, fault_outcome};
 ghost use Rattle.cedar_conversion.specs.outcome.Seen.{Gives};
 ghost use Rattle.cedar_conversion.specs.strict.Table.{table_of};
-ghost use Rattle.cedar_conversion.specs.machines.Applied.{seen_accesses};
-ghost use Rattle.cedar_conversion.specs.machines.Views.{rest_view, one_more, plain};
+ghost use Rattle.cedar_conversion.specs.machines.Applied.{seen_access, seen_accesses};
+ghost use Rattle.cedar_conversion.specs.machines.Views.{alike_view, rest_view, refused, one_more, plain};
+ghost use Rattle.cedar_syntax.specs.faults.Joined.{TellsBoth};
 
 pub mod failure;
 pub mod faults;
@@ -22,14 +23,14 @@ pub mod places;
 pub mod special;
 pub mod wanted;
 
-use crate::answer::failure::Failure;
-use crate::answer::lists::more;
+use crate::answer::failure::{Failure, joined};
+use crate::answer::lists::{add, more};
 use crate::answer::special::{ExprOrSpecial, empty_node, expr_of};
 use crate::operators::conditional::{if_from, parens_from};
 use crate::primaries::collections::Accesses;
-use crate::primaries::members::member_from;
+use crate::primaries::members::{AccessValue, accessed_in, lone_accessed_in};
 use crate::primaries::methods::Site;
-use cedar_expressions::ExprBuilderInfallibleBuild;
+use cedar_expressions::{ExprBuilderInfallibleBuild, TryClone};
 use cedar_syntax::loc::Loc;
 use std::alloc::{AllocError, Global};
 use std::mem;
@@ -40,17 +41,32 @@ pub type Converted<E> = Result<ExprOrSpecial<E>, Failure>;
 /// Parts behind operators.
 pub(crate) type Parts<O, E> = Result<Vec<(O, E)>, Failure>;
 
+/// Parts that stand behind the same operator, or behind none.
+pub(crate) type Values<E> = Result<Vec<E>, Failure>;
+
 /// A place for an answer, before there is one.
 pub fn placeholder<T>() -> Result<T, Failure> {
     Err(Failure::from(AllocError))
 }
 
-/// Leaves an answer.
+/// Leaves an answer. Mostly there is none yet, and so nothing large to let go.
 #[inline(always)]
-pub(crate) fn put<T: Drop>(place: &mut T, value: T)
-    ensures { place.new ≡ value }
+pub(crate) fn put<T: Drop>(place: &mut Result<T, Failure>, answer: Result<T, Failure>)
+    ensures { place.new ≡ answer }
 {
-    *place = value;
+    match place {
+        Ok(_) => put_over(place, answer),
+        Err(_) => *place = answer,
+    }
+}
+
+/// Leaves an answer in the place of another one.
+#[cold]
+#[inline(never)]
+fn put_over<T: Drop>(place: &mut Result<T, Failure>, answer: Result<T, Failure>)
+    ensures { place.new ≡ answer }
+{
+    *place = answer;
 }
 
 /// Takes the answer that was left.
@@ -61,7 +77,9 @@ pub(crate) fn take<T: Drop>(place: &mut Result<T, Failure>) -> Result<T, Failure
     mem::replace(place, placeholder::<T>())
 }
 
-/// The expression that the answer is, where an expression is wanted.
+// ---- the expression that the answer is, where an expression is wanted: a function for each
+// form, so that none has room for what another one moves
+
 #[inline(never)]
 pub(crate) fn value_in<B: ExprBuilderInfallibleBuild>(
     alloc: Global,
@@ -70,22 +88,92 @@ pub(crate) fn value_in<B: ExprBuilderInfallibleBuild>(
     ensures { (x : Outcome Held) → Gives (plain B.meaning) answer.old x
         → Gives B.meaning result (next x as_expression) }
 {
-    match take(answer) {
-        Ok(ExprOrSpecial::Expr(expr, _)) => Ok(expr),
-        other => special_value::<B>(alloc, other),
+    match answer {
+        Ok(ExprOrSpecial::Expr(_, _)) => made_value::<B>(alloc, answer),
+        _ => special_value::<B>(alloc, answer),
     }
 }
 
-/// The expression that another form is, or the answer's failure.
+#[inline(always)]
+fn made_value<B: ExprBuilderInfallibleBuild>(
+    alloc: Global,
+    answer: &mut Converted<B::Expr>,
+) -> Result<B::Expr, Failure>
+    ensures { (x : Outcome Held) → Gives (plain B.meaning) answer.old x
+        → Gives B.meaning result (next x as_expression) }
+{
+    match take(answer) {
+        Ok(ExprOrSpecial::Expr(expr, _)) => Ok(expr),
+        other => expr_of::<B>(alloc, other),
+    }
+}
+
+#[inline(always)]
+fn taken_value<B: ExprBuilderInfallibleBuild>(
+    alloc: Global,
+    answer: &mut Converted<B::Expr>,
+) -> Result<B::Expr, Failure>
+    ensures { (x : Outcome Held) → Gives (plain B.meaning) answer.old x
+        → Gives B.meaning result (next x as_expression) }
+{
+    expr_of::<B>(alloc, take(answer))
+}
+
 #[inline(never)]
 fn special_value<B: ExprBuilderInfallibleBuild>(
     alloc: Global,
-    answer: Converted<B::Expr>,
+    answer: &mut Converted<B::Expr>,
 ) -> Result<B::Expr, Failure>
-    ensures { (x : Outcome Held) → Gives (plain B.meaning) answer x
+    ensures { (x : Outcome Held) → Gives (plain B.meaning) answer.old x
         → Gives B.meaning result (next x as_expression) }
 {
-    expr_of::<B>(alloc, answer)
+    match answer {
+        Ok(ExprOrSpecial::Var(_, _)) => taken_value::<B>(alloc, answer),
+        _ => literal_value::<B>(alloc, answer),
+    }
+}
+
+#[inline(never)]
+fn literal_value<B: ExprBuilderInfallibleBuild>(
+    alloc: Global,
+    answer: &mut Converted<B::Expr>,
+) -> Result<B::Expr, Failure>
+    ensures { (x : Outcome Held) → Gives (plain B.meaning) answer.old x
+        → Gives B.meaning result (next x as_expression) }
+{
+    match answer {
+        Ok(ExprOrSpecial::BoolLit(_, _)) => taken_value::<B>(alloc, answer),
+        _ => other_value::<B>(alloc, answer),
+    }
+}
+
+#[inline(never)]
+fn other_value<B: ExprBuilderInfallibleBuild>(
+    alloc: Global,
+    answer: &mut Converted<B::Expr>,
+) -> Result<B::Expr, Failure>
+    ensures { (x : Outcome Held) → Gives (plain B.meaning) answer.old x
+        → Gives B.meaning result (next x as_expression) }
+{
+    taken_value::<B>(alloc, answer)
+}
+
+/// Adds the expression that the answer is behind the values so far, which one operator joins.
+#[inline(never)]
+pub(crate) fn gather_value<B: ExprBuilderInfallibleBuild>(
+    alloc: Global,
+    all: &mut Values<B::Expr>,
+    answer: &mut Converted<B::Expr>,
+)
+    ensures { (operator : Operator) (ps : Outcome (List Part)) (x : Outcome Held)
+        → Gives (alike_view operator B.meaning) all.old ps → Gives (plain B.meaning) answer.old x
+        → Gives (alike_view operator B.meaning) all.new
+        (one_more operator ps (next x as_expression)) }
+{
+    match answer {
+        Ok(ExprOrSpecial::Expr(_, _)) => add(all, made_value::<B>(alloc, answer)),
+        _ => add(all, special_value::<B>(alloc, answer)),
+    }
 }
 
 /// Adds the expression that the answer is behind the parts so far.
@@ -101,8 +189,10 @@ pub(crate) fn gather<B: ExprBuilderInfallibleBuild, O: Copy + Drop>(
         → Gives (rest_view operator B.meaning) all.new
         (one_more (operator op) ps (next x as_expression)) }
 {
-    let next = value_in::<B>(alloc, answer);
-    more::<B, O>(all, op, next);
+    match answer {
+        Ok(ExprOrSpecial::Expr(_, _)) => more::<B, O>(all, op, made_value::<B>(alloc, answer)),
+        _ => more::<B, O>(all, op, special_value::<B>(alloc, answer)),
+    }
 }
 
 /// What stands in parentheses, at its own place.
@@ -115,8 +205,16 @@ pub(crate) fn parens_in<B: ExprBuilderInfallibleBuild>(
     ensures { (x : Outcome Held) → Gives (plain B.meaning) answer.old x
         → Gives (plain B.meaning) answer.new (next (next x as_expression) (made_at loc.now)) }
 {
-    let inner = take(answer);
-    put(answer, parens_from::<B>(alloc, loc, inner));
+    match answer {
+        Ok(ExprOrSpecial::Expr(_, place)) => match loc.try_clone() {
+            Ok(loc) => *place = loc,
+            Err(error) => put(answer, Err(Failure::from(error))),
+        },
+        _ => {
+            let inner = take(answer);
+            put(answer, parens_from::<B>(alloc, loc, inner));
+        }
+    }
 }
 
 /// A conditional of its guard, its first part, and its last part, which the answer is.
@@ -155,9 +253,44 @@ pub(crate) fn member_in<B: ExprBuilderInfallibleBuild>(
         → Gives (plain B.meaning) answer.new (next (both x all)
         (λ p. member_outcome (table_of site.entry.styles.now) site.entry.loc.now p.0 p.1)) }
 {
-    let item = take(item);
-    let accesses = take(accesses);
-    put(answer, member_from::<B>(site, item, accesses));
+    match take(accesses) {
+        Ok(accesses) => accessed_in::<B>(site, item, accesses, answer),
+        Err(failure) => put(answer, Err(behind(item, failure))),
+    }
+}
+
+/// A primary and its one access.
+#[inline(never)]
+pub(crate) fn lone_access_in<B: ExprBuilderInfallibleBuild>(
+    site: Site<'_>,
+    item: &mut Converted<B::Expr>,
+    given: &mut Result<AccessValue<B::Expr>, Failure>,
+    answer: &mut Converted<B::Expr>,
+)
+    ensures { (x : Outcome Held) (a : Outcome Given) → Gives (plain B.meaning) item.old x
+        → Gives (seen_access B.meaning) given.old a
+        → Gives (plain B.meaning) answer.new (next (both x a)
+        (λ p. some_accesses (table_of site.entry.styles.now) site.entry.loc.now p.0 (p.1 ∷ []))) }
+{
+    match take(given) {
+        Ok(access) => lone_accessed_in::<B>(site, item, access, answer),
+        Err(failure) => put(answer, Err(behind(item, failure))),
+    }
+}
+
+/// A failure, behind that of a part before it if that fails too.
+#[cold]
+#[inline(never)]
+pub(crate) fn behind<T: Drop>(first: &mut Result<T, Failure>, failure: Failure) -> Failure
+    ensures { TellsBoth result first.old (refused failure) }
+{
+    match take(first) {
+        Ok(value) => {
+            drop(value);
+            failure
+        }
+        Err(first) => joined(first, failure),
+    }
 }
 
 /// A node with nothing in it.

@@ -4,7 +4,8 @@
 //! The answer is left where the caller wants it (`answer`), so a node with one part goes through
 //! without a frame of its own; a tree with several goes to the function of its level's chain,
 //! which takes the tree whole: by that the proof sees that the calls end.
-ghost use Rattle.std.specs.Prelude.{◌≡◌, Option};
+ghost use Rattle.std.specs.Prelude.{◌≡◌, List, Option};
+ghost use Rattle.cedar_syntax.specs.declared.cst.RelOp.{RelOp};
 ghost use Rattle.cedar_syntax.specs.declared.node.Node.{Node as Held};
 ghost use Rattle.cedar_syntax.specs.declared.cst.Add.{Add as Sum};
 ghost use Rattle.cedar_syntax.specs.declared.cst.Expr.{Expr as Tree};
@@ -17,11 +18,13 @@ ghost use Rattle.cedar_conversion.specs.outcome.Seen.{Gives};
 ghost use Rattle.cedar_conversion.specs.strict.Table.{table_of};
 ghost use Rattle.cedar_conversion.specs.machines.Views.{plain};
 
-use crate::answer::lists::{at_most_one, more};
-use crate::answer::{Converted, Parts, empty_node_in, gather, if_in, put, take, value_in};
+use crate::answer::lists::{at_most_one, more, only_one, with_room};
+use crate::answer::{
+    Converted, Parts, Values, empty_node_in, gather, gather_value, if_in, put, take, value_in,
+};
 use crate::leaves::literals::bare_number;
 use crate::operators::alone::Alone;
-use crate::operators::chain::{AndAnd, OrOr, chain_from, factor_of};
+use crate::operators::chain::{AndAnd, OrOr, alike_from, chain_from, comparison_in, factor_of};
 use crate::operators::has_side::right_side;
 use crate::operators::sides::{has_from, is_from, is_in_from, like_from, type_beside};
 use crate::operators::signs::{signed_from, without_operand};
@@ -127,16 +130,13 @@ fn or_chain<B: ExprBuilderInfallibleBuild>(
         (form_outcome (table_of styles.now) loc.now (or_form or.now)) }
 {
     and::<B>(alloc, styles, &or.initial, answer);
-    let first = take(answer);
-    let mut rest: Parts<OrOr, B::Expr> = Ok(Vec::new(alloc));
+    let mut first = take(answer);
+    let mut rest: Values<B::Expr> = with_room(alloc, or.extended.len());
     for part in or.extended.as_slice() {
         and::<B>(alloc, styles, part, answer);
-        gather::<B, OrOr>(alloc, &mut rest, OrOr, answer);
+        gather_value::<B>(alloc, &mut rest, answer);
     }
-    put(
-        answer,
-        chain_from::<B, OrOr>(alloc, loc, first, rest, Ok(())),
-    )
+    put(answer, alike_from::<B, OrOr>(alloc, loc, &mut first, rest))
 }
 
 /// A conjunction, or its one part.
@@ -173,15 +173,15 @@ fn and_chain<B: ExprBuilderInfallibleBuild>(
         (form_outcome (table_of styles.now) loc.now (and_form and.now)) }
 {
     relation::<B>(alloc, styles, &and.initial, answer);
-    let first = take(answer);
-    let mut rest: Parts<AndAnd, B::Expr> = Ok(Vec::new(alloc));
+    let mut first = take(answer);
+    let mut rest: Values<B::Expr> = with_room(alloc, and.extended.len());
     for part in and.extended.as_slice() {
         relation::<B>(alloc, styles, part, answer);
-        gather::<B, AndAnd>(alloc, &mut rest, AndAnd, answer);
+        gather_value::<B>(alloc, &mut rest, answer);
     }
     put(
         answer,
-        chain_from::<B, AndAnd>(alloc, loc, first, rest, Ok(())),
+        alike_from::<B, AndAnd>(alloc, loc, &mut first, rest),
     )
 }
 
@@ -219,24 +219,50 @@ fn relation_chain<B: ExprBuilderInfallibleBuild>(
         (form_outcome (table_of styles.now) loc.now (relation_form relation.now)) }
 {
     match relation {
-        cst::Relation::Common { initial, extended } => {
-            add::<B>(alloc, styles, initial, answer);
-            let first = take(answer);
-            let mut rest: Parts<RelOp, B::Expr> = Ok(Vec::new(alloc));
-            for (op, part) in extended.as_slice() {
-                add::<B>(alloc, styles, part, answer);
-                gather::<B, RelOp>(alloc, &mut rest, *op, answer);
+        cst::Relation::Common { initial, extended } => match only_one(extended.as_slice()) {
+            Some(side) => {
+                add::<B>(alloc, styles, initial, answer);
+                let mut first = take(answer);
+                add::<B>(alloc, styles, &side.1, answer);
+                comparison_in::<B>(alloc, loc, &mut first, side.0, answer)
             }
-            let allowed = at_most_one(alloc, loc, extended.as_slice());
-            put(
-                answer,
-                chain_from::<B, RelOp>(alloc, loc, first, rest, allowed),
-            )
-        }
+            None => comparisons::<B>(alloc, styles, loc, relation, answer),
+        },
         cst::Relation::Has { .. } => has::<B>(alloc, styles, loc, relation, answer),
         cst::Relation::Like { .. } => like::<B>(alloc, styles, loc, relation, answer),
         cst::Relation::IsIn { .. } => is_in::<B>(alloc, styles, loc, relation, answer),
     }
+}
+
+/// A first side and any number of others. Another relation than this is its caller's.
+#[cycle(convert)]
+#[inline(never)]
+fn comparisons<B: ExprBuilderInfallibleBuild>(
+    alloc: Global,
+    styles: &ExtStyles,
+    loc: &Option<Loc>,
+    relation: &cst::Relation,
+    answer: &mut Converted<B::Expr>,
+)
+    ensures { (a : Held (Option Sum)) (b : List (RelOp × Held (Option Sum)))
+        → relation.now ≡ relations.Common a b → Gives (plain B.meaning) answer.new
+        (form_outcome (table_of styles.now) loc.now (relation_form relation.now)) }
+{
+    let cst::Relation::Common { initial, extended } = relation else {
+        return empty_node_in::<B>(alloc, loc, answer);
+    };
+    add::<B>(alloc, styles, initial, answer);
+    let first = take(answer);
+    let mut rest: Parts<RelOp, B::Expr> = Ok(Vec::new(alloc));
+    for (op, part) in extended.as_slice() {
+        add::<B>(alloc, styles, part, answer);
+        gather::<B, RelOp>(alloc, &mut rest, *op, answer);
+    }
+    let allowed = at_most_one(alloc, loc, extended.as_slice());
+    put(
+        answer,
+        chain_from::<B, RelOp>(alloc, loc, first, rest, allowed),
+    )
 }
 
 /// `has`. Another relation than this is its caller's.
@@ -358,7 +384,7 @@ fn add_chain<B: ExprBuilderInfallibleBuild>(
 {
     mult::<B>(alloc, styles, &add.initial, answer);
     let first = take(answer);
-    let mut rest: Parts<AddOp, B::Expr> = Ok(Vec::new(alloc));
+    let mut rest: Parts<AddOp, B::Expr> = with_room(alloc, add.extended.len());
     for (op, part) in add.extended.as_slice() {
         mult::<B>(alloc, styles, part, answer);
         gather::<B, AddOp>(alloc, &mut rest, *op, answer);

@@ -10,20 +10,22 @@ ghost use Rattle.cedar_syntax.specs.trees.Forms.{located, member_form, primary_f
 ghost use Rattle.cedar_conversion.specs.outcome.Conversion.{outcome, form_outcome, access_outcome, pair_outcome};
 ghost use Rattle.cedar_conversion.specs.parts.Leaves.{entity_leaf, name_leaf, slot_leaf};
 ghost use Rattle.cedar_conversion.specs.parts.Literals.{literal_outcome};
-ghost use Rattle.cedar_conversion.specs.parts.Members.{Access as Given};
 ghost use Rattle.cedar_conversion.specs.outcome.Outcome.{Outcome, item_more};
 ghost use Rattle.cedar_conversion.specs.outcome.Seen.{Gives};
 ghost use Rattle.cedar_conversion.specs.strict.Table.{table_of};
-ghost use Rattle.cedar_conversion.specs.machines.Applied.{Pair, seen_accesses, seen_pairs};
+ghost use Rattle.cedar_conversion.specs.machines.Applied.{Pair, seen_access, seen_pairs};
 ghost use Rattle.cedar_conversion.specs.machines.Views.{plain};
 
 pub(crate) mod collections;
 pub(crate) mod members;
 pub mod methods;
 
+use crate::answer::failure::Failure;
+use crate::answer::lists::{only_one, with_room};
 use crate::answer::special::empty_node;
 use crate::answer::{
-    Converted, Parts, empty_node_in, gather, member_in, parens_in, put, take, value_in,
+    Converted, Values, empty_node_in, gather_value, lone_access_in, member_in, parens_in,
+    placeholder, put, take, value_in,
 };
 use crate::convert::expr;
 use crate::leaves::entities::entity;
@@ -32,9 +34,10 @@ use crate::leaves::names::variable_or_name;
 use crate::leaves::slots::slot;
 use crate::operators::alone::Alone;
 use crate::primaries::collections::{
-    Accesses, Beside, Pairs, add_access, add_pair, call_from, field_from, index_from, pair_from,
+    Accesses, Pairs, add_access, add_pair, call_from, field_from, index_from, pair_from,
     record_from, set_from,
 };
+use crate::primaries::members::AccessValue;
 use crate::primaries::methods::Site;
 use crate::styles::ExtStyles;
 use cedar_expressions::ExprBuilderInfallibleBuild;
@@ -79,15 +82,25 @@ fn member_chain<B: ExprBuilderInfallibleBuild>(
 {
     primary::<B>(alloc, styles, &member.item, answer);
     let mut item = take(answer);
-    let mut all: Accesses<B::Expr> = Ok(Vec::new(alloc));
-    for part in member.access.as_slice() {
-        access::<B>(alloc, styles, part, answer, &mut all);
-    }
     let site = Site { alloc, styles, loc };
-    member_in::<B>(site, &mut item, &mut all, answer)
+    let mut given = placeholder();
+    match only_one(member.access.as_slice()) {
+        Some(part) => {
+            access::<B>(alloc, styles, part, answer, &mut given);
+            lone_access_in::<B>(site, &mut item, &mut given, answer)
+        }
+        None => {
+            let mut all: Accesses<B::Expr> = with_room(alloc, member.access.len());
+            for part in member.access.as_slice() {
+                access::<B>(alloc, styles, part, answer, &mut given);
+                add_access::<B>(&mut all, &mut given);
+            }
+            member_in::<B>(site, &mut item, &mut all, answer)
+        }
+    }
 }
 
-/// One access, added behind those so far. What is left in `answer` is of no use.
+/// One access, left in `given`. What is left in `answer` is of no use.
 #[cycle(convert)]
 #[inline(never)]
 fn access<B: ExprBuilderInfallibleBuild>(
@@ -95,23 +108,20 @@ fn access<B: ExprBuilderInfallibleBuild>(
     styles: &ExtStyles,
     node: &Node<Option<cst::MemAccess>>,
     answer: &mut Converted<B::Expr>,
-    all: &mut Accesses<B::Expr>,
+    given: &mut Result<AccessValue<B::Expr>, Failure>,
 )
-    ensures { (xs : Outcome (List Given)) → Gives (seen_accesses B.meaning) all.old xs
-        → Gives (seen_accesses B.meaning) all.new
-        (item_more xs (access_outcome (table_of styles.now) (located access_form node.now))) }
+    ensures { Gives (seen_access B.meaning) given.new
+        (access_outcome (table_of styles.now) (located access_form node.now)) }
 {
     match &node.node {
-        Some(cst::MemAccess::Field(ident)) => {
-            add_access::<B>(all, field_from::<B::Expr>(alloc, ident))
-        }
-        Some(cst::MemAccess::Call(_)) => arguments::<B>(alloc, styles, node, answer, all),
+        Some(cst::MemAccess::Field(ident)) => put(given, field_from::<B::Expr>(alloc, ident)),
+        Some(cst::MemAccess::Call(_)) => arguments::<B>(alloc, styles, node, answer, given),
         Some(cst::MemAccess::Index(inner)) => {
             expr::<B>(alloc, styles, inner, answer);
             let index = take(answer);
-            add_access::<B>(all, index_from::<B>(alloc, index))
+            put(given, index_from::<B>(alloc, index))
         }
-        None => add_access::<B>(all, Err(empty_node(alloc, &node.loc))),
+        None => put(given, Err(empty_node(alloc, &node.loc))),
     }
 }
 
@@ -123,22 +133,21 @@ fn arguments<B: ExprBuilderInfallibleBuild>(
     styles: &ExtStyles,
     node: &Node<Option<cst::MemAccess>>,
     answer: &mut Converted<B::Expr>,
-    all: &mut Accesses<B::Expr>,
+    given: &mut Result<AccessValue<B::Expr>, Failure>,
 )
-    ensures { (a : List (Held (Option Tree))) (xs : Outcome (List Given))
-        → node.now.node ≡ Some (accesses.Call a) → Gives (seen_accesses B.meaning) all.old xs
-        → Gives (seen_accesses B.meaning) all.new
-        (item_more xs (access_outcome (table_of styles.now) (located access_form node.now))) }
+    ensures { (a : List (Held (Option Tree))) → node.now.node ≡ Some (accesses.Call a)
+        → Gives (seen_access B.meaning) given.new
+        (access_outcome (table_of styles.now) (located access_form node.now)) }
 {
     let Some(cst::MemAccess::Call(items)) = &node.node else {
-        return add_access::<B>(all, Err(empty_node(alloc, &node.loc)));
+        return put(given, Err(empty_node(alloc, &node.loc)));
     };
-    let mut given: Parts<Beside, B::Expr> = Ok(Vec::new(alloc));
+    let mut all: Values<B::Expr> = with_room(alloc, items.len());
     for part in items.as_slice() {
         expr::<B>(alloc, styles, part, answer);
-        gather::<B, Beside>(alloc, &mut given, Beside, answer);
+        gather_value::<B>(alloc, &mut all, answer);
     }
-    add_access::<B>(all, call_from::<B>(alloc, given))
+    put(given, call_from::<B>(all))
 }
 
 /// A primary: parentheses go through.
@@ -160,26 +169,17 @@ fn primary<B: ExprBuilderInfallibleBuild>(
         }
         Some(cst::Primary::EList(_)) => set::<B>(alloc, styles, node, answer),
         Some(cst::Primary::RInits(_)) => record::<B>(alloc, styles, node, answer),
-        Some(cst::Primary::Literal(inner)) => literal_in::<B>(alloc, inner, answer),
+        Some(cst::Primary::Literal(inner)) => literal::<B>(alloc, inner, answer),
         Some(cst::Primary::Ref(inner)) => entity_in::<B>(alloc, inner.as_ref(), answer),
-        Some(cst::Primary::Name(inner)) => name_in::<B>(alloc, &node.loc, inner, answer),
+        Some(cst::Primary::Name(inner)) => {
+            variable_or_name::<B>(alloc, &node.loc, inner, answer)
+        }
         Some(cst::Primary::Slot(inner)) => slot_in::<B>(alloc, inner, answer),
         None => empty_node_in::<B>(alloc, &node.loc, answer),
     }
 }
 
 // ---- primaries with no expression in them: what they hold stands in no frame of the ring
-
-#[inline(never)]
-fn literal_in<B: ExprBuilderInfallibleBuild>(
-    alloc: Global,
-    node: &Node<Option<cst::Literal>>,
-    answer: &mut Converted<B::Expr>,
-)
-    ensures { Gives (plain B.meaning) answer.new (literal_outcome node.now.loc node.now.node) }
-{
-    put(answer, literal::<B>(alloc, node))
-}
 
 #[inline(never)]
 fn entity_in<B: ExprBuilderInfallibleBuild>(
@@ -190,18 +190,6 @@ fn entity_in<B: ExprBuilderInfallibleBuild>(
     ensures { Gives (plain B.meaning) answer.new (entity_leaf node.now) }
 {
     put(answer, entity::<B>(alloc, node))
-}
-
-#[inline(never)]
-fn name_in<B: ExprBuilderInfallibleBuild>(
-    alloc: Global,
-    loc: &Option<Loc>,
-    node: &Node<Option<cst::Name>>,
-    answer: &mut Converted<B::Expr>,
-)
-    ensures { Gives (plain B.meaning) answer.new (name_leaf loc.now node.now) }
-{
-    put(answer, variable_or_name::<B>(alloc, loc, node))
 }
 
 #[inline(never)]
@@ -233,10 +221,10 @@ fn set<B: ExprBuilderInfallibleBuild>(
     let Some(cst::Primary::EList(items)) = &node.node else {
         return empty_node_in::<B>(alloc, &node.loc, answer);
     };
-    let mut all: Parts<Beside, B::Expr> = Ok(Vec::new(alloc));
+    let mut all: Values<B::Expr> = with_room(alloc, items.len());
     for part in items.as_slice() {
         expr::<B>(alloc, styles, part, answer);
-        gather::<B, Beside>(alloc, &mut all, Beside, answer);
+        gather_value::<B>(alloc, &mut all, answer);
     }
     put(answer, set_from::<B>(alloc, &node.loc, all))
 }
@@ -257,7 +245,7 @@ fn record<B: ExprBuilderInfallibleBuild>(
     let Some(cst::Primary::RInits(inits)) = &node.node else {
         return empty_node_in::<B>(alloc, &node.loc, answer);
     };
-    let mut all: Pairs<B::Expr> = Ok(Vec::new(alloc));
+    let mut all: Pairs<B::Expr> = with_room(alloc, inits.len());
     for part in inits.as_slice() {
         init::<B>(alloc, styles, part, answer, &mut all);
     }

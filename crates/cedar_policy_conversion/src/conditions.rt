@@ -16,7 +16,7 @@ use crate::cst_to_ast::{ExprAst, ExtStyles};
 use crate::expressions::expression;
 use cedar_conversion::answer::failure::Failure;
 use cedar_conversion::answer::faults::{add_fault, place_within};
-use cedar_conversion::answer::lists::add;
+use cedar_conversion::answer::lists::{add, with_room};
 use cedar_conversion::answer::special::{builder_at, empty_node, refusal};
 use cedar_conversion::primaries::methods::Site;
 use cedar_expressions::{Expr, ExprBuilder, ExprBuilderInfallibleBuild, Slot, TryClone};
@@ -147,7 +147,7 @@ pub(crate) fn conditions(
     ensures { Gives meanings result
         (k.conditions_outcome (table_of styles.now) nodes.now) }
 {
-    let mut all: Result<Vec<Expr>, Failure> = Ok(Vec::new(alloc));
+    let mut all: Result<Vec<Expr>, Failure> = with_room(alloc, nodes.len());
     for node in nodes {
         add(&mut all, condition(alloc, styles, node));
     }

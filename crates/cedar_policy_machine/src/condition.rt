@@ -167,6 +167,7 @@ impl<E: Entry<Node<Option<Expr>>>> Entry<Cond> for ConditionState<E> {
         if_ident(kind, ConditionAct::Word)
     }
 
+    #[inline(always)]
     fn plan(&self, kind: TokenKind) -> Option<ConditionAct<E::Act>> {
         match &self.part {
             ConditionPart::Body(held) => match held.plan(kind) {

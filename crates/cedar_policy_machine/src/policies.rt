@@ -140,6 +140,7 @@ where
         PolicySequence::<N, S, E>::plan_item(kind)
     }
 
+    #[inline(always)]
     fn plan(&self, kind: TokenKind) -> Option<PoliciesAct<N, S, E>> {
         self.plan_many(kind)
     }

@@ -175,6 +175,11 @@ where
         }
     }
 
+    fn restart(&mut self, alloc: Global) {
+        self.forget(alloc);
+        self.section = Section::Annotations;
+    }
+
     fn first(
         kind: TokenKind,
     ) -> Option<
@@ -190,6 +195,7 @@ where
         }
     }
 
+    #[inline(always)]
     fn plan(
         &self,
         kind: TokenKind,

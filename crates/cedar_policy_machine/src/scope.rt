@@ -190,6 +190,7 @@ where
         if_ident(kind, ElementAct::Variable)
     }
 
+    #[inline(always)]
     fn plan(&self, kind: TokenKind) -> Option<ElementAct<N::Act, S::Act, E::Act>> {
         match &self.part {
             ElementPart::Start => if_ident(kind, ElementAct::Variable),
@@ -268,7 +269,6 @@ where
         }
     }
 
-    #[inline(always)]
     fn finish(&mut self, alloc: Global, source: &Source) -> Result<VariableDef, AllocError> {
         let ineq = self.end_constraint(alloc, source)?;
         Ok(VariableDef {

@@ -2,15 +2,16 @@
 ghost use Rattle.std.specs.Prelude.{◌≡◌, [], Some, None, IfOk, OnOk, IsTrue};
 ghost use Rattle.cedar_lexer.specs.Token.{lexeme_of};
 ghost use Rattle.cedar_grammar.specs.grammar.WrittenTokens.{IsWritten};
+ghost use Rattle.cedar_grammar.specs.grammar.Place.{extent_of, joint_extent};
 ghost use Rattle.cedar_grammar.specs.machines.Door.{option_image};
 ghost use Rattle.cedar_grammar.specs.machines.Judged.{done_as};
-ghost use Rattle.cedar_policy_machine.specs.machines.Sequences.{sequence, many_plan, list_plan, sequence_ends, sequence_end, item_begun, item_going, items_ended, sequence_act, IsItemPlan, IsSequencePlan};
+ghost use Rattle.cedar_policy_machine.specs.machines.Sequences.{sequence, many_plan, list_plan, sequence_ends, sequence_end, item_begun, item_going, items_ended, next_item, sequence_act, IsItemPlan, IsSequencePlan};
 
 use cedar_expressions::{Items, Source};
 use cedar_grammar::reading::driver::Entry;
-use cedar_grammar::reading::extent::{Extent, join_extents};
+use cedar_grammar::reading::extent::Extent;
 use cedar_grammar::reading::place::{loc_at, token_extent};
-use cedar_grammar::reading::put::{put, put_apart};
+use cedar_grammar::reading::put::put;
 use cedar_lexer::token::{Token, TokenKind};
 use cedar_syntax::node::Node;
 use std::alloc::{AllocError, Global};
@@ -21,6 +22,17 @@ use std::mem;
 pub struct Spanned<S> {
     pub extent: Option<Extent>,
     pub state: S,
+}
+
+/// The bytes up to this token.
+#[inline(always)]
+fn stretch(extent: &mut Option<Extent>, token: &Token<'_>)
+    ensures { extent.new ≡ joint_extent extent.old (Some (extent_of (lexeme_of token.now))) }
+{
+    match extent {
+        Some(extent) => extent.end = token.end,
+        None => *extent = Some(token_extent(token)),
+    }
 }
 
 impl<T: Drop, S: Entry<T>> Entry<Node<Option<T>>> for Spanned<S> {
@@ -37,10 +49,16 @@ impl<T: Drop, S: Entry<T>> Entry<Node<Option<T>>> for Spanned<S> {
         }
     }
 
+    fn restart(&mut self, alloc: Global) {
+        self.extent = None;
+        self.state.restart(alloc);
+    }
+
     fn first(kind: TokenKind) -> Option<S::Act> {
         S::first(kind)
     }
 
+    #[inline(always)]
     fn plan(&self, kind: TokenKind) -> Option<S::Act> {
         self.state.plan(kind)
     }
@@ -49,6 +67,7 @@ impl<T: Drop, S: Entry<T>> Entry<Node<Option<T>>> for Spanned<S> {
         self.state.ends()
     }
 
+    #[inline(always)]
     fn act(
         &mut self,
         alloc: Global,
@@ -56,18 +75,19 @@ impl<T: Drop, S: Entry<T>> Entry<Node<Option<T>>> for Spanned<S> {
         act: S::Act,
         token: &Token<'_>,
     ) -> Result<bool, AllocError> {
-        self.extent = join_extents(self.extent, Some(token_extent(token)));
+        stretch(&mut self.extent, token);
         self.state.act(alloc, source, act, token)
     }
 
-    #[inline(always)]
     fn finish(&mut self, alloc: Global, source: &Source) -> Result<Node<Option<T>>, AllocError> {
         let loc = loc_at(source, self.extent)?;
-        let tree = self.state.finish(alloc, source)?;
-        Ok(Node {
-            node: Some(tree),
-            loc,
-        })
+        match self.state.finish(alloc, source) {
+            Ok(tree) => Ok(Node {
+                node: Some(tree),
+                loc,
+            }),
+            Err(error) => Err(error),
+        }
     }
 }
 
@@ -126,6 +146,7 @@ impl<T: Drop, S: Entry<T>> Sequence<S, T> {
     }
 
     /// What is done with it where items stand one behind the other.
+    #[inline(always)]
     pub fn plan_many(&self, kind: TokenKind) -> Option<SequenceAct<S::Act>>
         ensures { result ≡ many_plan (λ first. S.reader.plan S.reader.start first)
             S.reader.plan S.reader.ends self.now.begun kind }
@@ -148,6 +169,7 @@ impl<T: Drop, S: Entry<T>> Sequence<S, T> {
     }
 
     /// What is done with it where items are separated by commas.
+    #[inline(always)]
     pub fn plan_listed(&self, kind: TokenKind) -> Option<SequenceAct<S::Act>>
         ensures { result ≡ list_plan (λ first. S.reader.plan S.reader.start first)
             S.reader.plan S.reader.ends self.now.begun kind }
@@ -180,6 +202,22 @@ impl<T: Drop, S: Entry<T>> Sequence<S, T> {
         }
     }
 
+    /// The tree of the item that has ended is put to the others.
+    #[inline(never)]
+    fn keep_item(&mut self, alloc: Global, source: &Source) -> Result<(), AllocError>
+        requires { IsTrue (sequence_ends S.reader.ends self.old.begun) }
+        ensures { OnOk result (sequence_end (S.reader.finish source.now)
+            self.old.done self.old.begun ≡ Some self.new.done) }
+    {
+        match &mut self.begun {
+            Some(item) => match item.finish(alloc, source) {
+                Ok(tree) => self.done.push(tree),
+                Err(error) => Err(error),
+            },
+            None => Ok(()),
+        }
+    }
+
     /// The item that has ended is put to the others.
     #[inline(never)]
     pub fn end_item(&mut self, alloc: Global, source: &Source) -> Result<(), AllocError>
@@ -187,21 +225,19 @@ impl<T: Drop, S: Entry<T>> Sequence<S, T> {
         ensures { OnOk result (items_ended (sequence_end (S.reader.finish source.now)
             self.old.done self.old.begun) ≡ Some self.new) }
     {
-        if let Some(item) = &mut self.begun {
-            self.done.push(item.finish(alloc, source)?)?;
-        }
+        self.keep_item(alloc, source)?;
         self.begun = None;
         Ok(())
     }
 
-    /// An item begins, where none is begun.
+    /// An item begins, in the place of one that may be there.
     #[inline(always)]
     fn enter(&mut self, alloc: Global)
         ensures { self.new ≡ sequence self.old.done (Some S.reader.start) }
     {
-        match &self.begun {
+        match &mut self.begun {
+            Some(item) => item.restart(alloc),
             None => put(&mut self.begun, Some(S::start(alloc))),
-            Some(_) => put_apart(&mut self.begun, Some(S::start(alloc))),
         }
     }
 
@@ -221,6 +257,26 @@ impl<T: Drop, S: Entry<T>> Sequence<S, T> {
     {
         self.enter(alloc);
         self.go_on(alloc, source, act, token)
+    }
+
+    /// The first token of an item behind the begun one, which has ended.
+    #[inline(never)]
+    fn next_item(
+        &mut self,
+        alloc: Global,
+        source: &Source,
+        act: S::Act,
+        token: &Token<'_>,
+    ) -> Result<bool, AllocError>
+        requires written { IsWritten (lexeme_of token.now) }
+        requires ended { IsTrue (sequence_ends S.reader.ends self.old.begun) }
+        requires is_planned { S.reader.plan S.reader.start token.now.kind ≡ Some act }
+        ensures { IfOk result (λ fits. done_as fits self.new ≡ next_item
+            (sequence_end (S.reader.finish source.now) self.old.done self.old.begun)
+            (S.reader.act source.now S.reader.start act (lexeme_of token.now))) }
+    {
+        self.keep_item(alloc, source)?;
+        self.begin_item(alloc, source, act, token)
     }
 
     /// A token of the begun item.
@@ -260,10 +316,7 @@ impl<T: Drop, S: Entry<T>> Sequence<S, T> {
         match act {
             SequenceAct::On(act) => self.go_on(alloc, source, act, token),
             SequenceAct::First(act) => self.begin_item(alloc, source, act, token),
-            SequenceAct::Next(act) => {
-                self.end_item(alloc, source)?;
-                self.begin_item(alloc, source, act, token)
-            }
+            SequenceAct::Next(act) => self.next_item(alloc, source, act, token),
             SequenceAct::Comma => {
                 self.end_item(alloc, source)?;
                 Ok(true)

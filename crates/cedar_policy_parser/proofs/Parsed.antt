@@ -1,5 +1,5 @@
 -- The tree of a text, what it is converted to, and what its tokens mean.
-use Rattle.std.proofs.Common.{◌≡◌, ℕ, List, [], ◌∷◌, Result, Ok, Err, IfOk, IfErr, IsErrAnd, MatchResult, inr, refl, sym, ap, ◌∙◌}
+use Rattle.std.proofs.Common.{◌≡◌, ℕ, List, [], ◌∷◌, Result, Ok, Err, IfOk, IfErr, IsErrAnd, MatchResult, inr, refl, sym, ap, ◌∙◌, subst}
 use Rattle.cedar_lexer.specs.Cut.{Cuts}
 use Rattle.cedar_lexer.specs.Token.{Lexeme}
 use Rattle.cedar_expressions.specs.Value.{Value}
@@ -25,6 +25,11 @@ use Rattle.cedar_conversion.proofs.Inverted.{ok_is}
 use Rattle.cedar_policy_parser.proofs.complete.Reads.{ExprRead}
 use Rattle.cedar_policy_parser.proofs.complete.Whole.{complete}
 use Rattle.cedar_policy_parser.proofs.sound.Whole.{sound_value}
+
+-- an error that `?` passes on
+pub passed_on : {T : Type 0} (r : Result T Failure) (f : Failure) (P : T → Type 0) (Q : Failure → Type 0) → IsErrAnd r (λ y. y ≡ f) → Q f → MatchResult r P Q
+passed_on (Ok x) f P Q is q = absurd is
+passed_on (Err y) f P Q is q = subst Q (sym is) q
 
 -- the node of a whole text is its tree at some place
 at_start : (src : List ℕ) (ts : List Lexeme) (x : Expr) → located expr_form (placed_or_start src ts x) ≡ at (placed_or_start src ts x).loc (expr_form x)

@@ -1,6 +1,6 @@
 -- What private functions hold while parts are joined: accesses while they are applied, the sides
 -- of `has` and `is`. Contracts of private functions alone name these.
-use Rattle.std.specs.Prelude.{◌≡◌, ℕ, List, [], ◌∷◌, ◌++◌, map, Bool, true, false, Option, Some, None, Result, Ok, Err}
+use Rattle.std.specs.Prelude.{ℕ, List, [], ◌∷◌, ◌++◌, map, Bool, true, false, Option, Some, None, Result, Ok, Err, if◌then◌else◌}
 use Rattle.std.specs.declared.vec.Vec.{Vec}
 use Rattle.std.specs.declared.alloc.Global.{Global}
 use Rattle.cedar_syntax.specs.declared.err.faults.Failure.{Failure}
@@ -12,7 +12,9 @@ use Rattle.cedar_expressions.specs.Value as v
 use Rattle.cedar_expressions.specs.Value.{Value}
 use Rattle.cedar_conversion.specs.declared.primaries.members.AccessValue.{AccessValue as Access}
 use Rattle.cedar_conversion.specs.declared.primaries.members.AccessValue.TheVariants as access
-use Rattle.cedar_conversion.specs.declared.primaries.members.Reading.{Reading}
+use Rattle.cedar_conversion.specs.declared.answer.special.ExprOrSpecial.{ExprOrSpecial}
+use Rattle.cedar_conversion.specs.declared.answer.special.ExprOrSpecial.TheVariants as special
+use Rattle.cedar_expressions.specs.declared.atoms.Var.{Var}
 use Rattle.cedar_expressions.specs.declared.entity.EntityType.{EntityType}
 use Rattle.cedar_expressions.specs.declared.atoms.PatternElem.{PatternElem}
 use Rattle.cedar_conversion.specs.outcome.Conversion.{ValueAndType, type_test_outcome, type_within_outcome, value_outcome}
@@ -20,9 +22,8 @@ use Rattle.cedar_conversion.specs.strict.Extensions.{Extensions}
 use Rattle.cedar_conversion.specs.parts.HasSide.{Attributes}
 use Rattle.cedar_conversion.specs.outcome.Held.{Held}
 use Rattle.cedar_conversion.specs.parts.Members as given
-use Rattle.cedar_conversion.specs.parts.Members.{accesses_of}
-use Rattle.cedar_conversion.specs.outcome.Outcome.{Outcome, next}
-use Rattle.cedar_conversion.specs.outcome.Seen.{Refuses}
+use Rattle.cedar_conversion.specs.parts.Members.{accesses_of, method_outcome}
+use Rattle.cedar_conversion.specs.outcome.Outcome.{Outcome, fault_outcome, next, expression_call}
 
 abbrev pub seen_access : {E : Type 0} → (E → Value) → Access E → given.Access
 seen_access meaning (access.Field id) = given.field id
@@ -46,19 +47,40 @@ abbrev pub after_field : Value → Option (List ℕ) → Value
 after_field x None = x
 after_field x (Some id) = v.get_attr x id
 
-abbrev pub settled_value : {E : Type 0} → (E → Value) → Reading E → Value
-settled_value meaning reading = after_field (meaning reading.value) reading.field
+-- a call of a value, which is a method's where a field waits
+abbrev pub called_outcome : Extensions → Option Loc → Value → Option (List ℕ) → List Value
+    → Outcome Value
+called_outcome e place x None args = fault_outcome expression_call place
+called_outcome e place x (Some id) args = method_outcome e place id x args
 
--- what these accesses make of what was read
-abbrev pub reading_outcome : {E : Type 0} → Extensions → Option Loc → (E → Value)
-    → List given.Access → Reading E → Outcome Held
-reading_outcome e place meaning rest reading =
-    accesses_of e place (meaning reading.value) (waiting reading.field ++ rest)
+-- what is left of a primary's accesses, where a field may wait
+abbrev pub left_outcome : Extensions → Option Loc → Value → Option (List ℕ) → List given.Access
+    → Outcome Held
+left_outcome e place x f rest = accesses_of e place x (waiting f ++ rest)
 
--- an answer that goes on to the outcome, or refuses it
-abbrev pub Leads : {X Y : Type 0} → (X → Outcome Y) → Result X Failure → Outcome Y → Type 0
-Leads goes (Ok x) outcome = outcome ≡ goes x
-Leads goes (Err failure) outcome = Refuses failure outcome
+-- ---- what a primary gave
+
+-- whether it is no name, but for a variable's
+abbrev pub is_value : {E : Type 0} → Result (ExprOrSpecial E) Failure → Bool
+is_value (Ok (special.Expr e place)) = true
+is_value (Ok (special.Var x place)) = true
+is_value (Ok (special.Name name place)) = false
+is_value (Ok (special.BoolLit b place)) = true
+is_value (Ok (special.StrLit raw place)) = true
+is_value (Err failure) = false
+
+abbrev pub variable_of : {E : Type 0} → Result (ExprOrSpecial E) Failure → Option Var
+variable_of (Ok (special.Var x place)) = Some x
+variable_of (Ok (special.Expr e place)) = None
+variable_of (Ok (special.Name name place)) = None
+variable_of (Ok (special.BoolLit b place)) = None
+variable_of (Ok (special.StrLit raw place)) = None
+variable_of (Err failure) = None
+
+-- the variable that is called
+abbrev pub called_variable : {E : Type 0} → Result (ExprOrSpecial E) Failure → List given.Access
+    → Option Var
+called_variable item accesses = if begins_call accesses then variable_of item else None
 
 -- ---- sides
 

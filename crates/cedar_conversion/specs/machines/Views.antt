@@ -12,11 +12,12 @@ use Rattle.cedar_syntax.specs.declared.err.to_ast.ToASTError.{ToASTError}
 use Rattle.cedar_syntax.specs.declared.loc.Loc.{Loc}
 use Rattle.cedar_syntax.specs.faults.Joined.{TellsBoth}
 use Rattle.cedar_syntax.specs.faults.ParseErrors.{faults_of}
-use Rattle.cedar_syntax.specs.trees.Tree.{Operator}
+use Rattle.cedar_syntax.specs.trees.Tree.{Level, Operator}
+use Rattle.cedar_syntax.specs.declared.cst.RelOp.{RelOp}
 use Rattle.cedar_conversion.specs.declared.answer.special.ExprOrSpecial.{ExprOrSpecial}
 use Rattle.cedar_conversion.specs.declared.answer.special.ExprOrSpecial.TheVariants as special
-use Rattle.cedar_conversion.specs.outcome.Conversion.{Part}
-use Rattle.cedar_conversion.specs.outcome.Held.{Held, expression, variable, bare_name, bare_truth, bare_string}
+use Rattle.cedar_conversion.specs.outcome.Conversion.{Part, comparison_outcome, joint_outcome}
+use Rattle.cedar_conversion.specs.outcome.Held.{Held, expression, variable, bare_name, bare_truth, bare_string, as_expression}
 use Rattle.cedar_conversion.specs.outcome.Outcome.{Kind, NamedFault, Outcome, both, next}
 use Rattle.cedar_conversion.specs.outcome.Places.{bytes_of}
 use Rattle.cedar_conversion.specs.outcome.Seen.{kind_of, named_faults}
@@ -32,6 +33,10 @@ TellsAlone (Errors errors) kind place = named_faults (faults_of errors) ≡ (kin
 abbrev pub optional_fault : Option ToASTError → List NamedFault
 optional_fault (Some fault) = (kind_of fault.kind, fault.loc) ∷ []
 optional_fault None = []
+
+-- a part that fails so
+abbrev pub refused : Failure → Result (Unit {0}) Failure
+refused failure = Err failure
 
 -- ---- expressions
 
@@ -51,12 +56,24 @@ abbrev pub rest_view : {O E : Type 0} → (O → Operator) → (E → Value) →
     → List Part
 rest_view operator meaning v = map (λ p. (operator p.0, meaning p.1)) v.items
 
+-- expressions behind one and the same operator
+abbrev pub alike_view : {E : Type 0} → Operator → (E → Value) → Vec E Global → List Part
+alike_view op meaning v = map (λ e. (op, meaning e)) v.items
+
 -- one more part behind those so far
 abbrev pub with_last : Operator → List Part × Value → Outcome (List Part)
 with_last op p = Ok (p.0 ++ (op, p.1) ∷ [])
 
 abbrev pub one_more : Operator → Outcome (List Part) → Outcome Value → Outcome (List Part)
 one_more op ps x = next (both ps x) (with_last op)
+
+-- a first part and those behind one operator
+abbrev pub alike_outcome : Level → Option Loc → Held × List Part → Outcome Held
+alike_outcome level place p = joint_outcome level place p.0 p.1
+
+-- two sides of a comparison
+abbrev pub sides_outcome : Option Loc → RelOp → Held × Value → Outcome Held
+sides_outcome place op p = next (as_expression p.0) (λ a. comparison_outcome place op a p.1)
 
 -- a list that is one item longer than what was there
 abbrev pub Longer : {T : Type 0} → Result (Vec T Global) Failure → Result T Failure → Vec T Global

@@ -131,7 +131,7 @@ fn behind(faults: Boxed<ParseErrors>, second: Failure) -> Failure
 /// The faults of the first, then those of the second. Want of memory in either is the answer.
 #[cold]
 #[inline(never)]
-fn joined(first: Failure, second: Failure) -> Failure
+pub(crate) fn joined(first: Failure, second: Failure) -> Failure
     ensures { TellsAll result first second }
 {
     let Failure { cause } = first;

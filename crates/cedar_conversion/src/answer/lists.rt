@@ -1,5 +1,5 @@
 //! Parts that are given, one after another.
-ghost use Rattle.std.specs.Prelude.{◌≡◌, ◌<◌, ◌^◌, List, Ok, Err, length, map, IfOk, alloc_error};
+ghost use Rattle.std.specs.Prelude.{◌≡◌, ◌<◌, ◌^◌, ◌∷◌, List, [], MatchOption, Ok, Err, length, map, IfOk, alloc_error};
 ghost use Rattle.cedar_expressions.specs.Value.{Value};
 ghost use Rattle.cedar_syntax.specs.trees.Forms.{parts_of};
 ghost use Rattle.cedar_syntax.specs.trees.Located.{Located};
@@ -64,12 +64,30 @@ fn add_item<T: Drop>(all: &mut Result<Vec<T>, Failure>, item: T)
 }
 
 /// One more item behind those so far, where they stand, or the faults of both.
+#[inline(always)]
 pub fn add<T: Drop>(all: &mut Result<Vec<T>, Failure>, next: Result<T, Failure>)
     ensures { Grows all.old next all.new }
 {
     match next {
         Ok(item) => add_item(all, item),
         Err(failure) => add_failure(all, failure),
+    }
+}
+
+/// An empty list with room for so many items.
+pub fn with_room<T>(alloc: Global, count: usize) -> Result<Vec<T>, Failure>
+    ensures { Gives (λ list. list.items) result (Ok []) }
+{
+    Ok(Vec::with_capacity(alloc, count)?)
+}
+
+/// The only one of several things, if it is alone.
+pub(crate) fn only_one<T>(all: &[T]) -> Option<&T>
+    ensures { MatchOption result (Unit {0}) (λ one. all.now ≡ one.now ∷ []) }
+{
+    match all.split_first() {
+        Some((one, others)) => { if others.is_empty() { Some(one) } else { None } }
+        None => None,
     }
 }
 

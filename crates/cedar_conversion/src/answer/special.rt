@@ -90,6 +90,8 @@ pub fn empty_node(alloc: Global, loc: &Option<Loc>) -> Failure
 }
 
 /// A name where an expression is wanted.
+#[cold]
+#[inline(never)]
 fn arbitrary_variable(alloc: Global, name: &Name, loc: &Option<Loc>) -> Failure
     ensures { TellsAlone result arbitrary_variable loc.now }
 {
@@ -100,6 +102,7 @@ fn arbitrary_variable(alloc: Global, name: &Name, loc: &Option<Loc>) -> Failure
 }
 
 /// The expression that a form is where an expression is wanted.
+#[inline(always)]
 pub(crate) fn into_expr<B: ExprBuilderInfallibleBuild>(
     alloc: Global,
     special: ExprOrSpecial<B::Expr>,
@@ -118,6 +121,7 @@ pub(crate) fn into_expr<B: ExprBuilderInfallibleBuild>(
 }
 
 /// The expression that a conversion gives.
+#[inline(always)]
 pub fn expr_of<B: ExprBuilderInfallibleBuild>(
     alloc: Global,
     converted: Result<ExprOrSpecial<B::Expr>, Failure>,

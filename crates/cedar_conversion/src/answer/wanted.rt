@@ -12,6 +12,7 @@ ghost use Rattle.cedar_conversion.specs.machines.Views.{TellsAlone, plain};
 
 use crate::answer::failure::Failure;
 use crate::answer::special::{ExprOrSpecial, empty_node, refusal, to_text};
+use crate::answer::{Converted, placeholder};
 use crate::leaves::literals::literal;
 use crate::leaves::names::variable_or_name;
 use crate::leaves::strings::{pattern_of, unescape_raw};
@@ -253,7 +254,11 @@ pub fn string_literal<B: ExprBuilderInfallibleBuild>(
     ensures { Gives itself result (string_outcome (located primary_form node.now)) }
 {
     match &node.node {
-        Some(Primary::Literal(inner)) => string_from::<B>(alloc, literal::<B>(alloc, inner)),
+        Some(Primary::Literal(inner)) => {
+            let mut answer: Converted<B::Expr> = placeholder();
+            literal::<B>(alloc, inner, &mut answer);
+            string_from::<B>(alloc, answer)
+        }
         Some(Primary::Ref(_)) => Err(invalid_string_at(alloc, &node.loc)),
         Some(Primary::Name(inner)) => Err(name_as_string::<B>(alloc, &node.loc, inner)),
         Some(Primary::Slot(_)) => Err(invalid_string_at(alloc, &node.loc)),
@@ -272,7 +277,9 @@ fn name_as_string<B: ExprBuilderInfallibleBuild>(
 ) -> Failure
     ensures { TellsAlone result invalid_string loc.now }
 {
-    match variable_or_name::<B>(alloc, loc, name) {
+    let mut answer: Converted<B::Expr> = placeholder();
+    variable_or_name::<B>(alloc, loc, name, &mut answer);
+    match answer {
         Ok(special) => {
             let failure = invalid_string(alloc, &special, loc);
             drop(special);

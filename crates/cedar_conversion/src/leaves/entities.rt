@@ -6,11 +6,13 @@ ghost use Rattle.cedar_conversion.specs.outcome.Seen.{Gives, itself};
 ghost use Rattle.cedar_conversion.specs.machines.Views.{TellsAlone, plain};
 
 use crate::answer::failure::{Failure, flatten_tuple_2};
-use crate::answer::special::{ExprOrSpecial, builder_at, empty_node, expr_at, refusal, to_text};
+use crate::answer::special::{ExprOrSpecial, builder_at, empty_node, refusal, to_text};
 use crate::leaves::literals::invalid_raw;
 use crate::leaves::names::name_of;
 use crate::leaves::strings::unescape_raw;
-use cedar_expressions::{Eid, EntityType, EntityUID, ExprBuilderInfallibleBuild, Literal, Text};
+use cedar_expressions::{
+    Eid, EntityType, EntityUID, ExprBuilderInfallibleBuild, Literal, Text, TryClone,
+};
 use cedar_syntax::cst::{Ref, Str};
 use cedar_syntax::err::ToASTErrorKind;
 use cedar_syntax::loc::Loc;
@@ -61,13 +63,14 @@ pub fn entity_of(alloc: Global, node: &Node<Option<Ref>>) -> Result<EntityUID, F
 }
 
 /// The constant that an entity is.
+#[inline(always)]
 pub(crate) fn entity<B: ExprBuilderInfallibleBuild>(
     alloc: Global,
     node: &Node<Option<Ref>>,
 ) -> Result<ExprOrSpecial<B::Expr>, Failure>
     ensures { Gives (plain B.meaning) result (entity_leaf node.now) }
 {
-    let uid = entity_of(alloc, node)?;
-    let literal = Literal::EntityUID(uid);
-    expr_at::<B>(builder_at::<B>(alloc, &node.loc).val(literal)?, &node.loc)
+    let place = node.loc.try_clone()?;
+    let literal = Literal::EntityUID(entity_of(alloc, node)?);
+    Ok(ExprOrSpecial::Expr(builder_at::<B>(alloc, &node.loc).val(literal)?, place))
 }

@@ -10,7 +10,8 @@ ghost use Rattle.cedar_conversion.specs.outcome.Seen.{Gives};
 ghost use Rattle.cedar_conversion.specs.machines.Views.{TellsAlone, plain};
 
 use crate::answer::failure::Failure;
-use crate::answer::special::{ExprOrSpecial, builder_at, empty_node, expr_at, refusal};
+use crate::answer::special::{ExprOrSpecial, builder_at, empty_node, refusal};
+use crate::answer::{Converted, empty_node_in, put};
 use crate::operators::alone::Alone;
 use cedar_expressions::{ExprBuilderInfallibleBuild, Literal, Text, TryClone};
 use cedar_syntax::cst;
@@ -22,6 +23,7 @@ use std::alloc::Global;
 /// The largest number behind a `-`.
 pub(crate) const LARGEST: u64 = 0x8000_0000_0000_0000;
 
+#[inline(always)]
 fn number<B: ExprBuilderInfallibleBuild>(
     alloc: Global,
     loc: &Option<Loc>,
@@ -32,8 +34,9 @@ fn number<B: ExprBuilderInfallibleBuild>(
     if number >= LARGEST {
         return Err(refusal(alloc, ToASTErrorKind::IntegerLiteralTooLarge(number), loc));
     }
-    let literal = Literal::Long(number as i64);
-    expr_at::<B>(builder_at::<B>(alloc, loc).val(literal)?, loc)
+    let place = loc.try_clone()?;
+    let literal = builder_at::<B>(alloc, loc).val(Literal::Long(number as i64))?;
+    Ok(ExprOrSpecial::Expr(literal, place))
 }
 
 /// A string that no text is written as, with its raw text.
@@ -47,6 +50,7 @@ pub(crate) fn invalid_raw(alloc: Global, raw: &Text, loc: &Option<Loc>) -> Failu
 }
 
 /// A string, which has the place of its literal.
+#[inline(always)]
 fn raw_string<E>(
     alloc: Global,
     loc: &Option<Loc>,
@@ -65,6 +69,7 @@ fn raw_string<E>(
     }
 }
 
+#[inline(always)]
 fn truth<E>(value: bool, loc: &Option<Loc>) -> Result<ExprOrSpecial<E>, Failure>
     ensures { (meaning : E → Value) → Gives (plain meaning) result
         (Ok (bare_truth loc.now value)) }
@@ -72,18 +77,58 @@ fn truth<E>(value: bool, loc: &Option<Loc>) -> Result<ExprOrSpecial<E>, Failure>
     Ok(ExprOrSpecial::BoolLit(value, loc.try_clone()?))
 }
 
+// ---- literals, each in a function of its own: none has room for what another one moves
+
+#[inline(never)]
+fn truth_in<B: ExprBuilderInfallibleBuild>(
+    value: bool,
+    loc: &Option<Loc>,
+    answer: &mut Converted<B::Expr>,
+)
+    ensures { Gives (plain B.meaning) answer.new (Ok (bare_truth loc.now value)) }
+{
+    put(answer, truth::<B::Expr>(value, loc))
+}
+
+#[inline(never)]
+fn number_in<B: ExprBuilderInfallibleBuild>(
+    alloc: Global,
+    loc: &Option<Loc>,
+    value: u64,
+    answer: &mut Converted<B::Expr>,
+)
+    ensures { Gives (plain B.meaning) answer.new (number_outcome loc.now value) }
+{
+    put(answer, number::<B>(alloc, loc, value))
+}
+
+#[inline(never)]
+fn string_in<B: ExprBuilderInfallibleBuild>(
+    alloc: Global,
+    loc: &Option<Loc>,
+    node: &Node<Option<cst::Str>>,
+    answer: &mut Converted<B::Expr>,
+)
+    ensures { Gives (plain B.meaning) answer.new
+        (held_string loc.now node.now.loc node.now.node) }
+{
+    put(answer, raw_string::<B::Expr>(alloc, loc, node))
+}
+
+/// A literal.
 pub(crate) fn literal<B: ExprBuilderInfallibleBuild>(
     alloc: Global,
     node: &Node<Option<cst::Literal>>,
-) -> Result<ExprOrSpecial<B::Expr>, Failure>
-    ensures { Gives (plain B.meaning) result (literal_outcome node.now.loc node.now.node) }
+    answer: &mut Converted<B::Expr>,
+)
+    ensures { Gives (plain B.meaning) answer.new (literal_outcome node.now.loc node.now.node) }
 {
     match &node.node {
-        Some(cst::Literal::True) => truth::<B::Expr>(true, &node.loc),
-        Some(cst::Literal::False) => truth::<B::Expr>(false, &node.loc),
-        Some(cst::Literal::Num(value)) => number::<B>(alloc, &node.loc, *value),
-        Some(cst::Literal::Str(inner)) => raw_string::<B::Expr>(alloc, &node.loc, inner),
-        None => Err(empty_node(alloc, &node.loc)),
+        Some(cst::Literal::True) => truth_in::<B>(true, &node.loc, answer),
+        Some(cst::Literal::False) => truth_in::<B>(false, &node.loc, answer),
+        Some(cst::Literal::Num(value)) => number_in::<B>(alloc, &node.loc, *value, answer),
+        Some(cst::Literal::Str(inner)) => string_in::<B>(alloc, &node.loc, inner, answer),
+        None => empty_node_in::<B>(alloc, &node.loc, answer),
     }
 }
 

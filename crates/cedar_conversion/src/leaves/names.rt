@@ -1,14 +1,17 @@
 //! Identifiers and names.
-ghost use Rattle.std.specs.Prelude.{◌≡◌};
+ghost use Rattle.std.specs.Prelude.{◌≡◌, Ok};
+ghost use Rattle.cedar_expressions.specs.Value.{Value};
+ghost use Rattle.cedar_conversion.specs.outcome.Held.{bare_name, variable};
 ghost use Rattle.cedar_conversion.specs.parts.Leaves.{name_leaf as named_held};
 ghost use Rattle.cedar_conversion.specs.parts.Names.{spelling_outcome, valid_text as valid_text_of, valid_ident_of as valid_of, valid_ident as valid_outcome, any_ident_of as any_of, any_ident as any_outcome, unreserved_ident as unreserved_outcome, all_of, path_outcome, name_outcome, variable_of, named_variable};
-ghost use Rattle.cedar_conversion.specs.outcome.Outcome.{reserved_identifier, invalid_identifier};
+ghost use Rattle.cedar_conversion.specs.outcome.Outcome.{next, reserved_identifier, invalid_identifier};
 ghost use Rattle.cedar_conversion.specs.outcome.Seen.{Gives, itself};
 ghost use Rattle.cedar_conversion.specs.machines.Views.{TellsAlone, plain};
 
 use crate::answer::failure::{Failure, flatten_tuple_2};
-use crate::answer::lists::add;
+use crate::answer::lists::{add, with_room};
 use crate::answer::special::{ExprOrSpecial, empty_node, refusal};
+use crate::answer::{Converted, put};
 use cedar_expressions::{
     AnyId, ExprBuilderInfallibleBuild, Id, InternalName, Name, Text, TryClone, UnreservedId, Var,
 };
@@ -136,7 +139,7 @@ pub(crate) fn unreserved_ident(
 fn path_of(alloc: Global, path: &[Node<Option<Ident>>]) -> Result<Vec<Id>, Failure>
     ensures { Gives (λ ids. ids.items) result (all_of valid_outcome path.now) }
 {
-    let mut all: Result<Vec<Id>, Failure> = Ok(Vec::new(alloc));
+    let mut all: Result<Vec<Id>, Failure> = with_room(alloc, path.len());
     for part in path {
         add(&mut all, valid_id(alloc, part));
     }
@@ -188,19 +191,40 @@ fn variable_in(node: &Node<Option<cst::Name>>) -> Option<Var>
     variable(name.name.node.as_ref()?)
 }
 
+/// A variable, with the place of its primary.
+#[inline(always)]
+fn variable_at<E>(var: Var, loc: &Option<Loc>) -> Result<ExprOrSpecial<E>, Failure>
+    ensures { (meaning : E → Value) → Gives (plain meaning) result (Ok (variable loc.now var)) }
+{
+    Ok(ExprOrSpecial::Var(var, loc.try_clone()?))
+}
+
+/// A name, with the place of its primary.
+#[inline(always)]
+fn name_with<E>(
+    alloc: Global,
+    loc: &Option<Loc>,
+    node: &Node<Option<cst::Name>>,
+) -> Result<ExprOrSpecial<E>, Failure>
+    ensures { (meaning : E → Value) → Gives (plain meaning) result
+        (next (name_outcome node.now) (λ name. Ok (bare_name loc.now name))) }
+{
+    let loc = loc.try_clone()?;
+    Ok(ExprOrSpecial::Name(name_of(alloc, node)?, loc))
+}
+
 /// A variable or a name, with the place of its primary.
+#[inline(never)]
 pub(crate) fn variable_or_name<B: ExprBuilderInfallibleBuild>(
     alloc: Global,
     loc: &Option<Loc>,
     node: &Node<Option<cst::Name>>,
-) -> Result<ExprOrSpecial<B::Expr>, Failure>
-    ensures { Gives (plain B.meaning) result (named_held loc.now node.now) }
+    answer: &mut Converted<B::Expr>,
+)
+    ensures { Gives (plain B.meaning) answer.new (named_held loc.now node.now) }
 {
     match variable_in(node) {
-        Some(var) => Ok(ExprOrSpecial::Var(var, loc.try_clone()?)),
-        None => {
-            let name = name_of(alloc, node)?;
-            Ok(ExprOrSpecial::Name(name, loc.try_clone()?))
-        }
+        Some(var) => put(answer, variable_at::<B::Expr>(var, loc)),
+        None => put(answer, name_with::<B::Expr>(alloc, loc, node)),
     }
 }

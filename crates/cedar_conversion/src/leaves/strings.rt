@@ -1,6 +1,9 @@
 //! The texts that strings stand for.
-ghost use Rattle.std.specs.Prelude.{◌≡◌, ◌∷◌, [], ◌++◌, IfOk, OnOk};
+ghost use Rattle.std.specs.Prelude.{◌≡◌, ◌∷◌, [], ◌++◌, IfOk, OnOk, true};
+ghost use Rattle.std.specs.List.{list_all};
+ghost use Rattle.cedar_conversion.specs.machines.PlainTexts.{stands_for_itself};
 ghost use Rattle.cedar_syntax.specs.faults.NonEmpty.{list_of};
+ghost use Rattle.cedar_syntax.specs.strings.Piece.{IsUnescaped};
 ghost use Rattle.cedar_syntax.specs.faults.ParseErrors.{faults_of};
 ghost use Rattle.cedar_conversion.specs.outcome.Held.{text_value};
 ghost use Rattle.cedar_conversion.specs.outcome.Outcome.{next, unescape};
@@ -55,10 +58,35 @@ pub(crate) fn escape_faults(
     Ok(all)
 }
 
+/// Whether a byte is part of a character that stands for itself.
+#[inline(always)]
+fn stands_for_itself(byte: u8) -> bool
+    ensures { result ≡ stands_for_itself byte }
+{
+    byte != b'"' && byte != b'\\' && byte != b'\r'
+}
+
+/// Whether all bytes are parts of such characters.
+fn all_plain(bytes: &[u8]) -> bool
+    ensures { result ≡ list_all stands_for_itself bytes.now }
+{
+    bytes.iter().all(|byte| stands_for_itself(*byte))
+}
+
+/// Whether a raw text stands for itself, as nearly all do.
+fn is_plain(raw: &str) -> bool
+    ensures { result ≡ true → IsUnescaped raw.now raw.now }
+{
+    all_plain(raw.as_bytes())
+}
+
 /// The text that a raw text stands for, or its escape faults, each at the string's place.
 pub(crate) fn unescape_raw(alloc: Global, raw: &Text, loc: &Option<Loc>) -> Result<Text, Failure>
     ensures { Gives itself result (text_outcome loc.now raw.now) }
 {
+    if is_plain(raw.as_str()) {
+        return Ok(raw.try_clone()?);
+    }
     match to_unescaped_string(alloc, raw.as_str()) {
         Ok(text) => Ok(Text::from_string(text)?),
         Err(UnescapeFailure::Memory(error)) => Err(Failure::from(error)),
@@ -86,6 +114,7 @@ pub(crate) fn pattern_of(
 }
 
 /// The constant that a string is.
+#[inline(never)]
 pub(crate) fn text_of<B: ExprBuilderInfallibleBuild>(
     alloc: Global,
     raw: &Text,

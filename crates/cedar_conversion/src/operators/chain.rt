@@ -4,14 +4,15 @@ ghost use Rattle.std.specs.Prelude.{◌≡◌, List};
 ghost use Rattle.cedar_expressions.specs.Value.{Value};
 ghost use Rattle.cedar_syntax.specs.trees.Tree.{Operator, Level, disjunction, conjunction, relation, sum, product, or_or, and_and, compare, add, multiply};
 ghost use Rattle.cedar_conversion.specs.outcome.Conversion.{Part, operands_outcome, level_outcome, comparison_outcome, factor};
-ghost use Rattle.cedar_conversion.specs.outcome.Held.{Held};
+ghost use Rattle.cedar_conversion.specs.outcome.Held.{Held, as_expression};
 ghost use Rattle.cedar_conversion.specs.outcome.Outcome.{Outcome, both, next};
 ghost use Rattle.cedar_conversion.specs.outcome.Seen.{Gives};
-ghost use Rattle.cedar_conversion.specs.machines.Views.{plain, rest_view, empty_view};
+ghost use Rattle.cedar_conversion.specs.machines.Views.{plain, alike_view, rest_view, empty_view, sides_outcome, alike_outcome};
 
 use crate::answer::failure::{Failure, flatten_tuple_2};
 use crate::answer::lists::bodies_of;
 use crate::answer::special::{ExprOrSpecial, builder_at, expr_at, into_expr, refusal};
+use crate::answer::{Converted, Values, behind, put, take, value_in};
 use cedar_expressions::{AddOp, ExprBuilderInfallibleBuild};
 use cedar_syntax::cst::{MultOp, RelOp};
 use cedar_syntax::err::ToASTErrorKind;
@@ -35,16 +36,31 @@ pub(crate) trait Joins: Copy {
             (level_outcome level loc.now (rest_view operator B.meaning rest) (B.meaning first)) };
 }
 
+/// How values behind one and the same operator are joined.
+pub(crate) trait JoinsAlike {
+    ghost operator: { Operator };
+
+    ghost level: { Level };
+
+    /// The expression of a first value and those behind the operator.
+    fn combine<B: ExprBuilderInfallibleBuild>(
+        alloc: Global,
+        loc: &Option<Loc>,
+        first: B::Expr,
+        rest: Vec<B::Expr>,
+    ) -> Result<ExprOrSpecial<B::Expr>, Failure>
+        ensures { Gives (plain B.meaning) result
+            (level_outcome level loc.now (alike_view operator B.meaning rest) (B.meaning first)) };
+}
+
 /// `||`.
-#[derive(Clone, Copy)]
 pub(crate) struct OrOr;
 
 /// `&&`.
-#[derive(Clone, Copy)]
 pub(crate) struct AndAnd;
 
-impl Joins for OrOr {
-    ghost operator = { λ op. or_or };
+impl JoinsAlike for OrOr {
+    ghost operator = { or_or };
 
     ghost level = { disjunction };
 
@@ -52,19 +68,18 @@ impl Joins for OrOr {
         alloc: Global,
         loc: &Option<Loc>,
         first: B::Expr,
-        rest: Vec<(OrOr, B::Expr)>,
+        rest: Vec<B::Expr>,
     ) -> Result<ExprOrSpecial<B::Expr>, Failure>
         ensures { Gives (plain B.meaning) result
-            (level_outcome disjunction loc.now (rest_view (λ op. or_or) B.meaning rest)
+            (level_outcome disjunction loc.now (alike_view or_or B.meaning rest)
             (B.meaning first)) }
     {
-        let rest = bodies_of(alloc, rest)?;
         expr_at::<B>(builder_at::<B>(alloc, loc).or_nary(first, rest)?, loc)
     }
 }
 
-impl Joins for AndAnd {
-    ghost operator = { λ op. and_and };
+impl JoinsAlike for AndAnd {
+    ghost operator = { and_and };
 
     ghost level = { conjunction };
 
@@ -72,13 +87,12 @@ impl Joins for AndAnd {
         alloc: Global,
         loc: &Option<Loc>,
         first: B::Expr,
-        rest: Vec<(AndAnd, B::Expr)>,
+        rest: Vec<B::Expr>,
     ) -> Result<ExprOrSpecial<B::Expr>, Failure>
         ensures { Gives (plain B.meaning) result
-            (level_outcome conjunction loc.now (rest_view (λ op. and_and) B.meaning rest)
+            (level_outcome conjunction loc.now (alike_view and_and B.meaning rest)
             (B.meaning first)) }
     {
-        let rest = bodies_of(alloc, rest)?;
         expr_at::<B>(builder_at::<B>(alloc, loc).and_naryl(first, rest)?, loc)
     }
 }
@@ -132,16 +146,16 @@ fn relate<B: ExprBuilderInfallibleBuild>(
 {
     let builder = builder_at::<B>(alloc, loc);
     let related = match op {
-        RelOp::Less => builder.less(left, right)?,
-        RelOp::LessEq => builder.lesseq(left, right)?,
-        RelOp::GreaterEq => builder.greatereq(left, right)?,
-        RelOp::Greater => builder.greater(left, right)?,
-        RelOp::NotEq => builder.noteq(left, right)?,
-        RelOp::Eq => builder.is_eq(left, right)?,
-        RelOp::In => builder.is_in(left, right)?,
+        RelOp::Less => builder.less(left, right),
+        RelOp::LessEq => builder.lesseq(left, right),
+        RelOp::GreaterEq => builder.greatereq(left, right),
+        RelOp::Greater => builder.greater(left, right),
+        RelOp::NotEq => builder.noteq(left, right),
+        RelOp::Eq => builder.is_eq(left, right),
+        RelOp::In => builder.is_in(left, right),
         RelOp::InvalidSingleEq => return Err(refusal(alloc, ToASTErrorKind::InvalidSingleEq, loc)),
     };
-    expr_at::<B>(related, loc)
+    expr_at::<B>(related?, loc)
 }
 
 impl Joins for RelOp {
@@ -163,6 +177,42 @@ impl Joins for RelOp {
             Some((op, second)) => relate::<B>(alloc, loc, first, op, second),
         }
     }
+}
+
+/// A comparison of a first side and the other one, which the answer is.
+#[inline(never)]
+pub(crate) fn comparison_in<B: ExprBuilderInfallibleBuild>(
+    alloc: Global,
+    loc: &Option<Loc>,
+    first: &mut Converted<B::Expr>,
+    op: RelOp,
+    answer: &mut Converted<B::Expr>,
+)
+    ensures { (x y : Outcome Held) → Gives (plain B.meaning) first.old x
+        → Gives (plain B.meaning) answer.old y → Gives (plain B.meaning) answer.new
+        (next (both x (next y as_expression)) (sides_outcome loc.now op)) }
+{
+    match value_in::<B>(alloc, answer) {
+        Ok(second) => put(answer, compared::<B>(alloc, loc, first, op, second)),
+        Err(failure) => put(answer, Err(behind(first, failure))),
+    }
+}
+
+/// A comparison of a first side, once it is an expression, and the other one.
+#[inline(always)]
+fn compared<B: ExprBuilderInfallibleBuild>(
+    alloc: Global,
+    loc: &Option<Loc>,
+    first: &mut Converted<B::Expr>,
+    op: RelOp,
+    second: B::Expr,
+) -> Result<ExprOrSpecial<B::Expr>, Failure>
+    ensures { (x : Outcome Held) → Gives (plain B.meaning) first.old x
+        → Gives (plain B.meaning) result (next (next x as_expression)
+        (λ a. comparison_outcome loc.now op a (B.meaning second))) }
+{
+    let first = value_in::<B>(alloc, first)?;
+    relate::<B>(alloc, loc, first, op, second)
 }
 
 /// A factor behind an operator: a division or a remainder is refused once the factor is given.
@@ -203,4 +253,28 @@ pub(crate) fn chain_from<B: ExprBuilderInfallibleBuild, O: Joins + Drop>(
     }
     let first = into_expr::<B>(alloc, first)?;
     O::combine::<B>(alloc, loc, first, rest)
+}
+
+/// A first part and those behind one and the same operator: one part alone is itself.
+pub(crate) fn alike_from<B: ExprBuilderInfallibleBuild, O: JoinsAlike>(
+    alloc: Global,
+    loc: &Option<Loc>,
+    first: &mut Converted<B::Expr>,
+    rest: Values<B::Expr>,
+) -> Result<ExprOrSpecial<B::Expr>, Failure>
+    ensures { (x : Outcome Held) (ps : Outcome (List Part))
+        → Gives (plain B.meaning) first.old x → Gives (alike_view O.operator B.meaning) rest ps
+        → Gives (plain B.meaning) result
+        (next (both x ps) (alike_outcome O.level loc.now)) }
+{
+    match rest {
+        Ok(rest) => {
+            if rest.is_empty() {
+                return take(first);
+            }
+            let first = value_in::<B>(alloc, first)?;
+            O::combine::<B>(alloc, loc, first, rest)
+        }
+        Err(failure) => Err(behind(first, failure)),
+    }
 }

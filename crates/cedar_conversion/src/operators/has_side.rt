@@ -13,6 +13,7 @@ ghost use Rattle.cedar_conversion.specs.machines.Views.{TellsAlone, plain};
 use crate::answer::failure::Failure;
 use crate::answer::special::{ExprOrSpecial, empty_node, refusal, to_text};
 use crate::answer::wanted::{path_as_attribute, truth_as_attribute, variable_word};
+use crate::answer::{Converted, placeholder};
 use crate::leaves::literals::literal;
 use crate::leaves::names::{unreserved_ident, variable_or_name};
 use crate::leaves::strings::unescape_raw;
@@ -175,14 +176,14 @@ fn begins_with<B: ExprBuilderInfallibleBuild>(
 {
     match &node.node {
         Some(Primary::Literal(inner)) => {
-            attributes_from::<B>(side, accesses, literal::<B>(side.alloc, inner))
+            let mut answer: Converted<B::Expr> = placeholder();
+            literal::<B>(side.alloc, inner, &mut answer);
+            attributes_from::<B>(side, accesses, answer)
         }
         Some(Primary::Name(inner)) => {
-            attributes_from::<B>(
-                side,
-                accesses,
-                variable_or_name::<B>(side.alloc, &node.loc, inner),
-            )
+            let mut answer: Converted<B::Expr> = placeholder();
+            variable_or_name::<B>(side.alloc, &node.loc, inner, &mut answer);
+            attributes_from::<B>(side, accesses, answer)
         }
         Some(Primary::Ref(_)) => Err(invalid_has_rhs(side, &node.loc)),
         Some(Primary::Slot(_)) => Err(invalid_has_rhs(side, &node.loc)),

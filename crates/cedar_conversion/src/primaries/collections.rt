@@ -9,12 +9,13 @@ ghost use Rattle.cedar_conversion.specs.outcome.Outcome.{Outcome, both, next, it
 ghost use Rattle.cedar_conversion.specs.outcome.Seen.{Gives};
 ghost use Rattle.cedar_expressions.specs.Value.{Value};
 ghost use Rattle.cedar_conversion.specs.machines.Applied.{Pair, seen_access, seen_accesses, seen_pair, seen_pairs};
-ghost use Rattle.cedar_conversion.specs.machines.Views.{rest_view, plain};
+ghost use Rattle.cedar_conversion.specs.machines.Views.{alike_view, plain};
 
 use crate::answer::failure::{Failure, flatten_tuple_2};
-use crate::answer::lists::{add, bodies_of};
+use crate::answer::lists::add;
 use crate::answer::special::{ExprOrSpecial, builder_at, expr_at, refusal};
 use crate::answer::wanted::{into_attribute, string_from};
+use crate::answer::{Values, take};
 use crate::leaves::names::unreserved_ident;
 use crate::primaries::members::AccessValue;
 use cedar_expressions::{ExprBuilderInfallibleBuild, RecordError, Text};
@@ -23,10 +24,6 @@ use cedar_syntax::err::ToASTErrorKind;
 use cedar_syntax::loc::Loc;
 use cedar_syntax::node::Node;
 use std::alloc::Global;
-
-/// What stands before an item of a list: nothing.
-#[derive(Clone, Copy)]
-pub(crate) struct Beside;
 
 /// A record's key and its value.
 pub(crate) type Keyed<E> = (Text, E);
@@ -42,13 +39,12 @@ pub(crate) type Accesses<E> = Result<Vec<AccessValue<E>>, Failure>;
 pub(crate) fn set_from<B: ExprBuilderInfallibleBuild>(
     alloc: Global,
     loc: &Option<Loc>,
-    items: Result<Vec<(Beside, B::Expr)>, Failure>,
+    items: Values<B::Expr>,
 ) -> Result<ExprOrSpecial<B::Expr>, Failure>
-    ensures { (ps : Outcome (List Part)) → Gives (rest_view (λ op. beside) B.meaning) items ps
+    ensures { (ps : Outcome (List Part)) → Gives (alike_view beside B.meaning) items ps
         → Gives (plain B.meaning) result (next ps (set_value_outcome loc.now)) }
 {
-    let items = bodies_of(alloc, items?)?;
-    expr_at::<B>(builder_at::<B>(alloc, loc).set(items)?, loc)
+    expr_at::<B>(builder_at::<B>(alloc, loc).set(items?)?, loc)
 }
 
 /// A field or a method's name.
@@ -66,13 +62,12 @@ pub(crate) fn field_from<E>(
 /// A call's arguments.
 #[inline(never)]
 pub(crate) fn call_from<B: ExprBuilderInfallibleBuild>(
-    alloc: Global,
-    items: Result<Vec<(Beside, B::Expr)>, Failure>,
+    items: Values<B::Expr>,
 ) -> Result<AccessValue<B::Expr>, Failure>
-    ensures { (ps : Outcome (List Part)) → Gives (rest_view (λ op. beside) B.meaning) items ps
+    ensures { (ps : Outcome (List Part)) → Gives (alike_view beside B.meaning) items ps
         → Gives (seen_access B.meaning) result (next ps (λ qs. Ok (call (bodies qs)))) }
 {
-    Ok(AccessValue::Call(bodies_of(alloc, items?)?))
+    Ok(AccessValue::Call(items?))
 }
 
 /// An index: a string and nothing else.
@@ -92,13 +87,13 @@ pub(crate) fn index_from<B: ExprBuilderInfallibleBuild>(
 #[inline(never)]
 pub(crate) fn add_access<B: ExprBuilderInfallibleBuild>(
     all: &mut Accesses<B::Expr>,
-    next: Result<AccessValue<B::Expr>, Failure>,
+    given: &mut Result<AccessValue<B::Expr>, Failure>,
 )
     ensures { (xs : Outcome (List Given)) (x : Outcome Given)
-        → Gives (seen_accesses B.meaning) all.old xs → Gives (seen_access B.meaning) next x
+        → Gives (seen_accesses B.meaning) all.old xs → Gives (seen_access B.meaning) given.old x
         → Gives (seen_accesses B.meaning) all.new (item_more xs x) }
 {
-    add(all, next);
+    add(all, take(given));
 }
 
 /// A pair of a record: the key's conversion, and then key and value joined.

@@ -1,21 +1,26 @@
 //! Accesses of a primary, applied from the left.
-ghost use Rattle.std.specs.Prelude.{◌≡◌, ◌∷◌, [], List, MatchOption, map, Ok, if◌then◌else◌};
+ghost use Rattle.std.specs.Prelude.{◌≡◌, ◌∷◌, [], List, Option, MatchOption, IfOk, Ok, Err, map, true, if◌then◌else◌};
+ghost use Rattle.cedar_expressions.specs.Path.{Path};
 ghost use Rattle.cedar_expressions.specs.Value as v;
 ghost use Rattle.cedar_expressions.specs.Value.{Value};
-ghost use Rattle.cedar_conversion.specs.outcome.Held.{Held};
-ghost use Rattle.cedar_conversion.specs.parts.Members.{Access as Given, call, accesses_of, name_accesses, variable_accesses, some_accesses, member_outcome};
-ghost use Rattle.cedar_conversion.specs.outcome.Outcome.{Outcome, both, next, no_methods, invalid_access};
+ghost use Rattle.cedar_syntax.specs.declared.err.faults.Failure.{Failure as Told};
+ghost use Rattle.cedar_syntax.specs.declared.loc.Loc.{Loc};
+ghost use Rattle.cedar_conversion.specs.declared.answer.special.ExprOrSpecial.TheVariants as special;
+ghost use Rattle.cedar_conversion.specs.outcome.Held.{Held, as_expression, expression};
+ghost use Rattle.cedar_conversion.specs.parts.Members.{Access as Given, accesses_of, name_accesses, some_accesses, member_outcome};
+ghost use Rattle.cedar_conversion.specs.outcome.Outcome.{Outcome, next, no_methods, invalid_access, variable_call};
 ghost use Rattle.cedar_conversion.specs.outcome.Seen.{Gives};
 ghost use Rattle.cedar_conversion.specs.strict.Table.{table_of};
-ghost use Rattle.cedar_conversion.specs.machines.Applied.{Leads, begins_call, reading_outcome, seen_access, seen_accesses, settled_value};
+ghost use Rattle.cedar_conversion.specs.machines.Applied.{after_field, begins_call, called_outcome, called_variable, is_value, seen_access, seen_accesses, variable_of};
 ghost use Rattle.cedar_conversion.specs.machines.Views.{TellsAlone, plain};
 
-use crate::answer::failure::{Failure, flatten_tuple_2};
-use crate::answer::special::{ExprOrSpecial, builder_at, expr_at, into_expr, refusal};
+use crate::answer::failure::Failure;
+use crate::answer::special::{ExprOrSpecial, builder_at, empty_node, expr_at, refusal};
+use crate::answer::{Converted, put, take, value_in};
 use crate::primaries::methods::{Site, function, method};
-use cedar_expressions::{ExprBuilderInfallibleBuild, Name, Text, UnreservedId, Var};
+use cedar_expressions::{ExprBuilderInfallibleBuild, Name, Text, TryClone, UnreservedId, Var};
 use cedar_syntax::err::ToASTErrorKind;
-use cedar_syntax::loc::Loc;
+use std::alloc::{AllocError, Global};
 
 /// What an access gives.
 #[derive(Drop)]
@@ -25,101 +30,70 @@ pub(crate) enum AccessValue<E> {
     Index(Text),
 }
 
-/// A value that accesses are applied to, and a field of it that isn't applied yet: if a call
-/// follows, it is a method's.
-#[derive(Drop)]
-pub(crate) struct Reading<E> {
-    value: E,
-    field: Option<UnreservedId>,
-}
-
-/// A field or an index of a value.
-fn attribute<B: ExprBuilderInfallibleBuild>(
+/// The value once the field that waits, if one does, is applied to it.
+#[inline(always)]
+fn settled<B: ExprBuilderInfallibleBuild>(
     site: Site<'_>,
     value: B::Expr,
-    name: Text,
-) -> Result<B::Expr, Failure>
-    ensures { Gives B.meaning result (Ok (v.get_attr (B.meaning value) name)) }
+    field: Option<UnreservedId>,
+) -> Result<B::Expr, AllocError>
+    ensures { IfOk result (λ e. B.meaning e ≡ after_field (B.meaning value) field) }
 {
-    Ok(builder_at::<B>(site.alloc, site.loc).get_attr(value, name)?)
-}
-
-/// The value once the field that waits is applied.
-fn settle<B: ExprBuilderInfallibleBuild>(
-    site: Site<'_>,
-    reading: Reading<B::Expr>,
-) -> Result<B::Expr, Failure>
-    ensures { Gives B.meaning result (Ok (settled_value B.meaning reading)) }
-{
-    let Reading { value, field } = reading;
     match field {
         None => Ok(value),
-        Some(id) => attribute::<B>(site, value, id.into_text()),
+        Some(id) => builder_at::<B>(site.alloc, site.loc).get_attr(value, id.into_text()),
     }
 }
 
-/// A call of what was read: a method's if a field waits, else of an expression, which none may be.
-fn apply_call<B: ExprBuilderInfallibleBuild>(
+/// A call of a value: a method's if a field waits, else of an expression, which none may be.
+#[inline(never)]
+fn called<B: ExprBuilderInfallibleBuild>(
     site: Site<'_>,
-    reading: Reading<B::Expr>,
+    value: B::Expr,
+    field: Option<UnreservedId>,
     args: Vec<B::Expr>,
-) -> Result<Reading<B::Expr>, Failure>
-    ensures { (rest : List Given) → Leads
-        (reading_outcome (table_of site.entry.styles.now) site.entry.loc.now B.meaning rest) result
-        (reading_outcome (table_of site.entry.styles.now) site.entry.loc.now B.meaning
-        (call (map B.meaning args.items) ∷ rest) reading) }
+) -> Result<B::Expr, Failure>
+    ensures { Gives B.meaning result (called_outcome (table_of site.entry.styles.now)
+        site.entry.loc.now (B.meaning value) field (map B.meaning args.items)) }
 {
-    let Reading { value, field } = reading;
     match field {
         None => Err(refusal(site.alloc, ToASTErrorKind::ExpressionCall, site.loc)),
-        Some(id) => Ok(Reading {
-            value: method::<B>(site, value, id, args)?,
-            field: None,
-        }),
+        Some(id) => method::<B>(site, value, id, args),
     }
 }
 
-/// One access more.
-fn apply_access<B: ExprBuilderInfallibleBuild>(
-    site: Site<'_>,
-    reading: Reading<B::Expr>,
-    access: AccessValue<B::Expr>,
-) -> Result<Reading<B::Expr>, Failure>
-    ensures { (rest : List Given) → Leads
-        (reading_outcome (table_of site.entry.styles.now) site.entry.loc.now B.meaning rest) result
-        (reading_outcome (table_of site.entry.styles.now) site.entry.loc.now B.meaning
-        (seen_access B.meaning access ∷ rest) reading) }
-{
-    match access {
-        AccessValue::Call(args) => apply_call::<B>(site, reading, args),
-        AccessValue::Field(id) => Ok(Reading {
-            value: settle::<B>(site, reading)?,
-            field: Some(id),
-        }),
-        AccessValue::Index(text) => {
-            let value = settle::<B>(site, reading)?;
-            Ok(Reading {
-                value: attribute::<B>(site, value, text)?,
-                field: None,
-            })
-        }
-    }
-}
-
-/// What all of these accesses make of what was read.
+/// What all of these accesses make of a value, from the left. A field waits for the access behind
+/// it: if that is a call, it is a method's.
+#[inline(always)]
 fn apply_accesses<B: ExprBuilderInfallibleBuild>(
     site: Site<'_>,
-    reading: Reading<B::Expr>,
+    value: B::Expr,
     accesses: Vec<AccessValue<B::Expr>>,
-) -> Result<ExprOrSpecial<B::Expr>, Failure>
-    ensures { Gives (plain B.meaning) result (reading_outcome (table_of site.entry.styles.now)
-        site.entry.loc.now B.meaning (seen_accesses B.meaning accesses) reading) }
+) -> Result<B::Expr, Failure>
+    ensures { Gives (λ e. expression site.entry.loc.now (B.meaning e)) result
+        (accesses_of (table_of site.entry.styles.now) site.entry.loc.now (B.meaning value)
+        (seen_accesses B.meaning accesses)) }
 {
-    let mut reading = reading;
+    let mut value = value;
+    let mut field = None;
     for access in accesses {
-        reading = apply_access::<B>(site, reading, access)?;
+        match access {
+            AccessValue::Call(args) => {
+                value = called::<B>(site, value, field, args)?;
+                field = None;
+            }
+            AccessValue::Field(id) => {
+                value = settled::<B>(site, value, field)?;
+                field = Some(id);
+            }
+            AccessValue::Index(text) => {
+                let whole = settled::<B>(site, value, field)?;
+                value = builder_at::<B>(site.alloc, site.loc).get_attr(whole, text)?;
+                field = None;
+            }
+        }
     }
-    expr_at::<B>(settle::<B>(site, reading)?, site.loc)
+    Ok(settled::<B>(site, value, field)?)
 }
 
 /// Whether a call comes first.
@@ -159,7 +133,7 @@ fn of_name<B: ExprBuilderInfallibleBuild>(
     match first {
         AccessValue::Call(args) => {
             let value = function::<B>(site, name, args)?;
-            apply_accesses::<B>(site, Reading { value, field: None }, rest)
+            expr_at::<B>(apply_accesses::<B>(site, value, rest)?, site.loc)
         }
         AccessValue::Field(id) => {
             let is_called = begins_call(rest.as_slice());
@@ -171,60 +145,6 @@ fn of_name<B: ExprBuilderInfallibleBuild>(
                 field: text,
             };
             Err(refusal(site.alloc, kind, site.loc))
-        }
-    }
-}
-
-/// Accesses of what is an expression.
-fn of_value<B: ExprBuilderInfallibleBuild>(
-    site: Site<'_>,
-    value: B::Expr,
-    first: AccessValue<B::Expr>,
-    rest: Vec<AccessValue<B::Expr>>,
-) -> Result<ExprOrSpecial<B::Expr>, Failure>
-    ensures { Gives (plain B.meaning) result (accesses_of
-        (table_of site.entry.styles.now) site.entry.loc.now
-        (B.meaning value) (seen_access B.meaning first ∷ seen_accesses B.meaning rest)) }
-{
-    let reading = apply_access::<B>(site, Reading { value, field: None }, first)?;
-    apply_accesses::<B>(site, reading, rest)
-}
-
-/// Accesses of a variable, which can't be called.
-fn of_variable<B: ExprBuilderInfallibleBuild>(
-    site: Site<'_>,
-    var: Var,
-    own: &Option<Loc>,
-    first: AccessValue<B::Expr>,
-    rest: Vec<AccessValue<B::Expr>>,
-) -> Result<ExprOrSpecial<B::Expr>, Failure>
-    ensures { Gives (plain B.meaning) result (variable_accesses (table_of site.entry.styles.now)
-        site.entry.loc.now (v.var var)
-        (seen_access B.meaning first ∷ seen_accesses B.meaning rest)) }
-{
-    if let AccessValue::Call(_) = first {
-        return Err(refusal(site.alloc, ToASTErrorKind::VariableCall(var), site.loc));
-    }
-    let value = builder_at::<B>(site.alloc, own).var(var)?;
-    of_value::<B>(site, value, first, rest)
-}
-
-fn with_accesses<B: ExprBuilderInfallibleBuild>(
-    site: Site<'_>,
-    item: ExprOrSpecial<B::Expr>,
-    first: AccessValue<B::Expr>,
-    rest: Vec<AccessValue<B::Expr>>,
-) -> Result<ExprOrSpecial<B::Expr>, Failure>
-    ensures { Gives (plain B.meaning) result (some_accesses (table_of site.entry.styles.now)
-        site.entry.loc.now (plain B.meaning item)
-        (seen_access B.meaning first ∷ seen_accesses B.meaning rest)) }
-{
-    match item {
-        ExprOrSpecial::Name(name, _) => of_name::<B>(site, name, first, rest),
-        ExprOrSpecial::Var(var, own) => of_variable::<B>(site, var, &own, first, rest),
-        other => {
-            let value = into_expr::<B>(site.alloc, other)?;
-            of_value::<B>(site, value, first, rest)
         }
     }
 }
@@ -244,20 +164,211 @@ fn split_first<E: Drop>(
     Some((first, rest))
 }
 
-/// A primary and its accesses.
-pub(crate) fn member_from<B: ExprBuilderInfallibleBuild>(
+/// Accesses of a name that is no variable, or the failure that the primary is. Another form is its
+/// caller's.
+#[inline(never)]
+fn named_in<B: ExprBuilderInfallibleBuild>(
     site: Site<'_>,
-    item: Result<ExprOrSpecial<B::Expr>, Failure>,
-    accesses: Result<Vec<AccessValue<B::Expr>>, Failure>,
-) -> Result<ExprOrSpecial<B::Expr>, Failure>
-    ensures { (x : Outcome Held) (all : Outcome (List Given))
-        → Gives (plain B.meaning) item x → Gives (seen_accesses B.meaning) accesses all
-        → Gives (plain B.meaning) result (next (both x all)
-        (λ p. member_outcome (table_of site.entry.styles.now) site.entry.loc.now p.0 p.1)) }
+    item: &mut Converted<B::Expr>,
+    accesses: Vec<AccessValue<B::Expr>>,
+    answer: &mut Converted<B::Expr>,
+)
+    ensures name { (own : Option Loc) (name : Path) (a : Given) (all : List Given)
+        → item.old ≡ Ok (special.Name name own) → seen_accesses B.meaning accesses ≡ a ∷ all
+        → Gives (plain B.meaning) answer.new
+        (name_accesses (table_of site.entry.styles.now) site.entry.loc.now name (a ∷ all)) }
+    ensures failure { (failure : Told) → item.old ≡ Err failure → answer.new ≡ Err failure }
 {
-    let (item, accesses) = flatten_tuple_2(item, accesses)?;
-    match split_first(accesses) {
-        None => Ok(item),
-        Some((first, rest)) => with_accesses::<B>(site, item, first, rest),
+    match take(item) {
+        Ok(ExprOrSpecial::Name(name, _)) => match split_first(accesses) {
+            Some((first, rest)) => put(answer, of_name::<B>(site, name, first, rest)),
+            None => put(answer, Err(empty_node(site.alloc, site.loc))),
+        },
+        other => put(answer, other),
+    }
+}
+
+/// Whether this is a value: any form but a name that is no variable.
+#[inline(always)]
+fn is_value<E>(item: &Converted<E>) -> bool
+    ensures { result ≡ is_value item.now }
+{
+    match item {
+        Ok(ExprOrSpecial::Expr(_, _)) => true,
+        Ok(ExprOrSpecial::Var(_, _)) => true,
+        Ok(ExprOrSpecial::Name(_, _)) => false,
+        Ok(ExprOrSpecial::BoolLit(_, _)) => true,
+        Ok(ExprOrSpecial::StrLit(_, _)) => true,
+        Err(_) => false,
+    }
+}
+
+/// The variable that this is, if it is one.
+#[inline(always)]
+fn variable_of<E>(item: &Converted<E>) -> Option<Var>
+    ensures { result ≡ variable_of item.now }
+{
+    match item {
+        Ok(ExprOrSpecial::Var(var, _)) => Some(*var),
+        Ok(ExprOrSpecial::Name(_, _)) => None,
+        Ok(ExprOrSpecial::Expr(_, _)) => None,
+        Ok(ExprOrSpecial::BoolLit(_, _)) => None,
+        Ok(ExprOrSpecial::StrLit(_, _)) => None,
+        Err(_) => None,
+    }
+}
+
+/// The variable that is called, if one is.
+#[inline(always)]
+fn called_variable<E>(item: &Converted<E>, accesses: &[AccessValue<E>]) -> Option<Var>
+    ensures { (meaning : E → Value)
+        → result ≡ called_variable item.now (map (seen_access meaning) accesses.now) }
+{
+    if begins_call(accesses) {
+        variable_of(item)
+    } else {
+        None
+    }
+}
+
+/// A call of a variable, which can't be called.
+#[cold]
+#[inline(never)]
+fn variable_call(site: Site<'_>, var: Var) -> Failure
+    ensures { TellsAlone result variable_call site.entry.loc.now }
+{
+    refusal(site.alloc, ToASTErrorKind::VariableCall(var), site.loc)
+}
+
+/// Accesses of a value, once it is an expression. A variable can't be called.
+#[inline(always)]
+fn of_value<B: ExprBuilderInfallibleBuild>(
+    site: Site<'_>,
+    item: &mut Converted<B::Expr>,
+    accesses: Vec<AccessValue<B::Expr>>,
+) -> Result<B::Expr, Failure>
+    requires { is_value item.old ≡ true }
+    ensures { (x : Outcome Held) (a : Given) (all : List Given)
+        → Gives (plain B.meaning) item.old x → seen_accesses B.meaning accesses ≡ a ∷ all
+        → Gives (λ e. expression site.entry.loc.now (B.meaning e)) result (next x
+        (λ h. some_accesses (table_of site.entry.styles.now) site.entry.loc.now h (a ∷ all))) }
+{
+    if let Some(var) = called_variable(item, accesses.as_slice()) {
+        return Err(variable_call(site, var));
+    }
+    let value = value_in::<B>(site.alloc, item)?;
+    apply_accesses::<B>(site, value, accesses)
+}
+
+/// Accesses of a value.
+#[inline(never)]
+fn valued_in<B: ExprBuilderInfallibleBuild>(
+    site: Site<'_>,
+    item: &mut Converted<B::Expr>,
+    accesses: Vec<AccessValue<B::Expr>>,
+    answer: &mut Converted<B::Expr>,
+)
+    requires { is_value item.old ≡ true }
+    ensures { (x : Outcome Held) (a : Given) (all : List Given)
+        → Gives (plain B.meaning) item.old x → seen_accesses B.meaning accesses ≡ a ∷ all
+        → Gives (plain B.meaning) answer.new (next x
+        (λ h. some_accesses (table_of site.entry.styles.now) site.entry.loc.now h (a ∷ all))) }
+{
+    match of_value::<B>(site, item, accesses) {
+        Ok(value) => put(answer, expr_at::<B>(value, site.loc)),
+        Err(failure) => put(answer, Err(failure)),
+    }
+}
+
+/// A primary and its accesses.
+pub(crate) fn accessed_in<B: ExprBuilderInfallibleBuild>(
+    site: Site<'_>,
+    item: &mut Converted<B::Expr>,
+    accesses: Vec<AccessValue<B::Expr>>,
+    answer: &mut Converted<B::Expr>,
+)
+    ensures { (x : Outcome Held) → Gives (plain B.meaning) item.old x
+        → Gives (plain B.meaning) answer.new (next x
+        (λ h. member_outcome (table_of site.entry.styles.now) site.entry.loc.now h
+        (seen_accesses B.meaning accesses))) }
+{
+    if accesses.is_empty() {
+        return put(answer, take(item));
+    }
+    if is_value(item) {
+        valued_in::<B>(site, item, accesses, answer)
+    } else {
+        named_in::<B>(site, item, accesses, answer)
+    }
+}
+
+/// A value's attribute.
+#[inline(always)]
+fn attribute<B: ExprBuilderInfallibleBuild>(
+    site: Site<'_>,
+    item: &mut Converted<B::Expr>,
+    name: Text,
+) -> Result<ExprOrSpecial<B::Expr>, Failure>
+    ensures { (x : Outcome Held) → Gives (plain B.meaning) item.old x
+        → Gives (plain B.meaning) result (next (next x as_expression)
+        (λ w. Ok (expression site.entry.loc.now (v.get_attr w name)))) }
+{
+    let value = value_in::<B>(site.alloc, item)?;
+    let place = site.loc.try_clone()?;
+    let value = builder_at::<B>(site.alloc, site.loc).get_attr(value, name)?;
+    Ok(ExprOrSpecial::Expr(value, place))
+}
+
+/// A list of one access.
+#[inline(never)]
+fn list_of<E: Drop>(
+    alloc: Global,
+    access: AccessValue<E>,
+) -> Result<Vec<AccessValue<E>>, AllocError>
+    ensures { IfOk result (λ all. all.items ≡ access ∷ []) }
+{
+    let mut all = Vec::new(alloc);
+    all.push(access)?;
+    Ok(all)
+}
+
+/// A primary and one access in a list.
+#[inline(never)]
+fn listed_in<B: ExprBuilderInfallibleBuild>(
+    site: Site<'_>,
+    item: &mut Converted<B::Expr>,
+    access: AccessValue<B::Expr>,
+    answer: &mut Converted<B::Expr>,
+)
+    ensures { (x : Outcome Held) → Gives (plain B.meaning) item.old x
+        → Gives (plain B.meaning) answer.new (next x
+        (λ h. some_accesses (table_of site.entry.styles.now) site.entry.loc.now h
+        (seen_access B.meaning access ∷ []))) }
+{
+    match list_of(site.alloc, access) {
+        Ok(all) => accessed_in::<B>(site, item, all, answer),
+        Err(error) => put(answer, Err(Failure::from(error))),
+    }
+}
+
+/// A primary and its one access: an attribute of a value takes no list.
+pub(crate) fn lone_accessed_in<B: ExprBuilderInfallibleBuild>(
+    site: Site<'_>,
+    item: &mut Converted<B::Expr>,
+    access: AccessValue<B::Expr>,
+    answer: &mut Converted<B::Expr>,
+)
+    ensures { (x : Outcome Held) → Gives (plain B.meaning) item.old x
+        → Gives (plain B.meaning) answer.new (next x
+        (λ h. some_accesses (table_of site.entry.styles.now) site.entry.loc.now h
+        (seen_access B.meaning access ∷ []))) }
+{
+    if !is_value(item) {
+        return listed_in::<B>(site, item, access, answer);
+    }
+    match access {
+        AccessValue::Field(id) => put(answer, attribute::<B>(site, item, id.into_text())),
+        AccessValue::Index(text) => put(answer, attribute::<B>(site, item, text)),
+        AccessValue::Call(args) => { listed_in::<B>(site, item, AccessValue::Call(args), answer) }
     }
 }

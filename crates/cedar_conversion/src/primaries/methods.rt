@@ -78,14 +78,15 @@ fn with_argument<B: ExprBuilderInfallibleBuild>(
         (B.meaning argument ∷ [])) }
 {
     let builder = builder_at::<B>(site.alloc, site.loc);
-    match method {
-        Standard::Contains => Ok(builder.contains(object, argument)?),
-        Standard::ContainsAll => Ok(builder.contains_all(object, argument)?),
-        Standard::ContainsAny => Ok(builder.contains_any(object, argument)?),
-        Standard::IsEmpty => Err(wrong_arity(site, method, 1)),
-        Standard::GetTag => Ok(builder.get_tag(object, argument)?),
-        Standard::HasTag => Ok(builder.has_tag(object, argument)?),
-    }
+    let called = match method {
+        Standard::Contains => builder.contains(object, argument),
+        Standard::ContainsAll => builder.contains_all(object, argument),
+        Standard::ContainsAny => builder.contains_any(object, argument),
+        Standard::IsEmpty => return Err(wrong_arity(site, method, 1)),
+        Standard::GetTag => builder.get_tag(object, argument),
+        Standard::HasTag => builder.has_tag(object, argument),
+    };
+    Ok(called?)
 }
 
 fn without_argument<B: ExprBuilderInfallibleBuild>(

@@ -9,6 +9,7 @@ use Rattle.cedar_grammar.specs.declared.reading.class.Operator.{Operator}
 use Rattle.cedar_grammar.specs.declared.reading.class.SideWord.{SideWord}
 use Rattle.cedar_grammar.specs.declared.reading.class.Sign.{Sign}
 use Rattle.cedar_grammar.specs.declared.reading.extent.Extent.{Extent}
+use Rattle.cedar_expression_machine.specs.declared.words.state.Entity.{Entity}
 use Rattle.cedar_expression_machine.specs.declared.words.state.Path.{Path}
 use Rattle.cedar_expression_machine.specs.declared.words.state.PathState.TheVariants as path
 use Rattle.cedar_expression_machine.specs.declared.words.state.WordsState.{WordsState}
@@ -31,6 +32,7 @@ use Rattle.cedar_expression_machine.specs.declared.expression.state.Signs.{Signs
 use Rattle.cedar_expression_machine.specs.declared.expression.state.State.{State}
 use Rattle.cedar_syntax.specs.trees.Trees.{Cell}
 use Rattle.cedar_grammar.specs.machines.Door.{is_some, option_image}
+use Rattle.cedar_expression_machine.specs.machines.Closing.{Plain, add_at, and_at, levels_of, marked_chain, plain_chain, relation_at}
 use Rattle.cedar_expression_machine.specs.machines.ExpressionPlans.{list_may_end, may_follow, may_sign, operand_plan}
 use Rattle.cedar_expression_machine.specs.machines.ExpressionShapes.{left_shape, op_sign, stack_shape}
 use Rattle.cedar_expression_machine.specs.machines.ExpressionStates.{has_operand}
@@ -67,6 +69,11 @@ abbrev pub HasPath : Mode → Type 0
 HasPath q = (p : OperandPlace) × (sg : Signs) × (x : Path) ×
     (q ≡ mode.Word p sg (words.Path (path.Have x)))
 
+-- and are an entity
+abbrev pub HasEntity : Mode → Type 0
+HasEntity q = (p : OperandPlace) × (sg : Signs) × (e : Entity) ×
+    (q ≡ mode.Word p sg (words.Entity e))
+
 -- behind an operand
 abbrev pub HasOperand : Mode → Type 0
 HasOperand q = (m : Operand) × (q ≡ mode.Have m None)
@@ -98,6 +105,30 @@ IsSided l = (x : SideWord) × (y : Ranged (Cell Add)) × (l ≡ Some (side_of x 
 
 abbrev pub IsWithin : Option Left → Type 0
 IsWithin l = (y z : Cell Add) × (e : Option Extent) × (l ≡ Some (left.IsIn y z e))
+
+-- comparisons with their last sum
+abbrev pub compared : List ℕ → Levels → PendingChain Add RelOp → Operand → Levels
+compared src lv p m = record lv {
+  relation = Some (left.Common record {
+    chain = marked_chain src (Some p) (add_at src lv m);
+    op = p.op;
+  });
+}
+
+-- a chain of `&&` with its last relation, and one of `||` with its last conjunction
+
+abbrev pub conjoined : List ℕ → Levels → Operand → Levels
+conjoined src lv m = levels_of lv.branches lv.or
+    (Some (plain_chain src lv.and (relation_at src lv m))) None None None
+
+abbrev pub disjoined : List ℕ → Levels → Operand → Levels
+disjoined src lv m = levels_of lv.branches
+    (Some (plain_chain src lv.or (and_at src lv m))) None None None None
+
+-- the bytes of a chain
+abbrev pub chain_extent : {T : Type 0} → Option (Plain T) → Option Extent
+chain_extent (Some c) = c.extent
+chain_extent None = None
 
 -- and which levels are not
 

@@ -4,3 +4,4 @@ pub mod alone;
 pub mod begin;
 pub mod chain;
 pub mod close;
+pub mod last;

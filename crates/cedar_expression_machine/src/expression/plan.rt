@@ -269,6 +269,7 @@ impl State {
     }
 
     /// Whether a token of this class may follow an operand that goes on so far.
+    #[inline(always)]
     fn may_follow(&self, reach: Reach, operator: Operator) -> bool
         ensures { result ≡ may_follow (stack_shape self.now.stack)
             (left_shape self.now.levels.relation) reach operator }

@@ -24,6 +24,7 @@ pub fn word_node(source: &Source, word: Word) -> Result<Node<Option<Ident>>, All
 }
 
 /// The identifier that a token is, and its bytes.
+#[inline(always)]
 pub fn word_of(alloc: Global, token: &Token<'_>) -> Result<Word, AllocError>
     requires { IsTrue (is_some (any_of token.now.kind [])) }
     ensures ident { IfOk result (λ word. Some word.ident ≡ any_of token.now.kind

@@ -1,11 +1,12 @@
 -- The driver's progress, and where it stops, for any machine.
 use Rattle.std.proofs.Common.{◌≡◌, ℕ, ◌-◌, ◌<◌, ◌≤◌, Bool, true, false, cond, List, [], ◌∷◌, ◌++◌, Option, Some, None, Result, Ok, Err, length, refl, sym, ◌∙◌, ap, subst, append_assoc, inl, inr, arith}
-use Rattle.std.specs.Prelude.{◌⊎◌, MatchResult, IsErrAnd}
+use Rattle.std.specs.Prelude.{◌⊎◌, MatchResult}
 use Rattle.std.proofs.lemmas.List.{append-nil}
 use Rattle.std.specs.Str.{IsUtf8}
 use Rattle.cedar_lexer.specs.Token.{Lexeme, lexeme_of}
 use Rattle.cedar_lexer.specs.Cut.{Layout, nothing, Cuts, StopsAt, CutsFrom, StopsFrom}
 use Rattle.cedar_lexer.specs.LexerState.{LexerState, LexerAnswers, fresh_lexer, IsCutOrStop}
+use Rattle.cedar_lexer.specs.declared.token.InvalidToken.{InvalidToken}
 use Rattle.cedar_lexer.specs.declared.token.Token.{Token}
 use Rattle.cedar_lexer.specs.declared.token.TokenKind.{TokenKind}
 use Rattle.cedar_lexer.proofs.Cuts.{laid_on, laid_utf8, onward, nothing_at_end}
@@ -14,11 +15,12 @@ use Rattle.cedar_syntax.specs.declared.err.faults.Failure.{Failure}
 use Rattle.cedar_syntax.specs.declared.err.faults.Failure.TheVariants.{Memory, Errors}
 use Rattle.cedar_grammar.specs.declared.reading.extent.Extent.{Extent}
 use Rattle.cedar_grammar.specs.declared.reading.expected.Narrowing.{Narrowing}
-use Rattle.cedar_grammar.specs.faults.FirstFault.{end_at, tokens_end, early_at}
+use Rattle.cedar_syntax.specs.declared.err.to_cst.RawFault.TheVariants as fault
+use Rattle.cedar_grammar.specs.faults.FirstFault.{end_at, tokens_end, unexpected_fault, early_at, large_at}
 use Rattle.cedar_grammar.specs.grammar.Place.{joint_extent, extent_of, extent}
 use Rattle.cedar_grammar.specs.grammar.WrittenTokens.{IsWritten}
-use Rattle.cedar_grammar.specs.machines.Door.{next, Machine, answer_state, Comes}
-use Rattle.cedar_grammar.specs.machines.Judged.{wanted_kinds, IsRead, IsFault, GivesToken, StopsBadly, stop_fault, IsStop, StopsAtToken, StopsAtEnd}
+use Rattle.cedar_grammar.specs.machines.Door.{next, Machine, answer_state, Comes, is_some, Reader, done_answer, planned_answer, machine_of, allowed_by}
+use Rattle.cedar_grammar.specs.machines.Judged.{done_as, wanted_kinds, IsRead, IsFault, FailsWith, large_fault, stop_fault, IsStop, StopsAtToken, StopsAtEnd}
 use Rattle.cedar_grammar.proofs.machines.Laws.{then_steps}
 use Rattle.cedar_grammar.proofs.machines.Extents.{extent-append}
 use Rattle.cedar_grammar.proofs.Written.{AllWritten, all_written, one_bounds}
@@ -115,14 +117,9 @@ pub record Progress {S T : Type 0} (m : Machine Lexeme S T) (text : List ℕ) (s
 pub at_start : {S T : Type 0} (m : Machine Lexeme S T) (text : List ℕ) (s : S) (l : LexerState) → IsUtf8 text → m.start ≡ s → l ≡ fresh_lexer text → Progress m text s 0 l
 at_start m text s l w f g = record { utf8 = w; before = []; comes = ap (λ w. Some w) f; ends = refl; stands = begun text l g }
 
--- an error that `?` passes on
-pub passed_on : {T : Type 0} (r : Result T Failure) (f : Failure) (P : T → Type 0) (Q : Failure → Type 0) → IsErrAnd r (λ y. y ≡ f) → Q f → MatchResult r P Q
-passed_on (Ok x) f P Q is q = absurd is
-passed_on (Err y) f P Q is q = subst Q (sym is) q
-
--- the next token, at what the lexer gave
-pub is_given : (l u : LexerState) (o : Option Token) (t : Token) → GivesToken l o u → o ≡ Some t → LexerAnswers l (Some (Ok t)) u
-is_given l u o t g e = subst (λ o. GivesToken l o u) e g
+-- what the lexer gave, at what it is
+pub given : (l u : LexerState) (o a : Option (Result Token InvalidToken)) → LexerAnswers l o u → o ≡ a → LexerAnswers l a u
+given l u o a g e = subst (λ o. LexerAnswers l o u) e g
 
 pub token_written : {S T : Type 0} {m : Machine Lexeme S T} {text : List ℕ} {s : S} {end : ℕ} {l u : LexerState} (t : Token) → Progress m text s end l → LexerAnswers l (Some (Ok t)) u → IsWritten (lexeme_of t)
 token_written {text = text} {l = l} {u = u} t p a = next_written text p.before l u t p.stands a
@@ -141,6 +138,11 @@ one_more {m = m} {text = text} {s = s} {r = r} {l = l} {u = u} t p a h = record 
   ends = sym (end_snoc p.before (lexeme_of t));
   stands = token_behind text p.before l u t p.stands a;
 }
+
+-- a planned token is taken
+pub takes : {S A T : Type 0} (r : Reader S A T) (src : List ℕ) (s q : S) (a : A) (t : Lexeme) (fits : Bool) → r.plan s t.kind ≡ Some a → done_as fits q ≡ r.act src s a t → fits ≡ true → (machine_of src r).step s t ≡ next q
+takes r src s q a t fits g h i =
+    ap (λ o. planned_answer (λ a. r.act src s a t) (r.finish src s) o) g ∙ (ap (λ o. done_answer o) (sym h) ∙ ap (λ b. done_answer (done_as b q)) i)
 
 -- ---- where it stops
 
@@ -163,20 +165,31 @@ stops_at_token p n {text = text} {s = s} {l = l} {u = u} t (Errors errors) q a h
       h.2,
     )
 
-pub stops_badly : {S T : Type 0} {m : Machine Lexeme S T} (p : S → Option TokenKind → Bool) (n : Narrowing) {text : List ℕ} {s : S} {end : ℕ} {l : LexerState} (f : Failure) → Progress m text s end l → StopsBadly text l f → IsStop m p n text f
-stops_badly p n (Memory e) q b = tt
-stops_badly p n {text = text} {s = s} {l = l} (Errors errors) q b = (
+-- a planned number that doesn't fit
+pub stops_at_number : {S A T : Type 0} (r : Reader S A T) (n : Narrowing) (src : List ℕ) (s q : S) (a : A) (t : Lexeme) (fits : Bool) (f : Failure) → r.plan s t.kind ≡ Some a → done_as fits q ≡ r.act src s a t → fits ≡ false → FailsWith src (large_at src t) f →
+    StopsAtToken (machine_of src r) (allowed_by r) n src s t f
+stops_at_number r n src s q a t fits (Memory e) g h i w = tt
+stops_at_number {S = S} {T = T} r n src s q a t fits (Errors errors) g h i w = (
+  large_at src t,
+  ap (λ o. cond (is_some o) (large_fault src (planned_answer (λ a. r.act src s a t) (r.finish src s) o) t) (Some (unexpected_fault t (wanted_kinds (allowed_by r s) n (Some t.kind))))) g
+      ∙ (ap (λ o. large_fault {S = S} {T = T} src (done_answer o) t) (sym h) ∙ ap (λ b. large_fault {S = S} {T = T} src (done_answer (done_as b q)) t) i),
+  w,
+)
+
+pub stops_badly : {S T : Type 0} {m : Machine Lexeme S T} (p : S → Option TokenKind → Bool) (n : Narrowing) {text : List ℕ} {s : S} {end : ℕ} {l u : LexerState} (e : InvalidToken) (f : Failure) → Progress m text s end l → LexerAnswers l (Some (Err e)) u → FailsWith text (fault.InvalidToken e.location) f → IsStop m p n text f
+stops_badly p n e (Memory w) q a b = tt
+stops_badly p n {text = text} {s = s} {l = l} e (Errors errors) q a b = (
   _,
   record {
     before = q.before;
     rest = [];
-    bad = Some b.0;
+    bad = Some e.location;
     state = s;
-    cut = subst (λ w. StopsAt text w b.0) (sym (append-nil q.before)) (stops_behind text q.before l b.0 q.stands b.1);
+    cut = subst (λ w. StopsAt text w e.location) (sym (append-nil q.before)) (stops_behind text q.before l e.location q.stands a.1);
     comes = q.comes;
     is = refl;
   },
-  b.2,
+  b,
 )
 
 early_told : {S T : Type 0} (m : Machine Lexeme S T) (p : S → Option TokenKind → Bool) (n : Narrowing) (text : List ℕ) (s : S) (ts : List Lexeme) → p s None ≡ false → stop_fault m p n text s ts [] None ≡ Some (early_at (tokens_end ts) (wanted_kinds (p s) n None))
@@ -201,7 +214,7 @@ stops_at_end {m = m} p n {text = text} {s = s} {l = l} {u = u} (Errors errors) q
 reads_whole : {S T : Type 0} {m : Machine Lexeme S T} {text : List ℕ} {s : S} {end : ℕ} {l u : LexerState} (x : T) → Progress m text s end l → LexerAnswers l None u → m.finish s ≡ Some x → IsRead m text x
 reads_whole {text = text} {s = s} {l = l} {u = u} x q a h = record { tokens = q.before; cut = end_behind text q.before l u q.stands a; runs = record { last = s; goes = q.comes; ends = h } }
 
-pub concluded : {S T : Type 0} {m : Machine Lexeme S T} (p : S → Option TokenKind → Bool) (n : Narrowing) {text : List ℕ} {s : S} {end : ℕ} {l : LexerState} (u : LexerState) (o : Option Token) (r : Result T Failure) → Progress m text s end l → GivesToken l o u → o ≡ None →
+pub concluded : {S T : Type 0} {m : Machine Lexeme S T} (p : S → Option TokenKind → Bool) (n : Narrowing) {text : List ℕ} {s : S} {end : ℕ} {l : LexerState} (u : LexerState) (r : Result T Failure) → Progress m text s end l → LexerAnswers l None u →
     MatchResult r (λ x. m.finish s ≡ Some x) (λ f. StopsAtEnd m p n text s end f) → MatchResult r (λ x. IsRead m text x) (λ f. IsStop m p n text f)
-concluded p n {l = l} u o (Ok x) q a e g = reads_whole x q (subst (λ o. GivesToken l o u) e a) g
-concluded p n {l = l} u o (Err f) q a e g = stops_at_end p n f q (subst (λ o. GivesToken l o u) e a) g
+concluded p n u (Ok x) q a g = reads_whole x q a g
+concluded p n u (Err f) q a g = stops_at_end p n f q a g

@@ -4,6 +4,7 @@ use Rattle.std.specs.Prelude.{MatchResult, IfOk}
 use Rattle.std.specs.Str.{IsUtf8}
 use Rattle.cedar_lexer.specs.Token.{Lexeme, lexeme_of}
 use Rattle.cedar_lexer.specs.LexerState.{LexerState, LexerAnswers, fresh_lexer, IsCutOrStop}
+use Rattle.cedar_lexer.specs.declared.token.InvalidToken.{InvalidToken}
 use Rattle.cedar_lexer.specs.declared.token.Token.{Token}
 use Rattle.cedar_lexer.specs.declared.token.TokenKind.{TokenKind}
 use Rattle.cedar_grammar.specs.declared.reading.mending.Phase.{Phase}
@@ -19,7 +20,7 @@ use Rattle.cedar_grammar.specs.machines.Judged.{IsRead}
 use Rattle.cedar_grammar.specs.machines.Recovery.{Recovers, Recovery, reading, skipping, stopped}
 use Rattle.cedar_grammar.specs.machines.Marks.{mark_of}
 use Rattle.cedar_grammar.specs.machines.Skipping.{Skipped, on, over, stop, skip, behind_skip}
-use Rattle.cedar_grammar.specs.machines.Mending.{stage, stage_of, taken_stage, judgment_by, recovery_step_by, recovery_of_all_by, last_of, met_faults, answer_as, IsToldBy, RefusesWith}
+use Rattle.cedar_grammar.specs.machines.Mending.{stage, stage_of, taken_stage, judgment_by, recovery_step_by, recovery_of_all_by, last_of, met_faults, IsToldBy, RefusesWith}
 use Rattle.cedar_grammar.proofs.machines.Driving.{Behind, begun, token_behind, end_behind, stops_behind, next_written, bytes_left, fewer_left}
 
 -- ---- progress
@@ -47,10 +48,6 @@ recover_snoc : {S T F : Type 0} (m : Machine Lexeme S T) (p : S → Option Token
 recover_snoc m p r q [] t = refl
 recover_snoc m p r q (u ∷ ts) t = recover_snoc m p r (recovery_step_by m p r q u) ts t
 
--- the next token, at what the lexer gave
-pub is_given : (l u : LexerState) (o : Option Token) (bad : Option ℕ) (t : Token) → LexerAnswers l (answer_as o bad) u → o ≡ Some t → LexerAnswers l (Some (Ok t)) u
-is_given l u o bad t g e = subst (λ o. LexerAnswers l (answer_as o bad) u) e g
-
 pub token_written : {S T F : Type 0} {m : Machine Lexeme S T} {p : S → Option TokenKind → Bool} {r : Recovers S F} {text : List ℕ} {q : Recovery S F} {l u : LexerState} (t : Token) → Met m p r text q l → LexerAnswers l (Some (Ok t)) u → IsWritten (lexeme_of t)
 token_written {text = text} {l = l} {u = u} t w a = next_written text w.before l u t w.stands a
 
@@ -65,8 +62,12 @@ one_more {m = m} {p = p} {r = r} {text = text} {l = l} {u = u} t w a h = record 
   stands = token_behind text w.before l u t w.stands a;
 }
 
--- the end, or a bad place
-ends_there : {S T F : Type 0} {m : Machine Lexeme S T} {p : S → Option TokenKind → Bool} {r : Recovers S F} {text : List ℕ} {q : Recovery S F} {l : LexerState} (u : LexerState) (bad : Option ℕ) → (w : Met m p r text q l) → LexerAnswers l (answer_as None bad) u → IsCutOrStop text 0 w.before bad
+-- what the lexer answers at the end, or at a bad place
+abbrev pub ending : Option ℕ → Option (Result Token InvalidToken)
+ending (Some place) = Some (Err record { location = place })
+ending None = None
+
+ends_there : {S T F : Type 0} {m : Machine Lexeme S T} {p : S → Option TokenKind → Bool} {r : Recovers S F} {text : List ℕ} {q : Recovery S F} {l : LexerState} (u : LexerState) (bad : Option ℕ) → (w : Met m p r text q l) → LexerAnswers l (ending bad) u → IsCutOrStop text 0 w.before bad
 ends_there {text = text} {l = l} u None w a = end_behind text w.before l u w.stands a
 ends_there {text = text} {l = l} u (Some place) w a = stops_behind text w.before l place w.stands a.1
 
@@ -154,7 +155,7 @@ stage_state phase.Reading xs l n s q e = reading_is e
 stage_state (phase.Skipping w) xs l n s q e = absurd (cc)
 stage_state (phase.Stopped x) xs l n s q e = absurd (cc)
 
-reads_whole : {S T F : Type 0} {m : Machine Lexeme S T} (p : S → Option TokenKind → Bool) (r : Recovers S F) (b : ℕ → F) {text : List ℕ} (run : Run S F) {l : LexerState} (u : LexerState) (bad : Option ℕ) (x : T) → Met m p r text (stage_of run) l → LexerAnswers l (answer_as None bad) u →
+reads_whole : {S T F : Type 0} {m : Machine Lexeme S T} (p : S → Option TokenKind → Bool) (r : Recovers S F) (b : ℕ → F) {text : List ℕ} (run : Run S F) {l : LexerState} (u : LexerState) (bad : Option ℕ) (x : T) → Met m p r text (stage_of run) l → LexerAnswers l (ending bad) u →
     m.finish run.state ≡ Some x → met_faults p r b (stage_of run) bad ≡ [] → IsRead m text x
 reads_whole {m = m} p r b {text = text} run u bad x w a f e =
     let c = clean_at p r b (stage_of run) bad e in
@@ -168,13 +169,13 @@ reads_whole {m = m} p r b {text = text} run u bad x w a f e =
       };
     }
 
-tells_all : {S T F : Type 0} {m : Machine Lexeme S T} (p : S → Option TokenKind → Bool) (r : Recovers S F) (b : ℕ → F) {text : List ℕ} {q : Recovery S F} {l : LexerState} (u : LexerState) (bad : Option ℕ) (f : Refusal F) → Met m p r text q l → LexerAnswers l (answer_as None bad) u →
+tells_all : {S T F : Type 0} {m : Machine Lexeme S T} (p : S → Option TokenKind → Bool) (r : Recovers S F) (b : ℕ → F) {text : List ℕ} {q : Recovery S F} {l : LexerState} (u : LexerState) (bad : Option ℕ) (f : Refusal F) → Met m p r text q l → LexerAnswers l (ending bad) u →
     RefusesWith (met_faults p r b q bad) f → IsToldBy m p r b text f
 tells_all p r b u bad (refusal.Memory e) w a h = tt
 tells_all p r b u bad (refusal.Faults faults) w a h = record { tokens = w.before; bad = bad; cut = ends_there u bad w a; is = h ∙ ap (λ q. met_faults p r b q bad) w.is }
 
-pub concluded : {S T F : Type 0} {m : Machine Lexeme S T} (p : S → Option TokenKind → Bool) (r : Recovers S F) (b : ℕ → F) {text : List ℕ} (run : Run S F) {l : LexerState} (u : LexerState) (a : Option Token) (bad : Option ℕ) (o : Result T (Refusal F)) → Met m p r text (stage_of run) l → LexerAnswers l (answer_as a bad) u → a ≡ None →
+pub concluded : {S T F : Type 0} {m : Machine Lexeme S T} (p : S → Option TokenKind → Bool) (r : Recovers S F) (b : ℕ → F) {text : List ℕ} (run : Run S F) {l : LexerState} (u : LexerState) (bad : Option ℕ) (o : Result T (Refusal F)) → Met m p r text (stage_of run) l → LexerAnswers l (ending bad) u →
     IfOk o (λ x. m.finish run.state ≡ Some x) → MatchResult o (λ x. met_faults p r b (stage_of run) bad ≡ []) (λ f. RefusesWith (met_faults p r b (stage_of run) bad) f) →
     MatchResult o (λ x. IsRead m text x) (λ f. IsToldBy m p r b text f)
-concluded p r b run {l = l} u a bad (Ok x) w g h f e = reads_whole p r b run u bad x w (subst (λ a. LexerAnswers l (answer_as a bad) u) h g) f e
-concluded p r b run {l = l} u a bad (Err f) w g h i e = tells_all p r b u bad f w (subst (λ a. LexerAnswers l (answer_as a bad) u) h g) e
+concluded p r b run u bad (Ok x) w g f e = reads_whole p r b run u bad x w g f e
+concluded p r b run u bad (Err f) w g i e = tells_all p r b u bad f w g e

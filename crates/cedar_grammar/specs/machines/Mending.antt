@@ -1,10 +1,8 @@
 -- Runs of the parser that recovers, by what its states allow, and the faults that they tell of a
 -- text.
-use Rattle.std.specs.Prelude.{◌≡◌, ℕ, Bool, cond, List, [], ◌∷◌, ◌++◌, Option, Some, None, Result, Ok, Err}
+use Rattle.std.specs.Prelude.{◌≡◌, ℕ, Bool, cond, List, [], ◌∷◌, ◌++◌, Option, Some, None}
 use Rattle.cedar_lexer.specs.Token.{Lexeme}
 use Rattle.cedar_lexer.specs.LexerState.{IsCutOrStop}
-use Rattle.cedar_lexer.specs.declared.token.Token.{Token}
-use Rattle.cedar_lexer.specs.declared.token.InvalidToken.{InvalidToken}
 use Rattle.cedar_lexer.specs.declared.token.TokenKind.{TokenKind}
 use Rattle.cedar_syntax.specs.faults.NonEmpty.{list_of}
 use Rattle.cedar_syntax.specs.faults.ParseErrors.{faults_of}
@@ -121,12 +119,6 @@ abbrev pub met_faults : {S F : Type 0} → (S → Option TokenKind → Bool) →
 met_faults p r b q o = faults_with_last (last_of p r b q o) (mended_faults q)
 
 -- ---- a text
-
--- what the lexer answers, where this is the next token, or a bad place is met
-abbrev pub answer_as : Option Token → Option ℕ → Option (Result Token InvalidToken)
-answer_as (Some t) bad = Some (Ok t)
-answer_as None (Some place) = Some (Err record { location = place })
-answer_as None None = None
 
 -- all faults of a text
 pub record AreAllFaults {S T F : Type 0} (m : Machine Lexeme S T) (p : S → Option TokenKind → Bool)

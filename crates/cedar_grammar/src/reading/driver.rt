@@ -8,6 +8,7 @@ ghost use Rattle.cedar_grammar.specs.machines.Judged.{wanted_kinds, IsRead, Fail
 
 use crate::reading::expected::{Narrowing, expected};
 use crate::reading::place::{loc_at, token_extent};
+use crate::reading::put::put;
 use cedar_expressions::{Source, Text};
 use cedar_lexer::lexer::Lexer;
 use cedar_lexer::token::{InvalidToken, Token, TokenKind};
@@ -34,6 +35,15 @@ pub trait Entry<T: Drop>: Drop {
     /// Before the first token.
     fn start(alloc: Global) -> Self
         ensures { reader.start ≡ result };
+
+    /// Before the first token again. A state that is large and mostly empty is emptied where it
+    /// stands.
+    #[inline(never)]
+    fn restart(&mut self, alloc: Global)
+        ensures { reader.start ≡ self.new }
+    {
+        put(self, Self::start(alloc));
+    }
 
     /// What is done with a first token of this kind, or nothing where none begins with it.
     fn first(kind: TokenKind) -> Option<Self::Act>
@@ -68,7 +78,9 @@ pub trait Entry<T: Drop>: Drop {
         ensures { IfOk result (λ tree. reader.finish source.now self.old ≡ Some tree) };
 }
 
-/// Whether some sentence has this next, a kind of token or the end.
+/// Whether some sentence has this next, a kind of token or the end. A call of its own, since only
+/// here nothing is done with what is planned: so it isn't made.
+#[inline(never)]
 pub fn allows<T: Drop, E: Entry<T>>(state: &E, next: Option<TokenKind>) -> bool
     ensures { result ≡ allowed_by E.reader state.now next }
 {
@@ -197,32 +209,6 @@ fn refuse_number(alloc: Global, source: &Source, token: &Token<'_>) -> Failure
     }
 }
 
-/// One more token.
-#[inline(always)]
-fn judge<T: Drop, E: Entry<T>>(
-    alloc: Global,
-    source: &Source,
-    narrowing: Narrowing,
-    state: &mut E,
-    token: &Token<'_>,
-) -> Result<(), Failure>
-    requires { IsWritten (lexeme_of token.now) }
-    ensures { MatchResult result
-        (λ _. (machine_of source.now E.reader).step state.old (lexeme_of token.now) ≡
-        next state.new)
-        (λ f. StopsAtToken (machine_of source.now E.reader) (allowed_by E.reader) narrowing
-        source.now state.old (lexeme_of token.now) f) }
-{
-    let Some(act) = state.plan(token.kind) else {
-        return Err(refuse::<T, E>(alloc, source, narrowing, state, token));
-    };
-    if state.act(alloc, source, act, token)? {
-        Ok(())
-    } else {
-        Err(refuse_number(alloc, source, token))
-    }
-}
-
 /// The tree at the end of the text.
 fn conclude<T: Drop, E: Entry<T>>(
     alloc: Global,
@@ -257,11 +243,24 @@ fn read<T: Drop, E: Entry<T>>(
     let mut lexer = Lexer::new(text);
     let mut state = E::start(alloc);
     let mut end = 0;
-    while let Some(token) = next_token(alloc, source, &mut lexer)? {
-        judge::<T, E>(alloc, source, narrowing, &mut state, &token)?;
-        end = token.end;
+    loop {
+        match &lexer.next() {
+            Some(Ok(token)) => {
+                let Some(act) = state.plan(token.kind) else {
+                    return Err(refuse::<T, E>(alloc, source, narrowing, &state, token));
+                };
+                if !state.act(alloc, source, act, token)? {
+                    return Err(refuse_number(alloc, source, token));
+                }
+                end = token.end;
+            }
+            Some(Err(bad)) => {
+                let location = bad.location;
+                return Err(failure(alloc, source, RawFault::InvalidToken { location }));
+            }
+            None => return conclude::<T, E>(alloc, source, narrowing, state, end),
+        }
     }
-    conclude::<T, E>(alloc, source, narrowing, state, end)
 }
 
 /// The tree that a text has by this rule.

@@ -73,6 +73,9 @@ const KINDS_BY_NAME: [TokenKind; 50] = [
     TokenKind::When,
 ];
 
+/// At most places no more kinds than these are expected: room for them is asked for once.
+const USUAL: usize = 32;
+
 /// Whether a token of this kind closes something that is open.
 fn is_closer(kind: TokenKind) -> bool
     ensures { result ≡ is_closer kind }
@@ -174,13 +177,14 @@ fn allowed_among<T: Drop, E: Entry<T>>(
         (λ allowed. allowed ≡ picked_kinds narrowed (allowed_by E.reader state.now)
         kinds.now) }
 {
-    let mut allowed = Items::new(alloc);
+    let mut allowed = Vec::new(alloc);
+    allowed.reserve(USUAL)?;
     for kind in kinds {
         if (!narrowed || is_closer(*kind)) && allows::<T, E>(state, Some(*kind)) {
             allowed.push(*kind)?;
         }
     }
-    Ok(allowed)
+    Ok(Items::from(allowed))
 }
 
 /// The kinds that are expected where this is refused, a kind of token or the end.

@@ -1,6 +1,5 @@
 //! Reads a whole text by a rule in which reading goes on behind a fault, and tells all its faults.
 ghost use Rattle.std.specs.Prelude.{◌≡◌, ℕ, List, [], Some, None, false, cond, IfOk, MatchResult, MatchOption};
-ghost use Rattle.cedar_lexer.specs.LexerState.{LexerAnswers};
 ghost use Rattle.cedar_lexer.specs.Token.{lexeme_of};
 ghost use Rattle.cedar_syntax.specs.faults.NonEmpty.{list_of};
 ghost use Rattle.cedar_grammar.specs.declared.reading.mending.Phase.TheVariants as phase;
@@ -12,7 +11,7 @@ ghost use Rattle.cedar_grammar.specs.machines.Door.{machine_of, allowed_by};
 ghost use Rattle.cedar_grammar.specs.machines.Marks.{mark_of};
 ghost use Rattle.cedar_grammar.specs.machines.Recovery.{stopped};
 ghost use Rattle.cedar_grammar.specs.machines.Skipping.{skip, skip_answer};
-ghost use Rattle.cedar_grammar.specs.machines.Mending.{IsSkipping, IsSkippingBy, mended_stage, stopped_stage, bad_fault, refused_fault, bad_or, recovers_of, stage_of, skip_step_by, judgment_by, recovery_step_by, last_of, met_faults, answer_as, RefusesWith, IsToldBy, IsTold};
+ghost use Rattle.cedar_grammar.specs.machines.Mending.{IsSkipping, IsSkippingBy, mended_stage, stopped_stage, bad_fault, refused_fault, bad_or, recovers_of, stage_of, skip_step_by, judgment_by, recovery_step_by, last_of, met_faults, RefusesWith, IsToldBy, IsTold};
 
 use crate::reading::driver::{Entry, early, large_number, unexpected};
 use crate::reading::expected::Narrowing;
@@ -20,7 +19,7 @@ use crate::reading::mark::as_mark;
 use crate::reading::recovery::{Recovering, RecoveryWay, Skipping, skip};
 use cedar_expressions::{Items, Source};
 use cedar_lexer::lexer::Lexer;
-use cedar_lexer::token::{InvalidToken, Token};
+use cedar_lexer::token::Token;
 use cedar_syntax::err::{Failure, NonEmpty, ParseError, ParseErrors, RawFault, ToCSTError};
 use std::alloc::{AllocError, Global};
 use std::mem;
@@ -394,22 +393,6 @@ fn conclude<T: Drop, E: Entry<T> + Recovering, F: Telling>(
     }
 }
 
-/// The next token of the text, or none, at its end or at a bad place.
-#[inline(always)]
-fn next_token<'a>(lexer: &mut Lexer<'a>, bad: &mut Option<usize>) -> Option<Token<'a>>
-    ensures { LexerAnswers lexer.old (answer_as result bad.new) lexer.new }
-{
-    *bad = None;
-    match lexer.next() {
-        Some(Ok(token)) => Some(token),
-        Some(Err(InvalidToken { location })) => {
-            *bad = Some(location);
-            None
-        }
-        None => None,
-    }
-}
-
 /// Reads the text, of which the source is a copy, to its end.
 fn read<T: Drop, E: Entry<T> + Recovering, F: Telling>(
     alloc: Global,
@@ -424,11 +407,15 @@ fn read<T: Drop, E: Entry<T> + Recovering, F: Telling>(
 {
     let mut lexer = Lexer::new(text);
     let mut run = begin::<T, E, F>(alloc);
-    let mut bad = None;
-    while let Some(token) = next_token(&mut lexer, &mut bad) {
-        step::<T, E, F>(alloc, source, &mut run, &token)?;
+    loop {
+        match &lexer.next() {
+            Some(Ok(token)) => step::<T, E, F>(alloc, source, &mut run, token)?,
+            Some(Err(bad)) => {
+                return conclude::<T, E, F>(alloc, source, run, Some(bad.location));
+            }
+            None => return conclude::<T, E, F>(alloc, source, run, None),
+        }
     }
-    conclude::<T, E, F>(alloc, source, run, bad)
 }
 
 /// The tree that a text has by this rule, or all its faults.

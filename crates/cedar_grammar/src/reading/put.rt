@@ -13,14 +13,6 @@ pub fn put<T: Drop>(place: &mut T, value: T)
     *place = value;
 }
 
-/// The same by a call of its own, where what is let go is large and rare.
-#[inline(never)]
-pub fn put_apart<T: Drop>(place: &mut T, value: T)
-    ensures { place.new ≡ value }
-{
-    put(place, value);
-}
-
 /// A node taken out of its place, where an empty one stays.
 #[inline(always)]
 pub fn take_node<T>(place: &mut Node<Option<T>>) -> Node<Option<T>>

@@ -47,6 +47,7 @@ impl<T> Stack<T> {
 
 impl<T: Drop> Stack<T> {
     /// One element more; after want of memory the stack is as before.
+    #[inline(always)]
     pub fn push(&mut self, item: T) -> Result<(), AllocError>
         ensures ok { OnOk result (self.new ≡ item ∷ self.old) }
         ensures err { OnErr result (self.new ≡ self.old) }

@@ -37,6 +37,7 @@ pub fn ident_of(alloc: Global, token: &Token<'_>) -> Result<Ident, AllocError>
 }
 
 /// The identifier that a token is, as a node.
+#[inline(always)]
 pub fn ident_node(
     alloc: Global,
     source: &Source,
@@ -63,6 +64,7 @@ pub fn token_node<T: Drop>(
 }
 
 /// A string as a node, at its bytes.
+#[inline(always)]
 pub fn string_node(
     alloc: Global,
     source: &Source,

@@ -49,6 +49,7 @@ impl Entry<Node<Option<Policies>>> for WholePoliciesState {
         Many::first(kind)
     }
 
+    #[inline(always)]
     fn plan(&self, kind: TokenKind) -> Option<<Many as Entry<PolicyNodes>>::Act> {
         self.text.plan(kind)
     }

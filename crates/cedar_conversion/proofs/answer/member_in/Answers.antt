@@ -1,4 +1,14 @@
+use Rattle.cedar_conversion.specs.machines.Applied.{seen_accesses}
+use Rattle.cedar_conversion.specs.machines.Views.{plain}
+use Rattle.cedar_conversion.proofs.Outcomes.{behind_refused, both_with, given_in, gives_at, refused_next}
 use Rattle.cedar_conversion.proofs.answer.member_in.Goals as goal
 
-pub returns : goal.returns
-returns g c x all given others = rw c.put.ensures (c.member_from.ensures x all (rw c.take-item.ensures given) (rw c.take-accesses.ensures others))
+pub returns-in-Ok : goal.returns-in-Ok
+returns-in-Ok g c x all h k =
+    let given = rw c.in-Ok.is at (given_in (seen_accesses g.B.ExprBuilderInfallibleBuild.meaning) _ _ all c.take.ensures k) in
+    rw given (gives_at (plain g.B.ExprBuilderInfallibleBuild.meaning) _ _ _ (both_with x _ _) (c.accessed_in.ensures x h))
+
+pub returns-in-Err : goal.returns-in-Err
+returns-in-Err g c x all h k =
+    let given = rw c.in-Err.is at (given_in (seen_accesses g.B.ExprBuilderInfallibleBuild.meaning) _ _ all c.take.ensures k) in
+    rw c.put.ensures (refused_next c.behind.result _ _ (behind_refused (plain g.B.ExprBuilderInfallibleBuild.meaning) _ c.in-Err.failure x all c.behind.result h given c.behind.ensures))

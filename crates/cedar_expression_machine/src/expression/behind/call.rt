@@ -1,16 +1,17 @@
 //! Accesses behind an operand: a field, a call, an index.
-ghost use Rattle.std.specs.Prelude.{◌≡◌, Some, OnOk};
+ghost use Rattle.std.specs.Prelude.{◌≡◌, ◌∷◌, Some, OnOk};
 ghost use Rattle.cedar_lexer.specs.Token.{lexeme_of};
 ghost use Rattle.cedar_grammar.specs.declared.reading.class.AccessStart.TheVariants as opens;
 ghost use Rattle.cedar_grammar.specs.declared.reading.class.Closing.TheVariants as closing;
 ghost use Rattle.cedar_grammar.specs.declared.reading.class.Operator.TheVariants as operators;
 ghost use Rattle.cedar_expression_machine.specs.declared.expression.state.Act.TheVariants as acts;
 ghost use Rattle.cedar_expression_machine.specs.machines.Closing.{with_access};
+ghost use Rattle.cedar_expression_machine.specs.declared.expression.state.Frame.TheVariants as frame;
 ghost use Rattle.cedar_expression_machine.specs.machines.ExpressionModes.{HasOperand, followed};
 ghost use Rattle.cedar_expression_machine.specs.machines.Expressions.{expression_act};
-ghost use Rattle.cedar_expression_machine.specs.machines.Having.{call_more, index_ending};
+ghost use Rattle.cedar_expression_machine.specs.machines.Having.{call_more, frame_ending};
 ghost use Rattle.cedar_expression_machine.specs.machines.Named.{named_reader};
-ghost use Rattle.cedar_expression_machine.specs.machines.Wanting.{call_closing};
+ghost use Rattle.cedar_expression_machine.specs.machines.Wanting.{list_ending};
 ghost use Rattle.cedar_expression_machine.specs.machines.WholeExpressions.{IsPlanned};
 
 use crate::expression::brackets::paren::bracket_extent;
@@ -20,7 +21,6 @@ use crate::ground::Ground;
 use cedar_expressions::Items;
 use cedar_grammar::reading::extent::{Extent, join_extents};
 use cedar_grammar::reading::place::token_extent;
-use cedar_grammar::reading::put::put;
 use cedar_grammar::reading::tokens::ident_node;
 use cedar_lexer::token::Token;
 use cedar_syntax::cst::{Expr, MemAccess};
@@ -95,27 +95,28 @@ impl State {
 
     /// `)` behind the arguments.
     #[inline(never)]
-    pub fn close_call(
-        &mut self,
-        ground: Ground<'_>,
-        frame: Call,
-        end: Extent,
-    ) -> Result<(), AllocError>
-        ensures { OnOk result (self.new
-            ≡ call_closing ground.entry.source.now self.old.stack frame end) }
+    pub fn close_call(&mut self, ground: Ground<'_>, end: Extent) -> Result<(), AllocError>
+        requires { (f : _) × (st : _) × (self.old.stack ≡ frame.Call f ∷ st) }
+        ensures { OnOk result
+            (Some self.new ≡ list_ending ground.entry.source.now self.old.stack end) }
     {
-        let Call {
-            outer,
-            mut operand,
-            opened,
-            items,
-        } = frame;
-        let tree = MemAccess::Call(items);
-        let extent = bracket_extent(opened, end);
-        operand.push(ground, Ranged { tree, extent })?;
-        put(&mut self.levels, outer);
-        self.turn(have(operand));
-        Ok(())
+        match self.stack.pop() {
+            Some(Frame::Call(frame)) => {
+                let Call {
+                    outer,
+                    mut operand,
+                    opened,
+                    items,
+                } = frame;
+                let tree = MemAccess::Call(items);
+                let extent = bracket_extent(opened, end);
+                operand.push(ground, Ranged { tree, extent })?;
+                self.restore(outer);
+                self.turn(have(operand));
+                Ok(())
+            }
+            _ => unreachable!(),
+        }
     }
 
     /// `]` behind the index.
@@ -123,24 +124,29 @@ impl State {
     pub fn close_index(
         &mut self,
         ground: Ground<'_>,
-        frame: Index,
         item: Ranged<Expr>,
         end: Extent,
     ) -> Result<(), AllocError>
+        requires { (f : _) × (st : _) × (self.old.stack ≡ frame.Index f ∷ st) }
         ensures { OnOk result (Some self.new
-            ≡ index_ending ground.entry.source.now self.old.stack frame item closing.Bracket end) }
+            ≡ frame_ending ground.entry.source.now self.old.stack item closing.Bracket end) }
     {
-        let Index {
-            outer,
-            mut operand,
-            opened,
-        } = frame;
         let tree = MemAccess::Index(ground.node_of(item)?);
-        let extent = bracket_extent(opened, end);
-        operand.push(ground, Ranged { tree, extent })?;
-        put(&mut self.levels, outer);
-        self.turn(have(operand));
-        Ok(())
+        match self.stack.pop() {
+            Some(Frame::Index(frame)) => {
+                let Index {
+                    outer,
+                    mut operand,
+                    opened,
+                } = frame;
+                let extent = bracket_extent(opened, end);
+                operand.push(ground, Ranged { tree, extent })?;
+                self.restore(outer);
+                self.turn(have(operand));
+                Ok(())
+            }
+            _ => unreachable!(),
+        }
     }
 
     /// An identifier behind `.`: the operand takes it where it stays.

@@ -11,6 +11,7 @@ ghost use Rattle.cedar_expression_machine.specs.machines.ExpressionModes.{HasOpe
 ghost use Rattle.cedar_expression_machine.specs.machines.ExpressionStates.{state, wants};
 
 use crate::expression::levels::alone::{expr_alone, places_of, upper_places};
+use crate::expression::levels::close::close_branches;
 use crate::expression::state::{Frame, OperandPlace, OperatorAt, Ranged, State};
 use crate::ground::Ground;
 use cedar_grammar::reading::class::{AccessStart, Closing, Operator};
@@ -53,8 +54,12 @@ impl State {
             → item ≡ whole ground.entry.source.now self.old.levels m) }
         ensures after { OnOk result (self.new ≡ state self.old.stack (fresh []) (wants place)) }
     {
-        let operand = self.take_operand(place);
-        self.levels.close(ground, operand)
+        let item = self.close_expr(ground)?;
+        self.want_again(place);
+        match self.levels.branches.top() {
+            None => Ok(item),
+            Some(_) => close_branches(ground, &mut self.levels.branches, item),
+        }
     }
 
     /// The same, where the operand is all. It is taken out when nothing but the memory for the
@@ -128,20 +133,20 @@ impl State {
             (operators.Ends closing.Paren) end) }
     {
         let item = self.close(ground, OperandPlace::Operand)?;
-        match self.stack.pop() {
-            Some(Frame::Paren(frame)) => self.close_paren(ground, frame, item, end),
-            Some(Frame::Call(mut frame)) => {
-                frame.push(ground, item)?;
-                self.close_call(ground, frame, end)
-            }
-            Some(
+        match self.stack.top_mut() {
+            Some(frame) => match frame {
+                Frame::Paren(_) => self.close_paren(ground, item, end),
+                Frame::Call(call) => {
+                    call.push(ground, item)?;
+                    self.close_call(ground, end)
+                }
                 Frame::Set(_)
                 | Frame::Index(_)
                 | Frame::Record(_)
                 | Frame::Guard(_)
-                | Frame::Then(_),
-            )
-            | None => unreachable!(),
+                | Frame::Then(_) => unreachable!(),
+            },
+            None => unreachable!(),
         }
     }
 
@@ -153,20 +158,20 @@ impl State {
             (operators.Ends closing.Bracket) end) }
     {
         let item = self.close(ground, OperandPlace::Operand)?;
-        match self.stack.pop() {
-            Some(Frame::Set(mut frame)) => {
-                frame.push(ground, item)?;
-                self.close_set(ground, frame, end)
-            }
-            Some(Frame::Index(frame)) => self.close_index(ground, frame, item, end),
-            Some(
+        match self.stack.top_mut() {
+            Some(frame) => match frame {
+                Frame::Set(set) => {
+                    set.push(ground, item)?;
+                    self.close_set(ground, end)
+                }
+                Frame::Index(_) => self.close_index(ground, item, end),
                 Frame::Paren(_)
                 | Frame::Call(_)
                 | Frame::Record(_)
                 | Frame::Guard(_)
-                | Frame::Then(_),
-            )
-            | None => unreachable!(),
+                | Frame::Then(_) => unreachable!(),
+            },
+            None => unreachable!(),
         }
     }
 

@@ -62,39 +62,6 @@ impl Levels {
         }
     }
 
-    /// The last operand of comparisons, which is their last sum: it is put where it stays.
-    #[inline(always)]
-    pub fn link_common(&mut self, ground: Ground<'_>, operand: Operand) -> Result<(), AllocError>
-        requires sums { HasNoSum self.old }
-        requires common { IsCommon self.old.relation }
-        ensures { (p : _) → self.old.relation ≡ Some (left.Common p) → OnOk result
-            (self.new ≡ record self.old {
-              relation = Some (left.Common record {
-                chain = marked_chain ground.entry.source.now (Some p)
-                    (add_at ground.entry.source.now self.old operand);
-                op = p.op;
-              });
-            }) }
-    {
-        let extent = join_extents(operand.signs.extent, operand.extent);
-        let places = places_of(ground, &operand)?;
-        let loc = ground.loc_at(extent)?;
-        let node = Node {
-            node: Some(add_with_places(ground.alloc, operand, places)),
-            loc,
-        };
-        match &mut self.relation {
-            Some(left) => match left.as_mut() {
-                Left::Common(begun) => {
-                    begun.chain.extent = join_extents(begun.chain.extent, extent);
-                    begun.chain.extended.push((begun.op, node))
-                }
-                _ => unreachable!(),
-            },
-            None => unreachable!(),
-        }
-    }
-
     /// Comparisons whose last sum is read, taken out.
     #[inline(always)]
     pub fn take_common(&mut self) -> Ranged<Relation>

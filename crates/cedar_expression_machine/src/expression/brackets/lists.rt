@@ -16,10 +16,10 @@ impl State {
         ensures { OnOk result (Some self.new
             ≡ list_ending ground.entry.source.now self.old.stack end) }
     {
-        match self.stack.pop() {
-            Some(Frame::Set(frame)) => self.close_set(ground, frame, end),
-            Some(Frame::Call(frame)) => self.close_call(ground, frame, end),
-            Some(Frame::Record(frame)) => self.close_record(ground, frame, end),
+        match self.stack.top() {
+            Some(Frame::Set(_)) => self.close_set(ground, end),
+            Some(Frame::Call(_)) => self.close_call(ground, end),
+            Some(Frame::Record(_)) => self.close_record(ground, end),
             _ => unreachable!(),
         }
     }

@@ -1,15 +1,15 @@
 //! An expression in parentheses.
-ghost use Rattle.std.specs.Prelude.{◌≡◌, Some, OnOk};
+ghost use Rattle.std.specs.Prelude.{◌≡◌, ◌∷◌, Some, OnOk};
 ghost use Rattle.cedar_grammar.specs.declared.reading.class.Closing.TheVariants as closing;
+ghost use Rattle.cedar_expression_machine.specs.declared.expression.state.Frame.TheVariants as frame;
 ghost use Rattle.cedar_expression_machine.specs.machines.ExpressionModes.{WantsOperand, mode_signs};
 ghost use Rattle.cedar_expression_machine.specs.machines.ExpressionStates.{around};
-ghost use Rattle.cedar_expression_machine.specs.machines.Having.{paren_ending};
+ghost use Rattle.cedar_expression_machine.specs.machines.Having.{frame_ending};
 ghost use Rattle.cedar_expression_machine.specs.machines.Wanting.{paren_opening};
 
 use crate::expression::state::{Frame, OperandPlace, Paren, Ranged, State};
 use crate::ground::Ground;
 use cedar_grammar::reading::extent::{Extent, join_extents};
-use cedar_grammar::reading::put::put;
 use cedar_syntax::cst::{Expr, Primary};
 use std::alloc::{AllocError, Global};
 
@@ -43,21 +43,26 @@ impl State {
     pub fn close_paren(
         &mut self,
         ground: Ground<'_>,
-        frame: Paren,
         item: Ranged<Expr>,
         end: Extent,
     ) -> Result<(), AllocError>
+        requires { (f : _) × (st : _) × (self.old.stack ≡ frame.Paren f ∷ st) }
         ensures { OnOk result (Some self.new
-            ≡ paren_ending ground.entry.source.now self.old.stack frame item closing.Paren end) }
+            ≡ frame_ending ground.entry.source.now self.old.stack item closing.Paren end) }
     {
-        let Paren {
-            outer,
-            signs,
-            opened,
-        } = frame;
         let tree = Primary::Expr(ground.node_of(item)?);
-        let extent = bracket_extent(opened, end);
-        put(&mut self.levels, outer);
-        self.have_primary(ground, signs, Ranged { tree, extent })
+        match self.stack.pop() {
+            Some(Frame::Paren(frame)) => {
+                let Paren {
+                    outer,
+                    signs,
+                    opened,
+                } = frame;
+                let extent = bracket_extent(opened, end);
+                self.restore(outer);
+                self.have_primary(ground, signs, Ranged { tree, extent })
+            }
+            _ => unreachable!(),
+        }
     }
 }

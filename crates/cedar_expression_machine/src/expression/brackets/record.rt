@@ -7,7 +7,7 @@ ghost use Rattle.cedar_expression_machine.specs.declared.expression.state.Operan
 ghost use Rattle.cedar_expression_machine.specs.machines.ExpressionModes.{HasRecord, IsFollowed, WantsOperand, followed, mode_signs};
 ghost use Rattle.cedar_expression_machine.specs.machines.ExpressionStates.{opening};
 ghost use Rattle.cedar_expression_machine.specs.machines.Having.{record_more, value_beginning};
-ghost use Rattle.cedar_expression_machine.specs.machines.Wanting.{record_opening, record_closing};
+ghost use Rattle.cedar_expression_machine.specs.machines.Wanting.{list_ending, record_opening};
 
 use crate::expression::brackets::paren::bracket_extent;
 use crate::expression::state::{Frame, Key, OperandPlace, Ranged, Record, State};
@@ -60,26 +60,27 @@ impl State {
 
     /// `}` behind the pairs.
     #[inline(never)]
-    pub fn close_record(
-        &mut self,
-        ground: Ground<'_>,
-        frame: Record,
-        end: Extent,
-    ) -> Result<(), AllocError>
-        ensures { OnOk result (self.new
-            ≡ record_closing ground.entry.source.now self.old.stack frame end) }
+    pub fn close_record(&mut self, ground: Ground<'_>, end: Extent) -> Result<(), AllocError>
+        requires { HasRecord self.old.stack }
+        ensures { OnOk result
+            (Some self.new ≡ list_ending ground.entry.source.now self.old.stack end) }
     {
-        let Record {
-            outer,
-            signs,
-            opened,
-            items,
-            key: _,
-        } = frame;
-        let tree = Primary::RInits(items);
-        let extent = bracket_extent(opened, end);
-        put(&mut self.levels, outer);
-        self.have_primary(ground, signs, Ranged { tree, extent })
+        match self.stack.pop() {
+            Some(Frame::Record(frame)) => {
+                let Record {
+                    outer,
+                    signs,
+                    opened,
+                    items,
+                    key: _,
+                } = frame;
+                let tree = Primary::RInits(items);
+                let extent = bracket_extent(opened, end);
+                self.restore(outer);
+                self.have_primary(ground, signs, Ranged { tree, extent })
+            }
+            _ => unreachable!(),
+        }
     }
 
     /// A key and its colon are put into the record: the value begins.
@@ -124,12 +125,15 @@ impl State {
             (operators.Ends closing.Brace) end) }
     {
         let item = self.close(ground, OperandPlace::Operand)?;
-        match self.stack.pop() {
-            Some(Frame::Record(mut frame)) => {
-                frame.push(ground, item)?;
-                self.close_record(ground, frame, end)
-            }
-            _ => unreachable!(),
+        match self.stack.top_mut() {
+            Some(frame) => match frame {
+                Frame::Record(record) => {
+                    record.push(ground, item)?;
+                    self.close_record(ground, end)
+                }
+                _ => unreachable!(),
+            },
+            None => unreachable!(),
         }
     }
 }

@@ -1,15 +1,15 @@
 //! A set in brackets.
-ghost use Rattle.std.specs.Prelude.{◌≡◌, OnOk};
+ghost use Rattle.std.specs.Prelude.{◌≡◌, ◌∷◌, OnOk};
+ghost use Rattle.cedar_expression_machine.specs.declared.expression.state.Frame.TheVariants as frame;
 ghost use Rattle.cedar_expression_machine.specs.machines.ExpressionModes.{WantsOperand, mode_signs};
 ghost use Rattle.cedar_expression_machine.specs.machines.Having.{set_more};
-ghost use Rattle.cedar_expression_machine.specs.machines.Wanting.{set_opening, set_closing};
+ghost use Rattle.cedar_expression_machine.specs.machines.Wanting.{list_ending, set_opening};
 
 use crate::expression::brackets::paren::bracket_extent;
 use crate::expression::state::{Frame, OperandPlace, Ranged, Set, State};
 use crate::ground::Ground;
 use cedar_expressions::Items;
 use cedar_grammar::reading::extent::Extent;
-use cedar_grammar::reading::put::put;
 use cedar_syntax::cst::{Expr, Primary};
 use std::alloc::{AllocError, Global};
 
@@ -44,24 +44,25 @@ impl State {
 
     /// `]` behind the elements.
     #[inline(never)]
-    pub fn close_set(
-        &mut self,
-        ground: Ground<'_>,
-        frame: Set,
-        end: Extent,
-    ) -> Result<(), AllocError>
-        ensures { OnOk result (self.new
-            ≡ set_closing ground.entry.source.now self.old.stack frame end) }
+    pub fn close_set(&mut self, ground: Ground<'_>, end: Extent) -> Result<(), AllocError>
+        requires { (f : _) × (st : _) × (self.old.stack ≡ frame.Set f ∷ st) }
+        ensures { OnOk result
+            (Some self.new ≡ list_ending ground.entry.source.now self.old.stack end) }
     {
-        let Set {
-            outer,
-            signs,
-            opened,
-            items,
-        } = frame;
-        let tree = Primary::EList(items);
-        let extent = bracket_extent(opened, end);
-        put(&mut self.levels, outer);
-        self.have_primary(ground, signs, Ranged { tree, extent })
+        match self.stack.pop() {
+            Some(Frame::Set(frame)) => {
+                let Set {
+                    outer,
+                    signs,
+                    opened,
+                    items,
+                } = frame;
+                let tree = Primary::EList(items);
+                let extent = bracket_extent(opened, end);
+                self.restore(outer);
+                self.have_primary(ground, signs, Ranged { tree, extent })
+            }
+            _ => unreachable!(),
+        }
     }
 }

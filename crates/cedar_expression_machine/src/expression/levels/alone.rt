@@ -74,7 +74,7 @@ pub fn common_of(alloc: Global, add: Add, loc: Option<Loc>) -> Relation
 
 /// The conjunction of one relation.
 #[inline(always)]
-fn and_of(alloc: Global, relation: Relation, loc: Option<Loc>) -> And
+pub fn and_of(alloc: Global, relation: Relation, loc: Option<Loc>) -> And
     ensures { result ≡ and_of record { node = Some relation; loc = loc } [] }
 {
     let node = Some(relation);
@@ -86,7 +86,7 @@ fn and_of(alloc: Global, relation: Relation, loc: Option<Loc>) -> And
 
 /// The disjunction of one conjunction.
 #[inline(always)]
-fn or_of(alloc: Global, and: And, loc: Option<Loc>) -> Or
+pub fn or_of(alloc: Global, and: And, loc: Option<Loc>) -> Or
     ensures { result ≡ or_of record { node = Some and; loc = loc } [] }
 {
     let node = Some(and);

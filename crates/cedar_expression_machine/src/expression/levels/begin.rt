@@ -10,7 +10,7 @@ use crate::expression::state::{
 };
 use crate::ground::Ground;
 use cedar_expressions::Items;
-use cedar_grammar::reading::put::{put, put_apart};
+use cedar_grammar::reading::put::put;
 use cedar_grammar::reading::stack::Stack;
 use cedar_syntax::cst::Primary;
 use cedar_syntax::node::Node;
@@ -77,19 +77,31 @@ pub fn have(operand: Operand) -> Mode
     Mode::Have { operand, dot: None }
 }
 
-impl State {
+impl Mode {
     /// The operand that has ended is taken out, and behind what stands there one is wanted at this
     /// place.
+    #[inline(always)]
+    pub fn take_operand(&mut self, place: OperandPlace) -> Operand
+        requires { HasOperand self.old }
+        ensures operand { self.old ≡ mode.Have result None }
+        ensures after { self.new ≡ wants place }
+    {
+        match mem::replace(self, want_at(place)) {
+            Mode::Have { operand, dot: _ } => operand,
+            Mode::Want { .. } | Mode::Word { .. } => unreachable!(),
+        }
+    }
+}
+
+impl State {
+    /// The same of the state.
     #[inline(always)]
     pub fn take_operand(&mut self, place: OperandPlace) -> Operand
         requires { HasOperand self.old.mode }
         ensures operand { self.old.mode ≡ mode.Have result None }
         ensures after { self.new ≡ state self.old.stack self.old.levels (wants place) }
     {
-        match mem::replace(&mut self.mode, want_at(place)) {
-            Mode::Have { operand, dot: _ } => operand,
-            Mode::Want { .. } | Mode::Word { .. } => unreachable!(),
-        }
+        self.mode.take_operand(place)
     }
 
     /// The operand that has ended, lent.
@@ -134,16 +146,15 @@ impl State {
         }
     }
 
-    /// What comes next becomes this. Where an operand is wanted, nothing is let go: so the
-    /// compiler copies nothing out of the state.
+    /// What comes next becomes this. What stands there holds no memory: where an operand is wanted
+    /// there is nothing, names and entities are taken out of their words before, and `true`,
+    /// `false` and `if` hold none. So nothing is let go, and the compiler copies nothing out of the
+    /// state to do so.
     #[inline(always)]
     pub fn turn(&mut self, next: Mode)
         ensures { self.new ≡ state self.old.stack self.old.levels next }
     {
-        match &self.mode {
-            Mode::Want { .. } => put(&mut self.mode, next),
-            Mode::Word { .. } | Mode::Have { .. } => put_apart(&mut self.mode, next),
-        }
+        mem::forget(mem::replace(&mut self.mode, next));
     }
 
     /// The levels that are begun are taken out: nothing is begun inside of the bracket that opens.
@@ -153,6 +164,15 @@ impl State {
         ensures after { self.new ≡ state self.old.stack (fresh []) self.old.mode }
     {
         mem::replace(&mut self.levels, fresh_levels(Stack::new(alloc)))
+    }
+
+    /// The levels around a bracket that has ended. Of those inside none is begun any more, but the
+    /// list of their `if`s may have memory.
+    #[inline(always)]
+    pub fn restore(&mut self, outer: Levels)
+        ensures { self.new ≡ state self.old.stack outer self.old.mode }
+    {
+        put(&mut self.levels, outer);
     }
 
     /// Behind an operand that has no accesses yet.

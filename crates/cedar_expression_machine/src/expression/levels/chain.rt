@@ -131,39 +131,6 @@ pub fn close_pending<T: Drop, O: Drop + Copy>(
     }
 }
 
-impl<T: Drop> Chain<T, Node<Option<T>>> {
-    /// One more operand of a level that has one operator.
-    #[inline(always)]
-    fn link(&mut self, ground: Ground<'_>, item: Ranged<T>) -> Result<(), AllocError>
-        ensures { OnOk result (self.new ≡ plain_chain ground.entry.source.now (Some self.old)
-            item) }
-    {
-        let loc = ground.loc_at(item.extent)?;
-        self.extent = join_extents(self.extent, item.extent);
-        self.extended.push(Node {
-            node: Some(item.tree),
-            loc,
-        })
-    }
-
-    /// One more operand, and the operator behind it.
-    #[inline(always)]
-    fn push(
-        &mut self,
-        ground: Ground<'_>,
-        item: Ranged<T>,
-        operator: Extent,
-    ) -> Result<(), AllocError>
-        ensures { OnOk result
-            (self.new ≡ onward (plain_chain ground.entry.source.now (Some self.old) item)
-            operator) }
-    {
-        self.link(ground, item)?;
-        self.extent = join_extents(self.extent, Some(operator));
-        Ok(())
-    }
-}
-
 /// One more operand, a node already, and the operator behind it, at a level that may not be begun.
 #[inline(always)]
 pub fn push_plain_node<T: Drop>(
@@ -188,86 +155,6 @@ pub fn push_plain_node<T: Drop>(
             };
             *slot = Some(Boxed::new(alloc, chain)?);
             Ok(())
-        }
-    }
-}
-
-/// The same at a level of several operators.
-#[inline(always)]
-pub fn push_pending_node<T: Drop, O: Drop + Copy>(
-    alloc: Global,
-    slot: &mut Option<Boxed<PendingChain<T, O>>>,
-    node: Node<Option<T>>,
-    extent: Option<Extent>,
-    op: O,
-) -> Result<(), AllocError>
-    ensures { OnOk result (slot.new ≡ Some (pending_with slot.old node extent op)) }
-{
-    match slot {
-        Some(level) => {
-            let begun = level.as_mut();
-            begun.chain.extent = join_extents(begun.chain.extent, extent);
-            let before = begun.op;
-            begun.op = op;
-            begun.chain.extended.push((before, node))
-        }
-        None => {
-            let begun = PendingChain {
-                chain: Chain {
-                    initial: node,
-                    extended: Items::new(alloc),
-                    extent,
-                },
-                op,
-            };
-            *slot = Some(Boxed::new(alloc, begun)?);
-            Ok(())
-        }
-    }
-}
-
-/// The same as `push_pending` at a level of one operator.
-#[inline(always)]
-pub fn push_plain<T: Drop>(
-    ground: Ground<'_>,
-    slot: &mut Option<Boxed<Chain<T, Node<Option<T>>>>>,
-    item: Ranged<T>,
-    operator: Extent,
-) -> Result<(), AllocError>
-    ensures { OnOk result
-        (slot.new ≡ Some (onward (plain_chain ground.entry.source.now slot.old item) operator)) }
-{
-    match slot {
-        Some(level) => level.as_mut().push(ground, item, operator),
-        None => {
-            let loc = ground.loc_at(item.extent)?;
-            let mut chain = Chain::begin(ground.alloc, item, loc);
-            chain.extent = join_extents(chain.extent, Some(operator));
-            *slot = Some(Boxed::new(ground.alloc, chain)?);
-            Ok(())
-        }
-    }
-}
-
-/// The level's chain with its last operand.
-#[inline(always)]
-pub fn close_plain<T: Drop>(
-    ground: Ground<'_>,
-    begun: &mut Option<Boxed<Chain<T, Node<Option<T>>>>>,
-    item: Ranged<T>,
-) -> Result<Chain<T, Node<Option<T>>>, AllocError>
-    ensures chain { IfOk result (λ chain. chain ≡ plain_chain ground.entry.source.now begun.old
-        item) }
-    ensures after { OnOk result (begun.new ≡ None) }
-{
-    match begun.take() {
-        Some(mut level) => {
-            level.as_mut().link(ground, item)?;
-            Ok(level.into_inner())
-        }
-        None => {
-            let loc = ground.loc_at(item.extent)?;
-            Ok(Chain::begin(ground.alloc, item, loc))
         }
     }
 }

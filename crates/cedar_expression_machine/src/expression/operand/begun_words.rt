@@ -7,14 +7,14 @@ ghost use Rattle.cedar_expression_machine.specs.machines.Expressions.{alone_of};
 ghost use Rattle.cedar_expression_machine.specs.machines.Named.{named_reader};
 ghost use Rattle.cedar_expression_machine.specs.machines.NamedShapes.{is_condition, named_outline};
 ghost use Rattle.cedar_expression_machine.specs.machines.Wanting.{first_words};
-ghost use Rattle.cedar_expression_machine.specs.machines.Words.{word_node, path_extent, words_end};
+ghost use Rattle.cedar_expression_machine.specs.machines.Words.{word_node, path_extent};
 ghost use Rattle.cedar_expression_machine.specs.machines.WordShapes.{path_kind, words_shape};
 
 use crate::expression::state::Alone;
 use crate::ground::Ground;
 use crate::words::nodes::word_of;
 use crate::words::path::first_word;
-use crate::words::state::{Path, PathState, Words, WordsState};
+use crate::words::state::{Path, PathState, WordsState};
 use cedar_grammar::reading::extent::Extent;
 use cedar_lexer::token::Token;
 use cedar_syntax::cst::Ident;
@@ -75,20 +75,5 @@ pub fn ends(words: &WordsState) -> Option<bool>
         WordsState::Path(PathState::Start | PathState::Behind(_)) => None,
         WordsState::Inits(_) => None,
         WordsState::Entity(_) => Some(false),
-    }
-}
-
-/// The words that have ended.
-#[inline(always)]
-pub fn ended(words: WordsState) -> Words
-    requires { IsTrue (is_some (words_end words)) }
-    ensures { words_end words ≡ Some result }
-{
-    match words {
-        WordsState::Path(PathState::Have(path)) => Words::Path(path),
-        WordsState::Entity(entity) => Words::Entity(entity),
-        WordsState::Path(PathState::Start | PathState::Behind(_)) | WordsState::Inits(_) => {
-            unreachable!()
-        }
     }
 }

@@ -9,21 +9,25 @@ ghost use Rattle.cedar_expression_machine.specs.declared.expression.state.Act.Th
 ghost use Rattle.cedar_expression_machine.specs.declared.expression.state.Frame.TheVariants as frame;
 ghost use Rattle.cedar_expression_machine.specs.declared.expression.state.OperandPlace.TheVariants as place;
 ghost use Rattle.cedar_expression_machine.specs.machines.Closing.{if_key, if_operand, if_primary, ranged_tree};
-ghost use Rattle.cedar_expression_machine.specs.machines.ExpressionModes.{HasEndedWords, settled, words_extent};
+ghost use Rattle.cedar_expression_machine.specs.declared.expression.state.Mode.TheVariants as mode;
+ghost use Rattle.cedar_expression_machine.specs.declared.words.state.PathState.TheVariants as paths;
+ghost use Rattle.cedar_expression_machine.specs.declared.words.state.WordsState.TheVariants as begun;
+ghost use Rattle.cedar_expression_machine.specs.machines.ExpressionModes.{HasEndedWords, HasEntity, HasPath, mode_signs, settled, words_extent};
 ghost use Rattle.cedar_expression_machine.specs.machines.ExpressionStates.{has_operand, has_primary, opening};
-ghost use Rattle.cedar_expression_machine.specs.machines.Expressions.{expression_act, name_at, named_operand};
-ghost use Rattle.cedar_expression_machine.specs.machines.Named.{named_reader, words_tree};
+ghost use Rattle.cedar_expression_machine.specs.machines.Expressions.{expression_act, name_at};
+ghost use Rattle.cedar_expression_machine.specs.machines.Named.{named_reader};
 ghost use Rattle.cedar_expression_machine.specs.machines.Wanting.{literal_at};
 ghost use Rattle.cedar_expression_machine.specs.machines.WholeExpressions.{IsPlanned};
 ghost use Rattle.cedar_expression_machine.specs.machines.Words.{path_extent, word_node};
 
+use crate::expression::levels::alone::alone_expr;
 use crate::expression::levels::begin::{fresh_levels, have, no_signs, operand_of, want_at};
-use crate::expression::operand::begun_words::{self, alone_of, path_extent};
+use crate::expression::operand::begun_words::{alone_of, path_extent};
 use crate::expression::state::{
     Alone, Frame, Guard, Mode, Operand, OperandPlace, Ranged, Signs, State,
 };
 use crate::ground::Ground;
-use crate::words::state::{Entity, Path, PathState, Words, WordsAct, WordsState};
+use crate::words::state::{Entity, Path, PathState, WordsAct, WordsState};
 use cedar_expressions::Items;
 use cedar_grammar::reading::extent::Extent;
 use cedar_grammar::reading::place::token_extent;
@@ -76,8 +80,7 @@ fn if_key(ground: Ground<'_>, extent: Option<Extent>) -> Result<Node<Option<Expr
 {
     let item = if_primary(ground, extent)?;
     let operand = operand_of(ground, no_signs(), item)?;
-    let mut levels = fresh_levels(Stack::new(ground.alloc));
-    ground.node_of(levels.close(ground, operand)?)
+    ground.node_of(alone_expr(ground, operand)?)
 }
 
 impl State {
@@ -99,17 +102,28 @@ impl State {
         }
     }
 
-    /// `true` or `false`.
-    fn settle_bool(
-        &mut self,
-        ground: Ground<'_>,
-        signs: Signs,
-        extent: Option<Extent>,
-        literal: Literal,
-    ) -> Result<(), AllocError>
-        ensures { OnOk result (self.new ≡ has_primary ground.entry.source.now self.old.stack
-            self.old.levels signs (literal_at ground.entry.source.now extent literal)) }
+    /// The signs before words that have ended.
+    #[inline(always)]
+    fn word_signs(&self) -> Signs
+        requires { HasEndedWords self.now.mode }
+        ensures { result ≡ mode_signs self.now.mode }
     {
+        match &self.mode {
+            Mode::Word { signs, .. } => *signs,
+            Mode::Want { .. } | Mode::Have { .. } => unreachable!(),
+        }
+    }
+
+    /// `true` or `false`, which hold nothing.
+    #[inline(always)]
+    fn settle_bool(&mut self, ground: Ground<'_>, literal: Literal) -> Result<(), AllocError>
+        requires { HasEndedWords self.old.mode }
+        ensures { OnOk result (self.new ≡ has_primary ground.entry.source.now self.old.stack
+            self.old.levels (mode_signs self.old.mode)
+            (literal_at ground.entry.source.now (words_extent self.old.mode) literal)) }
+    {
+        let signs = self.word_signs();
+        let extent = self.words_extent();
         let loc = ground.loc_at(extent)?;
         let tree = Primary::Literal(Node {
             node: Some(literal),
@@ -118,18 +132,29 @@ impl State {
         self.have_primary(ground, signs, Ranged { tree, extent })
     }
 
-    /// A name.
-    fn settle_name(
-        &mut self,
-        ground: Ground<'_>,
-        signs: Signs,
-        path: Path,
-    ) -> Result<(), AllocError>
-        ensures { OnOk result (self.new ≡ has_primary ground.entry.source.now self.old.stack
-            self.old.levels signs (name_at ground.entry.source.now
-            (ranged_tree (Some (path_extent path))
-            (name_of path.before (word_node ground.entry.source.now path.last))))) }
+    /// The word `if` right of `has`.
+    #[inline(never)]
+    fn settle_if(&mut self, ground: Ground<'_>) -> Result<(), AllocError>
+        ensures { OnOk result (self.new ≡ has_operand self.old.stack self.old.levels
+            (if_operand ground.entry.source.now (words_extent self.old.mode))) }
     {
+        let operand = if_operand(ground, self.words_extent())?;
+        self.turn(have(operand));
+        Ok(())
+    }
+
+    /// A name: the path is taken out.
+    #[inline(never)]
+    fn settle_name(&mut self, ground: Ground<'_>) -> Result<(), AllocError>
+        requires { HasPath self.old.mode }
+        ensures { (p : _) (sg : _) (x : _) → self.old.mode ≡ mode.Word p sg
+            (begun.Path (paths.Have x)) → OnOk result (self.new ≡ has_primary
+            ground.entry.source.now self.old.stack self.old.levels sg
+            (name_at ground.entry.source.now (ranged_tree (Some (path_extent x))
+            (name_of x.before (word_node ground.entry.source.now x.last))))) }
+    {
+        let signs = self.word_signs();
+        let path = self.take_path();
         let extent = Some(path_extent(&path));
         let of_last = ground.loc_at(Some(path.last.extent))?;
         let loc = ground.loc_at(extent)?;
@@ -147,46 +172,43 @@ impl State {
         self.have_primary(ground, signs, Ranged { tree, extent })
     }
 
-    /// An entity.
-    fn settle_ref(
-        &mut self,
-        ground: Ground<'_>,
-        signs: Signs,
-        entity: Entity,
-    ) -> Result<(), AllocError>
-        ensures { OnOk result (self.new ≡ has_primary ground.entry.source.now self.old.stack
-            self.old.levels signs (ranged_tree (Some entity.extent) (primary.Ref entity.node))) }
+    /// The path that has ended, taken out.
+    #[inline(always)]
+    fn take_path(&mut self) -> Path
+        requires { HasPath self.old.mode }
+        ensures path { (p : _) (sg : _) (x : _) → self.old.mode ≡ mode.Word p sg
+            (begun.Path (paths.Have x)) → result ≡ x }
+        ensures stack { self.new.stack ≡ self.old.stack }
+        ensures levels { self.new.levels ≡ self.old.levels }
     {
-        self.have_primary(ground, signs, ref_at(entity))
+        match &mut self.mode {
+            Mode::Word { words, .. } => {
+                match mem::replace(words, WordsState::Path(PathState::Start)) {
+                    WordsState::Path(PathState::Have(path)) => path,
+                    _ => unreachable!(),
+                }
+            }
+            Mode::Want { .. } | Mode::Have { .. } => unreachable!(),
+        }
     }
 
-    /// The word `if` right of `has`.
-    fn settle_if(&mut self, ground: Ground<'_>, extent: Option<Extent>) -> Result<(), AllocError>
-        ensures { OnOk result (self.new ≡ has_operand self.old.stack self.old.levels
-            (if_operand ground.entry.source.now extent)) }
+    /// An entity, which is taken out.
+    #[inline(never)]
+    fn settle_ref(&mut self, ground: Ground<'_>) -> Result<(), AllocError>
+        requires { HasEntity self.old.mode }
+        ensures { OnOk result (Some self.new ≡ settled ground.entry.source.now self.old) }
     {
-        let operand = if_operand(ground, extent)?;
-        self.turn(have(operand));
-        Ok(())
-    }
-
-    /// A path: what its one word is, or a name.
-    fn settle_path(
-        &mut self,
-        ground: Ground<'_>,
-        signs: Signs,
-        path: Path,
-    ) -> Result<(), AllocError>
-        ensures { OnOk result (self.new ≡ has_operand self.old.stack self.old.levels
-            (named_operand ground.entry.source.now signs
-            (words_tree ground.entry.source.now (Words.Path path)))) }
-    {
-        let extent = Some(path_extent(&path));
-        match alone_of(&path) {
-            Alone::True => self.settle_bool(ground, signs, extent, Literal::True),
-            Alone::False => self.settle_bool(ground, signs, extent, Literal::False),
-            Alone::If => self.settle_if(ground, extent),
-            Alone::Name => self.settle_name(ground, signs, path),
+        match &mut self.mode {
+            Mode::Word { signs, words, .. } => {
+                let signs = *signs;
+                match mem::replace(words, WordsState::Path(PathState::Start)) {
+                    WordsState::Entity(entity) => {
+                        self.have_primary(ground, signs, ref_at(entity))
+                    }
+                    _ => unreachable!(),
+                }
+            }
+            Mode::Want { .. } | Mode::Have { .. } => unreachable!(),
         }
     }
 
@@ -196,10 +218,17 @@ impl State {
         requires { HasEndedWords self.old.mode }
         ensures { OnOk result (Some self.new ≡ settled ground.entry.source.now self.old) }
     {
-        match mem::replace(&mut self.mode, want_at(OperandPlace::Operand)) {
-            Mode::Word { signs, words, .. } => match begun_words::ended(words) {
-                Words::Path(path) => self.settle_path(ground, signs, path),
-                Words::Entity(entity) => self.settle_ref(ground, signs, entity),
+        match &self.mode {
+            Mode::Word { words, .. } => match words {
+                WordsState::Path(PathState::Have(path)) => match alone_of(path) {
+                    Alone::True => self.settle_bool(ground, Literal::True),
+                    Alone::False => self.settle_bool(ground, Literal::False),
+                    Alone::If => self.settle_if(ground),
+                    Alone::Name => self.settle_name(ground),
+                },
+                WordsState::Entity(_) => self.settle_ref(ground),
+                WordsState::Path(PathState::Start | PathState::Behind(_)) | WordsState::Inits(_) =>
+                    unreachable!(),
             },
             Mode::Want { .. } | Mode::Have { .. } => unreachable!(),
         }
@@ -222,6 +251,7 @@ impl State {
     }
 
     /// The bytes of a path that has ended.
+    #[inline(always)]
     fn words_extent(&self) -> Option<Extent>
         ensures { result ≡ words_extent self.now.mode }
     {

@@ -1,15 +1,14 @@
-use Rattle.std.proofs.Common.{refl}
 use Rattle.cedar_expressions.specs.Meaning.{unplaced}
 use Rattle.cedar_policy_conversion.specs.Conditions.{condition_outcome}
 use Rattle.cedar_conversion.specs.strict.Table.{table_of}
 use Rattle.cedar_conversion.proofs.Identifiers.{all_next}
 use Rattle.cedar_conversion.proofs.Loops.{take_whole}
-use Rattle.cedar_conversion.proofs.Outcomes.{gives_at, grown_gives}
+use Rattle.cedar_conversion.proofs.Outcomes.{empty_gives, gives_at, grown_gives}
 use Rattle.cedar_policy_conversion.proofs.conditions.conditions.Goals as goal
 use Rattle.cedar_policy_conversion.specs.machines.PolicyViews.{meanings}
 
 pub loop-node-init : goal.loop-node-init
-loop-node-init c = rw c.new.ensures.items refl
+loop-node-init c = empty_gives unplaced c.with_room-all.result c.with_room-all.ensures
 
 pub loop-node-preserved : goal.loop-node-preserved
 loop-node-preserved c =

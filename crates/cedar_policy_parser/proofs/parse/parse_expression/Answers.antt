@@ -1,9 +1,8 @@
 use Rattle.std.proofs.Common.{inl}
 use Rattle.cedar_expressions.specs.Meaning.{expr_meaning}
-use Rattle.cedar_grammar.proofs.machines.Driving.{passed_on}
 use Rattle.cedar_policy_parser.specs.faults.Refused.{RefusesText}
 use Rattle.cedar_conversion.specs.strict.Table.{table_of}
-use Rattle.cedar_policy_parser.proofs.Parsed.{tree_found, read_value, read_only, err_on, told_tree}
+use Rattle.cedar_policy_parser.proofs.Parsed.{tree_found, read_value, read_only, err_on, passed_on, told_tree}
 use Rattle.cedar_policy_parser.proofs.parse.parse_expression.Goals as goal
 
 pub returns-in_err-tree-clause-only : goal.returns-in_err-tree-clause-only

@@ -2,10 +2,9 @@ use Rattle.std.proofs.Common.{inl}
 use Rattle.cedar_policy_store.specs.PlaceFree.{set_meaning}
 use Rattle.cedar_grammar.specs.faults.Leftmost.{HasLeftmost}
 use Rattle.cedar_grammar.specs.grammar.LoosePolicies.{ReadsPolicies}
-use Rattle.cedar_grammar.proofs.machines.Driving.{passed_on}
 use Rattle.cedar_policy_parser.specs.faults.Refused.{RefusesSet}
 use Rattle.cedar_conversion.specs.strict.Table.{table_of}
-use Rattle.cedar_policy_parser.proofs.Parsed.{err_on}
+use Rattle.cedar_policy_parser.proofs.Parsed.{err_on, passed_on}
 use Rattle.cedar_policy_parser.proofs.ParsedSets.{tree_found, read_value, read_only, told_tree, has_tree}
 use Rattle.cedar_policy_parser.proofs.meaning.RaisedLimit.{old_set}
 use Rattle.cedar_policy_parser.proofs.meaning.VariedTexts.{spaces_clause, parentheses_clause}

@@ -1,6 +1,5 @@
-use Rattle.std.proofs.Common.{◌≡◌, ◌∷◌, [], List, ap, ◌∙◌}
+use Rattle.std.proofs.Common.{◌∷◌, [], ap, ◌∙◌}
 use Rattle.cedar_syntax.specs.faults.ParseErrors.{faults_of}
-use Rattle.cedar_syntax.specs.declared.err.faults.ParseError.{ParseError}
 use Rattle.cedar_syntax.specs.declared.err.faults.ParseError.TheVariants.{ToAST}
 use Rattle.cedar_syntax.specs.declared.err.to_ast.ToASTError.{ToASTError}
 use Rattle.cedar_conversion.specs.outcome.Seen.{kind_of, named_faults}

@@ -1,4 +1,3 @@
-use Rattle.std.proofs.Common.{refl}
 use Rattle.cedar_conversion.specs.parts.Names.{valid_ident}
 use Rattle.cedar_conversion.proofs.Identifiers.{all_next}
 use Rattle.cedar_conversion.proofs.Loops.{take_whole}
@@ -6,7 +5,7 @@ use Rattle.cedar_conversion.proofs.Outcomes.{items_grown}
 use Rattle.cedar_conversion.proofs.leaves.names.path_of.Goals as goal
 
 pub loop-part-init : goal.loop-part-init
-loop-part-init c = rw c.new.ensures.items refl
+loop-part-init c = c.with_room-all.ensures
 
 pub loop-part-preserved : goal.loop-part-preserved
 loop-part-preserved c =

@@ -3,4 +3,4 @@ use Rattle.cedar_conversion.proofs.Outcomes.{grown_gives}
 use Rattle.cedar_conversion.proofs.primaries.collections.add_access.Goals as goal
 
 pub returns : goal.returns
-returns g c xs x h k = grown_gives (seen_access g.B.ExprBuilderInfallibleBuild.meaning) _ _ _ xs x h k c.add.ensures
+returns g c xs x h k = grown_gives (seen_access g.B.ExprBuilderInfallibleBuild.meaning) _ _ _ xs x h (rw c.take.ensures k) c.add.ensures

@@ -4,4 +4,4 @@ use Rattle.cedar_conversion.proofs.primaries.collections.call_from.Goals as goal
 
 pub returns : goal.returns
 returns g c ps h =
-    call_made (λ op. beside) g.B.ExprBuilderInfallibleBuild.meaning ps c.in_ok-items.field-0.items c.in_ok-bodies_of.field-0.items (rw c.in_ok-items.was at h) c.in_ok-bodies_of.ensures
+    call_made beside g.B.ExprBuilderInfallibleBuild.meaning ps c.in_ok-items.field-0.items (rw c.in_ok-items.was at h)

@@ -7,4 +7,4 @@ use Rattle.cedar_conversion.proofs.primaries.collections.set_from.Goals as goal
 pub returns : goal.returns
 returns g c ps h =
     let m = g.B.ExprBuilderInfallibleBuild.meaning in
-    gives_at (plain m) c.expr_at.result _ _ (set_made (λ op. beside) m c.args.loc.now ps c.in_ok-items.field-0.items c.in_ok-items-2.items.items _ (rw c.in_ok-items.was at h) c.in_ok-items-2.ensures c.in_ok-set.ensures) c.expr_at.ensures
+    gives_at (plain m) c.expr_at.result _ _ (set_made beside m c.args.loc.now ps c.in_ok-items.field-0.items _ (rw c.in_ok-items.was at h) c.in_ok-set.ensures) c.expr_at.ensures

@@ -5,4 +5,4 @@ use Rattle.cedar_grammar.proofs.reading.expected.allowed_among.Given as goal
 
 -- those of the kinds before this one are there
 abbrev pub invariant-loop-kind : goal.invariant-loop-kind
-invariant-loop-kind g l = l.allowed ++ picked_kinds l.narrowed (allowed_by g.E.Entry.reader l.state) (drop l.kind-index l.kinds) ≡ picked_kinds l.narrowed (allowed_by g.E.Entry.reader l.state) l.kinds
+invariant-loop-kind g l = l.allowed.items ++ picked_kinds l.narrowed (allowed_by g.E.Entry.reader l.state) (drop l.kind-index l.kinds) ≡ picked_kinds l.narrowed (allowed_by g.E.Entry.reader l.state) l.kinds

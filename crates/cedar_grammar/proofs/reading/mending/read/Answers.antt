@@ -1,7 +1,8 @@
-use Rattle.std.proofs.Common.{sym, ◌∙◌, ap, subst}
+use Rattle.std.proofs.Common.{Some, None, sym, ◌∙◌, ap, subst}
 use Rattle.std.specs.Str.{IsUtf8}
 use Rattle.cedar_lexer.specs.LexerState.{fresh_lexer}
-use Rattle.cedar_grammar.proofs.machines.Mending.{begun_stage, at_start, is_given, token_written, fewer, one_more, concluded}
+use Rattle.cedar_grammar.proofs.machines.Driving.{given}
+use Rattle.cedar_grammar.proofs.machines.Mending.{begun_stage, at_start, token_written, one_more, concluded}
 use Rattle.cedar_grammar.proofs.reading.mending.read.Goals as goal
 
 pub loop-token-init : goal.loop-token-init
@@ -11,13 +12,17 @@ loop-token-init g c =
     (c.new-lexer.ensures ∙ ap (λ t. fresh_lexer t) (sym c.requires))
 
 pub step-requires : goal.step-requires
-step-requires g c = token_written c.in-Some.token c.loop-token.invariant (is_given _ _ _ _ _ c.next_token.ensures c.in-Some.is)
-
-pub loop-token-smaller : goal.loop-token-smaller
-loop-token-smaller g c = fewer c.in-Some.token c.loop-token.invariant (is_given _ _ _ _ _ c.next_token.ensures c.in-Some.is)
+step-requires g c = token_written c.in-Some-Ok.token c.loop-token.invariant (given _ _ _ _ c.next.ensures.steps (c.in-Some-Ok.is ∙ ap Some (rw c.in-Some-Ok.is at c.in-Some-Ok.field-0-is)))
 
 pub loop-token-preserved : goal.loop-token-preserved
-loop-token-preserved g c = one_more c.in-Some.token c.loop-token.invariant (is_given _ _ _ _ _ c.next_token.ensures c.in-Some.is) c.in_ok-step.ensures
+loop-token-preserved g c = one_more c.in-Some-Ok.token c.loop-token.invariant (given _ _ _ _ c.next.ensures.steps (c.in-Some-Ok.is ∙ ap Some (rw c.in-Some-Ok.is at c.in-Some-Ok.field-0-is))) c.in_ok-step-in-Some-Ok.ensures
 
-pub returns : goal.returns
-returns g c = concluded _ _ _ _ _ _ _ _ c.loop-token.invariant c.next_token.ensures c.in_default.is c.conclude.ensures.tree c.conclude.ensures.faults
+pub returns-in-Some-Err : goal.returns-in-Some-Err
+returns-in-Some-Err g c =
+    concluded _ _ _ _ _ (Some c.in-Some-Err.bad.location) _ c.loop-token.invariant (given _ _ _ _ c.next.ensures.steps (c.in-Some-Err.is ∙ ap Some (rw c.in-Some-Err.is at c.in-Some-Err.field-0-is)))
+    c.conclude.ensures.tree c.conclude.ensures.faults
+
+pub returns-in-None : goal.returns-in-None
+returns-in-None g c =
+    concluded _ _ _ _ _ None _ c.loop-token.invariant (given _ _ _ _ c.next.ensures.steps c.in-None.is)
+    c.conclude-in-None.ensures.tree c.conclude-in-None.ensures.faults

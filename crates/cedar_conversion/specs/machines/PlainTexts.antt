@@ -1,0 +1,7 @@
+-- Texts whose characters stand for themselves.
+use Rattle.std.specs.Prelude.{ℕ, Bool, ◌&&◌, ◌==◌, not}
+use Rattle.std.specs.Str.{byte}
+
+-- a byte of a character that stands for itself wherever it is no part of an escape
+abbrev pub stands_for_itself : ℕ → Bool
+stands_for_itself c = not (c == byte "\"") && not (c == byte "\\") && not (c == 13)
