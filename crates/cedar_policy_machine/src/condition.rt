@@ -1,9 +1,10 @@
 //! A condition: a word, and an expression in braces, or none.
-ghost use Rattle.std.specs.Prelude.{◌≡◌, Some, IfOk, OnOk};
+ghost use Rattle.std.specs.Prelude.{◌≡◌, Some, None, IfOk, OnOk};
 ghost use Rattle.cedar_lexer.specs.Token.{lexeme_of};
 ghost use Rattle.cedar_grammar.specs.grammar.WrittenTokens.{IsWritten};
 ghost use Rattle.cedar_grammar.specs.machines.Judged.{done_as};
-ghost use Rattle.cedar_policy_machine.specs.machines.Condition.{body_going, in_body, behind_body, condition_reader, IsBodyPlan, HasBody};
+ghost use Rattle.cedar_policy_machine.specs.declared.condition.ConditionPart.TheVariants as part;
+ghost use Rattle.cedar_policy_machine.specs.machines.Condition.{condition_state, body_going, in_body, behind_body, condition_reader, IsBodyPlan, HasBody};
 
 use crate::annotation::if_mark;
 use cedar_expressions::Source;
@@ -90,6 +91,32 @@ impl<E: Entry<Node<Option<Expr>>>> ConditionState<E> {
         }
     }
 
+    /// The word. Each part is turned to in a function of its own, so that what is done with other
+    /// tokens clears no room for it.
+    #[inline(never)]
+    fn name(&mut self, word: Node<Option<Ident>>)
+        ensures { self.new ≡ condition_state word part.Word }
+    {
+        put(&mut self.word, word);
+        put(&mut self.part, ConditionPart::Word);
+    }
+
+    /// `{`
+    #[inline(never)]
+    fn open(&mut self)
+        ensures { self.new ≡ condition_state self.old.word part.Opened }
+    {
+        put(&mut self.part, ConditionPart::Opened);
+    }
+
+    /// `}` behind nothing.
+    #[inline(never)]
+    fn close_empty(&mut self)
+        ensures { self.new ≡ condition_state self.old.word (part.Closed None) }
+    {
+        put(&mut self.part, ConditionPart::Closed(None));
+    }
+
     /// `}` behind the body, which has ended.
     #[inline(never)]
     fn close(&mut self, alloc: Global, source: &Source) -> Result<(), AllocError>
@@ -126,12 +153,11 @@ impl<E: Entry<Node<Option<Expr>>>> ConditionState<E> {
             ConditionAct::Body(act) => self.go_on(alloc, source, act, token),
             ConditionAct::First(act) => self.enter(alloc, source, act, token),
             ConditionAct::Word => {
-                put(&mut self.word, ident_node(alloc, source, token)?);
-                put(&mut self.part, ConditionPart::Word);
+                self.name(ident_node(alloc, source, token)?);
                 Ok(true)
             }
             ConditionAct::Open => {
-                put(&mut self.part, ConditionPart::Opened);
+                self.open();
                 Ok(true)
             }
             ConditionAct::Close => {
@@ -139,7 +165,7 @@ impl<E: Entry<Node<Option<Expr>>>> ConditionState<E> {
                 Ok(true)
             }
             ConditionAct::CloseEmpty => {
-                put(&mut self.part, ConditionPart::Closed(None));
+                self.close_empty();
                 Ok(true)
             }
         }

@@ -1,7 +1,8 @@
 //! An element of the scope: a variable, and possibly a type name, an entity type and a constraint.
 ghost use Rattle.std.specs.Prelude.{◌≡◌, Some, None, IfOk, OnOk, IsTrue};
 ghost use Rattle.cedar_syntax.specs.trees.Trees.{variable_def_of};
-ghost use Rattle.cedar_policy_machine.specs.machines.Scope.{readers_of, reader_plans, element_with_part, compare_plan, narrow_plan, behind_part, sum_beginning, constraint_beginning, element_ends, element_finish, MayLeave};
+ghost use Rattle.cedar_policy_machine.specs.declared.scope.ElementPart.TheVariants as part;
+ghost use Rattle.cedar_policy_machine.specs.machines.Scope.{readers_of, reader_plans, with_variable, element_with_part, compare_plan, narrow_plan, behind_part, sum_beginning, constraint_beginning, element_ends, element_finish, MayLeave};
 
 use cedar_expressions::Source;
 use cedar_grammar::reading::driver::Entry;
@@ -79,6 +80,24 @@ where
     S: Entry<Node<Option<Add>>>,
     E: Entry<Node<Option<Expr>>>,
 {
+    /// The variable. Each part is turned to in a function of its own, so that what is done with
+    /// other tokens clears no room for it.
+    #[inline(never)]
+    fn name(&mut self, variable: Node<Option<Ident>>)
+        ensures { self.new ≡ with_variable self.old variable }
+    {
+        put(&mut self.variable, variable);
+        put(&mut self.part, ElementPart::Nothing);
+    }
+
+    /// Begins a type name, behind the variable.
+    #[inline(never)]
+    fn begin_type_name(&mut self, alloc: Global)
+        ensures { self.new ≡ element_with_part self.old (part.TypeName N.reader.start) }
+    {
+        put(&mut self.part, ElementPart::TypeName(N::start(alloc)));
+    }
+
     /// A type name or an entity type that has ended is put where it stays.
     #[inline(never)]
     fn end_part(&mut self, alloc: Global, source: &Source) -> Result<(), AllocError>
@@ -250,12 +269,11 @@ where
                 _ => unreachable!(),
             },
             ElementAct::Variable => {
-                put(&mut self.variable, ident_node(alloc, source, token)?);
-                put(&mut self.part, ElementPart::Nothing);
+                self.name(ident_node(alloc, source, token)?);
                 Ok(true)
             }
             ElementAct::Colon => {
-                put(&mut self.part, ElementPart::TypeName(N::start(alloc)));
+                self.begin_type_name(alloc);
                 Ok(true)
             }
             ElementAct::Is => {

@@ -98,7 +98,7 @@ pending_with (Some p) y e o = record { chain = longer p.chain (p.op, y) e; op = 
 
 abbrev pub unary_at : List ℕ → Operand → Ranged Unary
 unary_at src m = ranged_tree (joint_extent m.signs.extent m.extent)
-    (unary_of m.signs.op (node_at src m.extent (member_of m.item m.access)))
+    (unary_of m.signs.op (node_at src m.extent m.member))
 
 abbrev pub made_mult : Marked Unary MultOp → Ranged Mult
 made_mult c = ranged_tree c.extent (mult_of c.initial c.extended)
@@ -178,7 +178,8 @@ no_signs = signs_of None None
 
 abbrev pub operand_with : Signs → Cell Primary → List (Cell MemAccess) → Option Extent → Bool
     → Operand
-operand_with sg x xs e b = record { signs = sg; item = x; access = xs; extent = e; is_if = b }
+operand_with sg x xs e b =
+    record { signs = sg; member = member_of x xs; extent = e; is_if = b }
 
 -- an operand that has no accesses yet
 abbrev pub operand_of : List ℕ → Signs → Ranged Primary → Operand
@@ -187,8 +188,8 @@ operand_of src sg x = operand_with sg (node_of src x) [] x.extent false
 -- one access more
 abbrev pub with_access : List ℕ → Operand → Ranged MemAccess → Operand
 with_access src m x =
-    operand_with m.signs m.item (m.access ++ node_of src x ∷ []) (joint_extent m.extent x.extent)
-    m.is_if
+    operand_with m.signs m.member.item (m.member.access ++ node_of src x ∷ [])
+    (joint_extent m.extent x.extent) m.is_if
 
 -- the word `if` alone as a name
 abbrev pub if_primary : List ℕ → Option Extent → Ranged Primary

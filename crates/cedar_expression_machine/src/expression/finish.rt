@@ -56,6 +56,6 @@ impl State {
     {
         self.settle_last(ground)?;
         let operand = self.take_operand(OperandPlace::Operand);
-        Ok(operand.item)
+        Ok(operand.member.item)
     }
 }

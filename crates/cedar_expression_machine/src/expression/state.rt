@@ -7,7 +7,7 @@ use cedar_grammar::reading::class::{Closing, Operator, Sign, SlotToken};
 use cedar_grammar::reading::extent::Extent;
 use cedar_grammar::reading::stack::Stack;
 use cedar_syntax::cst::{
-    Add, AddOp, And, Expr, MemAccess, Mult, MultOp, NegOp, Primary, RecInit, RelOp, Relation, Unary,
+    Add, AddOp, And, Expr, Member, Mult, MultOp, NegOp, RecInit, RelOp, Relation, Unary,
 };
 use cedar_syntax::node::Node;
 
@@ -84,12 +84,11 @@ pub struct Signs {
     pub extent: Option<Extent>,
 }
 
-/// An operand: its signs, what stands first in it, and its accesses.
+/// An operand: its signs, and its item with the accesses so far, as the tree will hold them.
 #[derive(Drop)]
 pub struct Operand {
     pub signs: Signs,
-    pub item: Node<Option<Primary>>,
-    pub access: Items<Node<Option<MemAccess>>>,
+    pub member: Member,
     /// The bytes of the item and its accesses.
     pub extent: Option<Extent>,
     /// The word `if` right of `has`, with its accesses: nothing of a sum or a relation goes on

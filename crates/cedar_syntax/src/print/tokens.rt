@@ -30,11 +30,9 @@ pub fn write_token<W: fmt::Write>(
 ) -> Result<bool, fmt::Error>
     ensures { Prints W.write_str_gives f.old fresh (token.now ∷ []) result f.new }
 {
-    if fresh {
-        f.write_str(token)?;
-        return Ok(false);
+    if !fresh {
+        f.write_str(" ")?;
     }
-    f.write_str(" ")?;
     f.write_str(token)?;
     Ok(false)
 }
@@ -47,11 +45,10 @@ pub fn write_number<W: fmt::Write>(
 ) -> Result<bool, fmt::Error>
     ensures { Prints W.write_str_gives f.old fresh (decimal number ∷ []) result f.new }
 {
-    if fresh {
-        write!(f, "{number}")?;
-        return Ok(false);
+    if !fresh {
+        f.write_str(" ")?;
     }
-    write!(f, " {number}")?;
+    write!(f, "{number}")?;
     Ok(false)
 }
 
@@ -151,10 +148,6 @@ pub fn write_quoted<W: fmt::Write>(
 {
     if !fresh {
         f.write_str(" ")?;
-        f.write_str("\"")?;
-        f.write_str(text)?;
-        f.write_str("\"")?;
-        return Ok(false);
     }
     f.write_str("\"")?;
     f.write_str(text)?;

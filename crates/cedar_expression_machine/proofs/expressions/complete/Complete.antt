@@ -210,5 +210,5 @@ primaries_complete src names n f g d i ts x r =
     record {
       last = state [] (fresh []) h.md;
       goes = goes_as c (machine_of src (primary_reader names n f)) (takes_so form.Primary src names n f (λ src s. primary_at_end src names s)) (Some (opening [] [] place.Primary)) ts ∙ h.goes;
-      ends = ap (λ o. option_image (λ m. m.item) o) h.at_it.ends;
+      ends = ap (λ o. option_image (λ m. m.member.item) o) h.at_it.ends;
     }

@@ -141,7 +141,7 @@ primaries_viable src names n f g d i s =
     record {
       more = h.more;
       last = state [] h.levels h.md;
-      tree = h.last.item;
+      tree = h.last.member.item;
       goes = goes_as c (machine_of src (primary_reader names n f)) (takes_so form.Primary src names n f (λ src s. primary_at_end src names s)) (Some s) h.more ∙ h.goes;
-      ends = ap (λ o. option_image (λ m. m.item) o) h.ends;
+      ends = ap (λ o. option_image (λ m. m.member.item) o) h.ends;
     }

@@ -202,4 +202,4 @@ sums_outlined {src = src} {names = names} h i = outlined_by h i form.Sum (λ src
 
 pub primaries_outlined : {W K : Type 0} {src : List ℕ} {names : Names} {n : WordOutline W K} {f : WordsState → W} {g : NameOrEntity → K} → Held src names n f g → BeginWithIdents names →
     IsOutline src (primary_reader names n f) (expression_outline form.Primary n) (λ s. shape_of f s) no_tree
-primaries_outlined {src = src} {names = names} h i = outlined_by h i form.Primary (λ src s. primary_at_end src names s) (λ s. image_some (λ m. m.item) (last_operand src names s.stack s.mode))
+primaries_outlined {src = src} {names = names} h i = outlined_by h i form.Primary (λ src s. primary_at_end src names s) (λ s. image_some (λ m. m.member.item) (last_operand src names s.stack s.mode))

@@ -185,7 +185,7 @@ sums_sound src names n f d ts s x c e =
 pub data AloneAt (src : List ℕ) : List Lexeme → Cell Primary → Type 0 where
   alone_reads : {ts : List Lexeme} {x : Primary} → ReadsPrimary src ts x → AloneAt src ts (placed src ts x)
 
-holds_alone : {src : List ℕ} {r : Reach} {us : List Lexeme} {lv : Levels} {m : Operand} → r ≡ reach.Primary → Holds src r us lv m → AloneAt src us m.item
+holds_alone : {src : List ℕ} {r : Reach} {us : List Lexeme} {lv : Levels} {m : Operand} → r ≡ reach.Primary → Holds src r us lv m → AloneAt src us m.member.item
 holds_alone e (holds_primary b) = alone_reads b
 holds_alone e (holds (whole_longer b c)) = absurd (whole_primary e)
 holds_alone e (holds (if_longer b c)) = absurd (whole_primary e)
@@ -193,5 +193,5 @@ holds_alone e (holds (sum_longer b c)) = absurd (sum_primary e)
 
 pub primaries_sound : {W K : Type 0} (src : List ℕ) (names : Names) (n : WordOutline W K) (f : WordsState → W) {g : NameOrEntity → K} → Held src names n f g → (ts : List Lexeme) (s : State) (x : Cell Primary) → Comes (machine_of src (primary_reader names n f)) ts s → primary_at_end src names s ≡ Some x → AloneAt src ts x
 primaries_sound src names n f d ts s x c e =
-    ended_with (λ y. AloneAt src ts y) (λ m. m.item) (last_operand src names s.stack s.mode) (λ m. Holds src reach.Primary ts s.levels m) x
+    ended_with (λ y. AloneAt src ts y) (λ m. m.member.item) (last_operand src names s.stack s.mode) (λ m. Holds src reach.Primary ts s.levels m) x
     (last_of {w = form.Primary} d (machine_of src (primary_reader names n f)) (takes_so form.Primary src names n f (λ src s. primary_at_end src names s)) ts s (is_wanting bottom (at_primary refl)) c) (λ m h. holds_alone refl h) e

@@ -33,7 +33,7 @@ impl Operand {
         ensures { OnOk result (self.new ≡ with_access ground.entry.source.now self.old access) }
     {
         self.extent = join_extents(self.extent, access.extent);
-        self.access.push(ground.node_of(access)?)
+        self.member.access.push(ground.node_of(access)?)
     }
 }
 

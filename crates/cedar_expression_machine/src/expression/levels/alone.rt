@@ -2,7 +2,7 @@
 //! since memory can be refused to them; behind the last, each tree is made of the one below it and
 //! nothing is dropped, so that the compiler makes them all where they stay.
 ghost use Rattle.std.specs.Prelude.{◌≡◌, [], Some, IfOk};
-ghost use Rattle.cedar_syntax.specs.trees.Trees.{unary_of, member_of, mult_of, add_of, common_of, and_of, or_of};
+ghost use Rattle.cedar_syntax.specs.trees.Trees.{unary_of, mult_of, add_of, common_of, and_of, or_of};
 ghost use Rattle.cedar_expression_machine.specs.machines.Closing.{fresh, mult_at, add_at, relation_at, or_at, made_expr};
 ghost use Rattle.cedar_grammar.specs.grammar.Place.{joint_extent};
 ghost use Rattle.cedar_expression_machine.specs.machines.AlonePlaces.{places_of, upper_places};
@@ -11,7 +11,7 @@ use crate::expression::state::{Operand, Ranged};
 use crate::ground::Ground;
 use cedar_expressions::{Boxed, Items};
 use cedar_grammar::reading::extent::{Extent, join_extents};
-use cedar_syntax::cst::{Add, And, Expr, ExprData, ExprImpl, Member, Mult, Or, Relation, Unary};
+use cedar_syntax::cst::{Add, And, Expr, ExprData, ExprImpl, Mult, Or, Relation, Unary};
 use cedar_syntax::loc::Loc;
 use cedar_syntax::node::Node;
 use std::alloc::{AllocError, Global};
@@ -20,16 +20,15 @@ use std::alloc::{AllocError, Global};
 #[inline(always)]
 fn unary_of(operand: Operand, loc: Option<Loc>) -> Unary
     ensures { result ≡ unary_of operand.signs.op
-        record { node = Some (member_of operand.item operand.access); loc = loc } }
+        record { node = Some operand.member; loc = loc } }
 {
     let Operand {
         signs,
-        item,
-        access,
+        member,
         extent: _,
         is_if: _,
     } = operand;
-    let node = Some(Member { item, access });
+    let node = Some(member);
     Unary {
         op: signs.op,
         item: Node { node, loc },

@@ -12,7 +12,7 @@ use crate::ground::Ground;
 use cedar_expressions::Items;
 use cedar_grammar::reading::put::put;
 use cedar_grammar::reading::stack::Stack;
-use cedar_syntax::cst::Primary;
+use cedar_syntax::cst::{Member, Primary};
 use cedar_syntax::node::Node;
 use std::alloc::{AllocError, Global};
 use std::mem;
@@ -63,8 +63,10 @@ pub fn operand_of(
     let extent = item.extent;
     Ok(Operand {
         signs,
-        item: ground.node_of(item)?,
-        access: Items::new(ground.alloc),
+        member: Member {
+            item: ground.node_of(item)?,
+            access: Items::new(ground.alloc),
+        },
         extent,
         is_if: false,
     })
@@ -190,11 +192,13 @@ impl State {
         let operand = Operand {
             signs,
             extent: item.extent,
-            item: Node {
-                node: Some(item.tree),
-                loc,
+            member: Member {
+                item: Node {
+                    node: Some(item.tree),
+                    loc,
+                },
+                access: Items::new(ground.alloc),
             },
-            access: Items::new(ground.alloc),
             is_if: false,
         };
         self.turn(have(operand));

@@ -13,7 +13,7 @@ use crate::ground::Ground;
 use cedar_expressions::{Boxed, Items};
 use cedar_grammar::reading::extent::join_extents;
 use cedar_grammar::reading::stack::Stack;
-use cedar_syntax::cst::{Add, And, Expr, ExprData, ExprImpl, Member, Mult, Or, Relation, Unary};
+use cedar_syntax::cst::{Add, And, Expr, ExprData, ExprImpl, Mult, Or, Relation, Unary};
 use cedar_syntax::node::Node;
 use std::alloc::AllocError;
 
@@ -24,12 +24,11 @@ pub fn close_unary(ground: Ground<'_>, operand: Operand) -> Result<Ranged<Unary>
 {
     let Operand {
         signs,
-        item,
-        access,
+        member,
         extent,
         is_if: _,
     } = operand;
-    let item = ground.node_at(extent, Member { item, access })?;
+    let item = ground.node_at(extent, member)?;
     Ok(Ranged {
         tree: Unary { op: signs.op, item },
         extent: join_extents(signs.extent, extent),

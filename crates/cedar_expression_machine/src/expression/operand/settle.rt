@@ -34,7 +34,7 @@ use cedar_grammar::reading::place::token_extent;
 use cedar_grammar::reading::put::put;
 use cedar_grammar::reading::stack::Stack;
 use cedar_lexer::token::Token;
-use cedar_syntax::cst::{Expr, Ident, Literal, Name, Primary};
+use cedar_syntax::cst::{Expr, Ident, Literal, Member, Name, Primary};
 use cedar_syntax::node::Node;
 use std::alloc::{AllocError, Global};
 use std::mem;
@@ -67,8 +67,10 @@ pub fn if_operand(ground: Ground<'_>, extent: Option<Extent>) -> Result<Operand,
     let item = if_primary(ground, extent)?;
     Ok(Operand {
         signs: no_signs(),
-        item: ground.node_of(item)?,
-        access: Items::new(ground.alloc),
+        member: Member {
+            item: ground.node_of(item)?,
+            access: Items::new(ground.alloc),
+        },
         extent,
         is_if: true,
     })
