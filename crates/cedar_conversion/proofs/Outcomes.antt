@@ -1,6 +1,7 @@
 -- Answers held against outcomes that are joined.
-use Rattle.std.proofs.Common.{append-nil, ◌≡◌, ◌<◌, ◌+◌, ℕ, List, [], ◌∷◌, ◌++◌, append_assoc, map, take, length, get_or, Option, Result, Ok, Err, IfOk, IfErr, IsErrAnd, alloc_error, refl, sym, ap, ◌∙◌}
+use Rattle.std.proofs.Common.{append-nil, ◌≡◌, ◌<◌, ◌+◌, ℕ, List, [], ◌∷◌, ◌++◌, append_assoc, map, take, length, get_or, Option, Result, Ok, Err, IfOk, IfErr, IsOkAnd, IsErrAnd, MatchResult, alloc_error, refl, sym, ap, ◌∙◌}
 use Rattle.cedar_expressions.specs.Value.{Value}
+use Rattle.std.specs.declared.alloc.AllocError.{AllocError}
 use Rattle.std.specs.declared.alloc.Global.{Global}
 use Rattle.std.specs.declared.vec.Vec.{Vec}
 use Rattle.cedar_syntax.specs.faults.ParseErrors.{faults_of}
@@ -8,6 +9,7 @@ use Rattle.cedar_syntax.specs.declared.loc.Loc.{Loc}
 use Rattle.cedar_syntax.specs.declared.err.faults.Failure.{Failure}
 use Rattle.cedar_syntax.specs.declared.err.faults.Failure.TheVariants.{Memory, Errors}
 use Rattle.cedar_syntax.specs.declared.err.faults.ParseError.{ParseError}
+use Rattle.cedar_syntax.specs.declared.err.to_ast.ToASTErrorKind.{ToASTErrorKind}
 use Rattle.cedar_syntax.specs.trees.Forms.{parts_of}
 use Rattle.cedar_syntax.specs.trees.Located.{Located, none}
 use Rattle.cedar_syntax.specs.trees.Tree.{Operator}
@@ -15,7 +17,7 @@ use Rattle.cedar_syntax.specs.faults.Joined.{TellsBoth, TellsFaults, WantsMemory
 use Rattle.cedar_conversion.specs.outcome.Conversion.{Part, operands, with_part, factor, value_outcome}
 use Rattle.cedar_conversion.specs.strict.Extensions.{Extensions}
 use Rattle.cedar_conversion.specs.outcome.Outcome.{Kind, Outcome, both, next, fault_outcome, item_more}
-use Rattle.cedar_conversion.specs.outcome.Seen.{Refuses, Gives, itself, named_faults, named_fault}
+use Rattle.cedar_conversion.specs.outcome.Seen.{Refuses, Gives, itself, kind_of, named_faults, named_fault}
 use Rattle.cedar_conversion.specs.machines.Views.{TellsAlone, Grows, alike_view, refused, one_more, rest_view}
 use Rattle.cedar_conversion.proofs.Loops.{take_next, map_snoc}
 
@@ -43,6 +45,14 @@ kept_refusal (Errors es) faults o t h = h ∙ ap (λ fs. Err (named_faults fs)) 
 pub told_alone : (f : Failure) (faults : List ParseError) (kind : Kind) (place : Option Loc) → TellsFaults f faults → named_faults faults ≡ (kind, place) ∷ [] → TellsAlone f kind place
 told_alone (Memory e) faults kind place t h = tt
 told_alone (Errors es) faults kind place t h = ap named_faults t ∙ h
+
+-- what a constructor makes of what memory was asked for is of the constructor's kind
+pub made_of_kind : {T : Type 0} (given : Result T AllocError) (made : Result ToASTErrorKind AllocError) (make : T → ToASTErrorKind) (kind : Kind) → ((x : T) → kind_of (make x) ≡ kind) →
+    MatchResult given (λ x. IsOkAnd made (λ y. y ≡ make x)) (λ e. made ≡ Err e) → IfOk made (λ y. kind_of y ≡ kind)
+made_of_kind (Ok x) (Ok y) make kind h m = ap kind_of m ∙ h x
+made_of_kind (Ok x) (Err e) make kind h m = tt
+made_of_kind (Err e) (Ok y) make kind h m = cc
+made_of_kind (Err e) (Err d) make kind h m = tt
 
 -- ---- what is joined
 

@@ -191,8 +191,24 @@ pub(crate) fn gather<B: ExprBuilderInfallibleBuild, O: Copy + Drop>(
 {
     match answer {
         Ok(ExprOrSpecial::Expr(_, _)) => more::<B, O>(all, op, made_value::<B>(alloc, answer)),
-        _ => more::<B, O>(all, op, special_value::<B>(alloc, answer)),
+        _ => gather_special::<B, O>(alloc, all, op, answer),
     }
+}
+
+/// The same of a form that isn't an expression yet.
+#[inline(never)]
+fn gather_special<B: ExprBuilderInfallibleBuild, O: Copy + Drop>(
+    alloc: Global,
+    all: &mut Parts<O, B::Expr>,
+    op: O,
+    answer: &mut Converted<B::Expr>,
+)
+    ensures { (operator : O → Operator) (ps : Outcome (List Part)) (x : Outcome Held)
+        → Gives (rest_view operator B.meaning) all.old ps → Gives (plain B.meaning) answer.old x
+        → Gives (rest_view operator B.meaning) all.new
+        (one_more (operator op) ps (next x as_expression)) }
+{
+    more::<B, O>(all, op, special_value::<B>(alloc, answer))
 }
 
 /// What stands in parentheses, at its own place.

@@ -17,7 +17,7 @@ use crate::expressions::expression;
 use cedar_conversion::answer::failure::Failure;
 use cedar_conversion::answer::faults::{add_fault, place_within};
 use cedar_conversion::answer::lists::{add, with_room};
-use cedar_conversion::answer::special::{builder_at, empty_node, refusal};
+use cedar_conversion::answer::special::{builder_at, empty_node, refusal_with};
 use cedar_conversion::primaries::methods::Site;
 use cedar_expressions::{Expr, ExprBuilder, ExprBuilderInfallibleBuild, Slot, TryClone};
 use cedar_syntax::cst::{Cond, Ident};
@@ -30,10 +30,8 @@ use std::alloc::{AllocError, Global};
 fn other_word(alloc: Global, loc: &Option<Loc>, word: &Ident) -> Failure
     ensures { TellsAlone result invalid_condition loc.now }
 {
-    match word.try_clone() {
-        Ok(word) => refusal(alloc, ToASTErrorKind::InvalidCondition(word), loc),
-        Err(error) => Failure::from(error),
-    }
+    let kind = word.try_clone().map(ToASTErrorKind::InvalidCondition);
+    refusal_with(alloc, kind, loc)
 }
 
 /// Whether a condition's word is `when`; else it is `unless`.
@@ -52,10 +50,8 @@ fn is_when(alloc: Global, node: &Node<Option<Ident>>) -> Result<bool, Failure>
 fn empty_clause(site: Site<'_>, word: &Option<Ident>) -> Failure
     ensures { TellsAlone result empty_clause site.entry.loc.now }
 {
-    match word.try_clone() {
-        Ok(word) => refusal(site.alloc, ToASTErrorKind::EmptyClause(word), site.loc),
-        Err(error) => Failure::from(error),
-    }
+    let kind = word.try_clone().map(ToASTErrorKind::EmptyClause);
+    refusal_with(site.alloc, kind, site.loc)
 }
 
 /// The expression of a condition.

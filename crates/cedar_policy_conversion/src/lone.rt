@@ -1,13 +1,14 @@
 //! The primary that an expression is, through operators with one operand and parentheses; any
 //! other form is refused by what it is.
+ghost use Rattle.std.specs.Prelude.{◌≡◌, IfOk};
 ghost use Rattle.cedar_syntax.specs.trees.Forms.{located, expr_form, or_form, and_form, relation_form, add_form, mult_form, unary_form, member_form, primary_form};
 ghost use Rattle.cedar_conversion.specs.outcome.Outcome.{wrong_node};
 ghost use Rattle.cedar_policy_conversion.specs.References.{lone};
-ghost use Rattle.cedar_conversion.specs.outcome.Seen.{Gives};
+ghost use Rattle.cedar_conversion.specs.outcome.Seen.{Gives, kind_of};
 ghost use Rattle.cedar_conversion.specs.machines.Views.{TellsAlone};
 
 use cedar_conversion::answer::failure::Failure;
-use cedar_conversion::answer::special::{empty_node, refusal};
+use cedar_conversion::answer::special::{empty_node, refusal_with};
 use cedar_conversion::convert::inner_of;
 use cedar_conversion::operators::alone::Alone;
 use cedar_expressions::OwnedText;
@@ -17,40 +18,42 @@ use cedar_syntax::loc::Loc;
 use cedar_syntax::node::Node;
 use std::alloc::{AllocError, Global};
 
-/// What stands where a reference is wanted, and perhaps a hint.
-pub(crate) type Shown = (OwnedText, Option<OwnedText>);
-
-fn shown(alloc: Global, got: &str, hint: &str) -> Result<Shown, AllocError> {
-    let got = OwnedText::from_str(alloc, got)?;
-    if hint.is_empty() {
-        return Ok((got, None));
-    }
-    Ok((got, Some(OwnedText::from_str(alloc, hint)?)))
+/// Another form than what is wanted, and perhaps a hint.
+fn another_form(
+    alloc: Global,
+    expected: &'static str,
+    got: Result<String, AllocError>,
+    hint: &str,
+) -> Result<ToASTErrorKind, AllocError>
+    ensures { IfOk result (λ kind. kind_of kind ≡ wrong_node) }
+{
+    let got = OwnedText::from(got?);
+    let suggestion = if hint.is_empty() {
+        None
+    } else {
+        Some(OwnedText::from_str(alloc, hint)?)
+    };
+    Ok(ToASTErrorKind::WrongNode {
+        expected,
+        got,
+        suggestion,
+    })
 }
 
-/// Another form than what is wanted.
+/// The refusal of a form that `got` shows, with a hint unless that is empty.
 pub(crate) fn wrong_node(
     alloc: Global,
     expected: &'static str,
-    shown: Result<Shown, AllocError>,
+    got: Result<String, AllocError>,
+    hint: &str,
     loc: &Option<Loc>,
 ) -> Failure
     ensures { TellsAlone result wrong_node loc.now }
 {
-    match shown {
-        Ok((got, suggestion)) => {
-            let kind = ToASTErrorKind::WrongNode {
-                expected,
-                got,
-                suggestion,
-            };
-            refusal(alloc, kind, loc)
-        }
-        Err(error) => Failure::from(error),
-    }
+    refusal_with(alloc, another_form(alloc, expected, got, hint), loc)
 }
 
-/// A form with a fixed name.
+/// The same of a form with a fixed name.
 pub(crate) fn form(
     alloc: Global,
     expected: &'static str,
@@ -60,7 +63,7 @@ pub(crate) fn form(
 ) -> Failure
     ensures { TellsAlone result wrong_node loc.now }
 {
-    wrong_node(alloc, expected, shown(alloc, got, hint), loc)
+    wrong_node(alloc, expected, String::from_str(alloc, got), hint, loc)
 }
 
 /// Signs, as they are printed.
@@ -73,10 +76,10 @@ fn signs(
     ensures { TellsAlone result wrong_node loc.now }
 {
     match op {
-        Some(op) => match format!(in alloc; "a `{op}` expression") {
-            Ok(got) => wrong_node(alloc, expected, Ok((OwnedText::from(got), None)), loc),
-            Err(error) => Failure::from(error),
-        },
+        Some(op) => {
+            let got = format!(in alloc; "a `{op}` expression");
+            wrong_node(alloc, expected, got, "", loc)
+        }
         None => form(alloc, expected, "an expression", "", loc),
     }
 }

@@ -7,14 +7,19 @@ use cedar_policy_store::PolicyID;
 use cedar_syntax::cst::Policy;
 use cedar_syntax::node::Node;
 use std::alloc::{AllocError, Global};
+use std::fmt::Write;
+
+/// Room for the longest name: a `usize` has up to 20 digits.
+const LONGEST: usize = "policy".len() + 20;
 
 /// The name that a set gives the policy behind so many others: `policy0`, `policy1` and so on.
 pub fn policy_id(alloc: Global, count: usize) -> Result<PolicyID, AllocError>
     ensures { IfOk result (λ id. id ≡ policy_id count) }
 {
-    match format!(in alloc; "policy{count}") {
-        Ok(text) => Ok(PolicyID::new(text)),
-        Err(error) => Err(AllocError::from(error)),
+    let mut text = String::with_capacity(alloc, LONGEST)?;
+    match write!(text, "policy{count}") {
+        Ok(()) => Ok(PolicyID::new(text)),
+        Err(_) => Err(AllocError),
     }
 }
 

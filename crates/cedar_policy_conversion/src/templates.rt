@@ -21,7 +21,7 @@ use crate::scope::{Scope, scope_of};
 use cedar_conversion::answer::failure::{Failure, flatten_tuple_2};
 use cedar_conversion::answer::faults::place_within;
 use cedar_conversion::answer::places::{bytes_at, bytes_of};
-use cedar_conversion::answer::special::{empty_node, refusal};
+use cedar_conversion::answer::special::{empty_node, refusal, refusal_with};
 use cedar_expressions::{AnyId, Expr, Slot, TryClone};
 use cedar_policy_store::{Annotation, Annotations, Effect, PolicyID, StaticPolicy, Template};
 use cedar_syntax::cst::{Ident, Policy, PolicyImpl};
@@ -44,10 +44,8 @@ fn inner_of(policy: &Policy) -> &PolicyImpl
 fn other_word(alloc: Global, loc: &Option<Loc>, word: &Ident) -> Failure
     ensures { TellsAlone result invalid_effect loc.now }
 {
-    match word.try_clone() {
-        Ok(word) => refusal(alloc, ToASTErrorKind::InvalidEffect(word), loc),
-        Err(error) => Failure::from(error),
-    }
+    let kind = word.try_clone().map(ToASTErrorKind::InvalidEffect);
+    refusal_with(alloc, kind, loc)
 }
 
 fn effect(alloc: Global, node: &Node<Option<Ident>>) -> Result<Effect, Failure>

@@ -13,7 +13,7 @@ use cedar_conversion::answer::lists::add;
 use cedar_conversion::answer::places::bytes_of;
 use cedar_conversion::answer::special::{empty_node, refusal};
 use cedar_conversion::leaves::entities::entity_of;
-use cedar_expressions::{EntityUID, Items, NodePlace, OwnedText, Var};
+use cedar_expressions::{EntityUID, Items, NodePlace, Var};
 use cedar_policy_store::EntityReference;
 use cedar_syntax::cst;
 use cedar_syntax::err::ToASTErrorKind;
@@ -189,10 +189,10 @@ fn literal_found(
         (literal_fault loc.now node.now.loc node.now.node).1 }
 {
     match &node.node {
-        Some(literal) => match format!(in alloc; "literal `{literal}`") {
-            Ok(got) => wrong_node(alloc, expected, Ok((OwnedText::from(got), None)), loc),
-            Err(error) => Failure::from(error),
-        },
+        Some(literal) => {
+            let got = format!(in alloc; "literal `{literal}`");
+            wrong_node(alloc, expected, got, "", loc)
+        }
         None => empty_node(alloc, &node.loc),
     }
 }
@@ -209,10 +209,10 @@ fn name_found(
     ensures { TellsAlone result wrong_node loc.now }
 {
     match &node.node {
-        Some(name) => match format!(in alloc; "name `{name}`") {
-            Ok(got) => form(alloc, expected, got.as_str(), ENTITY_HINT, loc),
-            Err(error) => Failure::from(error),
-        },
+        Some(name) => {
+            let got = format!(in alloc; "name `{name}`");
+            wrong_node(alloc, expected, got, ENTITY_HINT, loc)
+        }
         None => form(alloc, expected, "name", ENTITY_HINT, loc),
     }
 }
@@ -276,10 +276,8 @@ fn other_slot(
 ) -> Failure
     ensures { TellsAlone result wrong_node loc.now }
 {
-    match format!(in alloc; "{slot} instead of ?{var}") {
-        Ok(got) => wrong_node(alloc, expected, Ok((OwnedText::from(got), None)), loc),
-        Err(error) => Failure::from(error),
-    }
+    let got = format!(in alloc; "{slot} instead of ?{var}");
+    wrong_node(alloc, expected, got, "", loc)
 }
 
 /// A slot stands for its own variable alone.

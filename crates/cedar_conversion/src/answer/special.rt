@@ -3,7 +3,7 @@
 ghost use Rattle.std.specs.Prelude.{◌≡◌, IfOk, Ok};
 ghost use Rattle.std.specs.Option.{option_map};
 ghost use Rattle.cedar_conversion.specs.outcome.Held.{Held, expression, as_expression};
-ghost use Rattle.cedar_conversion.specs.outcome.Outcome.{Outcome, arbitrary_variable, empty_node, next};
+ghost use Rattle.cedar_conversion.specs.outcome.Outcome.{Kind, Outcome, arbitrary_variable, empty_node, next};
 ghost use Rattle.cedar_conversion.specs.outcome.Places.{bytes_of};
 ghost use Rattle.cedar_conversion.specs.outcome.Seen.{Gives, kind_of};
 ghost use Rattle.cedar_conversion.specs.machines.Views.{TellsAlone, plain};
@@ -74,6 +74,20 @@ pub fn refusal(alloc: Global, kind: ToASTErrorKind, loc: &Option<Loc>) -> Failur
     }
 }
 
+/// One fault at a place, of a kind for which memory may have been wanting.
+pub fn refusal_with(
+    alloc: Global,
+    kind: Result<ToASTErrorKind, AllocError>,
+    loc: &Option<Loc>,
+) -> Failure
+    ensures { (k : Kind) → IfOk kind (λ kind. kind_of kind ≡ k) → TellsAlone result k loc.now }
+{
+    match kind {
+        Ok(kind) => refusal(alloc, kind, loc),
+        Err(error) => Failure::from(error),
+    }
+}
+
 /// A value as it is printed.
 pub(crate) fn to_text<T: Display>(alloc: Global, value: &T) -> Result<Text, AllocError> {
     match format!(in alloc; "{value}") {
@@ -95,10 +109,8 @@ pub fn empty_node(alloc: Global, loc: &Option<Loc>) -> Failure
 fn arbitrary_variable(alloc: Global, name: &Name, loc: &Option<Loc>) -> Failure
     ensures { TellsAlone result arbitrary_variable loc.now }
 {
-    match to_text(alloc, name) {
-        Ok(shown) => refusal(alloc, ToASTErrorKind::ArbitraryVariable(shown), loc),
-        Err(error) => Failure::from(error),
-    }
+    let kind = to_text(alloc, name).map(ToASTErrorKind::ArbitraryVariable);
+    refusal_with(alloc, kind, loc)
 }
 
 /// The expression that a form is where an expression is wanted.

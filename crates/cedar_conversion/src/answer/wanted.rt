@@ -7,11 +7,11 @@ ghost use Rattle.cedar_conversion.specs.outcome.Held.{Held, as_attribute, as_ent
 ghost use Rattle.cedar_conversion.specs.parts.Literals.{string_outcome};
 ghost use Rattle.cedar_syntax.specs.trees.Forms.{located, primary_form};
 ghost use Rattle.cedar_conversion.specs.outcome.Outcome.{Outcome, next, invalid_attribute, invalid_is_type, invalid_pattern, invalid_string, path_as_attribute, reserved_identifier};
-ghost use Rattle.cedar_conversion.specs.outcome.Seen.{Gives, itself};
+ghost use Rattle.cedar_conversion.specs.outcome.Seen.{Gives, itself, kind_of};
 ghost use Rattle.cedar_conversion.specs.machines.Views.{TellsAlone, plain};
 
 use crate::answer::failure::Failure;
-use crate::answer::special::{ExprOrSpecial, empty_node, refusal, to_text};
+use crate::answer::special::{ExprOrSpecial, empty_node, refusal, refusal_with, to_text};
 use crate::answer::{Converted, placeholder};
 use crate::leaves::literals::literal;
 use crate::leaves::names::variable_or_name;
@@ -65,10 +65,8 @@ fn shown<E>(alloc: Global, special: &ExprOrSpecial<E>) -> Result<Text, AllocErro
 fn invalid_pattern<E>(alloc: Global, special: &ExprOrSpecial<E>, loc: &Option<Loc>) -> Failure
     ensures { TellsAlone result invalid_pattern loc.now }
 {
-    match shown(alloc, special) {
-        Ok(text) => refusal(alloc, ToASTErrorKind::InvalidPattern(text), loc),
-        Err(error) => Failure::from(error),
-    }
+    let kind = shown(alloc, special).map(ToASTErrorKind::InvalidPattern);
+    refusal_with(alloc, kind, loc)
 }
 
 /// Right of `like`: a string alone, read as a pattern.
@@ -91,10 +89,8 @@ pub(crate) fn into_pattern<B: ExprBuilderInfallibleBuild>(
 fn invalid_string<E>(alloc: Global, special: &ExprOrSpecial<E>, loc: &Option<Loc>) -> Failure
     ensures { TellsAlone result invalid_string loc.now }
 {
-    match shown(alloc, special) {
-        Ok(text) => refusal(alloc, ToASTErrorKind::InvalidString(text), loc),
-        Err(error) => Failure::from(error),
-    }
+    let kind = shown(alloc, special).map(ToASTErrorKind::InvalidString);
+    refusal_with(alloc, kind, loc)
 }
 
 /// Where a string is wanted and nothing else: what it stands for.
@@ -118,22 +114,22 @@ fn sides_shown(
     alloc: Global,
     left: Option<&Loc>,
     right: Option<&Loc>,
-) -> Result<(Text, Text), AllocError> {
-    let left = match left {
+) -> Result<ToASTErrorKind, AllocError>
+    ensures { IfOk result (λ kind. kind_of kind ≡ invalid_is_type) }
+{
+    let lhs = match left {
         Some(_) => source_at(alloc, left)?,
         None => Text::from_str(alloc, "..")?,
     };
-    Ok((left, source_at(alloc, right)?))
+    let rhs = source_at(alloc, right)?;
+    Ok(ToASTErrorKind::InvalidIsType { lhs, rhs })
 }
 
 /// What can't stand right of `is`.
 fn invalid_is_type(alloc: Global, left: Option<&Loc>, loc: &Option<Loc>) -> Failure
     ensures { TellsAlone result invalid_is_type loc.now }
 {
-    match sides_shown(alloc, left, loc.as_ref()) {
-        Ok((lhs, rhs)) => refusal(alloc, ToASTErrorKind::InvalidIsType { lhs, rhs }, loc),
-        Err(error) => Failure::from(error),
-    }
+    refusal_with(alloc, sides_shown(alloc, left, loc.as_ref()), loc)
 }
 
 /// The identifier that a text spells, if it may stand in a name.
@@ -177,10 +173,8 @@ pub fn into_entity_type<B: ExprBuilderInfallibleBuild>(
 fn invalid_attribute(alloc: Global, loc: &Option<Loc>) -> Failure
     ensures { TellsAlone result invalid_attribute loc.now }
 {
-    match source_at(alloc, loc.as_ref()) {
-        Ok(text) => refusal(alloc, ToASTErrorKind::InvalidAttribute(text), loc),
-        Err(error) => Failure::from(error),
-    }
+    let kind = source_at(alloc, loc.as_ref()).map(ToASTErrorKind::InvalidAttribute);
+    refusal_with(alloc, kind, loc)
 }
 
 /// A path where an attribute is wanted; `shown` is what a message shows of it.
@@ -191,10 +185,8 @@ pub(crate) fn path_as_attribute(
 ) -> Failure
     ensures { TellsAlone result path_as_attribute loc.now }
 {
-    match shown {
-        Ok(text) => refusal(alloc, ToASTErrorKind::PathAsAttribute(text), loc),
-        Err(error) => Failure::from(error),
-    }
+    let kind = shown.map(ToASTErrorKind::PathAsAttribute);
+    refusal_with(alloc, kind, loc)
 }
 
 /// `true` or `false` where an attribute is wanted.
@@ -295,8 +287,6 @@ fn name_as_string<B: ExprBuilderInfallibleBuild>(
 fn invalid_string_at(alloc: Global, loc: &Option<Loc>) -> Failure
     ensures { TellsAlone result invalid_string loc.now }
 {
-    match source_at(alloc, loc.as_ref()) {
-        Ok(text) => refusal(alloc, ToASTErrorKind::InvalidString(text), loc),
-        Err(error) => Failure::from(error),
-    }
+    let kind = source_at(alloc, loc.as_ref()).map(ToASTErrorKind::InvalidString);
+    refusal_with(alloc, kind, loc)
 }

@@ -6,7 +6,7 @@ ghost use Rattle.cedar_conversion.specs.outcome.Seen.{Gives, itself};
 ghost use Rattle.cedar_conversion.specs.machines.Views.{TellsAlone, plain};
 
 use crate::answer::failure::{Failure, flatten_tuple_2};
-use crate::answer::special::{ExprOrSpecial, builder_at, empty_node, refusal, to_text};
+use crate::answer::special::{ExprOrSpecial, builder_at, empty_node, refusal_with, to_text};
 use crate::leaves::literals::invalid_raw;
 use crate::leaves::names::name_of;
 use crate::leaves::strings::unescape_raw;
@@ -34,10 +34,8 @@ pub fn id_of(alloc: Global, loc: &Option<Loc>, node: &Node<Option<Str>>) -> Resu
 fn invalid_entity_literal(alloc: Global, loc: &Option<Loc>, reference: &Ref) -> Failure
     ensures { TellsAlone result invalid_entity_literal loc.now }
 {
-    match to_text(alloc, reference) {
-        Ok(shown) => refusal(alloc, ToASTErrorKind::InvalidEntityLiteral(shown), loc),
-        Err(error) => Failure::from(error),
-    }
+    let kind = to_text(alloc, reference).map(ToASTErrorKind::InvalidEntityLiteral);
+    refusal_with(alloc, kind, loc)
 }
 
 fn reference(alloc: Global, loc: &Option<Loc>, reference: &Ref) -> Result<EntityUID, Failure>

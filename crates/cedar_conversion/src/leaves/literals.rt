@@ -5,12 +5,12 @@ ghost use Rattle.cedar_expressions.specs.Value.{Value};
 ghost use Rattle.cedar_syntax.specs.trees.Forms.{located, primary_form, member_form};
 ghost use Rattle.cedar_conversion.specs.outcome.Conversion.{literal_outcome, held_string, number_outcome, number_in, literal_alone, lone_literal};
 ghost use Rattle.cedar_conversion.specs.outcome.Held.{bare_truth};
-ghost use Rattle.cedar_conversion.specs.outcome.Outcome.{invalid_string};
+ghost use Rattle.cedar_conversion.specs.outcome.Outcome.{integer_literal_too_large, invalid_string};
 ghost use Rattle.cedar_conversion.specs.outcome.Seen.{Gives};
 ghost use Rattle.cedar_conversion.specs.machines.Views.{TellsAlone, plain};
 
 use crate::answer::failure::Failure;
-use crate::answer::special::{ExprOrSpecial, builder_at, empty_node, refusal};
+use crate::answer::special::{ExprOrSpecial, builder_at, empty_node, refusal, refusal_with};
 use crate::answer::{Converted, empty_node_in, put};
 use crate::operators::alone::Alone;
 use cedar_expressions::{ExprBuilderInfallibleBuild, Literal, Text, TryClone};
@@ -23,6 +23,15 @@ use std::alloc::Global;
 /// The largest number behind a `-`.
 pub(crate) const LARGEST: u64 = 0x8000_0000_0000_0000;
 
+/// A number that is too large behind no `-`.
+#[cold]
+#[inline(never)]
+fn too_large(alloc: Global, loc: &Option<Loc>, number: u64) -> Failure
+    ensures { TellsAlone result integer_literal_too_large loc.now }
+{
+    refusal(alloc, ToASTErrorKind::IntegerLiteralTooLarge(number), loc)
+}
+
 #[inline(always)]
 fn number<B: ExprBuilderInfallibleBuild>(
     alloc: Global,
@@ -32,7 +41,7 @@ fn number<B: ExprBuilderInfallibleBuild>(
     ensures { Gives (plain B.meaning) result (number_outcome loc.now number) }
 {
     if number >= LARGEST {
-        return Err(refusal(alloc, ToASTErrorKind::IntegerLiteralTooLarge(number), loc));
+        return Err(too_large(alloc, loc, number));
     }
     let place = loc.try_clone()?;
     let literal = builder_at::<B>(alloc, loc).val(Literal::Long(number as i64))?;
@@ -43,10 +52,8 @@ fn number<B: ExprBuilderInfallibleBuild>(
 pub(crate) fn invalid_raw(alloc: Global, raw: &Text, loc: &Option<Loc>) -> Failure
     ensures { TellsAlone result invalid_string loc.now }
 {
-    match raw.try_clone() {
-        Ok(raw) => refusal(alloc, ToASTErrorKind::InvalidString(raw), loc),
-        Err(error) => Failure::from(error),
-    }
+    let kind = raw.try_clone().map(ToASTErrorKind::InvalidString);
+    refusal_with(alloc, kind, loc)
 }
 
 /// A string, which has the place of its literal.
@@ -99,7 +106,10 @@ fn number_in<B: ExprBuilderInfallibleBuild>(
 )
     ensures { Gives (plain B.meaning) answer.new (number_outcome loc.now value) }
 {
-    put(answer, number::<B>(alloc, loc, value))
+    match number::<B>(alloc, loc, value) {
+        Ok(number) => put(answer, Ok(number)),
+        Err(failure) => put(answer, Err(failure)),
+    }
 }
 
 #[inline(never)]

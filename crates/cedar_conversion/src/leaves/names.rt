@@ -10,7 +10,7 @@ ghost use Rattle.cedar_conversion.specs.machines.Views.{TellsAlone, plain};
 
 use crate::answer::failure::{Failure, flatten_tuple_2};
 use crate::answer::lists::{add, with_room};
-use crate::answer::special::{ExprOrSpecial, empty_node, refusal};
+use crate::answer::special::{ExprOrSpecial, empty_node, refusal, refusal_with};
 use crate::answer::{Converted, put};
 use cedar_expressions::{
     AnyId, ExprBuilderInfallibleBuild, Id, InternalName, Name, Text, TryClone, UnreservedId, Var,
@@ -25,20 +25,16 @@ use std::alloc::Global;
 fn invalid_identifier(alloc: Global, loc: &Option<Loc>, text: &str) -> Failure
     ensures { TellsAlone result invalid_identifier loc.now }
 {
-    match Text::from_str(alloc, text) {
-        Ok(text) => refusal(alloc, ToASTErrorKind::InvalidIdentifier(text), loc),
-        Err(error) => Failure::from(error),
-    }
+    let kind = Text::from_str(alloc, text).map(ToASTErrorKind::InvalidIdentifier);
+    refusal_with(alloc, kind, loc)
 }
 
 /// A word that no name may hold.
 fn reserved_identifier(alloc: Global, loc: &Option<Loc>, word: &Ident) -> Failure
     ensures { TellsAlone result reserved_identifier loc.now }
 {
-    match word.try_clone() {
-        Ok(word) => refusal(alloc, ToASTErrorKind::ReservedIdentifier(word), loc),
-        Err(error) => Failure::from(error),
-    }
+    let kind = word.try_clone().map(ToASTErrorKind::ReservedIdentifier);
+    refusal_with(alloc, kind, loc)
 }
 
 fn valid_text(alloc: Global, loc: &Option<Loc>, text: &str) -> Result<Id, Failure>

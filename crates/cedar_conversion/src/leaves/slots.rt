@@ -6,7 +6,7 @@ ghost use Rattle.cedar_conversion.specs.outcome.Seen.{Gives, itself};
 ghost use Rattle.cedar_conversion.specs.machines.Views.{TellsAlone, plain};
 
 use crate::answer::failure::Failure;
-use crate::answer::special::{ExprOrSpecial, builder_at, empty_node, expr_at, refusal};
+use crate::answer::special::{ExprOrSpecial, builder_at, empty_node, expr_at, refusal_with};
 use cedar_expressions::{ExprBuilderInfallibleBuild, SlotId, Text, TryClone};
 use cedar_syntax::cst::Slot;
 use cedar_syntax::err::ToASTErrorKind;
@@ -18,10 +18,8 @@ use std::alloc::Global;
 fn invalid_slot(alloc: Global, text: &Text, loc: &Option<Loc>) -> Failure
     ensures { TellsAlone result invalid_slot loc.now }
 {
-    match text.try_clone() {
-        Ok(text) => refusal(alloc, ToASTErrorKind::InvalidSlot(text), loc),
-        Err(error) => Failure::from(error),
-    }
+    let kind = text.try_clone().map(ToASTErrorKind::InvalidSlot);
+    refusal_with(alloc, kind, loc)
 }
 
 /// The slot of a template that a node holds.

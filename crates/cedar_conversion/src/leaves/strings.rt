@@ -87,6 +87,14 @@ pub(crate) fn unescape_raw(alloc: Global, raw: &Text, loc: &Option<Loc>) -> Resu
     if is_plain(raw.as_str()) {
         return Ok(raw.try_clone()?);
     }
+    unescape_any(alloc, raw, loc)
+}
+
+/// The same of a raw text that may have escapes.
+#[inline(never)]
+fn unescape_any(alloc: Global, raw: &Text, loc: &Option<Loc>) -> Result<Text, Failure>
+    ensures { Gives itself result (text_outcome loc.now raw.now) }
+{
     match to_unescaped_string(alloc, raw.as_str()) {
         Ok(text) => Ok(Text::from_string(text)?),
         Err(UnescapeFailure::Memory(error)) => Err(Failure::from(error)),

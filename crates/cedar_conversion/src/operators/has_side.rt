@@ -11,7 +11,7 @@ ghost use Rattle.cedar_conversion.specs.machines.Applied.{seen_attributes};
 ghost use Rattle.cedar_conversion.specs.machines.Views.{TellsAlone, plain};
 
 use crate::answer::failure::Failure;
-use crate::answer::special::{ExprOrSpecial, empty_node, refusal, to_text};
+use crate::answer::special::{ExprOrSpecial, empty_node, refusal_with, to_text};
 use crate::answer::wanted::{path_as_attribute, truth_as_attribute, variable_word};
 use crate::answer::{Converted, placeholder};
 use crate::leaves::literals::literal;
@@ -45,10 +45,8 @@ fn shown(side: RightSide<'_>) -> Result<Text, AllocError> {
 fn invalid_has_rhs(side: RightSide<'_>, loc: &Option<Loc>) -> Failure
     ensures { TellsAlone result invalid_has_rhs loc.now }
 {
-    match shown(side) {
-        Ok(text) => refusal(side.alloc, ToASTErrorKind::InvalidHasRHS(text), loc),
-        Err(error) => Failure::from(error),
-    }
+    let kind = shown(side).map(ToASTErrorKind::InvalidHasRHS);
+    refusal_with(side.alloc, kind, loc)
 }
 
 /// The identifier of a field.

@@ -18,7 +18,7 @@ use crate::cst_to_ast::ExtStyles;
 use crate::expressions::expression;
 use crate::to_ref_or_refs::to_ref_or_refs;
 use cedar_conversion::answer::failure::Failure;
-use cedar_conversion::answer::special::{empty_node, refusal};
+use cedar_conversion::answer::special::{empty_node, refusal, refusal_with};
 use cedar_conversion::answer::wanted::into_entity_type;
 use cedar_conversion::answer::{Converted, placeholder};
 use cedar_conversion::convert::add;
@@ -39,10 +39,8 @@ use std::alloc::{AllocError, Global};
 fn other_word(alloc: Global, loc: &Option<Loc>, word: &Ident) -> Failure
     ensures { TellsAlone result invalid_scope_variable loc.now }
 {
-    match word.try_clone() {
-        Ok(word) => refusal(alloc, ToASTErrorKind::InvalidScopeVariable(word), loc),
-        Err(error) => Failure::from(error),
-    }
+    let kind = word.try_clone().map(ToASTErrorKind::InvalidScopeVariable);
+    refusal_with(alloc, kind, loc)
 }
 
 /// The variable that an element begins with.

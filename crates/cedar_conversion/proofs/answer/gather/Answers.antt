@@ -4,4 +4,4 @@ pub returns-in-Ok-Expr : goal.returns-in-Ok-Expr
 returns-in-Ok-Expr g c operator ps x h k = c.more.ensures operator ps _ h (c.made_value.ensures x k)
 
 pub returns-in_default : goal.returns-in_default
-returns-in_default g c operator ps x h k = c.more-in_default.ensures operator ps _ h (c.special_value.ensures x k)
+returns-in_default g c operator ps x h k = c.gather_special.ensures operator ps x h k
