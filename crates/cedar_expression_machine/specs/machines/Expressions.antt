@@ -174,7 +174,8 @@ sum_at_end src names s =
 
 abbrev pub primary_at_end : List ℕ → Reader WordsState WordsAct NameOrEntity → State
     → Option (Cell Primary)
-primary_at_end src names s = option_image (λ m. m.member.item) (last_operand src names s.stack s.mode)
+primary_at_end src names s =
+    option_image (λ m. m.member.item) (last_operand src names s.stack s.mode)
 
 -- ---- the readers
 
