@@ -109,7 +109,8 @@ fn into_string<B: ExprBuilderInfallibleBuild>(
     }
 }
 
-/// The sides of an `is` as a message shows them: the left one where it has a value.
+/// The kind that tells the sides of an `is` as a message shows them: the left one where it has a
+/// value.
 fn sides_shown(
     alloc: Global,
     left: Option<&Loc>,

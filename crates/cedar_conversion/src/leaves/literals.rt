@@ -106,6 +106,7 @@ fn number_in<B: ExprBuilderInfallibleBuild>(
 )
     ensures { Gives (plain B.meaning) answer.new (number_outcome loc.now value) }
 {
+    // A call for each: through one call both answers would be joined in a room first.
     match number::<B>(alloc, loc, value) {
         Ok(number) => put(answer, Ok(number)),
         Err(failure) => put(answer, Err(failure)),
