@@ -20,6 +20,7 @@ use crate::expression::state::{Call, Frame, Index, Mode, Operand, OperandPlace, 
 use crate::ground::Ground;
 use cedar_expressions::Items;
 use cedar_grammar::reading::extent::{Extent, join_extents};
+use cedar_grammar::reading::never::never;
 use cedar_grammar::reading::place::token_extent;
 use cedar_grammar::reading::tokens::ident_node;
 use cedar_lexer::token::Token;
@@ -55,7 +56,7 @@ impl State {
     {
         match &mut self.mode {
             Mode::Have { dot, .. } => *dot = Some(opened),
-            Mode::Want { .. } | Mode::Word { .. } => unreachable!(),
+            Mode::Want { .. } | Mode::Word { .. } => never(),
         }
     }
 
@@ -115,7 +116,7 @@ impl State {
                 self.turn(have(operand));
                 Ok(())
             }
-            _ => unreachable!(),
+            _ => never(),
         }
     }
 
@@ -145,7 +146,7 @@ impl State {
                 self.turn(have(operand));
                 Ok(())
             }
-            _ => unreachable!(),
+            _ => never(),
         }
     }
 
@@ -165,7 +166,7 @@ impl State {
                 *dot = None;
                 Ok(())
             }
-            Mode::Want { .. } | Mode::Word { .. } => unreachable!(),
+            Mode::Want { .. } | Mode::Word { .. } => never(),
         }
     }
 }
