@@ -9,7 +9,6 @@ pub mod identifier;
 pub mod literal;
 pub mod mark;
 pub mod mending;
-pub mod never;
 pub mod place;
 pub mod put;
 pub mod recovery;

@@ -7,7 +7,6 @@ ghost use Rattle.cedar_policy_machine.specs.machines.Annotation.{annotation_shap
 
 use cedar_expressions::Source;
 use cedar_grammar::reading::driver::Entry;
-use cedar_grammar::reading::never::never;
 use cedar_grammar::reading::put::{put, take_node};
 use cedar_grammar::reading::tokens::{ident_node, if_ident, string_node};
 use cedar_lexer::token::{Token, TokenKind};
@@ -60,7 +59,7 @@ impl AnnotationState {
                 let key = take_node(key);
                 put(self, AnnotationState::Open(key));
             }
-            _ => never(),
+            _ => unreachable!(),
         }
     }
 
@@ -78,7 +77,7 @@ impl AnnotationState {
                 put(self, AnnotationState::Value(key, value));
                 Ok(())
             }
-            _ => never(),
+            _ => unreachable!(),
         }
     }
 
@@ -93,7 +92,7 @@ impl AnnotationState {
                 let value = take_node(value);
                 put(self, AnnotationState::Closed(key, value));
             }
-            _ => never(),
+            _ => unreachable!(),
         }
     }
 }
@@ -167,7 +166,7 @@ impl Entry<Annotation> for AnnotationState {
                 key: take_node(key),
                 value: Some(take_node(value)),
             }),
-            _ => never(),
+            _ => unreachable!(),
         }
     }
 }

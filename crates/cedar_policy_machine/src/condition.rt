@@ -9,7 +9,6 @@ ghost use Rattle.cedar_policy_machine.specs.machines.Condition.{condition_state,
 use crate::annotation::if_mark;
 use cedar_expressions::Source;
 use cedar_grammar::reading::driver::Entry;
-use cedar_grammar::reading::never::never;
 use cedar_grammar::reading::put::{put, take_node};
 use cedar_grammar::reading::tokens::{ident_node, if_ident};
 use cedar_lexer::token::{Token, TokenKind};
@@ -88,7 +87,7 @@ impl<E: Entry<Node<Option<Expr>>>> ConditionState<E> {
     {
         match &mut self.part {
             ConditionPart::Body(held) => held.act(alloc, source, act, token),
-            _ => never(),
+            _ => unreachable!(),
         }
     }
 
@@ -131,7 +130,7 @@ impl<E: Entry<Node<Option<Expr>>>> ConditionState<E> {
                 put(&mut self.part, ConditionPart::Closed(Some(body)));
                 Ok(())
             }
-            _ => never(),
+            _ => unreachable!(),
         }
     }
 
@@ -247,7 +246,7 @@ impl<E: Entry<Node<Option<Expr>>>> Entry<Cond> for ConditionState<E> {
                 cond: take_node(&mut self.word),
                 expr: expr.take(),
             }),
-            _ => never(),
+            _ => unreachable!(),
         }
     }
 }

@@ -7,7 +7,6 @@ ghost use Rattle.cedar_policy_machine.specs.machines.Scope.{readers_of, reader_p
 use cedar_expressions::Source;
 use cedar_grammar::reading::driver::Entry;
 use cedar_grammar::reading::mark::as_relation;
-use cedar_grammar::reading::never::never;
 use cedar_grammar::reading::put::{put, take_node};
 use cedar_grammar::reading::tokens::{ident_node, if_ident};
 use cedar_lexer::token::{Token, TokenKind};
@@ -121,7 +120,7 @@ where
                 put(&mut self.entity_type, Some(sum));
             }
             ElementPart::Nothing => {}
-            _ => never(),
+            _ => unreachable!(),
         }
         Ok(())
     }
@@ -259,15 +258,15 @@ where
         match act {
             ElementAct::Constraint(act) => match &mut self.part {
                 ElementPart::Constraint(_, held) => held.act(alloc, source, act, token),
-                _ => never(),
+                _ => unreachable!(),
             },
             ElementAct::EntityType(act) => match &mut self.part {
                 ElementPart::EntityType(held) => held.act(alloc, source, act, token),
-                _ => never(),
+                _ => unreachable!(),
             },
             ElementAct::TypeName(act) => match &mut self.part {
                 ElementPart::TypeName(held) => held.act(alloc, source, act, token),
-                _ => never(),
+                _ => unreachable!(),
             },
             ElementAct::Variable => {
                 self.name(ident_node(alloc, source, token)?);

@@ -10,7 +10,6 @@ ghost use Rattle.cedar_policy_machine.specs.machines.Sequences.{sequence, many_p
 use cedar_expressions::{Items, Source};
 use cedar_grammar::reading::driver::Entry;
 use cedar_grammar::reading::extent::Extent;
-use cedar_grammar::reading::never::never;
 use cedar_grammar::reading::place::{loc_at, token_extent};
 use cedar_grammar::reading::put::put;
 use cedar_lexer::token::{Token, TokenKind};
@@ -296,7 +295,7 @@ impl<T: Drop, S: Entry<T>> Sequence<S, T> {
     {
         match &mut self.begun {
             Some(item) => item.act(alloc, source, act, token),
-            None => never(),
+            None => unreachable!(),
         }
     }
 

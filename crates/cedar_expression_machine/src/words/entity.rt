@@ -21,7 +21,6 @@ use cedar_expressions::{Boxed, Items, Source};
 use cedar_grammar::reading::driver::Entry;
 use cedar_grammar::reading::extent::Extent;
 use cedar_grammar::reading::literal::as_number;
-use cedar_grammar::reading::never::never;
 use cedar_grammar::reading::place::{node_at, token_extent};
 use cedar_grammar::reading::put::put;
 use cedar_grammar::reading::tokens::{if_ident, string_node};
@@ -181,7 +180,7 @@ impl Inits {
                 let place = InitPlace::Value(key);
                 WordsState::Inits(Inits { begun, place })
             }
-            InitPlace::Item | InitPlace::Value(_) | InitPlace::Behind => never(),
+            InitPlace::Item | InitPlace::Value(_) | InitPlace::Behind => unreachable!(),
         }
     }
 
@@ -198,7 +197,7 @@ impl Inits {
                 let place = InitPlace::Behind;
                 Ok(WordsState::Inits(Inits { begun, place }))
             }
-            InitPlace::Item | InitPlace::Key(_) | InitPlace::Behind => never(),
+            InitPlace::Item | InitPlace::Key(_) | InitPlace::Behind => unreachable!(),
         }
     }
 
@@ -296,7 +295,7 @@ impl WordsState {
             }
             WordsState::Path(PathState::Start | PathState::Have(_))
             | WordsState::Inits(_)
-            | WordsState::Entity(_) => never(),
+            | WordsState::Entity(_) => unreachable!(),
         }
     }
 
@@ -315,7 +314,7 @@ impl WordsState {
             }
             WordsState::Path(PathState::Start | PathState::Have(_))
             | WordsState::Inits(_)
-            | WordsState::Entity(_) => never(),
+            | WordsState::Entity(_) => unreachable!(),
         }
     }
 
@@ -342,7 +341,7 @@ impl WordsState {
                 }
                 None => Ok(false),
             },
-            WordsState::Path(_) | WordsState::Entity(_) => never(),
+            WordsState::Path(_) | WordsState::Entity(_) => unreachable!(),
         }
     }
 
@@ -363,7 +362,7 @@ impl WordsState {
             WordsAct::Path(act) => {
                 match self {
                     WordsState::Path(path) => path.act_path(alloc, source, act, token)?,
-                    WordsState::Inits(_) | WordsState::Entity(_) => never(),
+                    WordsState::Inits(_) | WordsState::Entity(_) => unreachable!(),
                 }
                 Ok(true)
             }
@@ -417,7 +416,7 @@ impl Entry<Node<Option<Ref>>> for WordsState {
     fn finish(&mut self, alloc: Global, source: &Source) -> Result<Node<Option<Ref>>, AllocError> {
         match mem::replace(self, WordsState::Path(PathState::Start)) {
             WordsState::Entity(entity) => Ok(entity.node.into_inner()),
-            WordsState::Path(_) | WordsState::Inits(_) => never(),
+            WordsState::Path(_) | WordsState::Inits(_) => unreachable!(),
         }
     }
 }

@@ -4,7 +4,6 @@ use crate::words::nodes::{word_node, word_of};
 use crate::words::state::IdentState;
 use cedar_expressions::Source;
 use cedar_grammar::reading::driver::Entry;
-use cedar_grammar::reading::never::never;
 use cedar_grammar::reading::tokens::if_ident;
 use cedar_lexer::token::{Token, TokenKind};
 use cedar_syntax::cst::Ident;
@@ -55,7 +54,7 @@ impl Entry<Node<Option<Ident>>> for IdentState {
         source: &Source,
     ) -> Result<Node<Option<Ident>>, AllocError> {
         match mem::replace(self, IdentState::Start) {
-            IdentState::Start => never(),
+            IdentState::Start => unreachable!(),
             IdentState::Have(word) => word_node(source, word),
         }
     }

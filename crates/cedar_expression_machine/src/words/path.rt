@@ -14,7 +14,6 @@ use crate::words::state::{Path, PathAct, PathState, Word};
 use cedar_expressions::{Items, Source};
 use cedar_grammar::reading::driver::Entry;
 use cedar_grammar::reading::extent::Extent;
-use cedar_grammar::reading::never::never;
 use cedar_grammar::reading::place::node_at;
 use cedar_grammar::reading::put::put;
 use cedar_grammar::reading::tokens::if_ident;
@@ -120,7 +119,7 @@ impl PathState {
     {
         match mem::replace(self, PathState::Start) {
             PathState::Have(path) => put(self, PathState::Behind(path)),
-            PathState::Start | PathState::Behind(_) => never(),
+            PathState::Start | PathState::Behind(_) => unreachable!(),
         }
     }
 
@@ -137,7 +136,7 @@ impl PathState {
                 put(self, PathState::Have(path));
                 Ok(())
             }
-            PathState::Start | PathState::Have(_) => never(),
+            PathState::Start | PathState::Have(_) => unreachable!(),
         }
     }
 
@@ -205,7 +204,7 @@ impl Entry<Node<Option<Name>>> for PathState {
     fn finish(&mut self, alloc: Global, source: &Source) -> Result<Node<Option<Name>>, AllocError> {
         match mem::replace(self, PathState::Start) {
             PathState::Have(path) => path.into_name(source),
-            PathState::Start | PathState::Behind(_) => never(),
+            PathState::Start | PathState::Behind(_) => unreachable!(),
         }
     }
 }

@@ -5,8 +5,6 @@ ghost use Rattle.cedar_lexer.specs.declared.token.TokenKind.TheVariants as kind;
 ghost use Rattle.cedar_syntax.specs.tokens.Tokens.{between_quotes, fits, number_of};
 ghost use Rattle.cedar_grammar.specs.grammar.WrittenTokens.{Written};
 
-use crate::reading::never::never;
-
 /// The number that these digits write, if 64 bits hold it.
 pub fn as_number(text: &str) -> Option<u64>
     requires { IsNumeral 10 text.now }
@@ -24,7 +22,7 @@ fn behind_quote(text: &str) -> &str
     ensures { text.now ≡ codes "\"" ++ result.now }
 {
     let Some(rest) = text.strip_prefix('"') else {
-        never()
+        unreachable!()
     };
     rest
 }
@@ -35,7 +33,7 @@ fn before_quote(text: &str) -> &str
     ensures { text.now ≡ result.now ++ codes "\"" }
 {
     let Some(front) = text.strip_suffix('"') else {
-        never()
+        unreachable!()
     };
     front
 }

@@ -16,7 +16,6 @@ ghost use Rattle.cedar_grammar.specs.machines.Mending.{IsSkipping, IsSkippingBy,
 use crate::reading::driver::{Entry, early, large_number, unexpected};
 use crate::reading::expected::Narrowing;
 use crate::reading::mark::as_mark;
-use crate::reading::never::never;
 use crate::reading::recovery::{Recovering, RecoveryWay, Skipping, skip};
 use cedar_expressions::{Items, Source};
 use cedar_lexer::lexer::Lexer;
@@ -159,7 +158,7 @@ fn mend<E: Recovering, F: Telling>(run: &mut Run<E, F>, end: usize) -> Result<()
             run.end = end;
             run.mended.push(pending.fault)
         }
-        Phase::Reading | Phase::Stopped(_) => never(),
+        Phase::Reading | Phase::Stopped(_) => unreachable!(),
     }
 }
 
@@ -171,7 +170,7 @@ fn stop<E: Recovering, F: Telling>(run: &mut Run<E, F>)
 {
     match mem::replace(&mut run.phase, Phase::Reading) {
         Phase::Skipping(pending) => run.phase = Phase::Stopped(pending.fault),
-        Phase::Reading | Phase::Stopped(_) => never(),
+        Phase::Reading | Phase::Stopped(_) => unreachable!(),
     }
 }
 

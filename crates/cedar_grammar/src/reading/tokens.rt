@@ -9,7 +9,6 @@ ghost use Rattle.cedar_grammar.specs.machines.SingleTokens.{if_any, token_node, 
 
 use crate::reading::identifier::{as_ident, is_ident};
 use crate::reading::literal::between_quotes;
-use crate::reading::never::never;
 use crate::reading::place::{node_at, token_extent};
 use cedar_expressions::{Source, Text};
 use cedar_lexer::token::{Token, TokenKind};
@@ -32,7 +31,7 @@ pub fn ident_of(alloc: Global, token: &Token<'_>) -> Result<Ident, AllocError>
     ensures { IfOk result (λ ident. Some ident ≡ any_of token.now.kind token.now.text.now) }
 {
     let Some(ident) = as_ident(alloc, token.kind, token.text)? else {
-        never()
+        unreachable!()
     };
     Ok(ident)
 }

@@ -20,7 +20,6 @@ use crate::expression::state::{Call, Frame, Index, Mode, Operand, OperandPlace, 
 use crate::ground::Ground;
 use cedar_expressions::Items;
 use cedar_grammar::reading::extent::{Extent, join_extents};
-use cedar_grammar::reading::never::never;
 use cedar_grammar::reading::place::token_extent;
 use cedar_grammar::reading::tokens::ident_node;
 use cedar_lexer::token::Token;
@@ -56,7 +55,7 @@ impl State {
     {
         match &mut self.mode {
             Mode::Have { dot, .. } => *dot = Some(opened),
-            Mode::Want { .. } | Mode::Word { .. } => never(),
+            Mode::Want { .. } | Mode::Word { .. } => unreachable!(),
         }
     }
 
@@ -116,7 +115,7 @@ impl State {
                 self.turn(have(operand));
                 Ok(())
             }
-            _ => never(),
+            _ => unreachable!(),
         }
     }
 
@@ -146,7 +145,7 @@ impl State {
                 self.turn(have(operand));
                 Ok(())
             }
-            _ => never(),
+            _ => unreachable!(),
         }
     }
 
@@ -166,7 +165,7 @@ impl State {
                 *dot = None;
                 Ok(())
             }
-            Mode::Want { .. } | Mode::Word { .. } => never(),
+            Mode::Want { .. } | Mode::Word { .. } => unreachable!(),
         }
     }
 }

@@ -16,7 +16,6 @@ use crate::expression::state::{Frame, OperandPlace, OperatorAt, Ranged, State};
 use crate::ground::Ground;
 use cedar_grammar::reading::class::{AccessStart, Closing, Operator};
 use cedar_grammar::reading::extent::{Extent, join_extents};
-use cedar_grammar::reading::never::never;
 use cedar_grammar::reading::place::token_extent;
 use cedar_lexer::token::Token;
 use cedar_syntax::cst::Expr;
@@ -118,9 +117,11 @@ impl State {
                     self.want_again(OperandPlace::Key);
                     Ok(())
                 }
-                Frame::Paren(_) | Frame::Index(_) | Frame::Guard(_) | Frame::Then(_) => { never() }
+                Frame::Paren(_) | Frame::Index(_) | Frame::Guard(_) | Frame::Then(_) => {
+                    unreachable!()
+                }
             },
-            None => never(),
+            None => unreachable!(),
         }
     }
 
@@ -143,9 +144,9 @@ impl State {
                 | Frame::Index(_)
                 | Frame::Record(_)
                 | Frame::Guard(_)
-                | Frame::Then(_) => never(),
+                | Frame::Then(_) => unreachable!(),
             },
-            None => never(),
+            None => unreachable!(),
         }
     }
 
@@ -168,9 +169,9 @@ impl State {
                 | Frame::Call(_)
                 | Frame::Record(_)
                 | Frame::Guard(_)
-                | Frame::Then(_) => never(),
+                | Frame::Then(_) => unreachable!(),
             },
-            None => never(),
+            None => unreachable!(),
         }
     }
 
@@ -217,7 +218,7 @@ impl State {
             Operator::And => self.and_then(ground, extent),
             Operator::Or => self.or_else(ground, extent),
             Operator::Ends(op) => self.end(ground, OperatorAt { op, extent }),
-            Operator::Other => never(),
+            Operator::Other => unreachable!(),
         }
     }
 }

@@ -12,7 +12,6 @@ use crate::expression::state::{OperandPlace, OperatorAt, Ranged, State};
 use crate::ground::Ground;
 use cedar_expressions::Boxed;
 use cedar_grammar::reading::extent::{Extent, join_extents};
-use cedar_grammar::reading::never::never;
 use cedar_syntax::cst::{AddOp, MultOp};
 use cedar_syntax::node::Node;
 use std::alloc::AllocError;
@@ -112,7 +111,7 @@ impl State {
                 };
                 begun.chain.extended.push((before, node))
             }
-            None => never(),
+            None => unreachable!(),
         }
     }
 

@@ -9,7 +9,6 @@ use crate::expression::state::{Chain, Left, Levels, Operand, PendingChain, Range
 use crate::ground::Ground;
 use cedar_expressions::{Boxed, Items};
 use cedar_grammar::reading::extent::join_extents;
-use cedar_grammar::reading::never::never;
 use cedar_syntax::cst::{Add, Relation};
 use cedar_syntax::node::Node;
 use std::alloc::AllocError;
@@ -48,7 +47,7 @@ impl Levels {
     {
         match self.relation.take() {
             Some(left) => left.into_inner(),
-            None => never(),
+            None => unreachable!(),
         }
     }
 
@@ -83,7 +82,7 @@ impl Levels {
                     extent,
                 }
             }
-            _ => never(),
+            _ => unreachable!(),
         }
     }
 
@@ -119,7 +118,7 @@ impl Levels {
                     extent,
                 })
             }
-            _ => never(),
+            _ => unreachable!(),
         }
     }
 
@@ -160,7 +159,7 @@ impl Levels {
                 },
                 left.extent,
             ),
-            Left::Common(_) | Left::IsIn { .. } => never(),
+            Left::Common(_) | Left::IsIn { .. } => unreachable!(),
         };
         Ok(Ranged {
             tree,
@@ -195,7 +194,7 @@ impl Levels {
                 };
                 Ok(Ranged { tree, extent })
             }
-            _ => never(),
+            _ => unreachable!(),
         }
     }
 

@@ -14,7 +14,6 @@ use crate::ground::Ground;
 use cedar_expressions::Boxed;
 use cedar_grammar::reading::class::SideWord;
 use cedar_grammar::reading::extent::{Extent, join_extents};
-use cedar_grammar::reading::never::never;
 use cedar_grammar::reading::put::put;
 use cedar_syntax::cst::{Add, RelOp};
 use cedar_syntax::node::Node;
@@ -121,9 +120,11 @@ impl State {
                     };
                     self.begin_right(ground.alloc, left)
                 }
-                Left::Common(_) | Left::Has(_) | Left::Like(_) | Left::IsIn { .. } => { never() }
+                Left::Common(_) | Left::Has(_) | Left::Like(_) | Left::IsIn { .. } => {
+                    unreachable!()
+                }
             },
-            None => never(),
+            None => unreachable!(),
         }
     }
 
@@ -180,7 +181,7 @@ impl State {
             Some(begun) => match begun.as_mut() {
                 Left::Common(begun) => begun.push(ground, item, mark),
                 Left::Is(_) => self.begin_is_in(ground, item, mark.extent),
-                Left::Has(_) | Left::Like(_) | Left::IsIn { .. } => never(),
+                Left::Has(_) | Left::Like(_) | Left::IsIn { .. } => unreachable!(),
             },
         }
     }

@@ -7,7 +7,6 @@ ghost use Rattle.cedar_expression_machine.specs.machines.ExpressionModes.{IsFoll
 use crate::expression::state::{Branch, Frame, Guard, OperandPlace, State, Then};
 use crate::ground::Ground;
 use cedar_grammar::reading::extent::{Extent, join_extents};
-use cedar_grammar::reading::never::never;
 use cedar_grammar::reading::put::put;
 use std::alloc::AllocError;
 
@@ -30,7 +29,7 @@ impl State {
                     extent,
                 }))
             }
-            _ => never(),
+            _ => unreachable!(),
         }
     }
 
@@ -58,7 +57,7 @@ impl State {
                 put(&mut self.levels.branches, branches);
                 Ok(())
             }
-            _ => never(),
+            _ => unreachable!(),
         }
     }
 }

@@ -10,7 +10,6 @@ ghost use Rattle.cedar_expression_machine.specs.machines.Wanting.{paren_opening}
 use crate::expression::state::{Frame, OperandPlace, Paren, Ranged, State};
 use crate::ground::Ground;
 use cedar_grammar::reading::extent::{Extent, join_extents};
-use cedar_grammar::reading::never::never;
 use cedar_syntax::cst::{Expr, Primary};
 use std::alloc::{AllocError, Global};
 
@@ -63,7 +62,7 @@ impl State {
                 self.restore(outer);
                 self.have_primary(ground, signs, Ranged { tree, extent })
             }
-            _ => never(),
+            _ => unreachable!(),
         }
     }
 }

@@ -14,7 +14,6 @@ use crate::expression::state::{Frame, Key, OperandPlace, Ranged, Record, State};
 use crate::ground::Ground;
 use cedar_expressions::Items;
 use cedar_grammar::reading::extent::{Extent, join_extents};
-use cedar_grammar::reading::never::never;
 use cedar_grammar::reading::put::put;
 use cedar_syntax::cst::{Expr, Primary, RecInit};
 use cedar_syntax::node::Node;
@@ -33,7 +32,7 @@ impl Record {
                 let pair = RecInit(node, ground.node_of(item)?);
                 self.items.push(ground.node_at(extent, pair)?)
             }
-            None => never(),
+            None => unreachable!(),
         }
     }
 }
@@ -80,7 +79,7 @@ impl State {
                 self.restore(outer);
                 self.have_primary(ground, signs, Ranged { tree, extent })
             }
-            _ => never(),
+            _ => unreachable!(),
         }
     }
 
@@ -98,9 +97,9 @@ impl State {
                     let node = key.tree;
                     put(&mut record.key, Some(Key { node, extent }));
                 }
-                _ => never(),
+                _ => unreachable!(),
             },
-            None => never(),
+            None => unreachable!(),
         }
     }
 
@@ -132,9 +131,9 @@ impl State {
                     record.push(ground, item)?;
                     self.close_record(ground, end)
                 }
-                _ => never(),
+                _ => unreachable!(),
             },
-            None => never(),
+            None => unreachable!(),
         }
     }
 }

@@ -10,7 +10,6 @@ use crate::expression::state::{
 };
 use crate::ground::Ground;
 use cedar_expressions::Items;
-use cedar_grammar::reading::never::never;
 use cedar_grammar::reading::put::put;
 use cedar_grammar::reading::stack::Stack;
 use cedar_syntax::cst::{Member, Primary};
@@ -91,7 +90,7 @@ impl Mode {
     {
         match mem::replace(self, want_at(place)) {
             Mode::Have { operand, dot: _ } => operand,
-            Mode::Want { .. } | Mode::Word { .. } => never(),
+            Mode::Want { .. } | Mode::Word { .. } => unreachable!(),
         }
     }
 }
@@ -115,7 +114,7 @@ impl State {
     {
         match &self.mode {
             Mode::Have { operand, dot: _ } => operand,
-            Mode::Want { .. } | Mode::Word { .. } => never(),
+            Mode::Want { .. } | Mode::Word { .. } => unreachable!(),
         }
     }
 
@@ -130,7 +129,7 @@ impl State {
                 place: *place,
                 signs: *signs,
             },
-            Mode::Word { .. } | Mode::Have { .. } => never(),
+            Mode::Word { .. } | Mode::Have { .. } => unreachable!(),
         }
     }
 
@@ -145,7 +144,7 @@ impl State {
                 *place = next;
                 *signs = no_signs();
             }
-            Mode::Word { .. } | Mode::Have { .. } => never(),
+            Mode::Word { .. } | Mode::Have { .. } => unreachable!(),
         }
     }
 

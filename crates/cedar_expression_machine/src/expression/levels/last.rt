@@ -17,7 +17,6 @@ use crate::expression::state::{Chain, Left, Levels, OperandPlace, Ranged, State}
 use crate::ground::Ground;
 use cedar_expressions::{Boxed, Items};
 use cedar_grammar::reading::extent::{Extent, join_extents};
-use cedar_grammar::reading::never::never;
 use cedar_syntax::cst::{And, Expr, ExprData, ExprImpl, Or, Relation};
 use cedar_syntax::node::Node;
 use std::alloc::AllocError;
@@ -33,7 +32,7 @@ fn take_chain<T: Drop>(
 {
     match slot.take() {
         Some(chain) => chain.into_inner(),
-        None => never(),
+        None => unreachable!(),
     }
 }
 
@@ -99,9 +98,9 @@ impl State {
                     };
                     begun.chain.extended.push((begun.op, node))
                 }
-                _ => never(),
+                _ => unreachable!(),
             },
-            None => never(),
+            None => unreachable!(),
         }
     }
 
@@ -119,9 +118,9 @@ impl State {
         match &self.levels.relation {
             Some(left) => match left.as_ref() {
                 Left::Common(begun) => join_extents(begun.chain.extent, extent),
-                _ => never(),
+                _ => unreachable!(),
             },
-            None => never(),
+            None => unreachable!(),
         }
     }
 
@@ -204,7 +203,7 @@ impl State {
                 };
                 chain.extended.push(node)
             }
-            None => never(),
+            None => unreachable!(),
         }
     }
 

@@ -30,7 +30,6 @@ use crate::ground::Ground;
 use crate::words::state::{Entity, Path, PathState, WordsAct, WordsState};
 use cedar_expressions::Items;
 use cedar_grammar::reading::extent::Extent;
-use cedar_grammar::reading::never::never;
 use cedar_grammar::reading::place::token_extent;
 use cedar_grammar::reading::put::put;
 use cedar_grammar::reading::stack::Stack;
@@ -101,7 +100,7 @@ impl State {
     {
         match &mut self.mode {
             Mode::Word { words, .. } => { words.act_words(ground.alloc, ground.source, act, token) }
-            Mode::Want { .. } | Mode::Have { .. } => never(),
+            Mode::Want { .. } | Mode::Have { .. } => unreachable!(),
         }
     }
 
@@ -113,7 +112,7 @@ impl State {
     {
         match &self.mode {
             Mode::Word { signs, .. } => *signs,
-            Mode::Want { .. } | Mode::Have { .. } => never(),
+            Mode::Want { .. } | Mode::Have { .. } => unreachable!(),
         }
     }
 
@@ -188,10 +187,10 @@ impl State {
             Mode::Word { words, .. } => {
                 match mem::replace(words, WordsState::Path(PathState::Start)) {
                     WordsState::Path(PathState::Have(path)) => path,
-                    _ => never(),
+                    _ => unreachable!(),
                 }
             }
-            Mode::Want { .. } | Mode::Have { .. } => never(),
+            Mode::Want { .. } | Mode::Have { .. } => unreachable!(),
         }
     }
 
@@ -208,10 +207,10 @@ impl State {
                     WordsState::Entity(entity) => {
                         self.have_primary(ground, signs, ref_at(entity))
                     }
-                    _ => never(),
+                    _ => unreachable!(),
                 }
             }
-            Mode::Want { .. } | Mode::Have { .. } => never(),
+            Mode::Want { .. } | Mode::Have { .. } => unreachable!(),
         }
     }
 
@@ -231,9 +230,9 @@ impl State {
                 },
                 WordsState::Entity(_) => self.settle_ref(ground),
                 WordsState::Path(PathState::Start | PathState::Behind(_)) | WordsState::Inits(_) =>
-                    never(),
+                    unreachable!(),
             },
-            Mode::Want { .. } | Mode::Have { .. } => never(),
+            Mode::Want { .. } | Mode::Have { .. } => unreachable!(),
         }
     }
 

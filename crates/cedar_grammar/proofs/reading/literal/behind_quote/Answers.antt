@@ -3,8 +3,8 @@ use Rattle.std.proofs.lemmas.Str.Pattern.{strip_prefix_char}
 use Rattle.cedar_grammar.proofs.Quotes.{begins_so}
 use Rattle.cedar_grammar.proofs.reading.literal.behind_quote.Goals as goal
 
-pub never-requires : goal.never-requires
-never-requires c =
+pub unreachable-requires : goal.unreachable-requires
+unreachable-requires c =
     let none : c.strip_prefix.result ≡ None = c.in_default.is in
     begins_so c.args.text.now _ c.requires (strip_prefix_char 34 c.args.text.now c.strip_prefix.result c.strip_prefix.ensures.cases (lit< tt)) none
 

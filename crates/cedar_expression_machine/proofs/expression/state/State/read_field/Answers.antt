@@ -6,8 +6,8 @@ use Rattle.cedar_expression_machine.proofs.expressions.Acted.{field_read}
 use Rattle.cedar_expression_machine.proofs.expressions.PlannedActs.{is_field}
 use Rattle.cedar_expression_machine.proofs.expression.state.State.read_field.Goals as goal
 
-pub never-requires : goal.never-requires
-never-requires c =
+pub unreachable-requires : goal.unreachable-requires
+unreachable-requires c =
     let i = is_field c.args.self.now c.args.token.now.kind c.requires in
     elim c.in-Want.is [ inl w ↦ cc | inr w ↦ cc ]
 

@@ -10,7 +10,7 @@ act_words-requires-clause-is_planned c =
     let e : i.2 ≡ c.in-Word.words = cc in
     subst (λ (s : WordsState). words_plan (words_shape s) c.args.token.now.kind ≡ Some c.args.act) e i.4
 
-pub never-requires : goal.never-requires
-never-requires c =
+pub unreachable-requires : goal.unreachable-requires
+unreachable-requires c =
     let i = words_go_on c.args.self.now c.args.token.now.kind c.args.act c.requires.is_planned in
     elim c.in-Want.is [ inl w ↦ cc | inr w ↦ cc ]
