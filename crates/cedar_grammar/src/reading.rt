@@ -9,6 +9,7 @@ pub mod identifier;
 pub mod literal;
 pub mod mark;
 pub mod mending;
+pub mod never;
 pub mod place;
 pub mod put;
 pub mod recovery;

@@ -6,6 +6,7 @@ ghost use Rattle.cedar_grammar.specs.grammar.WrittenTokens.{Written};
 ghost use Rattle.cedar_policy_machine.specs.machines.Annotation.{annotation_shape, annotation_opening, annotation_filling, annotation_closing, has_key, wants_value, has_value};
 
 use cedar_expressions::Source;
+use cedar_grammar::never;
 use cedar_grammar::reading::driver::Entry;
 use cedar_grammar::reading::put::{put, take_node};
 use cedar_grammar::reading::tokens::{ident_node, if_ident, string_node};
@@ -59,7 +60,7 @@ impl AnnotationState {
                 let key = take_node(key);
                 put(self, AnnotationState::Open(key));
             }
-            _ => unreachable!(),
+            _ => never!(),
         }
     }
 
@@ -77,7 +78,7 @@ impl AnnotationState {
                 put(self, AnnotationState::Value(key, value));
                 Ok(())
             }
-            _ => unreachable!(),
+            _ => never!(),
         }
     }
 
@@ -92,7 +93,7 @@ impl AnnotationState {
                 let value = take_node(value);
                 put(self, AnnotationState::Closed(key, value));
             }
-            _ => unreachable!(),
+            _ => never!(),
         }
     }
 }
@@ -166,7 +167,7 @@ impl Entry<Annotation> for AnnotationState {
                 key: take_node(key),
                 value: Some(take_node(value)),
             }),
-            _ => unreachable!(),
+            _ => never!(),
         }
     }
 }

@@ -8,6 +8,7 @@ ghost use Rattle.cedar_policy_machine.specs.machines.Condition.{condition_state,
 
 use crate::annotation::if_mark;
 use cedar_expressions::Source;
+use cedar_grammar::never;
 use cedar_grammar::reading::driver::Entry;
 use cedar_grammar::reading::put::{put, take_node};
 use cedar_grammar::reading::tokens::{ident_node, if_ident};
@@ -87,7 +88,7 @@ impl<E: Entry<Node<Option<Expr>>>> ConditionState<E> {
     {
         match &mut self.part {
             ConditionPart::Body(held) => held.act(alloc, source, act, token),
-            _ => unreachable!(),
+            _ => never!(),
         }
     }
 
@@ -130,7 +131,7 @@ impl<E: Entry<Node<Option<Expr>>>> ConditionState<E> {
                 put(&mut self.part, ConditionPart::Closed(Some(body)));
                 Ok(())
             }
-            _ => unreachable!(),
+            _ => never!(),
         }
     }
 
@@ -246,7 +247,7 @@ impl<E: Entry<Node<Option<Expr>>>> Entry<Cond> for ConditionState<E> {
                 cond: take_node(&mut self.word),
                 expr: expr.take(),
             }),
-            _ => unreachable!(),
+            _ => never!(),
         }
     }
 }

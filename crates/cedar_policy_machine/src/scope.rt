@@ -5,6 +5,7 @@ ghost use Rattle.cedar_policy_machine.specs.declared.scope.ElementPart.TheVarian
 ghost use Rattle.cedar_policy_machine.specs.machines.Scope.{readers_of, reader_plans, with_variable, element_with_part, compare_plan, narrow_plan, behind_part, sum_beginning, constraint_beginning, element_ends, element_finish, MayLeave};
 
 use cedar_expressions::Source;
+use cedar_grammar::never;
 use cedar_grammar::reading::driver::Entry;
 use cedar_grammar::reading::mark::as_relation;
 use cedar_grammar::reading::put::{put, take_node};
@@ -120,7 +121,7 @@ where
                 put(&mut self.entity_type, Some(sum));
             }
             ElementPart::Nothing => {}
-            _ => unreachable!(),
+            _ => never!(),
         }
         Ok(())
     }
@@ -258,15 +259,15 @@ where
         match act {
             ElementAct::Constraint(act) => match &mut self.part {
                 ElementPart::Constraint(_, held) => held.act(alloc, source, act, token),
-                _ => unreachable!(),
+                _ => never!(),
             },
             ElementAct::EntityType(act) => match &mut self.part {
                 ElementPart::EntityType(held) => held.act(alloc, source, act, token),
-                _ => unreachable!(),
+                _ => never!(),
             },
             ElementAct::TypeName(act) => match &mut self.part {
                 ElementPart::TypeName(held) => held.act(alloc, source, act, token),
-                _ => unreachable!(),
+                _ => never!(),
             },
             ElementAct::Variable => {
                 self.name(ident_node(alloc, source, token)?);

@@ -8,6 +8,7 @@ ghost use Rattle.cedar_grammar.specs.machines.Judged.{done_as};
 ghost use Rattle.cedar_policy_machine.specs.machines.Sequences.{sequence, many_plan, list_plan, sequence_ends, sequence_end, item_begun, item_going, items_ended, next_item, sequence_act, IsItemPlan, IsSequencePlan};
 
 use cedar_expressions::{Items, Source};
+use cedar_grammar::never;
 use cedar_grammar::reading::driver::Entry;
 use cedar_grammar::reading::extent::Extent;
 use cedar_grammar::reading::place::{loc_at, token_extent};
@@ -295,7 +296,7 @@ impl<T: Drop, S: Entry<T>> Sequence<S, T> {
     {
         match &mut self.begun {
             Some(item) => item.act(alloc, source, act, token),
-            None => unreachable!(),
+            None => never!(),
         }
     }
 

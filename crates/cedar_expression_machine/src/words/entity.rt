@@ -18,6 +18,7 @@ use crate::words::state::{
     WordsState,
 };
 use cedar_expressions::{Boxed, Items, Source};
+use cedar_grammar::never;
 use cedar_grammar::reading::driver::Entry;
 use cedar_grammar::reading::extent::Extent;
 use cedar_grammar::reading::literal::as_number;
@@ -180,7 +181,7 @@ impl Inits {
                 let place = InitPlace::Value(key);
                 WordsState::Inits(Inits { begun, place })
             }
-            InitPlace::Item | InitPlace::Value(_) | InitPlace::Behind => unreachable!(),
+            InitPlace::Item | InitPlace::Value(_) | InitPlace::Behind => never!(),
         }
     }
 
@@ -197,7 +198,7 @@ impl Inits {
                 let place = InitPlace::Behind;
                 Ok(WordsState::Inits(Inits { begun, place }))
             }
-            InitPlace::Item | InitPlace::Key(_) | InitPlace::Behind => unreachable!(),
+            InitPlace::Item | InitPlace::Key(_) | InitPlace::Behind => never!(),
         }
     }
 
@@ -295,7 +296,7 @@ impl WordsState {
             }
             WordsState::Path(PathState::Start | PathState::Have(_))
             | WordsState::Inits(_)
-            | WordsState::Entity(_) => unreachable!(),
+            | WordsState::Entity(_) => never!(),
         }
     }
 
@@ -314,7 +315,7 @@ impl WordsState {
             }
             WordsState::Path(PathState::Start | PathState::Have(_))
             | WordsState::Inits(_)
-            | WordsState::Entity(_) => unreachable!(),
+            | WordsState::Entity(_) => never!(),
         }
     }
 
@@ -341,7 +342,7 @@ impl WordsState {
                 }
                 None => Ok(false),
             },
-            WordsState::Path(_) | WordsState::Entity(_) => unreachable!(),
+            WordsState::Path(_) | WordsState::Entity(_) => never!(),
         }
     }
 
@@ -362,7 +363,7 @@ impl WordsState {
             WordsAct::Path(act) => {
                 match self {
                     WordsState::Path(path) => path.act_path(alloc, source, act, token)?,
-                    WordsState::Inits(_) | WordsState::Entity(_) => unreachable!(),
+                    WordsState::Inits(_) | WordsState::Entity(_) => never!(),
                 }
                 Ok(true)
             }
@@ -416,7 +417,7 @@ impl Entry<Node<Option<Ref>>> for WordsState {
     fn finish(&mut self, alloc: Global, source: &Source) -> Result<Node<Option<Ref>>, AllocError> {
         match mem::replace(self, WordsState::Path(PathState::Start)) {
             WordsState::Entity(entity) => Ok(entity.node.into_inner()),
-            WordsState::Path(_) | WordsState::Inits(_) => unreachable!(),
+            WordsState::Path(_) | WordsState::Inits(_) => never!(),
         }
     }
 }

@@ -3,6 +3,7 @@
 use crate::words::nodes::{word_node, word_of};
 use crate::words::state::IdentState;
 use cedar_expressions::Source;
+use cedar_grammar::never;
 use cedar_grammar::reading::driver::Entry;
 use cedar_grammar::reading::tokens::if_ident;
 use cedar_lexer::token::{Token, TokenKind};
@@ -54,7 +55,7 @@ impl Entry<Node<Option<Ident>>> for IdentState {
         source: &Source,
     ) -> Result<Node<Option<Ident>>, AllocError> {
         match mem::replace(self, IdentState::Start) {
-            IdentState::Start => unreachable!(),
+            IdentState::Start => never!(),
             IdentState::Have(word) => word_node(source, word),
         }
     }

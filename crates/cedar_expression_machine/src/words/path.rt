@@ -12,6 +12,7 @@ ghost use Rattle.cedar_expression_machine.specs.machines.WordShapes.{path_plan, 
 use crate::words::nodes::{word_node, word_of};
 use crate::words::state::{Path, PathAct, PathState, Word};
 use cedar_expressions::{Items, Source};
+use cedar_grammar::never;
 use cedar_grammar::reading::driver::Entry;
 use cedar_grammar::reading::extent::Extent;
 use cedar_grammar::reading::place::node_at;
@@ -119,7 +120,7 @@ impl PathState {
     {
         match mem::replace(self, PathState::Start) {
             PathState::Have(path) => put(self, PathState::Behind(path)),
-            PathState::Start | PathState::Behind(_) => unreachable!(),
+            PathState::Start | PathState::Behind(_) => never!(),
         }
     }
 
@@ -136,7 +137,7 @@ impl PathState {
                 put(self, PathState::Have(path));
                 Ok(())
             }
-            PathState::Start | PathState::Have(_) => unreachable!(),
+            PathState::Start | PathState::Have(_) => never!(),
         }
     }
 
@@ -204,7 +205,7 @@ impl Entry<Node<Option<Name>>> for PathState {
     fn finish(&mut self, alloc: Global, source: &Source) -> Result<Node<Option<Name>>, AllocError> {
         match mem::replace(self, PathState::Start) {
             PathState::Have(path) => path.into_name(source),
-            PathState::Start | PathState::Behind(_) => unreachable!(),
+            PathState::Start | PathState::Behind(_) => never!(),
         }
     }
 }

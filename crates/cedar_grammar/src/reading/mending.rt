@@ -13,6 +13,7 @@ ghost use Rattle.cedar_grammar.specs.machines.Recovery.{stopped};
 ghost use Rattle.cedar_grammar.specs.machines.Skipping.{skip, skip_answer};
 ghost use Rattle.cedar_grammar.specs.machines.Mending.{IsSkipping, IsSkippingBy, mended_stage, stopped_stage, bad_fault, refused_fault, bad_or, recovers_of, stage_of, skip_step_by, judgment_by, recovery_step_by, last_of, met_faults, RefusesWith, IsToldBy, IsTold};
 
+use crate::never;
 use crate::reading::driver::{Entry, early, large_number, unexpected};
 use crate::reading::expected::Narrowing;
 use crate::reading::mark::as_mark;
@@ -158,7 +159,7 @@ fn mend<E: Recovering, F: Telling>(run: &mut Run<E, F>, end: usize) -> Result<()
             run.end = end;
             run.mended.push(pending.fault)
         }
-        Phase::Reading | Phase::Stopped(_) => unreachable!(),
+        Phase::Reading | Phase::Stopped(_) => never!(),
     }
 }
 
@@ -170,7 +171,7 @@ fn stop<E: Recovering, F: Telling>(run: &mut Run<E, F>)
 {
     match mem::replace(&mut run.phase, Phase::Reading) {
         Phase::Skipping(pending) => run.phase = Phase::Stopped(pending.fault),
-        Phase::Reading | Phase::Stopped(_) => unreachable!(),
+        Phase::Reading | Phase::Stopped(_) => never!(),
     }
 }
 

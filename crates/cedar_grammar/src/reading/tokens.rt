@@ -7,6 +7,7 @@ ghost use Rattle.cedar_grammar.specs.grammar.WrittenTokens.{Written};
 ghost use Rattle.cedar_grammar.specs.machines.Door.{is_some};
 ghost use Rattle.cedar_grammar.specs.machines.SingleTokens.{if_any, token_node, string_node};
 
+use crate::never;
 use crate::reading::identifier::{as_ident, is_ident};
 use crate::reading::literal::between_quotes;
 use crate::reading::place::{node_at, token_extent};
@@ -31,7 +32,7 @@ pub fn ident_of(alloc: Global, token: &Token<'_>) -> Result<Ident, AllocError>
     ensures { IfOk result (λ ident. Some ident ≡ any_of token.now.kind token.now.text.now) }
 {
     let Some(ident) = as_ident(alloc, token.kind, token.text)? else {
-        unreachable!()
+        never!()
     };
     Ok(ident)
 }

@@ -19,6 +19,7 @@ use crate::expression::levels::begin::have;
 use crate::expression::state::{Call, Frame, Index, Mode, Operand, OperandPlace, Ranged, State};
 use crate::ground::Ground;
 use cedar_expressions::Items;
+use cedar_grammar::never;
 use cedar_grammar::reading::extent::{Extent, join_extents};
 use cedar_grammar::reading::place::token_extent;
 use cedar_grammar::reading::tokens::ident_node;
@@ -55,7 +56,7 @@ impl State {
     {
         match &mut self.mode {
             Mode::Have { dot, .. } => *dot = Some(opened),
-            Mode::Want { .. } | Mode::Word { .. } => unreachable!(),
+            Mode::Want { .. } | Mode::Word { .. } => never!(),
         }
     }
 
@@ -115,7 +116,7 @@ impl State {
                 self.turn(have(operand));
                 Ok(())
             }
-            _ => unreachable!(),
+            _ => never!(),
         }
     }
 
@@ -145,7 +146,7 @@ impl State {
                 self.turn(have(operand));
                 Ok(())
             }
-            _ => unreachable!(),
+            _ => never!(),
         }
     }
 

@@ -14,6 +14,7 @@ use crate::expression::levels::alone::{expr_alone, places_of, upper_places};
 use crate::expression::levels::close::close_branches;
 use crate::expression::state::{Frame, OperandPlace, OperatorAt, Ranged, State};
 use crate::ground::Ground;
+use cedar_grammar::never;
 use cedar_grammar::reading::class::{AccessStart, Closing, Operator};
 use cedar_grammar::reading::extent::{Extent, join_extents};
 use cedar_grammar::reading::place::token_extent;
@@ -117,11 +118,9 @@ impl State {
                     self.want_again(OperandPlace::Key);
                     Ok(())
                 }
-                Frame::Paren(_) | Frame::Index(_) | Frame::Guard(_) | Frame::Then(_) => {
-                    unreachable!()
-                }
+                Frame::Paren(_) | Frame::Index(_) | Frame::Guard(_) | Frame::Then(_) => { never!() }
             },
-            None => unreachable!(),
+            None => never!(),
         }
     }
 
@@ -144,9 +143,9 @@ impl State {
                 | Frame::Index(_)
                 | Frame::Record(_)
                 | Frame::Guard(_)
-                | Frame::Then(_) => unreachable!(),
+                | Frame::Then(_) => never!(),
             },
-            None => unreachable!(),
+            None => never!(),
         }
     }
 
@@ -169,9 +168,9 @@ impl State {
                 | Frame::Call(_)
                 | Frame::Record(_)
                 | Frame::Guard(_)
-                | Frame::Then(_) => unreachable!(),
+                | Frame::Then(_) => never!(),
             },
-            None => unreachable!(),
+            None => never!(),
         }
     }
 
@@ -218,7 +217,7 @@ impl State {
             Operator::And => self.and_then(ground, extent),
             Operator::Or => self.or_else(ground, extent),
             Operator::Ends(op) => self.end(ground, OperatorAt { op, extent }),
-            Operator::Other => unreachable!(),
+            Operator::Other => never!(),
         }
     }
 }

@@ -11,6 +11,7 @@ use crate::expression::levels::last::mark_chain;
 use crate::expression::state::{OperandPlace, OperatorAt, Ranged, State};
 use crate::ground::Ground;
 use cedar_expressions::Boxed;
+use cedar_grammar::never;
 use cedar_grammar::reading::extent::{Extent, join_extents};
 use cedar_syntax::cst::{AddOp, MultOp};
 use cedar_syntax::node::Node;
@@ -111,7 +112,7 @@ impl State {
                 };
                 begun.chain.extended.push((before, node))
             }
-            None => unreachable!(),
+            None => never!(),
         }
     }
 

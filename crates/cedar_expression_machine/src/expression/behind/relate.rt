@@ -8,6 +8,7 @@ use crate::expression::levels::alone::{add_with_places, places_of};
 use crate::expression::state::{Chain, Left, Levels, Operand, PendingChain, Ranged};
 use crate::ground::Ground;
 use cedar_expressions::{Boxed, Items};
+use cedar_grammar::never;
 use cedar_grammar::reading::extent::join_extents;
 use cedar_syntax::cst::{Add, Relation};
 use cedar_syntax::node::Node;
@@ -47,7 +48,7 @@ impl Levels {
     {
         match self.relation.take() {
             Some(left) => left.into_inner(),
-            None => unreachable!(),
+            None => never!(),
         }
     }
 
@@ -82,7 +83,7 @@ impl Levels {
                     extent,
                 }
             }
-            _ => unreachable!(),
+            _ => never!(),
         }
     }
 
@@ -118,7 +119,7 @@ impl Levels {
                     extent,
                 })
             }
-            _ => unreachable!(),
+            _ => never!(),
         }
     }
 
@@ -159,7 +160,7 @@ impl Levels {
                 },
                 left.extent,
             ),
-            Left::Common(_) | Left::IsIn { .. } => unreachable!(),
+            Left::Common(_) | Left::IsIn { .. } => never!(),
         };
         Ok(Ranged {
             tree,
@@ -194,7 +195,7 @@ impl Levels {
                 };
                 Ok(Ranged { tree, extent })
             }
-            _ => unreachable!(),
+            _ => never!(),
         }
     }
 

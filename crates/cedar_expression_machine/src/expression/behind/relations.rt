@@ -12,6 +12,7 @@ use crate::expression::levels::chain::begin_pending;
 use crate::expression::state::{Left, OperandPlace, OperatorAt, Ranged, State};
 use crate::ground::Ground;
 use cedar_expressions::Boxed;
+use cedar_grammar::never;
 use cedar_grammar::reading::class::SideWord;
 use cedar_grammar::reading::extent::{Extent, join_extents};
 use cedar_grammar::reading::put::put;
@@ -120,11 +121,9 @@ impl State {
                     };
                     self.begin_right(ground.alloc, left)
                 }
-                Left::Common(_) | Left::Has(_) | Left::Like(_) | Left::IsIn { .. } => {
-                    unreachable!()
-                }
+                Left::Common(_) | Left::Has(_) | Left::Like(_) | Left::IsIn { .. } => { never!() }
             },
-            None => unreachable!(),
+            None => never!(),
         }
     }
 
@@ -181,7 +180,7 @@ impl State {
             Some(begun) => match begun.as_mut() {
                 Left::Common(begun) => begun.push(ground, item, mark),
                 Left::Is(_) => self.begin_is_in(ground, item, mark.extent),
-                Left::Has(_) | Left::Like(_) | Left::IsIn { .. } => unreachable!(),
+                Left::Has(_) | Left::Like(_) | Left::IsIn { .. } => never!(),
             },
         }
     }

@@ -6,6 +6,7 @@ ghost use Rattle.cedar_expression_machine.specs.machines.ExpressionModes.{IsFoll
 
 use crate::expression::state::{Branch, Frame, Guard, OperandPlace, State, Then};
 use crate::ground::Ground;
+use cedar_grammar::never;
 use cedar_grammar::reading::extent::{Extent, join_extents};
 use cedar_grammar::reading::put::put;
 use std::alloc::AllocError;
@@ -29,7 +30,7 @@ impl State {
                     extent,
                 }))
             }
-            _ => unreachable!(),
+            _ => never!(),
         }
     }
 
@@ -57,7 +58,7 @@ impl State {
                 put(&mut self.levels.branches, branches);
                 Ok(())
             }
-            _ => unreachable!(),
+            _ => never!(),
         }
     }
 }

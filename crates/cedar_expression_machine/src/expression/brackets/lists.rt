@@ -5,6 +5,7 @@ ghost use Rattle.cedar_expression_machine.specs.machines.Wanting.{list_ending};
 
 use crate::expression::state::{Frame, State};
 use crate::ground::Ground;
+use cedar_grammar::never;
 use cedar_grammar::reading::extent::Extent;
 use std::alloc::AllocError;
 
@@ -20,7 +21,7 @@ impl State {
             Some(Frame::Set(_)) => self.close_set(ground, end),
             Some(Frame::Call(_)) => self.close_call(ground, end),
             Some(Frame::Record(_)) => self.close_record(ground, end),
-            _ => unreachable!(),
+            _ => never!(),
         }
     }
 }

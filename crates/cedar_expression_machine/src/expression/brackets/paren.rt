@@ -9,6 +9,7 @@ ghost use Rattle.cedar_expression_machine.specs.machines.Wanting.{paren_opening}
 
 use crate::expression::state::{Frame, OperandPlace, Paren, Ranged, State};
 use crate::ground::Ground;
+use cedar_grammar::never;
 use cedar_grammar::reading::extent::{Extent, join_extents};
 use cedar_syntax::cst::{Expr, Primary};
 use std::alloc::{AllocError, Global};
@@ -62,7 +63,7 @@ impl State {
                 self.restore(outer);
                 self.have_primary(ground, signs, Ranged { tree, extent })
             }
-            _ => unreachable!(),
+            _ => never!(),
         }
     }
 }

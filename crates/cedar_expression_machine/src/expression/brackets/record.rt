@@ -13,6 +13,7 @@ use crate::expression::brackets::paren::bracket_extent;
 use crate::expression::state::{Frame, Key, OperandPlace, Ranged, Record, State};
 use crate::ground::Ground;
 use cedar_expressions::Items;
+use cedar_grammar::never;
 use cedar_grammar::reading::extent::{Extent, join_extents};
 use cedar_grammar::reading::put::put;
 use cedar_syntax::cst::{Expr, Primary, RecInit};
@@ -32,7 +33,7 @@ impl Record {
                 let pair = RecInit(node, ground.node_of(item)?);
                 self.items.push(ground.node_at(extent, pair)?)
             }
-            None => unreachable!(),
+            None => never!(),
         }
     }
 }
@@ -79,7 +80,7 @@ impl State {
                 self.restore(outer);
                 self.have_primary(ground, signs, Ranged { tree, extent })
             }
-            _ => unreachable!(),
+            _ => never!(),
         }
     }
 
@@ -97,9 +98,9 @@ impl State {
                     let node = key.tree;
                     put(&mut record.key, Some(Key { node, extent }));
                 }
-                _ => unreachable!(),
+                _ => never!(),
             },
-            None => unreachable!(),
+            None => never!(),
         }
     }
 
@@ -131,9 +132,9 @@ impl State {
                     record.push(ground, item)?;
                     self.close_record(ground, end)
                 }
-                _ => unreachable!(),
+                _ => never!(),
             },
-            None => unreachable!(),
+            None => never!(),
         }
     }
 }

@@ -9,6 +9,7 @@ use crate::expression::brackets::paren::bracket_extent;
 use crate::expression::state::{Frame, OperandPlace, Ranged, Set, State};
 use crate::ground::Ground;
 use cedar_expressions::Items;
+use cedar_grammar::never;
 use cedar_grammar::reading::extent::Extent;
 use cedar_syntax::cst::{Expr, Primary};
 use std::alloc::{AllocError, Global};
@@ -62,7 +63,7 @@ impl State {
                 self.restore(outer);
                 self.have_primary(ground, signs, Ranged { tree, extent })
             }
-            _ => unreachable!(),
+            _ => never!(),
         }
     }
 }

@@ -10,6 +10,7 @@ use crate::expression::state::{
 };
 use crate::ground::Ground;
 use cedar_expressions::Items;
+use cedar_grammar::never;
 use cedar_grammar::reading::put::put;
 use cedar_grammar::reading::stack::Stack;
 use cedar_syntax::cst::{Member, Primary};
@@ -90,7 +91,7 @@ impl Mode {
     {
         match mem::replace(self, want_at(place)) {
             Mode::Have { operand, dot: _ } => operand,
-            Mode::Want { .. } | Mode::Word { .. } => unreachable!(),
+            Mode::Want { .. } | Mode::Word { .. } => never!(),
         }
     }
 }
@@ -114,7 +115,7 @@ impl State {
     {
         match &self.mode {
             Mode::Have { operand, dot: _ } => operand,
-            Mode::Want { .. } | Mode::Word { .. } => unreachable!(),
+            Mode::Want { .. } | Mode::Word { .. } => never!(),
         }
     }
 
@@ -129,7 +130,7 @@ impl State {
                 place: *place,
                 signs: *signs,
             },
-            Mode::Word { .. } | Mode::Have { .. } => unreachable!(),
+            Mode::Word { .. } | Mode::Have { .. } => never!(),
         }
     }
 
@@ -144,7 +145,7 @@ impl State {
                 *place = next;
                 *signs = no_signs();
             }
-            Mode::Word { .. } | Mode::Have { .. } => unreachable!(),
+            Mode::Word { .. } | Mode::Have { .. } => never!(),
         }
     }
 

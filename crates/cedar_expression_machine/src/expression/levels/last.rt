@@ -16,6 +16,7 @@ use crate::expression::levels::close::expr_of_relation;
 use crate::expression::state::{Chain, Left, Levels, OperandPlace, Ranged, State};
 use crate::ground::Ground;
 use cedar_expressions::{Boxed, Items};
+use cedar_grammar::never;
 use cedar_grammar::reading::extent::{Extent, join_extents};
 use cedar_syntax::cst::{And, Expr, ExprData, ExprImpl, Or, Relation};
 use cedar_syntax::node::Node;
@@ -32,7 +33,7 @@ fn take_chain<T: Drop>(
 {
     match slot.take() {
         Some(chain) => chain.into_inner(),
-        None => unreachable!(),
+        None => never!(),
     }
 }
 
@@ -98,9 +99,9 @@ impl State {
                     };
                     begun.chain.extended.push((begun.op, node))
                 }
-                _ => unreachable!(),
+                _ => never!(),
             },
-            None => unreachable!(),
+            None => never!(),
         }
     }
 
@@ -118,9 +119,9 @@ impl State {
         match &self.levels.relation {
             Some(left) => match left.as_ref() {
                 Left::Common(begun) => join_extents(begun.chain.extent, extent),
-                _ => unreachable!(),
+                _ => never!(),
             },
-            None => unreachable!(),
+            None => never!(),
         }
     }
 
@@ -203,7 +204,7 @@ impl State {
                 };
                 chain.extended.push(node)
             }
-            None => unreachable!(),
+            None => never!(),
         }
     }
 

@@ -29,6 +29,7 @@ use crate::expression::state::{
 use crate::ground::Ground;
 use crate::words::state::{Entity, Path, PathState, WordsAct, WordsState};
 use cedar_expressions::Items;
+use cedar_grammar::never;
 use cedar_grammar::reading::extent::Extent;
 use cedar_grammar::reading::place::token_extent;
 use cedar_grammar::reading::put::put;
@@ -112,7 +113,7 @@ impl State {
     {
         match &self.mode {
             Mode::Word { signs, .. } => *signs,
-            Mode::Want { .. } | Mode::Have { .. } => unreachable!(),
+            Mode::Want { .. } | Mode::Have { .. } => never!(),
         }
     }
 
@@ -187,10 +188,10 @@ impl State {
             Mode::Word { words, .. } => {
                 match mem::replace(words, WordsState::Path(PathState::Start)) {
                     WordsState::Path(PathState::Have(path)) => path,
-                    _ => unreachable!(),
+                    _ => never!(),
                 }
             }
-            Mode::Want { .. } | Mode::Have { .. } => unreachable!(),
+            Mode::Want { .. } | Mode::Have { .. } => never!(),
         }
     }
 
@@ -207,10 +208,10 @@ impl State {
                     WordsState::Entity(entity) => {
                         self.have_primary(ground, signs, ref_at(entity))
                     }
-                    _ => unreachable!(),
+                    _ => never!(),
                 }
             }
-            Mode::Want { .. } | Mode::Have { .. } => unreachable!(),
+            Mode::Want { .. } | Mode::Have { .. } => never!(),
         }
     }
 
@@ -230,9 +231,9 @@ impl State {
                 },
                 WordsState::Entity(_) => self.settle_ref(ground),
                 WordsState::Path(PathState::Start | PathState::Behind(_)) | WordsState::Inits(_) =>
-                    unreachable!(),
+                    never!(),
             },
-            Mode::Want { .. } | Mode::Have { .. } => unreachable!(),
+            Mode::Want { .. } | Mode::Have { .. } => never!(),
         }
     }
 

@@ -4,6 +4,7 @@ ghost use Rattle.cedar_expression_machine.specs.machines.ExpressionModes.{MaySig
 ghost use Rattle.cedar_expression_machine.specs.machines.Wanting.{sign_reading};
 
 use crate::expression::state::{Mode, OperandPlace, State};
+use cedar_grammar::never;
 use cedar_grammar::reading::class::{Sign, add_sign};
 use cedar_grammar::reading::extent::{Extent, join_extents};
 
@@ -20,7 +21,7 @@ impl State {
                 signs.op = add_sign(signs.op, sign);
                 signs.extent = join_extents(signs.extent, Some(extent));
             }
-            Mode::Word { .. } | Mode::Have { .. } => unreachable!(),
+            Mode::Word { .. } | Mode::Have { .. } => never!(),
         }
     }
 }
