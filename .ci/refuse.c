@@ -1,7 +1,8 @@
-// Stands before the C library in a program that is tried with too little memory (`refused_memory`). It counts the requests for memory
-// and refuses request REFUSE, and where FROM_THERE is set each that follows it too. Where COUNT_TO names a file, how many there were
-// is written there at the end, and how many that were met weren't given back. (It declares what it calls itself, so that any compiler
-// of C will do, with or without headers.)
+// Stands before the C library in a program that is tried with too little memory
+// (`refused_memory`). It counts the requests for memory and refuses request REFUSE, and where
+// FROM_THERE is set each that follows it too. Where COUNT_TO names a file, how many there were is
+// written there at the end, and how many that were met weren't given back. (It declares what it
+// calls itself, so that any compiler of C will do, with or without headers.)
 typedef unsigned long size;
 
 extern void *dlsym(void *, const char *);

@@ -1,4 +1,5 @@
--- What is known of the parts where the whole is given: one inversion for each join, and one for a test.
+-- What is known of the parts where the whole is given: one inversion for each join, and one for a
+-- test.
 use Rattle.std.proofs.Common.{◌≡◌, ◌⊎◌, inl, inr, Bool, true, false, cond, List, [], ◌∷◌, ◌++◌, Option, Ok, Err, refl, ap, ◌∙◌}
 use Rattle.cedar_expressions.specs.Value.{Value}
 use Rattle.cedar_syntax.specs.declared.loc.Loc.{Loc}

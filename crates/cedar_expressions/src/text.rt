@@ -1,5 +1,6 @@
-//! A text that contracts see as its bytes. Most words and names are short, and a tree holds one for
-//! each of them: so a short one stands in the value, as large as a `String` is, and takes no memory.
+//! A text that contracts see as its bytes. Most words and names are short, and a tree holds one
+//! for each of them: so a short one stands in the value, as large as a `String` is, and takes no
+//! memory.
 ghost use Rattle.std.specs.Prelude.{◌≡◌, IfOk, nat_eq, length, ◌↔◌, IsTrue, [], string_bytes};
 ghost use Rattle.std.specs.Cmp.Lexicographic.{pointwise, slice_cmp, nat_list_eq_equiv, nat_list_cmp_total, texts_ties, texts_po};
 ghost use Rattle.std.specs.Cmp;

@@ -76,8 +76,8 @@ paths_door src = record {
   answers = λ s t. answers_by (paths_outlined src) s t;
 }
 
--- ---- what a machine above reads behind a path or an entity literal: any kind but `::`, and behind
--- an entity literal each kind
+-- ---- what a machine above reads behind a path or an entity literal: any kind but `::`, and
+-- behind an entity literal each kind
 
 unhad : {A : Type 0} (a : A) (k : TokenKind) → (k ≡ kind.ColonColon → ⊥) → had_plan a k ≡ None
 unhad a kind.ColonColon n = absurd (n refl)

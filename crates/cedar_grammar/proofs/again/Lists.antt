@@ -29,7 +29,8 @@ use Rattle.cedar_grammar.proofs.again.Cases.{Leaves, ref_texts, there}
 use Rattle.cedar_syntax.specs.trees.UnlocatedTrees.{bare_cell, bare_cells, rest_cells}
 use Rattle.cedar_grammar.proofs.again.Leaves.{AnyOf, any_again, LiteralOf, literal_read_again, Path, bare_path, PathOf, path_again, name_again, quoted, colons}
 
--- ---- items separated by commas, of any rule: what they hold without places, and what is printed of it
+-- ---- items separated by commas, of any rule: what they hold without places, and what is printed
+-- of it
 
 abbrev pub cells_print : {F : Type 0} → (F → Tree) → List (Cell F) → Texts
 cells_print tree cs = item_texts (rest_cells tree cs)

@@ -151,8 +151,8 @@ impl State {
 
     /// What comes next becomes this. What stands there holds no memory: where an operand is wanted
     /// there is nothing, names and entities are taken out of their words before, and `true`,
-    /// `false` and `if` hold none. So nothing is let go, and the compiler copies nothing out of the
-    /// state to do so.
+    /// `false` and `if` hold none. So nothing is let go, and the compiler copies nothing out of
+    /// the state to do so.
     #[inline(always)]
     pub fn turn(&mut self, next: Mode)
         ensures { self.new ≡ state self.old.stack self.old.levels next }
