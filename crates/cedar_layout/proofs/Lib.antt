@@ -1,0 +1,13 @@
+pub mod Begun
+pub mod Clean
+pub mod Extents
+pub mod Fitting
+pub mod Found
+pub mod GapBytes
+pub mod Kept
+pub mod KnownGaps
+pub mod LineWidths
+pub mod Readings
+pub mod Rereading
+pub mod Stood
+pub mod Touching

@@ -1,0 +1,16 @@
+pub mod Brackets
+pub mod Ends
+pub mod Entries
+pub mod Frames
+pub mod Gaps
+pub mod Hugs
+pub mod Kinds
+pub mod Laid
+pub mod Layouts
+pub mod Levels
+pub mod Measures
+pub mod Pieces
+pub mod Read
+pub mod Spots
+pub mod Style
+pub mod Widths
