@@ -19,7 +19,7 @@ enum Call {
 }
 
 /// Their names.
-const CALLS: [(&str, Call); 40] = [
+const CALLS: [(&str, Call); 41] = [
     ("parse_expr", Call::Tree(TreeCall::Expr)),
     ("parse_primary", Call::Tree(TreeCall::Primary)),
     ("parse_ref", Call::Tree(TreeCall::Ref)),
@@ -38,6 +38,7 @@ const CALLS: [(&str, Call); 40] = [
     ("ExtStyles", Call::Conversion(ConversionCall::Table)),
     ("same_set", Call::Conversion(ConversionCall::SameSet)),
     ("format_policies", Call::Conversion(ConversionCall::Lines)),
+    ("layout_policies", Call::Conversion(ConversionCall::Layout)),
     ("Expr::to_ref", Call::Part(PartCall::ExprToRef)),
     (
         "Expr::to_ref_or_slot",

@@ -2,6 +2,7 @@
 
 use crate::faults::{Told, tell_failure};
 use crate::formatted::{self, formats};
+use crate::laid;
 use crate::policies::set_text;
 use crate::reports::copies;
 use crate::tables::{find, has_word, styles};
@@ -9,7 +10,7 @@ use crate::trees::reads_again;
 use crate::values::value_text;
 use cedar_expressions::Expr;
 use cedar_policy_parser::formatter::format_policies;
-use cedar_policy_parser::{parse_expression, parse_policyset};
+use cedar_policy_parser::{layout_policies, parse_expression, parse_policyset};
 use cedar_policy_store::PolicySet;
 use cedar_syntax::cst;
 use cedar_syntax::err::Failure;
@@ -22,6 +23,7 @@ pub(crate) enum ConversionCall {
     PolicySet,
     SameSet,
     Lines,
+    Layout,
     Table,
 }
 
@@ -60,6 +62,7 @@ pub(crate) fn answer(
         ConversionCall::PolicySet => policyset(alloc, words, text),
         ConversionCall::SameSet => same_set(alloc, words, text),
         ConversionCall::Lines => formatted::answer(alloc, words, text),
+        ConversionCall::Layout => laid::answer(alloc, words, text),
         ConversionCall::Table => find(alloc, words, text),
     }
 }
@@ -78,6 +81,7 @@ pub(crate) fn refusal(
             parse_policyset(alloc, text, &styles).err()
         }
         ConversionCall::Lines => format_policies(alloc, text, &styles).err(),
+        ConversionCall::Layout => layout_policies(alloc, text, &laid::options(words)).err(),
         ConversionCall::Table => None,
     };
     drop(styles);

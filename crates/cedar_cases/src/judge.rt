@@ -3,11 +3,13 @@
 //! A line behind `>> ` names the call of the cases below it, with words of its own behind the
 //! name. A case is a text, in lines, and behind it, each behind `=> `, the lines that the call has
 //! to give; an empty line ends it. Lines that begin with `#` are for the reader. The beginnings of
-//! the text are tried too, without a line that says so; behind `>> whole ` the text alone.
+//! the text are tried too, and it is laid out over lines, without a line that says so; behind `>>
+//! whole ` the call alone is tried.
 
 use crate::beginnings::try_beginnings;
 use crate::calls::answer;
 use crate::escapes::unescape;
+use crate::laid::lays_out;
 use crate::reports::add_line;
 use std::alloc::{AllocError, Global};
 use std::fmt;
@@ -17,7 +19,7 @@ use std::fmt;
 pub(crate) struct Judge {
     /// What stands behind the last `>> `, or behind the last `>> whole `.
     call: String,
-    /// Whether it was that, so that no beginnings are tried.
+    /// Whether it was that, so that the call alone is tried.
     is_whole: bool,
     text: Option<String>,
     wanted: Option<String>,
@@ -120,7 +122,10 @@ impl Judge {
     }
 
     fn compare(&mut self, alloc: Global, text: &str, wanted: &str) -> Result<(), AllocError> {
-        let given = answer(alloc, self.call.as_str(), text)?;
+        let mut given = answer(alloc, self.call.as_str(), text)?;
+        if !self.is_whole {
+            lays_out(alloc, &mut given, text)?;
+        }
         if given.as_str() == wanted {
             self.agreeing = self.agreeing.saturating_add(1);
             return Ok(());

@@ -11,6 +11,7 @@ mod faults;
 mod formatted;
 mod judge;
 mod kept;
+mod laid;
 mod nested;
 mod parts;
 mod policies;

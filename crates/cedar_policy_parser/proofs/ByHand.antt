@@ -21,12 +21,14 @@ use Rattle.cedar_syntax.specs.trees.Located.{Located, Form, Parts, missing, at, 
 use Rattle.cedar_policy_conversion.specs.AnnotationKeys.{annotation_outcome, with_new_key}
 use Rattle.cedar_policy_conversion.specs.Conditions.{condition_outcome}
 use Rattle.cedar_conversion.specs.strict.Extensions.{Extensions}
+use Rattle.cedar_conversion.specs.outcome.Conversion.{value_outcome}
 use Rattle.cedar_conversion.specs.outcome.Outcome.{next}
 use Rattle.cedar_policy_conversion.specs.Policies.{effect_outcome, template_outcome, policies_outcome}
 use Rattle.cedar_policy_conversion.specs.Scope.{scope_outcome}
 use Rattle.cedar_policy_parser.proofs.standing.Standing.{by_hand, IsTold, Stands, Anything}
 use Rattle.cedar_policy_parser.proofs.standing.StandingPolicies.{condition_stands, effect_stands, new_annotation_stands, template_stands, policies_stand}
 use Rattle.cedar_policy_parser.proofs.standing.StandingScopes.{scope_stands}
+use Rattle.cedar_policy_parser.proofs.standing.StandingTrees.{expression_stands}
 use Rattle.cedar_policy_parser.proofs.tidy.Tidy.{Holding, NodeTidy, Each, IdentHeld, IdentTidy, NameTidy, LiteralTidy, RefTidy, Tidy, FormTidy, PartsTidy, AccessesTidy, AccessTidy, AccessFormTidy, PairsTidy, PairTidy, PairFormTidy}
 use Rattle.cedar_policy_parser.proofs.tidy.TidyPolicies.{IfThere, AddTidy, ConstraintTidy, ExprTidy, AnnotationTidy, ElementTidy, CondTidy, PolicyTidy, PoliciesTidy}
 
@@ -152,6 +154,9 @@ any_policy (trees.Policy p) = (
   any_each (NodeTidy by_hand (ElementTidy by_hand)) (any_node (ElementTidy by_hand) any_element) p.variables,
   any_each (NodeTidy by_hand (CondTidy by_hand)) (any_node (CondTidy by_hand) any_cond) p.conds,
 )
+
+pub any_value_stands : (e : Extensions) (n : Located) → Stands IsTold by_hand Anything (value_outcome e n)
+any_value_stands e n = expression_stands e by_hand n (any_tree n)
 
 pub any_effect_stands : (n : Node (Option Ident)) → Stands IsTold by_hand Anything (effect_outcome n)
 any_effect_stands n = effect_stands by_hand n (any_ident n)

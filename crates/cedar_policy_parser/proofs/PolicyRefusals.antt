@@ -13,6 +13,7 @@ use Rattle.cedar_syntax.specs.declared.cst.Policies.{Policies}
 use Rattle.cedar_syntax.specs.declared.cst.Policy.{Policy}
 use Rattle.cedar_syntax.specs.declared.cst.Policy.TheVariants as trees
 use Rattle.cedar_syntax.specs.declared.cst.PolicyImpl.{PolicyImpl}
+use Rattle.cedar_syntax.specs.trees.Located.{Located}
 use Rattle.cedar_syntax.specs.declared.cst.VariableDef.{VariableDef}
 use Rattle.cedar_syntax.specs.declared.loc.Loc.{Loc}
 use Rattle.cedar_syntax.specs.declared.node.Node.{Node}
@@ -23,7 +24,7 @@ use Rattle.cedar_syntax.specs.trees.Trees.{Cell}
 use Rattle.cedar_policy_conversion.specs.AnnotationKeys.{annotation_outcome, with_new_key}
 use Rattle.cedar_policy_parser.specs.faults.Blocks.{faults_from}
 use Rattle.cedar_policy_conversion.specs.Conditions.{is_when_of, condition_value, condition_slot_fault, slots_outcome, without_slots, condition_of, condition_outcome}
-use Rattle.cedar_conversion.specs.outcome.Conversion.{Converts}
+use Rattle.cedar_conversion.specs.outcome.Conversion.{Converts, value_outcome}
 use Rattle.cedar_policy_parser.specs.faults.Due.{HoldsCondition, IsWhenOrUnless, is_missing_variable, is_extra_element, count, OfParts, RefusesEffect, TellsMissing, TellsExtra, IsTellable}
 use Rattle.cedar_conversion.specs.strict.Extensions.{Extensions}
 use Rattle.cedar_conversion.specs.parts.Names.{content_outcome}
@@ -32,7 +33,7 @@ use Rattle.cedar_conversion.specs.outcome.Places.{place_within}
 use Rattle.cedar_policy_conversion.specs.Policies.{TemplateParts, effect_of, effect_outcome, template_outcome, scope_slots, unless_slots, is_slot_fault, slot_faults, only_static, static_outcome, side_outcome, either_outcome, policies_outcome}
 use Rattle.cedar_policy_conversion.specs.Scope.{principal_outcome, action_outcome, resource_outcome, place_behind, if_there, extra_element_fault, no_extra, scope_of, elements_outcome, scope_outcome}
 use Rattle.cedar_expressions.specs.Slots.{slots_of}
-use Rattle.cedar_policy_parser.proofs.ByHand.{any_annotation_stands, any_condition_stands, any_effect_stands, any_policy_stands, any_scope_stands, any_set_stands}
+use Rattle.cedar_policy_parser.proofs.ByHand.{any_annotation_stands, any_condition_stands, any_effect_stands, any_policy_stands, any_scope_stands, any_set_stands, any_value_stands}
 use Rattle.cedar_policy_parser.proofs.standing.InBlocks.{made_told, joined_told}
 use Rattle.cedar_policy_parser.proofs.standing.Standing.{Origin, by_hand, parsed, IsTold, IsPlain, KindWithin, Stands, Anything, no_policy_name, no_template_name, no_text_fault, some_told}
 use Rattle.cedar_policy_parser.proofs.standing.StandingScopes.{principal_stands, action_stands, resource_stands}
@@ -264,6 +265,23 @@ no_names o (Err fs) h = All-weaker (KindWithin IsTold o) IsTellable (λ f i. (no
 
 pub policy_names : (e : Extensions) (id : List ℕ) (tree : Cell Policy) → All IsTellable (faults_from (template_outcome e id tree))
 policy_names e id tree = no_names by_hand (template_outcome e id tree) (any_policy_stands e id tree)
+
+-- no more is it of a part of a policy
+
+pub value_names : (e : Extensions) (tree : Located) → All IsTellable (faults_from (value_outcome e tree))
+value_names e tree = no_names by_hand (value_outcome e tree) (any_value_stands e tree)
+
+pub effect_names : (n : Node (Option Ident)) → All IsTellable (faults_from (effect_outcome n))
+effect_names n = no_names by_hand (effect_outcome n) (any_effect_stands n)
+
+pub annotation_names : (keys : List (List ℕ)) (n : Node (Option Annotation)) → All IsTellable (faults_from (next (annotation_outcome n) (with_new_key keys)))
+annotation_names keys n = no_names by_hand (next (annotation_outcome n) (with_new_key keys)) (any_annotation_stands keys n)
+
+pub scope_names : (e : Extensions) (p : PolicyImpl) → All IsTellable (faults_from (scope_outcome e p))
+scope_names e p = no_names by_hand (scope_outcome e p) (any_scope_stands e p)
+
+pub condition_names : (e : Extensions) (n : Node (Option Cond)) → All IsTellable (faults_from (condition_outcome e n))
+condition_names e n = no_names by_hand (condition_outcome e n) (any_condition_stands e n)
 
 static_no_policy : expected_static_policy ≢ duplicate_policy_id
 static_no_policy e = cc

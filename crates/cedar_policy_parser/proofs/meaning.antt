@@ -1,5 +1,6 @@
 pub mod Enclosed
 pub mod Formatting
+pub mod LayingOut
 pub mod Meaning
 pub mod NoSlash
 pub mod OneSet

@@ -1,4 +1,5 @@
 pub mod Formatted
+pub mod LaidOut
 pub mod OldMeaning
 pub mod StandsWhole
 pub mod StrictPolicy

@@ -8,6 +8,7 @@
 
 pub mod formatter;
 pub mod laws;
+pub mod layout;
 pub mod lexer;
 mod parse;
 pub mod policy_laws;
@@ -18,6 +19,7 @@ pub use cedar_expressions::{
     ListCall, Literal, Name, NaryOp, OwnedText, PatternElem, Place, RecordError, ReservedNameError,
     Slot, SlotId, Source, Text, TryClone, UnaryCall, UnaryOp, UnreservedId, Var,
 };
+pub use cedar_layout::LayoutOptions;
 pub use cedar_policy_conversion::cst_to_ast::{
     AnnotationAst, ExprAst, ExtStyles, GeneratedPolicyIds, IdentAst, MemberAst, OneOrMultipleRefs,
     PoliciesAst, PolicyAst, PolicyImplAst, PrimaryAst, RefAst, Scope,
@@ -31,4 +33,5 @@ pub use cedar_policy_store::{
 pub use cedar_syntax::{cst, err, loc, node, position, unescape, util};
 pub use cedar_text::{nesting, text_to_cst};
 pub use formatter::format_policies;
+pub use layout::layout_policies;
 pub use parse::{parse_expression, parse_policyset};

@@ -20,6 +20,7 @@ ghost use Rattle.cedar_syntax.specs.tokens.Signs.{sign_limit};
 ghost use Rattle.cedar_syntax.specs.declared.loc.Loc.{Loc};
 ghost use Rattle.cedar_syntax.specs.declared.node.Node.{Node};
 ghost use Rattle.cedar_syntax.specs.trees.Forms.{located, expr_form};
+ghost use Rattle.cedar_syntax.specs.trees.Located.{Located};
 ghost use Rattle.cedar_grammar.specs.grammar.Grammar.{IsTreeOf};
 ghost use Rattle.cedar_grammar.specs.grammar.LoosePolicies.{ReadsPolicies, ReadsPolicy};
 ghost use Rattle.cedar_grammar.specs.grammar.Place.{placed};
@@ -29,7 +30,7 @@ ghost use Rattle.cedar_syntax.specs.trees.UnlocatedTrees.{unlocated_policies};
 ghost use Rattle.cedar_policy_conversion.specs.AnnotationKeys.{annotation_outcome, with_new_key};
 ghost use Rattle.cedar_policy_parser.specs.faults.Blocks.{PartsStandWithin, faults_from, policy_faults, set_faults};
 ghost use Rattle.cedar_policy_conversion.specs.Conditions.{condition_outcome, condition_slot_fault};
-ghost use Rattle.cedar_conversion.specs.outcome.Conversion.{Converts};
+ghost use Rattle.cedar_conversion.specs.outcome.Conversion.{Converts, value_outcome};
 ghost use Rattle.cedar_policy_parser.specs.faults.Due.{HoldsCondition, IsWhenOrUnless, IsTellable, OfParts, RefusesEffect, TellsExtra, TellsMissing};
 ghost use Rattle.cedar_conversion.specs.strict.Extensions.{Extensions};
 ghost use Rattle.cedar_conversion.specs.outcome.Outcome.{NamedFault, fault_outcome, next, outcome_value, empty_clause, invalid_condition};
@@ -38,6 +39,7 @@ ghost use Rattle.cedar_policy_conversion.specs.Policies.{TemplateParts, meaning_
 ghost use Rattle.cedar_policy_conversion.specs.PolicyMeaning.{IsStatic};
 ghost use Rattle.cedar_policy_conversion.specs.Scope.{scope_outcome};
 ghost use Rattle.cedar_policy_parser.specs.faults.Standing.{StandWithin};
+ghost use Rattle.cedar_policy_parser.specs.meaning.LaidOut.{HaveSameWords, KeepsTree, KeepsMeaning};
 ghost use Rattle.cedar_policy_parser.specs.meaning.StrictPolicy.{IsPolicy, IsPolicySet};
 ghost use Rattle.cedar_expressions.specs.Slots.{slots_of};
 
@@ -205,7 +207,8 @@ pub fn blocks()
 /// expression, and, if its expression converts, just a `SlotsInConditionClause` for each slot, in
 /// order, where the slot stands within the condition. No fault of a policy's or a set's tree, by
 /// hand too, is of a name that two policies have, nor a text's own, whatever of the two kinds of
-/// policy is wanted; and where such a tree, or a part of a policy, is refused there is a fault.
+/// policy is wanted; nor is one of an expression's tree, an effect, an annotation, a scope or a
+/// condition; and where such a tree, or a part of a policy, is refused there is a fault.
 pub fn due()
     ensures effect { (text : List ℕ) (tree : Cell PolicyTree)
         → IsTreeOf ReadsPolicy text tree → OfParts RefusesEffect tree }
@@ -235,6 +238,16 @@ pub fn due()
         → All IsTellable (faults_from (k.either_outcome table id tree)) }
     ensures set_names { (table : Extensions) (tree : Cell SetTree)
         → All IsTellable (faults_from (k.policies_outcome table tree)) }
+    ensures value_names { (table : Extensions) (tree : Located)
+        → All IsTellable (faults_from (value_outcome table tree)) }
+    ensures effect_names { (node : Node (Option Ident))
+        → All IsTellable (faults_from (k.effect_outcome node)) }
+    ensures annotation_names { (keys : List (List ℕ)) (node : Node (Option Annotation))
+        → All IsTellable (faults_from (next (annotation_outcome node) (with_new_key keys))) }
+    ensures scope_names { (table : Extensions) (parts : PolicyImpl)
+        → All IsTellable (faults_from (scope_outcome table parts)) }
+    ensures condition_names { (table : Extensions) (node : Node (Option Cond))
+        → All IsTellable (faults_from (condition_outcome table node)) }
     ensures policy_refused { (table : Extensions) (id : List ℕ)
         (tree : Cell PolicyTree) (faults : List NamedFault)
         → k.template_outcome table id tree ≡ Err faults → faults ≢ [] }
@@ -279,3 +292,13 @@ pub fn same_words_mean_the_same()
         → IsPolicySet table sign_limit ts set → words_of us ≡ words_of ts
         → IsPolicySet table sign_limit us set }
 {}
+
+/// A text that cuts into the same words as another one has its tree, places aside, and no other
+/// one, and means the same sets.
+pub fn same_words_are_the_same_policies()
+    ensures tree { (text other : List ℕ) → HaveSameWords text other → KeepsTree text other }
+    ensures meaning { (text other : List ℕ) → HaveSameWords text other
+        → KeepsMeaning text other }
+{
+    policies();
+}

@@ -22,7 +22,7 @@ use Rattle.cedar_conversion.specs.parts.Names.{unreserved_ident}
 use Rattle.cedar_conversion.specs.outcome.Outcome.{Outcome, both, next, empty_node, ambiguous_operators, invalid_single_eq, unary_op_limit, integer_literal_too_large, unsupported_division, unsupported_modulo, expression_construction_error}
 use Rattle.cedar_policy_parser.specs.faults.Standing.{StandWithin}
 use Rattle.cedar_conversion.specs.strict.Strict.{largest}
-use Rattle.cedar_policy_parser.proofs.standing.Standing.{Origin, parsed, LiesIn, anywhere, IsPlain, Stands, Anything, BothHold, alone, both_stand, both_any, next_stands, then_stands, if_stands, weaker, stand_within}
+use Rattle.cedar_policy_parser.proofs.standing.Standing.{IsTold, Origin, parsed, LiesIn, anywhere, IsPlain, Stands, Anything, BothHold, alone, both_stand, both_any, next_stands, then_stands, if_stands, weaker, stand_within}
 use Rattle.cedar_policy_parser.proofs.standing.StandingLeaves.{HeldWithin, as_value, value_stands, pattern_held, type_held, string_held, attribute_held, unreserved_stands, literal_stands, named_stands, slot_stands, entity_held_stands}
 use Rattle.cedar_policy_parser.proofs.standing.StandingMembers.{member_stands, right_stands}
 use Rattle.cedar_policy_parser.proofs.tidy.Tidy.{Tidy, FormTidy, PartsTidy, AccessesTidy, AccessTidy, AccessFormTidy, PairsTidy, PairTidy, PairFormTidy}
@@ -181,5 +181,8 @@ mutual
 
 -- ---- where an expression is wanted
 
+pub expression_stands : (e : Extensions) (o : Origin) (n : Located) → Tidy o n → Stands IsTold o Anything (value_outcome e n)
+expression_stands e o n h = weaker o Anything (value_outcome e n) (wanted_stands e o n h)
+
 pub value_faults : (e : Extensions) (outer : Option Loc) (n : Located) → Tidy (parsed outer) n → StandWithin outer (value_outcome e n)
-value_faults e outer n h = stand_within outer (value_outcome e n) (weaker (parsed outer) Anything (value_outcome e n) (wanted_stands e (parsed outer) n h))
+value_faults e outer n h = stand_within outer (value_outcome e n) (expression_stands e (parsed outer) n h)

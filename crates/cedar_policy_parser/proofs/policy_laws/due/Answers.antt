@@ -57,3 +57,18 @@ returns-clause-scope_refused c = told.scope_refused
 
 pub returns-clause-condition_refused : goal.returns-clause-condition_refused
 returns-clause-condition_refused c = told.condition_refused
+
+pub returns-clause-value_names : goal.returns-clause-value_names
+returns-clause-value_names c = told.value_names
+
+pub returns-clause-effect_names : goal.returns-clause-effect_names
+returns-clause-effect_names c = told.effect_names
+
+pub returns-clause-annotation_names : goal.returns-clause-annotation_names
+returns-clause-annotation_names c = told.annotation_names
+
+pub returns-clause-scope_names : goal.returns-clause-scope_names
+returns-clause-scope_names c = told.scope_names
+
+pub returns-clause-condition_names : goal.returns-clause-condition_names
+returns-clause-condition_names c = told.condition_names
