@@ -64,7 +64,7 @@ read_value e meaning src n (Ok x) g h = text_meant e src n (meaning x) g h
 read_value e meaning src n (Err f) g h = tt
 
 -- an outcome that gives a value is refused for want of memory alone
-memory_alone : (f : Failure) (o : Outcome free.Policies) (set : free.Policies) → o ≡ Ok set → Refuses f o → IsMemory f
+pub memory_alone : (f : Failure) (o : Outcome free.Policies) (set : free.Policies) → o ≡ Ok set → Refuses f o → IsMemory f
 memory_alone (Memory e) o set h k = tt
 memory_alone (Errors es) o set h k = let no = sym h ∙ k in cc
 

@@ -1,20 +1,27 @@
 //! The text of policies laid out anew: each on a line of its own, one space between two tokens.
-ghost use Rattle.std.specs.Prelude.{◌≡◌, ◌++◌, List, codes, IfOk, OnOk, IfErr, string_bytes};
+ghost use Rattle.std.specs.Prelude.{◌≡◌, ◌++◌, List, Ok, codes, IfOk, OnOk, IfErr, string_bytes};
 ghost use Rattle.cedar_lexer.specs.Cut.{Cuts};
 ghost use Rattle.cedar_lexer.specs.Token.{Lexeme};
+ghost use Rattle.cedar_policy_store.specs.PlaceFree as free;
 ghost use Rattle.cedar_grammar.specs.printing.Formatted.{formatted, lines_text};
 ghost use Rattle.cedar_grammar.specs.faults.Leftmost.{HasLeftmost, NumbersFit};
+ghost use Rattle.cedar_grammar.specs.grammar.Grammar.{IsTreeOf};
 ghost use Rattle.cedar_grammar.specs.grammar.LoosePolicies.{ReadsPolicies};
 ghost use Rattle.cedar_grammar.specs.printing.PrintLaw.{node_text};
 ghost use Rattle.cedar_grammar.specs.grammar.Sentences.{HasTree};
+ghost use Rattle.cedar_syntax.specs.faults.ParseErrors.{IsMemory};
+ghost use Rattle.cedar_syntax.specs.trees.Trees.{Cell};
 ghost use Rattle.cedar_syntax.specs.trees.Unplaced.{policy_tree};
+ghost use Rattle.cedar_syntax.specs.declared.cst.Policies.{Policies};
+ghost use Rattle.cedar_conversion.specs.outcome.Seen.{Refuses};
 ghost use Rattle.cedar_conversion.specs.strict.Table.{table_of};
-ghost use Rattle.cedar_policy_parser.specs.meaning.Formatted.{Formats, MeanTheSame, IsInLines, IsAnsweredAgain};
+ghost use Rattle.cedar_policy_conversion.specs.Policies.{policies_outcome};
+ghost use Rattle.cedar_policy_parser.specs.meaning.Formatted.{Formats, MeansSet, MeanTheSame, IsInLines, IsAnsweredAgain};
 ghost use Rattle.cedar_policy_parser.specs.faults.Refused.{RefusesSet};
 
-use crate::parse::parse_policyset;
 use cedar_grammar::laws::formatted_policies;
-use cedar_policy_conversion::cst_to_ast::ExtStyles;
+use cedar_lexer::laws::at_most_one_cut;
+use cedar_policy_conversion::cst_to_ast::{ExtStyles, PoliciesAst};
 use cedar_syntax::cst::{Policies, Policy};
 use cedar_syntax::err::Failure;
 use cedar_syntax::node::Node;
@@ -47,11 +54,44 @@ pub fn format_policies(alloc: Global, text: &str, styles: &ExtStyles) -> Result<
 {
     printed_texts();
     formatted_policies();
-    let set = parse_policyset(alloc, text, styles)?;
-    drop(set);
-    let tree = parse_policies(alloc, text)?;
+    let tree = meant_tree(alloc, text, styles)?;
     let lines = tree_in_lines(alloc, &tree)?;
     Ok(lines)
+}
+
+/// The tree of a text that means a set of policies under a table.
+fn meant_tree(
+    alloc: Global,
+    text: &str,
+    styles: &ExtStyles,
+) -> Result<Node<Option<Policies>>, Failure>
+    ensures found { IfOk result (λ x. IsTreeOf ReadsPolicies text.now x) }
+    ensures one { (y : Cell Policies) → IsTreeOf ReadsPolicies text.now y
+        → IfOk result (λ x. x ≡ y) }
+    ensures meant { IfOk result (λ x.
+        (set : free.Policies) × MeansSet (table_of styles.now) text.now set) }
+    ensures only { (set : free.Policies) → MeansSet (table_of styles.now) text.now set
+        → IfErr result IsMemory }
+    ensures refused { IfErr result (λ failure. RefusesSet
+        (table_of styles.now) failure text.now) }
+    ensures leftmost { (ts : List Lexeme) → Cuts text.now ts → NumbersFit ts
+        → ¬ HasTree (ReadsPolicies text.now) ts
+        → IfErr result (λ failure. HasLeftmost ReadsPolicies text.now ts failure) }
+{
+    at_most_one_cut();
+    let tree = parse_policies(alloc, text)?;
+    convert(alloc, styles, &tree)?;
+    Ok(tree)
+}
+
+/// Refuses a tree that stands for no set of policies.
+fn convert(alloc: Global, styles: &ExtStyles, tree: &Node<Option<Policies>>) -> Result<(), Failure>
+    ensures value { IfOk result (λ done. (set : free.Policies)
+        × (policies_outcome (table_of styles.now) tree.now ≡ Ok set)) }
+    ensures refused { IfErr result (λ failure.
+        Refuses failure (policies_outcome (table_of styles.now) tree.now)) }
+{
+    tree.to_policyset(alloc, styles).and(Ok(()))
 }
 
 /// The policies of a tree in lines.

@@ -1,5 +1,6 @@
 -- Policies in lines: what they mean, and that they stay as they are.
-use Rattle.std.proofs.Common.{◌≡◌, if◌then◌else◌, is_ok, OnOk, option_map, ◌<◌, ℕ, ◌+◌, List, ◌++◌, codes, length, get_or, take, Option, None, IsErrAnd, Result, Ok, Err, MatchResult, String, string_bytes, sym, ap, subst, ◌∙◌}
+use Rattle.std.proofs.Common.{◌≡◌, if◌then◌else◌, is_ok, OnOk, option_map, ◌<◌, ℕ, ◌+◌, List, ◌++◌, codes, length, get_or, take, Option, None, IsErrAnd, Result, Ok, Err, MatchResult, IfOk, IfErr, String, string_bytes, sym, ap, subst, ◌∙◌}
+use Rattle.std.specs.Result.{result_and}
 use Rattle.cedar_policy_store.specs.PlaceFree as free
 use Rattle.cedar_grammar.proofs.again.Lines.{lines_snoc}
 use Rattle.cedar_syntax.specs.declared.cst.Policies.{Policies}
@@ -14,6 +15,8 @@ use Rattle.cedar_syntax.specs.trees.Trees.{Cell}
 use Rattle.cedar_syntax.specs.trees.UnlocatedTrees.{BarePolicy, unlocated_policies}
 use Rattle.cedar_syntax.specs.printing.Printed.{tokens_text, printed}
 use Rattle.cedar_syntax.specs.trees.Unplaced.{or_missing, policy_tree}
+use Rattle.cedar_conversion.specs.outcome.Outcome.{Outcome}
+use Rattle.cedar_conversion.specs.outcome.Seen.{Gives, Refuses}
 use Rattle.cedar_conversion.specs.strict.Extensions.{Extensions}
 use Rattle.cedar_policy_parser.specs.meaning.Formatted.{MeansSet, MeanTheSame, IsInLines, Formats}
 use Rattle.cedar_policy_conversion.specs.Policies.{policies_outcome}
@@ -47,13 +50,25 @@ converted e text x set only (ts, cut, means) =
     let d = tree_found e text ts set cut means in
     ap (λ n. policies_outcome e n) (only d.tree d.stands) ∙ d.gives
 
--- where a text means a set and has no tree, memory was wanting
-pub no_tree : {A : Type 0} (e : Extensions) (text : List ℕ) (r : Result (String A) Failure) (f : Failure) → IsErrAnd r (λ g. g ≡ f) → ((y : Cell Policies) → IsTreeOf ReadsPolicies text y → IsMemory f) → Formats e text r
-no_tree e text (Ok s) f is none = absurd is
-no_tree e text (Err g) f is none = record {
+-- a refusal, which is want of memory where the text means a set
+pub no_lines : {A : Type 0} (e : Extensions) (text : List ℕ) (r : Result (String A) Failure) (f : Failure) → IsErrAnd r (λ g. g ≡ f) → ((set : free.Policies) → MeansSet e text set → IsMemory f) → Formats e text r
+no_lines e text (Ok s) f is none = absurd is
+no_lines e text (Err g) f is none = record {
   lines = tt;
-  only = λ set means. let d = tree_found e text means.0 set means.1 means.2 in subst IsMemory (sym is) (none d.tree d.stands);
+  only = λ set means. subst IsMemory (sym is) (none set means);
 }
+
+-- ---- a tree that is converted, and the set let go
+
+pub value_of : {S U : Type 0} (meaning : S → free.Policies) (answer : Result S Failure) (done : Result U Failure) (nothing : U) (o : Outcome free.Policies)
+    → Gives meaning answer o → done ≡ result_and answer (Ok nothing) → IfOk done (λ none. (set : free.Policies) × (o ≡ Ok set))
+value_of meaning (Ok x) done nothing o gives is = rw is (meaning x, gives)
+value_of meaning (Err f) done nothing o gives is = rw is tt
+
+pub refusal_of : {S U : Type 0} (meaning : S → free.Policies) (answer : Result S Failure) (done : Result U Failure) (nothing : U) (o : Outcome free.Policies)
+    → Gives meaning answer o → done ≡ result_and answer (Ok nothing) → IfErr done (λ f. Refuses f o)
+refusal_of meaning (Ok x) done nothing o gives is = rw is tt
+refusal_of meaning (Err f) done nothing o gives is = rw is gives
 
 -- the lines of a tree mean what the tree is converted to
 lines_mean : (e : Extensions) (text : List ℕ) (x : Cell Policies) (set : free.Policies) → HasSameTree ReadsPolicies unlocated_policies x text → policies_outcome e x ≡ Ok set → MeansSet e text set
