@@ -1,5 +1,5 @@
 -- What is written of an answer, from the calls that write it.
-use Rattle.std.proofs.Common.{◌≡◌, ◌<◌, ◌+◌, ℕ, List, [], ◌∷◌, ◌++◌, length, take, get_or, flat_map, Option, Some, None, Result, Ok, Err, IfOk, OnOk, ap, subst, append-nil, ◌∙◌, arith}
+use Rattle.std.proofs.Common.{◌≡◌, ◌<◌, ◌+◌, ℕ, List, [], ◌∷◌, ◌++◌, length, take, get_or, flat_map, Option, Some, None, Result, Ok, Err, IfOk, IfErr, OnOk, inl, inr, ap, subst, append-nil, ◌∙◌, arith}
 use Rattle.std.proofs.KnownBytes.{Appends-trans}
 use Rattle.std.proofs.lemmas.List.Concat.{flat_map-append}
 use Rattle.std.specs.Io.KnownBytes.{Appends, Keeps}
@@ -17,14 +17,15 @@ use Rattle.cedar_policy_parser.specs.meaning.Formatted.{AreLinesOf, MeansSet}
 use Rattle.cedar_policy_store.specs.PlaceFree.{set_meaning}
 use Rattle.cedar_policy_store.specs.PolicyMaps.{PolicyMaps}
 use Rattle.cedar_command.specs.FaultLines.{AreFaultsWritten, fault_line}
-use Rattle.cedar_command.specs.PolicyLines.{set_lines}
+use Rattle.cedar_command.specs.PolicyLines.{AreFirstLinesWritten, set_lines}
 use Rattle.cedar_command.specs.declared.run.Verdict.{Verdict}
 use Rattle.cedar_command.specs.declared.run.Verdict.TheVariants.{Accepted, Refused}
 use Rattle.cedar_command.specs.declared.streams.Stop.{Stop}
 use Rattle.cedar_command.specs.declared.request.Command.{Command}
 use Rattle.cedar_command.specs.declared.request.Command.TheVariants.{Expression, Policies, Format}
-use Rattle.cedar_command.specs.Streams.{Writing}
-use Rattle.cedar_command.specs.Ends.{IsAnswerWritten, IsVerdict, RefusesFor, tree_lines}
+use Rattle.cedar_command.specs.declared.streams.WriterState.{WriterState}
+use Rattle.cedar_command.specs.Streams.{Stream, Writing, IsUntouched}
+use Rattle.cedar_command.specs.Ends.{IsAnswerBegun, IsAnswerWritten, IsVerdict, RefusesFor, StopsWriting, tree_lines}
 
 appended : (a b c : Option (List ℕ)) (bytes : List ℕ) → Appends a b bytes → Keeps b c → Appends a c bytes
 appended None b c bytes h k = tt
@@ -93,3 +94,30 @@ pub written_asked : (r : Result Verdict Stop) (asked command : Command) (made na
     → IfOk r (λ v. IsAnswerWritten asked made text v w) → IfOk r (λ v. IsAnswerWritten command named text v w)
 written_asked r asked command made named text w (same, table) h =
     subst (λ t. IfOk r (λ v. IsAnswerWritten command t text v w)) table (subst (λ k. IfOk r (λ v. IsAnswerWritten k made text v w)) same h)
+
+-- ---- where memory is refused
+
+pub begun : {O : Type 0} (command : Command) (table : Extensions) (text : List ℕ) (out : Stream O) → IsUntouched out → IsAnswerBegun command table text out
+begun Expression table text out same = same
+begun Policies table text out same = inl same
+begun Format table text out same = same
+
+-- a call that wrote nothing where it was refused memory is a begun answer's
+pub nothing_begun : {O : Type 0} (r : Result Verdict Stop) (command : Command) (table : Extensions) (text : List ℕ) (out : Stream O) (state : WriterState)
+    → IfErr r (λ stop. StopsWriting (IsUntouched out) state stop) → IfErr r (λ stop. StopsWriting (IsAnswerBegun command table text out) state stop)
+nothing_begun (Ok v) command table text out state h = tt
+nothing_begun (Err stop) command table text out state (inl memory) = inl (memory.0, begun command table text out memory.1)
+nothing_begun (Err stop) command table text out state (inr failed) = inr failed
+
+-- and one that wrote the first lines of a set that the text means
+pub set_begun : {O : Type 0} (r : Result Verdict Stop) (table : Extensions) (text : List ℕ) (set : PolicyMaps) (out : Stream O) (state : WriterState) → MeansSet table text (set_meaning set)
+    → IfErr r (λ stop. StopsWriting (AreFirstLinesWritten set out.writing) state stop) → IfErr r (λ stop. StopsWriting (IsAnswerBegun Policies table text out) state stop)
+set_begun (Ok v) table text set out state means h = tt
+set_begun (Err stop) table text set out state means (inl memory) = inl (memory.0, inr (set, means, memory.1))
+set_begun (Err stop) table text set out state means (inr failed) = inr failed
+
+pub begun_asked : {O : Type 0} (r : Result Verdict Stop) (asked command : Command) (made named : Extensions) (text : List ℕ) (out : Stream O) (state : WriterState) → (asked ≡ command) × (made ≡ named)
+    → IfErr r (λ stop. StopsWriting (IsAnswerBegun asked made text out) state stop) → IfErr r (λ stop. StopsWriting (IsAnswerBegun command named text out) state stop)
+begun_asked r asked command made named text out state (same, table) h =
+    subst (λ t. IfErr r (λ stop. StopsWriting (IsAnswerBegun command t text out) state stop)) table
+    (subst (λ k. IfErr r (λ stop. StopsWriting (IsAnswerBegun k made text out) state stop)) same h)

@@ -1,5 +1,6 @@
 -- What each end of a run says of the words and of the text.
-use Rattle.std.specs.Prelude.{◌≡◌, ◌⊎◌, ◌++◌, ℕ, List, Option, Some, None, IfSome, String, codes}
+use Rattle.std.specs.Prelude.{◌≡◌, ◌⊎◌, ◌++◌, ℕ, List, [], Option, Some, None, IfSome, String, codes}
+use Rattle.std.specs.Fmt.{decimal}
 use Rattle.std.specs.Str.{IsUtf8}
 use Rattle.cedar_lexer.specs.Token.{Lexeme}
 use Rattle.cedar_lexer.specs.Cut.{Cuts}
@@ -22,14 +23,13 @@ use Rattle.cedar_command.specs.declared.run.Ending.TheVariants.{Answered, Usage,
 use Rattle.cedar_command.specs.declared.run.Verdict.{Verdict}
 use Rattle.cedar_command.specs.declared.run.Verdict.TheVariants.{Accepted, Refused}
 use Rattle.cedar_command.specs.declared.streams.Stop.{Stop}
-use Rattle.cedar_command.specs.declared.streams.Stop.TheVariants.{Memory, InputOutput}
+use Rattle.cedar_command.specs.declared.streams.Stop.TheVariants.{Memory, InputOutput, NotUtf8}
 use Rattle.cedar_command.specs.declared.streams.Input.{Input}
-use Rattle.cedar_command.specs.declared.streams.Output.{Output}
 use Rattle.cedar_command.specs.declared.streams.WriterState.{WriterState}
 use Rattle.cedar_command.specs.declared.streams.WriterState.TheVariants.{Flushed, Written, Failed}
 use Rattle.cedar_command.specs.FaultLines.{AreFaultsWritten}
-use Rattle.cedar_command.specs.PolicyLines.{IsSetWritten}
-use Rattle.cedar_command.specs.Streams.{Writing, AreBytesWritten, read_failure, writer_state, IsNoText}
+use Rattle.cedar_command.specs.PolicyLines.{IsSetBegun, IsSetWritten}
+use Rattle.cedar_command.specs.Streams.{Writing, Stream, IsUntouched, AreBytesWritten, read_failure, writer_state, IsNoText}
 use Rattle.cedar_command.specs.declared.request.Command.{Command}
 use Rattle.cedar_command.specs.declared.request.Command.TheVariants.{Expression, Policies, Format}
 use Rattle.cedar_command.specs.Request.{AsksFor, AsksForNothing, styles_of}
@@ -76,55 +76,95 @@ IsAnswerWritten Format table text Accepted w = IsTextWritten text w
 IsAnswerWritten command table text Refused w =
     (failure : Failure) × RefusesFor command table text failure × AreFaultsWritten failure w
 
+-- What stands written of a text's answer where memory is refused: nothing, or the lines of the
+-- first policies.
+abbrev pub IsAnswerBegun : {O : Type 0} → Command → Extensions → List ℕ → Stream O → Type 0
+IsAnswerBegun Expression table text out = IsUntouched out
+IsAnswerBegun Policies table text out = IsUntouched out ⊎ IsSetBegun table text out.writing
+IsAnswerBegun Format table text out = IsUntouched out
+
 -- A run's streams at its end: what is known of the reader's text, `None` where the reader can't
--- tell it before it is read; why reading failed, if it did; what the writer of the answer held
--- before the run and holds at its end; how the calls of both writers went.
-pub record Streams : Type 0 where
+-- tell it before it is read; why reading failed, if it did; the writer of the answer, and that of
+-- what is said where there is none.
+pub record Streams (O E : Type 0) : Type 0 where
   pub known : Option (List ℕ)
   pub read : Option Stop
-  pub writing : Writing
-  pub out : WriterState
-  pub err : WriterState
+  pub out : Stream O
+  pub err : Stream E
 
-abbrev pub streams_at : {R O E : Type 0} → Option (List ℕ) → Input R → Writing → Output O
-    → Output E → Streams
-streams_at known input writing out err =
-    record {
-      known = known;
-      read = read_failure input;
-      writing = writing;
-      out = writer_state out;
-      err = writer_state err;
-    }
+abbrev pub streams_at : {R O E : Type 0} → Option (List ℕ) → Input R → Stream O → Stream E
+    → Streams O E
+streams_at known input out err =
+    record { known = known; read = read_failure input; out = out; err = err }
 
--- Why a text gets no verdict: what is known of it, why reading it failed, how writing went.
-pub data Stops (known : Option (List ℕ)) (read : Option Stop) (out : WriterState) :
-    Stop → Type 0 where
+-- a text that was read: just what the reader gives, where that is known
+abbrev pub WasRead : Option (List ℕ) → List ℕ → Type 0
+WasRead known text = IsUtf8 text × IfSome known (λ bytes. text ≡ bytes)
+
+-- Why a text gets no verdict, and what stands written then.
+pub data Stops {O : Type 0} (command : Command) (table : Extensions) (known : Option (List ℕ))
+    (read : Option Stop) (out : Stream O) : Stop → Type 0 where
   -- a read failed
-  unread : (stop : Stop) → read ≡ Some stop → Stops known read out stop
+  unread : (stop : Stop) → read ≡ Some stop → IsUntouched out →
+      Stops command table known read out stop
   -- what was read isn't UTF-8
-  no_text : IsNoText known → Stops known read out InputOutput
+  no_text : (byte : ℕ) → IsNoText known byte → IsUntouched out →
+      Stops command table known read out (NotUtf8 byte)
   -- a write or the flush failed
-  unwritten : (stop : Stop) → out ≡ Failed stop → Stops known read out stop
+  unwritten : (stop : Stop) → writer_state out.new ≡ Failed stop →
+      Stops command table known read out stop
   -- memory was refused to what is made of a text that was read
-  wanting : read ≡ None → IfSome known IsUtf8 → Stops known read out Memory
+  wanting : (text : List ℕ) → WasRead known text → read ≡ None →
+      IsAnswerBegun command table text out → Stops command table known read out Memory
 
--- why a text that was read gets no verdict: memory was refused, or a write failed
-abbrev pub StopsWriting : WriterState → Stop → Type 0
-StopsWriting out stop = (stop ≡ Memory) ⊎ (out ≡ Failed stop)
+-- why a text that was read gets no verdict: memory was refused, where this stands written, or a
+-- write failed
+abbrev pub StopsWriting : Type 0 → WriterState → Stop → Type 0
+StopsWriting Begun state stop = ((stop ≡ Memory) × Begun) ⊎ (state ≡ Failed stop)
+
+-- a text that was read has this verdict, and its answer is written
+abbrev pub IsAnswered : Command → Extensions → Option (List ℕ) → Verdict → Writing → Type 0
+IsAnswered command table known verdict w =
+    (text : List ℕ) × WasRead known text × IsVerdict command table text verdict
+    × IsAnswerWritten command table text verdict w
+
+-- why a run ends without an answer
+pub data Unanswered {A O E : Type 0} (words : List (String A)) (s : Streams O E) :
+    Ending → Type 0 where
+  usage : AsksForNothing words → IsUntouched s.out → Unanswered words s Usage
+  stopped : (command : Command) (stop : Stop) → AsksFor command words →
+      Stops command (styles_of words) s.known s.read s.out stop →
+      Unanswered words s (Stopped stop)
+
+-- what is said of an end without an answer
+
+abbrev pub stop_message : Stop → List ℕ
+stop_message Memory = codes "want of memory"
+stop_message InputOutput = codes "input or output failed"
+stop_message (NotUtf8 byte) = codes "input isn't UTF-8 from byte " ++ decimal byte ++ codes " on"
+
+abbrev pub message_of : Ending → List ℕ
+message_of (Answered verdict) = []
+message_of Usage = codes "usage: cedar-parse expr|policies|format [fn:NAME | method:NAME]*"
+message_of (Stopped stop) = stop_message stop
+
+-- a message stands written, on a line of its own, and all writes went well
+abbrev pub IsMessageWritten : {E : Type 0} → List ℕ → Stream E → Type 0
+IsMessageWritten message err =
+    (writer_state err.new ≡ Written) × AreBytesWritten (message ++ codes "\n") err.writing
 
 -- what each end says of the words and of the streams
-pub data Ends {A : Type 0} (words : List (String A)) (s : Streams) : Ending → Type 0 where
-  -- the text was read, and all that was written was passed on
+pub data Ends {A O E : Type 0} (words : List (String A)) (s : Streams O E) : Ending → Type 0 where
+  -- the text was read, all that was written was passed on, and nothing was said beside it
   answered : (command : Command) (verdict : Verdict) → AsksFor command words →
-      IfSome s.known (λ text. IsVerdict command (styles_of words) text verdict) →
-      IfSome s.known (λ text. IsAnswerWritten command (styles_of words) text verdict s.writing) →
-      s.read ≡ None → s.out ≡ Flushed → Ends words s (Answered verdict)
-  usage : AsksForNothing words → s.err ≡ Written → Ends words s Usage
-  stopped : (command : Command) (stop : Stop) → AsksFor command words →
-      Stops s.known s.read s.out stop → s.err ≡ Written → Ends words s (Stopped stop)
+      IsAnswered command (styles_of words) s.known verdict s.out.writing →
+      s.read ≡ None → writer_state s.out.new ≡ Flushed → IsUntouched s.err →
+      Ends words s (Answered verdict)
+  told : (end : Ending) → Unanswered words s end → IsMessageWritten (message_of end) s.err →
+      Ends words s end
   -- why the run ends could not be told
-  untold : (stop : Stop) → s.err ≡ Failed stop → Ends words s (Stopped InputOutput)
+  untold : (end : Ending) (stop : Stop) → Unanswered words s end →
+      writer_state s.err.new ≡ Failed stop → Ends words s (Stopped InputOutput)
 
 abbrev pub status_of : Ending → ℕ
 status_of (Answered Accepted) = 0
@@ -132,9 +172,10 @@ status_of (Answered Refused) = 1
 status_of Usage = 2
 status_of (Stopped Memory) = 3
 status_of (Stopped InputOutput) = 4
+status_of (Stopped (NotUtf8 byte)) = 4
 
 -- a run that ends so has this status, or that of a failed write where this could not be told
-abbrev pub TellsEnd : Ending → WriterState → ℕ → Type 0
+abbrev pub TellsEnd : {E : Type 0} → Ending → Stream E → ℕ → Type 0
 TellsEnd end err status =
-    ((status ≡ status_of end) × (err ≡ Written))
-    ⊎ ((stop : Stop) × (status ≡ 4) × (err ≡ Failed stop))
+    ((status ≡ status_of end) × IsMessageWritten (message_of end) err)
+    ⊎ ((stop : Stop) × (status ≡ 4) × (writer_state err.new ≡ Failed stop))

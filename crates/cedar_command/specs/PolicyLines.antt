@@ -35,7 +35,16 @@ abbrev pub set_lines : PolicyMaps → List ℕ
 set_lines set =
     policy_lines set (set_size set) ++ (codes "ok " ++ decimal (set_size set) ++ codes "\n")
 
--- the lines of a set that a text means under a table are written
+-- the lines of a set's first policies are written
+abbrev pub AreFirstLinesWritten : PolicyMaps → Writing → Type 0
+AreFirstLinesWritten set w = (n : ℕ) × AreBytesWritten (policy_lines set n) w
+
+-- those of a set that a text means under a table
+abbrev pub IsSetBegun : Extensions → List ℕ → Writing → Type 0
+IsSetBegun table text w =
+    (set : PolicyMaps) × MeansSet table text (set_meaning set) × AreFirstLinesWritten set w
+
+-- all of them are written
 abbrev pub IsSetWritten : Extensions → List ℕ → Writing → Type 0
 IsSetWritten table text w =
     (set : PolicyMaps) × MeansSet table text (set_meaning set) × AreBytesWritten (set_lines set) w

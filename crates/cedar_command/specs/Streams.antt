@@ -1,6 +1,7 @@
 -- What is seen of a run's streams, and what a call leaves.
 use Rattle.std.specs.Prelude.{◌≡◌, ◌↔◌, ℕ, List, Option, Result, Ok, Err, IfSome, IsErrAnd}
 use Rattle.std.specs.Str.{IsUtf8}
+use Rattle.std.specs.Str.Lossy.{utf8_valid_len}
 use Rattle.std.specs.Io.KnownBytes.{Appends}
 use Rattle.std.specs.IoError.{error_kind}
 use Rattle.std.specs.declared.io.ErrorKind.TheVariants as kind
@@ -23,9 +24,9 @@ reader_of input = input.reader
 abbrev pub read_failure : {R : Type 0} → Input R → Option Stop
 read_failure input = input.failure
 
--- what a reader gives isn't UTF-8, where that is known before it is read
-abbrev pub IsNoText : Option (List ℕ) → Type 0
-IsNoText known = IfSome known (λ bytes. ¬ IsUtf8 bytes)
+-- what a reader gives isn't UTF-8 from this byte on, where it is known before it is read
+abbrev pub IsNoText : Option (List ℕ) → ℕ → Type 0
+IsNoText known byte = IfSome known (λ bytes. ¬ IsUtf8 bytes × (byte ≡ utf8_valid_len bytes))
 
 abbrev pub writer_state : {W : Type 0} → Output W → WriterState
 writer_state output = output.state
@@ -42,6 +43,21 @@ pub record Writing : Type 0 where
 abbrev pub writing : {W : Type 0} → (W → Option (List ℕ)) → Output W → Output W → Writing
 writing contents old new =
     record { before = contents (writer_of old); after = contents (writer_of new) }
+
+-- a stream that a run may write to: as it was before the run and as it is at its end
+pub record Stream (W : Type 0) : Type 0 where
+  pub old : Output W
+  pub new : Output W
+  pub writing : Writing
+
+-- of a writer of a type whose bytes are known so
+abbrev pub stream : {W : Type 0} → (W → Option (List ℕ)) → Output W → Output W → Stream W
+stream contents old new =
+    record { old = old; new = new; writing = writing contents old new }
+
+-- no call of the writer was made
+abbrev pub IsUntouched : {W : Type 0} → Stream W → Type 0
+IsUntouched s = s.new ≡ s.old
 
 -- just these bytes were written, where what the writer holds is known
 abbrev pub AreBytesWritten : List ℕ → Writing → Type 0

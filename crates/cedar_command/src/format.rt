@@ -27,7 +27,8 @@ pub(crate) fn format<O: Write>(
         IsVerdict command.Format (table_of styles.now) text.now v) }
     ensures written { IfOk result (λ v. IsAnswerWritten command.Format
         (table_of styles.now) text.now v (writing O.contents out.old out.new)) }
-    ensures stops { IfErr result (λ stop. StopsWriting (writer_state out.new) stop) }
+    ensures stops { IfErr result (λ stop.
+        StopsWriting (out.new ≡ out.old) (writer_state out.new) stop) }
 {
     match lines_of(alloc, styles, text) {
         Ok(lines) => print_lines(lines.as_str(), out),

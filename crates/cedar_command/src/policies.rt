@@ -4,9 +4,9 @@ ghost use Rattle.cedar_conversion.specs.strict.Table.{table_of};
 ghost use Rattle.cedar_policy_conversion.specs.PolicyMeaning.{policy_id};
 ghost use Rattle.cedar_policy_parser.specs.meaning.Formatted.{MeansSet};
 ghost use Rattle.cedar_policy_store.specs.PlaceFree.{set_meaning};
-ghost use Rattle.cedar_command.specs.Ends.{IsMeant, IsVerdict, IsAnswerWritten, RefusesFor, StopsWriting};
-ghost use Rattle.cedar_command.specs.PolicyLines.{kind_line, policy_line, policy_lines, set_lines, set_size};
-ghost use Rattle.cedar_command.specs.Streams.{writer_state, writing, AreBytesWritten};
+ghost use Rattle.cedar_command.specs.Ends.{IsMeant, IsVerdict, IsAnswerWritten, IsAnswerBegun, RefusesFor, StopsWriting};
+ghost use Rattle.cedar_command.specs.PolicyLines.{AreFirstLinesWritten, kind_line, policy_line, policy_lines, set_lines, set_size};
+ghost use Rattle.cedar_command.specs.Streams.{stream, writer_state, writing, AreBytesWritten};
 ghost use Rattle.cedar_command.specs.declared.run.Verdict.TheVariants as verdict;
 ghost use Rattle.cedar_command.specs.declared.request.Command.TheVariants as command;
 ghost use Rattle.cedar_syntax.specs.faults.ParseErrors.{IsMemory};
@@ -31,7 +31,9 @@ pub(crate) fn policies<O: Write>(
         IsVerdict command.Policies (table_of styles.now) text.now v) }
     ensures written { IfOk result (λ v. IsAnswerWritten command.Policies
         (table_of styles.now) text.now v (writing O.contents out.old out.new)) }
-    ensures stops { IfErr result (λ stop. StopsWriting (writer_state out.new) stop) }
+    ensures stops { IfErr result (λ stop. StopsWriting (IsAnswerBegun command.Policies
+        (table_of styles.now) text.now (stream O.contents out.old out.new))
+        (writer_state out.new) stop) }
 {
     match set_of(alloc, styles, text) {
         Ok(set) => print_policies(alloc, &set, out),
@@ -61,7 +63,8 @@ fn print_policies<O: Write>(
     ensures verdict { IfOk result (λ v. v ≡ verdict.Accepted) }
     ensures written { OnOk result (AreBytesWritten (set_lines set.now)
         (writing O.contents out.old out.new)) }
-    ensures stops { IfErr result (λ stop. StopsWriting (writer_state out.new) stop) }
+    ensures stops { IfErr result (λ stop. StopsWriting (AreFirstLinesWritten set.now
+        (writing O.contents out.old out.new)) (writer_state out.new) stop) }
 {
     let count = set_size(set);
     print_numbered(alloc, set, count, out)?;
@@ -86,7 +89,8 @@ fn print_numbered<O: Write>(
 ) -> Result<(), Stop>
     ensures written { OnOk result (AreBytesWritten (policy_lines set.now count)
         (writing O.contents out.old out.new)) }
-    ensures stops { IfErr result (λ stop. StopsWriting (writer_state out.new) stop) }
+    ensures stops { IfErr result (λ stop. StopsWriting (AreFirstLinesWritten set.now
+        (writing O.contents out.old out.new)) (writer_state out.new) stop) }
 {
     for number in 0..count {
         print_policy(alloc, set, number, out)?;
@@ -103,7 +107,8 @@ fn print_policy<O: Write>(
 ) -> Result<(), Stop>
     ensures written { OnOk result (AreBytesWritten (policy_line set.now (policy_id number))
         (writing O.contents out.old out.new)) }
-    ensures stops { IfErr result (λ stop. StopsWriting (writer_state out.new) stop) }
+    ensures stops { IfErr result (λ stop.
+        StopsWriting (out.new ≡ out.old) (writer_state out.new) stop) }
 {
     let Ok(id) = policy_id(alloc, number) else {
         return Err(Stop::Memory);
@@ -121,7 +126,7 @@ fn print_kind<O: Write>(
 ) -> Result<(), Stop>
     ensures written { OnOk result (AreBytesWritten (kind_line is_kind id.now kind.now)
         (writing O.contents out.old out.new)) }
-    ensures stops { IfErr result (λ stop. StopsWriting (writer_state out.new) stop) }
+    ensures failed { IfErr result (λ stop. writer_state out.new ≡ WriterState.Failed stop) }
 {
     if is_kind {
         writeln!(out, "{} {kind}", id.as_str())?;

@@ -1,5 +1,5 @@
 //! A run of the program: its words, its text, what it writes and its status.
-ghost use Rattle.std.specs.Prelude.{◌≡◌, ◌≢◌, None, OnOk, IfOk, IfErr, IfSome, flat_map};
+ghost use Rattle.std.specs.Prelude.{◌≡◌, ◌≢◌, None, OnOk, IfOk, IfErr, flat_map};
 ghost use Rattle.std.specs.IoError.{error_kind};
 ghost use Rattle.cedar_expressions.specs.Value.{Value};
 ghost use Rattle.cedar_syntax.specs.trees.Forms.{located, expr_form};
@@ -9,9 +9,9 @@ ghost use Rattle.cedar_syntax.specs.faults.ParseErrors.{faults_of, IsMemory};
 ghost use Rattle.cedar_conversion.specs.outcome.Conversion.{Converts};
 ghost use Rattle.cedar_conversion.specs.strict.Table.{table_of};
 ghost use Rattle.cedar_policy_parser.specs.faults.Refused.{TellsTree};
-ghost use Rattle.cedar_command.specs.Ends.{IsMeant, IsVerdict, IsAnswerWritten, RefusesFor, tree_lines, streams_at, Ends, Stops, StopsWriting, TellsEnd, status_of};
+ghost use Rattle.cedar_command.specs.Ends.{IsMeant, IsVerdict, IsAnswerWritten, IsAnswerBegun, IsAnswered, RefusesFor, tree_lines, streams_at, Ends, Stops, StopsWriting, TellsEnd, status_of};
 ghost use Rattle.cedar_command.specs.FaultLines.{AreFaultsWritten, fault_line};
-ghost use Rattle.cedar_command.specs.Streams.{AreBytesWritten, writing, reader_of, read_failure, writer_state};
+ghost use Rattle.cedar_command.specs.Streams.{AreBytesWritten, stream, writing, reader_of, read_failure, writer_state};
 ghost use Rattle.cedar_command.specs.Request.{AsksForNothing, styles_of};
 ghost use Rattle.cedar_command.specs.declared.run.Ending.{Ending as How};
 ghost use Rattle.cedar_command.specs.declared.run.Ending.TheVariants.{Stopped, Usage};
@@ -33,7 +33,7 @@ use cedar_text::text_to_cst::parse_expr;
 use std::alloc::Global;
 use std::env::Env;
 use std::io::{ErrorKind, Read, Write};
-use std::{env, io};
+use std::{env, fmt, io};
 
 const USAGE: &str = "usage: cedar-parse expr|policies|format [fn:NAME | method:NAME]*";
 
@@ -52,6 +52,22 @@ pub enum Ending {
     Stopped(Stop),
 }
 
+impl fmt::Display for Ending {
+    ghost use Rattle.std.proofs.Common.{Some};
+    ghost use Rattle.cedar_command.specs.Ends.{message_of};
+
+    ghost output = { λ end. Some (message_of end) };
+
+    /// What is said of a run that ends without an answer.
+    fn fmt<W: fmt::Write>(&self, f: &mut fmt::Formatter<W>) -> fmt::Result {
+        match self {
+            Ending::Answered(_) => Ok(()),
+            Ending::Usage => f.write_str(USAGE),
+            Ending::Stopped(stop) => write!(f, "{stop}"),
+        }
+    }
+}
+
 impl Ending {
     fn status(&self) -> u8
         ensures { result ≡ status_of self.now }
@@ -61,7 +77,7 @@ impl Ending {
             Ending::Answered(Verdict::Refused) => 1,
             Ending::Usage => 2,
             Ending::Stopped(Stop::Memory) => 3,
-            Ending::Stopped(Stop::InputOutput) => 4,
+            Ending::Stopped(Stop::InputOutput | Stop::NotUtf8(_)) => 4,
         }
     }
 }
@@ -78,7 +94,9 @@ pub fn arguments<R: Env + AllocGlobal>(rt: &R) -> io::Result<Vec<String>> {
 /// Does what `words` (the arguments without the program's name) ask of the text that `input`
 /// gives, and answers the status: 0 where the text is accepted, 1 where it has faults, 2 for a
 /// usage fault, 3 for want of memory, 4 where reading or writing failed, also for input that isn't
-/// UTF-8. The answer, or the faults, go to `out`; what ended a run goes to `err`. A text may call
+/// UTF-8. The answer, or the faults, go to `out`, and then nothing to `err`; why there is no
+/// answer goes to `err`, on a line. Of a usage fault nothing goes to `out`, of a failed read
+/// neither, and where memory is refused at most the lines of the first policies. A text may call
 /// the extension functions and methods that the words name, and no others.
 pub fn run<R: Read + Drop, O: Write, E: Write>(
     alloc: Global,
@@ -89,44 +107,44 @@ pub fn run<R: Read + Drop, O: Write, E: Write>(
 ) -> u8
     ensures ends { (end : How) × (result ≡ status_of end)
         × Ends words.now (streams_at (R.remaining (reader_of input.old)) input.new
-        (writing O.contents out.old out.new) out.new err.new) end }
+        (stream O.contents out.old out.new) (stream E.contents err.old err.new)) end }
     ensures unread { AsksForNothing words.now → input.new ≡ input.old }
 {
     match command_of(words) {
-        None => tell(Ending::Usage, USAGE, err),
+        None => tell(Ending::Usage, err),
         Some(command) => match answer(alloc, command, words, input, out) {
             Ok(verdict) => Ending::Answered(verdict).status(),
-            Err(stop) => tell(Ending::Stopped(stop), stop.message(), err),
+            Err(stop) => tell(Ending::Stopped(stop), err),
         },
     }
 }
 
 /// Ends a run for which no memory was left before it began.
 pub fn refuse<E: Write>(err: &mut Output<E>) -> u8
-    ensures { TellsEnd (Stopped Stop.Memory) (writer_state err.new) result }
+    ensures { TellsEnd (Stopped Stop.Memory) (stream E.contents err.old err.new) result }
 {
-    tell(Ending::Stopped(Stop::Memory), Stop::Memory.message(), err)
+    tell(Ending::Stopped(Stop::Memory), err)
 }
 
 /// Ends a run whose arguments can't be had: a usage fault where one isn't UTF-8, else want of
 /// memory.
 pub fn refuse_arguments<E: Write>(error: io::Error, err: &mut Output<E>) -> u8
     ensures usage { error_kind error ≡ ErrorKind.InvalidData
-        → TellsEnd Usage (writer_state err.new) result }
+        → TellsEnd Usage (stream E.contents err.old err.new) result }
     ensures memory { error_kind error ≢ ErrorKind.InvalidData
-        → TellsEnd (Stopped Stop.Memory) (writer_state err.new) result }
+        → TellsEnd (Stopped Stop.Memory) (stream E.contents err.old err.new) result }
 {
     match error.kind() {
-        ErrorKind::InvalidData => tell(Ending::Usage, USAGE, err),
+        ErrorKind::InvalidData => tell(Ending::Usage, err),
         _ => refuse(err),
     }
 }
 
 /// Says on `err` why the run ended, and answers its status, or that of a write that failed.
-fn tell<E: Write>(ending: Ending, message: &str, err: &mut Output<E>) -> u8
-    ensures { TellsEnd ending (writer_state err.new) result }
+fn tell<E: Write>(ending: Ending, err: &mut Output<E>) -> u8
+    ensures { TellsEnd ending (stream E.contents err.old err.new) result }
 {
-    match writeln!(err, "{message}") {
+    match writeln!(err, "{ending}") {
         Ok(()) => ending.status(),
         Err(_) => Ending::Stopped(Stop::InputOutput).status(),
     }
@@ -140,16 +158,13 @@ fn answer<R: Read + Drop, O: Write>(
     input: &mut Input<R>,
     out: &mut Output<O>,
 ) -> Result<Verdict, Stop>
-    ensures verdict { IfOk result (λ v. IfSome (R.remaining (reader_of input.old))
-        (λ text. IsVerdict command (styles_of words.now) text v)) }
-    ensures written { IfOk result (λ v. IfSome (R.remaining (reader_of input.old))
-        (λ text. IsAnswerWritten command (styles_of words.now) text v
-        (writing O.contents out.old out.new))) }
+    ensures answered { IfOk result (λ v. IsAnswered command (styles_of words.now)
+        (R.remaining (reader_of input.old)) v (writing O.contents out.old out.new)) }
     ensures read { OnOk result (read_failure input.new ≡ None) }
     ensures flushed { OnOk result (writer_state out.new ≡ WriterState.Flushed) }
-    ensures stops { IfErr result (λ stop.
-        Stops (R.remaining (reader_of input.old)) (read_failure input.new)
-        (writer_state out.new) stop) }
+    ensures stops { IfErr result (λ stop. Stops command (styles_of words.now)
+        (R.remaining (reader_of input.old)) (read_failure input.new)
+        (stream O.contents out.old out.new) stop) }
 {
     let text = input.text(alloc)?;
     answer_text(alloc, command, words, text.as_str(), out)
@@ -167,7 +182,9 @@ fn answer_text<O: Write>(
     ensures written { IfOk result (λ v. IsAnswerWritten command
         (styles_of words.now) text.now v (writing O.contents out.old out.new)) }
     ensures flushed { OnOk result (writer_state out.new ≡ WriterState.Flushed) }
-    ensures stops { IfErr result (λ stop. StopsWriting (writer_state out.new) stop) }
+    ensures stops { IfErr result (λ stop. StopsWriting (IsAnswerBegun command
+        (styles_of words.now) text.now (stream O.contents out.old out.new))
+        (writer_state out.new) stop) }
 {
     match request_of(alloc, command, words) {
         Ok(request) => write_answer(alloc, &request, text, out),
@@ -187,7 +204,9 @@ fn write_answer<O: Write>(
     ensures written { IfOk result (λ v. IsAnswerWritten request.now.command
         (table_of request.now.styles) text.now v (writing O.contents out.old out.new)) }
     ensures flushed { OnOk result (writer_state out.new ≡ WriterState.Flushed) }
-    ensures stops { IfErr result (λ stop. StopsWriting (writer_state out.new) stop) }
+    ensures stops { IfErr result (λ stop. StopsWriting (IsAnswerBegun request.now.command
+        (table_of request.now.styles) text.now (stream O.contents out.old out.new))
+        (writer_state out.new) stop) }
 {
     let verdict = dispatch(alloc, request.command, &request.styles, text, out)?;
     out.flush()?;
@@ -205,7 +224,9 @@ fn dispatch<O: Write>(
     ensures verdict { IfOk result (λ v. IsVerdict command (table_of styles.now) text.now v) }
     ensures written { IfOk result (λ v. IsAnswerWritten command
         (table_of styles.now) text.now v (writing O.contents out.old out.new)) }
-    ensures stops { IfErr result (λ stop. StopsWriting (writer_state out.new) stop) }
+    ensures stops { IfErr result (λ stop. StopsWriting (IsAnswerBegun command
+        (table_of styles.now) text.now (stream O.contents out.old out.new))
+        (writer_state out.new) stop) }
 {
     match command {
         Command::Expression => expression(alloc, styles, text, out),
@@ -225,7 +246,8 @@ fn expression<O: Write>(
         IsVerdict command.Expression (table_of styles.now) text.now v) }
     ensures written { IfOk result (λ v. IsAnswerWritten command.Expression
         (table_of styles.now) text.now v (writing O.contents out.old out.new)) }
-    ensures stops { IfErr result (λ stop. StopsWriting (writer_state out.new) stop) }
+    ensures stops { IfErr result (λ stop.
+        StopsWriting (out.new ≡ out.old) (writer_state out.new) stop) }
 {
     match tree_of(alloc, styles, text) {
         Ok(tree) => print_tree(&tree, out),
@@ -274,7 +296,7 @@ fn print_tree<O: Write>(tree: &Node<Option<Expr>>, out: &mut Output<O>) -> Resul
     Ok(Verdict::Accepted)
 }
 
-/// Prints the faults of a text; want of memory is none of them.
+/// Prints the faults of a text; want of memory is none of them, and prints nothing.
 pub(crate) fn print_failure<O: Write>(
     failure: &Failure,
     out: &mut Output<O>,
@@ -282,7 +304,8 @@ pub(crate) fn print_failure<O: Write>(
     ensures verdict { IfOk result (λ v. (v ≡ verdict.Refused) × ¬ (IsMemory failure.now)) }
     ensures written { OnOk result (AreFaultsWritten failure.now
         (writing O.contents out.old out.new)) }
-    ensures stops { IfErr result (λ stop. StopsWriting (writer_state out.new) stop) }
+    ensures stops { IfErr result (λ stop.
+        StopsWriting (out.new ≡ out.old) (writer_state out.new) stop) }
 {
     match failure {
         Failure::Memory(_) => Err(Stop::Memory),

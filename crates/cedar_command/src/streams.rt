@@ -1,25 +1,32 @@
 //! The streams of a run: a reader and writers, each with how its calls went.
-ghost use Rattle.std.specs.Prelude.{◌≡◌, ◌⊎◌, None, Some, OnOk, IfOk, IfErr, IfSome, string_bytes};
+ghost use Rattle.std.specs.Prelude.{◌≡◌, ◌⊎◌, ℕ, None, Some, OnOk, IfOk, IfErr, IfSome, string_bytes};
 ghost use Rattle.std.specs.Io.KnownBytes.{Keeps};
 
 use std::alloc::Global;
 use std::fmt::Display;
-use std::io;
 use std::io::{ErrorKind, Read, Write};
+use std::{fmt, io};
 
 /// Why a run ends with no answer about the text.
 #[derive(Clone, Copy)]
 pub enum Stop {
     Memory,
     InputOutput,
+    /// From this byte on what was read isn't UTF-8.
+    NotUtf8(usize),
 }
 
-impl Stop {
-    /// What is said of it on the stream of errors.
-    pub fn message(&self) -> &'static str {
+impl fmt::Display for Stop {
+    ghost use Rattle.std.proofs.Common.{Some};
+    ghost use Rattle.cedar_command.specs.Ends.{stop_message};
+
+    ghost output = { λ stop. Some (stop_message stop) };
+
+    fn fmt<W: fmt::Write>(&self, f: &mut fmt::Formatter<W>) -> fmt::Result {
         match self {
-            Stop::Memory => "want of memory",
-            Stop::InputOutput => "input or output failed",
+            Stop::Memory => f.write_str("want of memory"),
+            Stop::InputOutput => f.write_str("input or output failed"),
+            Stop::NotUtf8(byte) => write!(f, "input isn't UTF-8 from byte {byte} on"),
         }
     }
 }
@@ -65,7 +72,8 @@ impl<R: Read + Drop> Input<R> {
             IfSome (R.remaining (reader_of self.old)) (λ known. string_bytes text ≡ known)) }
         ensures ok { OnOk result (read_failure self.new ≡ None) }
         ensures err { IfErr result (λ stop. (read_failure self.new ≡ Some stop)
-            ⊎ ((stop ≡ Stop.InputOutput) × IsNoText (R.remaining (reader_of self.old)))) }
+            ⊎ ((byte : ℕ) × (stop ≡ Stop.NotUtf8 byte)
+            × IsNoText (R.remaining (reader_of self.old)) byte)) }
     {
         if let Some(stop) = self.failure {
             return Err(stop);
@@ -78,7 +86,7 @@ impl<R: Read + Drop> Input<R> {
         }
         match String::from_utf8(bytes) {
             Ok(text) => Ok(text),
-            Err(_) => Err(Stop::InputOutput),
+            Err(error) => Err(Stop::NotUtf8(error.utf8_error().valid_up_to())),
         }
     }
 }
