@@ -96,8 +96,8 @@ pub fn arguments<R: Env + AllocGlobal>(rt: &R) -> io::Result<Vec<String>> {
 /// usage fault, 3 for want of memory, 4 where reading or writing failed, also for input that isn't
 /// UTF-8. The answer, or the faults, go to `out`, and then nothing to `err`; why there is no
 /// answer goes to `err`, on a line. Of a usage fault nothing goes to `out`, of a failed read
-/// neither, and where memory is refused at most the lines of the first policies. A text may call
-/// the extension functions and methods that the words name, and no others.
+/// neither, and where memory is refused, but to a write, at most the lines of the first policies.
+/// A text may call the extension functions and methods that the words name, and no others.
 pub fn run<R: Read + Drop, O: Write, E: Write>(
     alloc: Global,
     words: &[String],
