@@ -20,4 +20,5 @@ pub mod Recovery
 pub mod Scope
 pub mod SequenceShapes
 pub mod Sequences
+pub mod Stopped
 pub mod Telling

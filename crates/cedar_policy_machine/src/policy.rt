@@ -37,7 +37,7 @@ pub type ConditionSequence<E> = Sequence<Spanned<ConditionState<E>>, Node<Option
 /// Where a policy stands.
 #[derive(Drop, Clone, Copy)]
 pub enum Section {
-    /// AnnotationSequence, or the effect, are to come.
+    /// Annotations, or the effect, are to come.
     Annotations,
     /// Behind the effect.
     Effect,

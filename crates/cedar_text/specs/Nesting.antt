@@ -1,5 +1,5 @@
 -- How deep the tree of a text nests at most. By the loose grammar (`LooseExpressions` and
--- `LoosePolicies` of cedar_syntax) an expression is a part of another one in brackets or as a part
+-- `LoosePolicies` of cedar_grammar) an expression is a part of another one in brackets or as a part
 -- of an `if`, and of a policy in brackets alone; signs, accesses and operands are lists. So an
 -- expression of a tree lies within at most as many others as, before it, brackets are open and
 -- `if`s have begun in its policy.

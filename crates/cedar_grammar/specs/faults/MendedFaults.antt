@@ -1,5 +1,5 @@
 -- All faults of a text in which reading goes on behind a fault, as they are recorded.
-use Rattle.std.specs.Prelude.{◌≡◌, ◌⊎◌, ℕ, List, [], ◌∷◌, Option, Some, None}
+use Rattle.std.specs.Prelude.{◌≡◌, ◌⊎◌, ℕ, List, [], ◌∷◌, ◌++◌, Option, Some, None}
 use Rattle.cedar_lexer.specs.Token.{Lexeme}
 use Rattle.cedar_lexer.specs.LexerState.{IsCutOrStop}
 use Rattle.cedar_lexer.specs.declared.token.TokenKind.{TokenKind}
@@ -41,15 +41,6 @@ abbrev pub faults_with_last : {F : Type 0} → Option F → List F → List F
 faults_with_last None xs = xs
 faults_with_last (Some x) xs = x ∷ xs
 
--- the list of these faults; at a bad place its fault stands for the one in hand, if the parse
--- hasn't stopped before
-abbrev pub IsListed : List ℕ → Option ℕ → List ParseError → Option ParseError → List ParseError →
-    Type 0
-IsListed src None ys y xs = xs ≡ faults_with_last y ys
-IsListed src (Some place) ys y xs =
-    (xs ≡ fault_of src (fault.InvalidToken place) ∷ ys) ⊎
-    ((x : ParseError) × (y ≡ Some x) × (xs ≡ x ∷ ys))
-
 -- what may stand before the policy that is begun: policies, or nothing
 abbrev pub PoliciesBefore : List ℕ → List Lexeme → Type 0
 PoliciesBefore src ts = HasTree (ReadsMany src (ReadsPolicy src)) ts
@@ -64,6 +55,22 @@ abbrev pub FaultsOf : {T : Type 0} → Rule T → (List ℕ → List Lexeme → 
 FaultsOf R W src ts ys y = Faults src (IsNodeOf R src) (W src)
     (Unallowed (IsNodeOf R src) narrowing.Tokens src) (IsLarge src) ts ys y
 
+-- the parse has stopped at the last of these faults: they stand whatever tokens follow
+abbrev pub HasStopped : {T : Type 0} → Rule T → (List ℕ → List Lexeme → Type 0) → List ℕ →
+    List Lexeme → List ParseError → Option ParseError → Type 0
+HasStopped R W src ts ys y =
+    (x : ParseError) × (y ≡ Some x) × ((us : List Lexeme) → FaultsOf R W src (ts ++ us) ys y)
+
+-- The list of the faults of these tokens, behind which the text ends, or has a bad place. There the
+-- fault in hand is given up, and that of the bad place stands for it, unless the parse has stopped
+-- before.
+abbrev pub IsListed : {T : Type 0} → Rule T → (List ℕ → List Lexeme → Type 0) → List ℕ →
+    List Lexeme → Option ℕ → List ParseError → Option ParseError → List ParseError → Type 0
+IsListed R W src ts None ys y xs = xs ≡ faults_with_last y ys
+IsListed R W src ts (Some place) ys y xs =
+    (HasStopped R W src ts ys y × (xs ≡ faults_with_last y ys)) ⊎
+    (¬ HasStopped R W src ts ys y × (xs ≡ fault_of src (fault.InvalidToken place) ∷ ys))
+
 -- all faults of a text that is read by this rule
 pub record IsFaultList {T : Type 0} (R : Rule T) (W : List ℕ → List Lexeme → Type 0)
     (text : List ℕ) (xs : List ParseError) : Type 0 where
@@ -73,7 +80,7 @@ pub record IsFaultList {T : Type 0} (R : Rule T) (W : List ℕ → List Lexeme �
   pub mended : List ParseError
   pub last : Option ParseError
   pub stands : FaultsOf R W text tokens mended last
-  pub is : IsListed text bad mended last xs
+  pub is : IsListed R W text tokens bad mended last xs
 
 -- a refusal is want of memory, or just these faults
 abbrev pub IsMendedRefusal : {T : Type 0} → Rule T → (List ℕ → List Lexeme → Type 0) → List ℕ →

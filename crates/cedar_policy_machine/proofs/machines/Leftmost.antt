@@ -329,7 +329,7 @@ has_leftmost xs ys x e (leads_none f) = absurd (none_more x xs (sym (e ∙ f)))
 has_leftmost {R = R} {src = src} xs ys x e (leads raw h l) = (raw, record { before = h.before; rest = h.rest; is = h.is; stands = fault_by_rule R src h.stands }, subst (λ ys. StandsLeftmost (fault_of src raw) ys) (sym e) l)
 
 leftmost_list : {T : Type 0} {R : Rule T} (W : List ℕ → List Lexeme → Type 0) (text : List ℕ) → Resumes text (IsNodeOf R text) (W text) → IsUtf8 text → (ts : List Lexeme) → Cuts text ts → NumbersFit ts → (x : ParseError) (xs : List ParseError) →
-    (h : IsFaultList R W text (x ∷ xs)) (bad : Option ℕ) → IsCutOrStop text 0 h.tokens bad → IsListed text bad h.mended h.last (x ∷ xs) → (raw : RawFault) × IsFaultIn (R text) narrowing.Tokens text ts None raw × StandsLeftmost (fault_of text raw) (x ∷ xs)
+    (h : IsFaultList R W text (x ∷ xs)) (bad : Option ℕ) → IsCutOrStop text 0 h.tokens bad → IsListed R W text h.tokens bad h.mended h.last (x ∷ xs) → (raw : RawFault) × IsFaultIn (R text) narrowing.Tokens text ts None raw × StandsLeftmost (fault_of text raw) (x ∷ xs)
 leftmost_list W text m u ts c f x xs h (Some place) k i = absurd (not_both text ts h.tokens place c k)
 leftmost_list {R = R} W text m u ts c f x xs h None k i =
     let same : h.tokens ≡ ts = (one_end k (nothing_at_end text) c (nothing_at_end text)).0 in

@@ -28,12 +28,14 @@ use Rattle.cedar_grammar.proofs.machines.Laws.{at_most_one, comes, starts_from}
 use Rattle.cedar_policy_machine.proofs.machines.Leftmost.{Resumes, leftmost}
 use Rattle.cedar_policy_machine.proofs.machines.Recovery.{Recoverable, resumed}
 use Rattle.cedar_grammar.proofs.machines.Rightly.{EndsRightly}
+use Rattle.cedar_policy_machine.proofs.machines.Stopped.{TellsApart}
 use Rattle.cedar_policy_machine.proofs.machines.Telling.{refused_list}
 
 -- a form that is read by this rule and is recovered
 pub record Mends {S A T V : Type 0} (R : Rule T) (W : List ℕ → List Lexeme → Type 0) (text : List ℕ) (p : Reader S A (Cell T)) (r : Recovers S ParseError) (n : Machine TokenKind V (Unit {0})) (f : S → V) : Type 0 where
   pub right : EndsRightly text p
   pub mended : Recoverable text (machine_of text p) (IsNodeOf R text) (W text) (Unallowed (IsNodeOf R text) narrowing.Tokens text) (IsLarge text) r n f
+  pub apart : TellsApart r
 
 tree_of : {S A T V : Type 0} {R : Rule T} {text : List ℕ} {p : Reader S A (Cell T)} {r : Recovers S ParseError} {n : Machine TokenKind V (Unit {0})} {f : S → V} (W : List ℕ → List Lexeme → Type 0) → Mends R W text p r n f → (x : Cell T) → IsRead (machine_of text p) text x → IsTreeOf R text x
 tree_of W d x h = record { tokens = h.tokens; cut = h.cut; stands = d.mended.door.sound h.tokens h.runs.last x h.runs.goes h.runs.ends }
@@ -50,7 +52,7 @@ none_listed x xs e = cc
 
 -- a text with a tree has no list of faults
 no_list : {S A T V : Type 0} {R : Rule T} {text : List ℕ} {p : Reader S A (Cell T)} {r : Recovers S ParseError} {n : Machine TokenKind V (Unit {0})} {f : S → V} (W : List ℕ → List Lexeme → Type 0) → Mends R W text p r n f → (y : Cell T) → IsTreeOf R text y → (x : ParseError) (xs : List ParseError) →
-    (h : IsFaultList R W text (x ∷ xs)) (bad : Option ℕ) → IsCutOrStop text 0 h.tokens bad → IsListed text bad h.mended h.last (x ∷ xs) → ⊥
+    (h : IsFaultList R W text (x ∷ xs)) (bad : Option ℕ) → IsCutOrStop text 0 h.tokens bad → IsListed R W text h.tokens bad h.mended h.last (x ∷ xs) → ⊥
 no_list {text = text} W d y g x xs h (Some place) c i = not_both text g.tokens h.tokens place g.cut c
 no_list {R = R} {text = text} {p = p} {r = r} W d y g x xs h None c i =
     let same : g.tokens ≡ h.tokens = one_cut text g.tokens h.tokens g.cut c in
@@ -71,12 +73,12 @@ only_memory W d (Errors errors) h y g = no_list W d y g errors.faults.head error
 pub only_clause : {S A T V : Type 0} {R : Rule T} {text : List ℕ} {p : Reader S A (Cell T)} {r : Recovers S ParseError} {n : Machine TokenKind V (Unit {0})} {f : S → V} (W : List ℕ → List Lexeme → Type 0) → Mends R W text p r n f → (o : Result (Cell T) Failure) →
     MatchResult o (λ x. IsRead (machine_of text p) text x) (λ e. IsTold (machine_of text p) (allowed_by p) r text e) → (y : Cell T) → IsTreeOf R text y → MatchResult o (λ x. x ≡ y) IsMemory
 only_clause W d (Ok x) h y g = one_tree W d x y (tree_of W d x h) g
-only_clause {text = text} {p = p} W d (Err e) h y g = only_memory W d e (refused_list W text p d.right d.mended e h) y g
+only_clause {text = text} {p = p} W d (Err e) h y g = only_memory W d e (refused_list W text p d.right d.mended d.apart e h) y g
 
 pub refused_clause : {S A T V : Type 0} {R : Rule T} {text : List ℕ} {p : Reader S A (Cell T)} {r : Recovers S ParseError} {n : Machine TokenKind V (Unit {0})} {f : S → V} (W : List ℕ → List Lexeme → Type 0) → Mends R W text p r n f → (o : Result (Cell T) Failure) →
     MatchResult o (λ x. IsRead (machine_of text p) text x) (λ e. IsTold (machine_of text p) (allowed_by p) r text e) → IfErr o (λ e. IsMendedRefusal R W text e)
 refused_clause W d (Ok x) h = tt
-refused_clause {text = text} {p = p} W d (Err e) h = refused_list W text p d.right d.mended e h
+refused_clause {text = text} {p = p} W d (Err e) h = refused_list W text p d.right d.mended d.apart e h
 
 -- mended tokens go on from a stop
 goes_from_stop : {S A T V : Type 0} {R : Rule T} {text : List ℕ} {p : Reader S A (Cell T)} {r : Recovers S ParseError} {n : Machine TokenKind V (Unit {0})} {f : S → V} (W : List ℕ → List Lexeme → Type 0) → Mends R W text p r n f → Resumes text (IsNodeOf R text) (W text)
@@ -88,7 +90,7 @@ goes_from_stop W d before rest mended q s =
 pub leftmost_clause : {S A T V : Type 0} {R : Rule T} {text : List ℕ} {p : Reader S A (Cell T)} {r : Recovers S ParseError} {n : Machine TokenKind V (Unit {0})} {f : S → V} (W : List ℕ → List Lexeme → Type 0) → Mends R W text p r n f → (o : Result (Cell T) Failure) →
     MatchResult o (λ x. IsRead (machine_of text p) text x) (λ e. IsTold (machine_of text p) (allowed_by p) r text e) → IsUtf8 text → (ts : List Lexeme) → Cuts text ts → NumbersFit ts → IfErr o (λ e. HasLeftmost R text ts e)
 leftmost_clause W d (Ok x) h u ts c g = tt
-leftmost_clause {text = text} {p = p} W d (Err e) h u ts c g = leftmost W text (goes_from_stop W d) u ts c g e (refused_list W text p d.right d.mended e h)
+leftmost_clause {text = text} {p = p} W d (Err e) h u ts c g = leftmost W text (goes_from_stop W d) u ts c g e (refused_list W text p d.right d.mended d.apart e h)
 
 -- ---- laws
 

@@ -28,6 +28,7 @@ use Rattle.cedar_grammar.proofs.machines.Readers.{shaped_by, reads_by, same_faul
 use Rattle.cedar_policy_machine.proofs.machines.Lifted.{lifted}
 use Rattle.cedar_policy_machine.proofs.machines.Mapped.{IsWrapped, mapped_door, mapped_right, mapped_outlined, placed_holds, policies_nodes, nodes_policies}
 use Rattle.cedar_policy_machine.proofs.machines.MendedClauses.{Mends}
+use Rattle.cedar_policy_machine.proofs.machines.Stopped.{tells_apart}
 use Rattle.cedar_policy_machine.proofs.machines.Placing.{node_door, placed_right}
 use Rattle.cedar_policy_machine.proofs.machines.Policies.{Grounds, one_policy_right, one_policy_door, one_policy_outlined, all_policies_right, all_policies_door, all_policies_outlined}
 use Rattle.cedar_policy_machine.proofs.machines.PolicyRecovery.{one_recovers, all_recover}
@@ -69,6 +70,7 @@ pub whole_mends : {N S E A B C H L M F : Type 0} (src : List ℕ) (out : H → S
     PartsOutlined src m n f g h → Mends ReadsPolicies PoliciesBefore src (whole_reader out into m) (whole_recovers src out into m) (outline_machine (all_policies_outline n)) (λ s. all_policies_shape f g h (out s).state)
 whole_mends src out into w m n f g h d i = record {
   right = mapped_right src out into (λ src x. policies_node src x) (placing_reader (all_policies_reader m)) (placed_right src (all_policies_reader m) (all_policies_right src m));
+  apart = tells_apart (allowed_by (whole_reader out into m)) (λ h. begun_policy_way (out h).state.begun) (λ h. into (text_closing (out h))) (λ h. into (text_ending (out h))) src;
   mended =
       lifted (Unallowed (IsNodeOf ReadsPolicies src) narrowing.Tokens src) (IsLarge src) (λ s. (out s).state)
       (all_recover src m n f g h d i (tell_all src m) (λ t. fault_of src (large_at src t)) (Unallowed (ReadsMany src (ReadsPolicy src)) narrowing.Tokens src) (IsLarge src)
@@ -119,6 +121,7 @@ pub one_mends : {N S E A B C L M F : Type 0} (src : List ℕ) (m : PartReaders N
     Mends ReadsPolicy NothingBefore src (one_policy_reader m) (one_recovering src m) (outline_machine (one_policy_outline n)) (λ s. one_policy_shape f g h s)
 one_mends src m n f g h d i = record {
   right = one_policy_right src m;
+  apart = tells_apart (allowed_by (one_policy_reader m)) (λ s. policy_way way.Stop s.state) (λ s. policy_closing s) (λ s. policy_ending s) src;
   mended =
       lifted (Unallowed (IsNodeOf ReadsPolicy src) narrowing.Tokens src) (IsLarge src) (λ s. s)
       (one_recovers src m n f g h d i (tell_one src m) (λ t. fault_of src (large_at src t)) (Unallowed (AsNode src (ReadsPolicy src)) narrowing.Tokens src) (IsLarge src)

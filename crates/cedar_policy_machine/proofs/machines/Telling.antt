@@ -27,6 +27,7 @@ use Rattle.cedar_grammar.proofs.machines.Readers.{may_by}
 use Rattle.cedar_policy_machine.proofs.machines.Recovery.{end_from, Recoverable}
 use Rattle.cedar_grammar.proofs.machines.Skipping.{as_skipped}
 use Rattle.cedar_grammar.proofs.machines.Rightly.{EndsRightly}
+use Rattle.cedar_policy_machine.proofs.machines.Stopped.{TellsApart, IsWell, all_well, listed_at_bad}
 
 -- ---- what states allow is what the machine takes
 
@@ -57,22 +58,20 @@ end_list xs y None false e = refl
 end_list xs y (Some x) true e = refl
 end_list xs y (Some x) false e = absurd (cc)
 
-reading_list : {T : Type 0} (src : List ℕ) (place : ℕ) (xs : List ParseError) (y : ParseError) (o : Option T) → IsListed src (Some place) (told_reading xs y o).mended (told_reading xs y o).last (bad_fault fault_of src place ∷ xs)
-reading_list src place xs y None = inl refl
-reading_list src place xs y (Some x) = inl refl
-
-told_list : {S A T : Type 0} (src : List ℕ) (p : Reader S A T) → EndsRightly src p → (r : Recovers S ParseError) (q : Recovery S ParseError) (bad : Option ℕ) →
-    IsListed src bad (told_end (machine_of src p) r q).mended (told_end (machine_of src p) r q).last (met_faults (allowed_by p) r (bad_fault fault_of src) q bad)
-told_list src p i r (reading xs l s) None = end_list xs (r.tell s l None) (p.finish src s) (p.ends s) (sym (i s))
-told_list src p i r (reading xs l s) (Some place) = reading_list src place xs (r.tell s l None) (p.finish src s)
-told_list src p i r (skipping xs w s x) None = refl
-told_list src p i r (skipping xs w s x) (Some place) = inl refl
-told_list src p i r (stopped xs x) None = refl
-told_list src p i r (stopped xs x) (Some place) = inr (x, refl, refl)
+told_list : {S A T V : Type 0} {R : Rule T} (W : List ℕ → List Lexeme → Type 0) {r : Recovers S ParseError} {n : Machine TokenKind V (Unit {0})} {f : S → V} (src : List ℕ) (p : Reader S A (Cell T)) → EndsRightly src p →
+    Recoverable src (machine_of src p) (IsNodeOf R src) (W src) (Unallowed (IsNodeOf R src) narrowing.Tokens src) (IsLarge src) r n f → TellsApart r → (ts : List Lexeme) (q : Recovery S ParseError) → IsWell q →
+    q ≡ recovery_of_all (machine_of src p) r (reading [] 0 (machine_of src p).start) ts → (bad : Option ℕ) →
+    IsListed R W src ts bad (told_end (machine_of src p) r q).mended (told_end (machine_of src p) r q).last (met_faults (allowed_by p) r (bad_fault fault_of src) q bad)
+told_list W {r = r} src p i d a ts (reading xs l s) w at None = end_list xs (r.tell s l None) (p.finish src s) (p.ends s) (sym (i s))
+told_list W src p i d a ts (reading xs l s) w at (Some place) = listed_at_bad W d a ts place (reading xs l s) w at
+told_list W src p i d a ts (skipping xs v s x) w at None = refl
+told_list W src p i d a ts (skipping xs v s x) w at (Some place) = listed_at_bad W d a ts place (skipping xs v s x) w at
+told_list W src p i d a ts (stopped xs x) w at None = refl
+told_list W src p i d a ts (stopped xs x) w at (Some place) = listed_at_bad W d a ts place (stopped xs x) w at
 
 tells_list : {S A T V : Type 0} {R : Rule T} {W : List ℕ → List Lexeme → Type 0} {r : Recovers S ParseError} {n : Machine TokenKind V (Unit {0})} {f : S → V} (text : List ℕ) (p : Reader S A (Cell T)) → EndsRightly text p →
-    Recoverable text (machine_of text p) (IsNodeOf R text) (W text) (Unallowed (IsNodeOf R text) narrowing.Tokens text) (IsLarge text) r n f → (xs : List ParseError) → AreAllFaults (machine_of text p) (allowed_by p) r (bad_fault fault_of text) text xs → IsFaultList R W text xs
-tells_list {r = r} text p i d xs h =
+    Recoverable text (machine_of text p) (IsNodeOf R text) (W text) (Unallowed (IsNodeOf R text) narrowing.Tokens text) (IsLarge text) r n f → TellsApart r → (xs : List ParseError) → AreAllFaults (machine_of text p) (allowed_by p) r (bad_fault fault_of text) text xs → IsFaultList R W text xs
+tells_list {R = R} {W = W} {r = r} text p i d apart xs h =
     let m = machine_of text p in
     let a = has_faults d h.tokens in
     let q = recovery_of_all m r (reading [] 0 m.start) h.tokens in
@@ -85,13 +84,14 @@ tells_list {r = r} text p i d xs h =
       mended = a.mended;
       last = a.last;
       stands = a.stands;
-      is = subst (λ a. IsListed text h.bad a.mended a.last xs) e (subst (λ xs. IsListed text h.bad (told_end m r q).mended (told_end m r q).last xs) (sym same) (told_list text p i r q h.bad));
+      is = subst (λ a. IsListed R W text h.tokens h.bad a.mended a.last xs) e
+          (subst (λ xs. IsListed R W text h.tokens h.bad (told_end m r q).mended (told_end m r q).last xs) (sym same) (told_list W text p i d apart h.tokens q (all_well m r (reading [] 0 m.start) h.tokens tt) refl h.bad));
     }
 
 pub refused_list : {S A T V : Type 0} {R : Rule T} {r : Recovers S ParseError} {n : Machine TokenKind V (Unit {0})} {f : S → V} (W : List ℕ → List Lexeme → Type 0) (text : List ℕ) (p : Reader S A (Cell T)) → EndsRightly text p →
-    Recoverable text (machine_of text p) (IsNodeOf R text) (W text) (Unallowed (IsNodeOf R text) narrowing.Tokens text) (IsLarge text) r n f → (e : Failure) → IsTold (machine_of text p) (allowed_by p) r text e → IsMendedRefusal R W text e
-refused_list W text p i d (Memory e) h = tt
-refused_list W text p i d (Errors errors) h = tells_list text p i d (faults_of errors) h
+    Recoverable text (machine_of text p) (IsNodeOf R text) (W text) (Unallowed (IsNodeOf R text) narrowing.Tokens text) (IsLarge text) r n f → TellsApart r → (e : Failure) → IsTold (machine_of text p) (allowed_by p) r text e → IsMendedRefusal R W text e
+refused_list W text p i d a (Memory e) h = tt
+refused_list W text p i d a (Errors errors) h = tells_list text p i d a (faults_of errors) h
 
 -- ---- a fault is told as it is recorded
 
