@@ -23,9 +23,14 @@ use Rattle.cedar_policy_conversion.specs.Conditions.{condition_outcome}
 use Rattle.cedar_conversion.specs.strict.Extensions.{Extensions}
 use Rattle.cedar_conversion.specs.outcome.Conversion.{value_outcome}
 use Rattle.cedar_conversion.specs.outcome.Outcome.{next}
+use Rattle.cedar_conversion.specs.parts.Entities.{entity_outcome}
+use Rattle.cedar_conversion.specs.parts.Literals.{string_outcome}
+use Rattle.cedar_conversion.specs.parts.Names.{valid_ident}
 use Rattle.cedar_policy_conversion.specs.Policies.{effect_outcome, template_outcome, policies_outcome}
 use Rattle.cedar_policy_conversion.specs.Scope.{scope_outcome}
-use Rattle.cedar_policy_parser.proofs.standing.Standing.{by_hand, IsTold, Stands, Anything}
+use Rattle.cedar_policy_parser.proofs.standing.Standing.{by_hand, IsTold, Stands, Anything, weaker}
+use Rattle.cedar_policy_parser.proofs.standing.StandingAlone.{string_stands}
+use Rattle.cedar_policy_parser.proofs.standing.StandingLeaves.{entity_stands, valid_stands}
 use Rattle.cedar_policy_parser.proofs.standing.StandingPolicies.{condition_stands, effect_stands, new_annotation_stands, template_stands, policies_stand}
 use Rattle.cedar_policy_parser.proofs.standing.StandingScopes.{scope_stands}
 use Rattle.cedar_policy_parser.proofs.standing.StandingTrees.{expression_stands}
@@ -157,6 +162,15 @@ any_policy (trees.Policy p) = (
 
 pub any_value_stands : (e : Extensions) (n : Located) → Stands IsTold by_hand Anything (value_outcome e n)
 any_value_stands e n = expression_stands e by_hand n (any_tree n)
+
+pub any_string_stands : (n : Located) → Stands IsTold by_hand Anything (string_outcome n)
+any_string_stands n = weaker by_hand Anything (string_outcome n) (string_stands by_hand n (any_tree n))
+
+pub any_entity_stands : (n : Node (Option Ref)) → Stands IsTold by_hand Anything (entity_outcome n)
+any_entity_stands n = weaker by_hand Anything (entity_outcome n) (entity_stands by_hand n (any_node (RefTidy by_hand) any_ref n))
+
+pub any_identifier_stands : (n : Node (Option Ident)) → Stands IsTold by_hand Anything (valid_ident n)
+any_identifier_stands n = weaker by_hand Anything (valid_ident n) (valid_stands by_hand n (any_ident n))
 
 pub any_effect_stands : (n : Node (Option Ident)) → Stands IsTold by_hand Anything (effect_outcome n)
 any_effect_stands n = effect_stands by_hand n (any_ident n)

@@ -13,6 +13,7 @@ use Rattle.cedar_syntax.specs.declared.cst.Policies.{Policies}
 use Rattle.cedar_syntax.specs.declared.cst.Policy.{Policy}
 use Rattle.cedar_syntax.specs.declared.cst.Policy.TheVariants as trees
 use Rattle.cedar_syntax.specs.declared.cst.PolicyImpl.{PolicyImpl}
+use Rattle.cedar_syntax.specs.declared.cst.Ref.{Ref}
 use Rattle.cedar_syntax.specs.trees.Located.{Located}
 use Rattle.cedar_syntax.specs.declared.cst.VariableDef.{VariableDef}
 use Rattle.cedar_syntax.specs.declared.loc.Loc.{Loc}
@@ -27,13 +28,15 @@ use Rattle.cedar_policy_conversion.specs.Conditions.{is_when_of, condition_value
 use Rattle.cedar_conversion.specs.outcome.Conversion.{Converts, value_outcome}
 use Rattle.cedar_policy_parser.specs.faults.Due.{HoldsCondition, IsWhenOrUnless, is_missing_variable, is_extra_element, count, OfParts, RefusesEffect, TellsMissing, TellsExtra, IsTellable}
 use Rattle.cedar_conversion.specs.strict.Extensions.{Extensions}
-use Rattle.cedar_conversion.specs.parts.Names.{content_outcome}
+use Rattle.cedar_conversion.specs.parts.Entities.{entity_outcome}
+use Rattle.cedar_conversion.specs.parts.Literals.{string_outcome}
+use Rattle.cedar_conversion.specs.parts.Names.{content_outcome, valid_ident}
 use Rattle.cedar_conversion.specs.outcome.Outcome.{Kind, NamedFault, Outcome, fault_outcome, both, next, invalid_effect, invalid_condition, empty_clause, missing_scope_variable, extra_scope_element, expected_static_policy, duplicate_policy_id, duplicate_template_id, membership_invariant_violation, faults_outcome}
 use Rattle.cedar_conversion.specs.outcome.Places.{place_within}
 use Rattle.cedar_policy_conversion.specs.Policies.{TemplateParts, effect_of, effect_outcome, template_outcome, scope_slots, unless_slots, is_slot_fault, slot_faults, only_static, static_outcome, side_outcome, either_outcome, policies_outcome}
 use Rattle.cedar_policy_conversion.specs.Scope.{principal_outcome, action_outcome, resource_outcome, place_behind, if_there, extra_element_fault, no_extra, scope_of, elements_outcome, scope_outcome}
 use Rattle.cedar_expressions.specs.Slots.{slots_of}
-use Rattle.cedar_policy_parser.proofs.ByHand.{any_annotation_stands, any_condition_stands, any_effect_stands, any_policy_stands, any_scope_stands, any_set_stands, any_value_stands}
+use Rattle.cedar_policy_parser.proofs.ByHand.{any_annotation_stands, any_condition_stands, any_effect_stands, any_entity_stands, any_identifier_stands, any_policy_stands, any_scope_stands, any_set_stands, any_string_stands, any_value_stands}
 use Rattle.cedar_policy_parser.proofs.standing.InBlocks.{made_told, joined_told}
 use Rattle.cedar_policy_parser.proofs.standing.Standing.{Origin, by_hand, parsed, IsTold, IsPlain, KindWithin, Stands, Anything, no_policy_name, no_template_name, no_text_fault, some_told}
 use Rattle.cedar_policy_parser.proofs.standing.StandingScopes.{principal_stands, action_stands, resource_stands}
@@ -266,10 +269,19 @@ no_names o (Err fs) h = All-weaker (KindWithin IsTold o) IsTellable (λ f i. (no
 pub policy_names : (e : Extensions) (id : List ℕ) (tree : Cell Policy) → All IsTellable (faults_from (template_outcome e id tree))
 policy_names e id tree = no_names by_hand (template_outcome e id tree) (any_policy_stands e id tree)
 
--- no more is it of a part of a policy
+-- no more is it of a part of a policy, nor of what is converted alone
 
 pub value_names : (e : Extensions) (tree : Located) → All IsTellable (faults_from (value_outcome e tree))
 value_names e tree = no_names by_hand (value_outcome e tree) (any_value_stands e tree)
+
+pub string_names : (tree : Located) → All IsTellable (faults_from (string_outcome tree))
+string_names tree = no_names by_hand (string_outcome tree) (any_string_stands tree)
+
+pub entity_names : (n : Node (Option Ref)) → All IsTellable (faults_from (entity_outcome n))
+entity_names n = no_names by_hand (entity_outcome n) (any_entity_stands n)
+
+pub identifier_names : (n : Node (Option Ident)) → All IsTellable (faults_from (valid_ident n))
+identifier_names n = no_names by_hand (valid_ident n) (any_identifier_stands n)
 
 pub effect_names : (n : Node (Option Ident)) → All IsTellable (faults_from (effect_outcome n))
 effect_names n = no_names by_hand (effect_outcome n) (any_effect_stands n)

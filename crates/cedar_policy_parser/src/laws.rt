@@ -43,7 +43,7 @@ ghost use Rattle.cedar_conversion.specs.parts.Names.{any_ident, valid_ident};
 ghost use Rattle.cedar_conversion.specs.outcome.Outcome.{Kind, outcome_value, fault_outcome, ambiguous_operators, arbitrary_variable, expression_construction_error, invalid_single_eq, unary_op_limit};
 ghost use Rattle.cedar_policy_parser.specs.faults.Sites as sites;
 ghost use Rattle.cedar_policy_parser.specs.faults.Sites.{Site};
-ghost use Rattle.cedar_policy_parser.specs.faults.Standing.{StandWithin};
+ghost use Rattle.cedar_policy_parser.specs.faults.Standing.{AreTokensOf, StandWithin};
 ghost use Rattle.cedar_conversion.specs.strict.Strict.{Means, expression};
 ghost use Rattle.cedar_conversion.specs.parts.Strings.{layout};
 
@@ -171,11 +171,16 @@ pub fn refused_alone()
 
 /// What a text's tree is refused with stands within the tree's place, each fault at a known place
 /// of the same text; it is never of an empty node nor of an identifier's spelling, and there is a
-/// fault.
+/// fault. So it is with each expression that is read from some of a text's tokens, wherever it
+/// stands in an expression or a policy.
 pub fn faults_stand_within()
-    ensures { (table : Extensions) (text : List ℕ) (tree : Cell Tree)
+    ensures whole { (table : Extensions) (text : List ℕ) (tree : Cell Tree)
         → IsTreeOf ReadsExpr text tree
         → StandWithin tree.loc (value_outcome table (located expr_form tree)) }
+    ensures each { (table : Extensions) (text : List ℕ) (ts : List Lexeme) (x : Tree)
+        → AreTokensOf text ts → ReadsExpr text ts x
+        → StandWithin (placed text ts x).loc
+        (value_outcome table (located expr_form (placed text ts x))) }
 {}
 
 /// The same of the tree of a primary's text where a string is wanted, of an entity's, and of an
@@ -190,12 +195,17 @@ pub fn faults_of_leaves_stand_within()
 {}
 
 /// Each fault that a text's tree is refused with has a kind that is due at a site of the tree
-/// whose place holds the fault's.
+/// whose place holds the fault's. So it is with each expression that is read from some of a text's
+/// tokens, wherever it stands in an expression or a policy.
 pub fn faults_are_due()
-    ensures { (table : Extensions) (text : List ℕ) (tree : Cell Tree)
+    ensures whole { (table : Extensions) (text : List ℕ) (tree : Cell Tree)
         → IsTreeOf ReadsExpr text tree
         → AreDueIn table (sites.wanted sites.expression (located expr_form tree))
         (value_outcome table (located expr_form tree)) }
+    ensures each { (table : Extensions) (text : List ℕ) (ts : List Lexeme) (x : Tree)
+        → AreTokensOf text ts → ReadsExpr text ts x
+        → AreDueIn table (sites.wanted sites.expression (located expr_form (placed text ts x)))
+        (value_outcome table (located expr_form (placed text ts x))) }
 {}
 
 /// A condition with `when` or `unless` whose expression isn't converted is refused with just the

@@ -16,6 +16,7 @@ ghost use Rattle.cedar_syntax.specs.declared.cst.Policies.{Policies as SetTree};
 ghost use Rattle.cedar_syntax.specs.declared.cst.Policy.{Policy as PolicyTree};
 ghost use Rattle.cedar_syntax.specs.declared.cst.Policy.TheVariants as trees;
 ghost use Rattle.cedar_syntax.specs.declared.cst.PolicyImpl.{PolicyImpl};
+ghost use Rattle.cedar_syntax.specs.declared.cst.Ref.{Ref};
 ghost use Rattle.cedar_syntax.specs.tokens.Signs.{sign_limit};
 ghost use Rattle.cedar_syntax.specs.declared.loc.Loc.{Loc};
 ghost use Rattle.cedar_syntax.specs.declared.node.Node.{Node};
@@ -32,6 +33,9 @@ ghost use Rattle.cedar_policy_parser.specs.faults.Blocks.{PartsStandWithin, faul
 ghost use Rattle.cedar_policy_conversion.specs.Conditions.{condition_outcome, condition_slot_fault};
 ghost use Rattle.cedar_conversion.specs.outcome.Conversion.{Converts, value_outcome};
 ghost use Rattle.cedar_policy_parser.specs.faults.Due.{HoldsCondition, IsWhenOrUnless, IsTellable, OfParts, RefusesEffect, TellsExtra, TellsMissing};
+ghost use Rattle.cedar_conversion.specs.parts.Entities.{entity_outcome};
+ghost use Rattle.cedar_conversion.specs.parts.Literals.{string_outcome};
+ghost use Rattle.cedar_conversion.specs.parts.Names.{valid_ident};
 ghost use Rattle.cedar_conversion.specs.strict.Extensions.{Extensions};
 ghost use Rattle.cedar_conversion.specs.outcome.Outcome.{NamedFault, fault_outcome, next, outcome_value, empty_clause, invalid_condition};
 ghost use Rattle.cedar_policy_conversion.specs.Policies as k;
@@ -207,8 +211,9 @@ pub fn blocks()
 /// expression, and, if its expression converts, just a `SlotsInConditionClause` for each slot, in
 /// order, where the slot stands within the condition. No fault of a policy's or a set's tree, by
 /// hand too, is of a name that two policies have, nor a text's own, whatever of the two kinds of
-/// policy is wanted; nor is one of an expression's tree, an effect, an annotation, a scope or a
-/// condition; and where such a tree, or a part of a policy, is refused there is a fault.
+/// policy is wanted; nor is one of the tree of an expression, of a string, of an entity or of an
+/// identifier, nor of an effect, an annotation, a scope or a condition; and where a policy's or a
+/// set's tree, or a part of a policy, is refused there is a fault.
 pub fn due()
     ensures effect { (text : List ℕ) (tree : Cell PolicyTree)
         → IsTreeOf ReadsPolicy text tree → OfParts RefusesEffect tree }
@@ -240,6 +245,12 @@ pub fn due()
         → All IsTellable (faults_from (k.policies_outcome table tree)) }
     ensures value_names { (table : Extensions) (tree : Located)
         → All IsTellable (faults_from (value_outcome table tree)) }
+    ensures string_names { (tree : Located)
+        → All IsTellable (faults_from (string_outcome tree)) }
+    ensures entity_names { (node : Node (Option Ref))
+        → All IsTellable (faults_from (entity_outcome node)) }
+    ensures identifier_names { (node : Node (Option Ident))
+        → All IsTellable (faults_from (valid_ident node)) }
     ensures effect_names { (node : Node (Option Ident))
         → All IsTellable (faults_from (k.effect_outcome node)) }
     ensures annotation_names { (keys : List (List ℕ)) (node : Node (Option Annotation))

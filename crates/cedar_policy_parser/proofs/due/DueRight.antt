@@ -16,7 +16,7 @@ use Rattle.cedar_syntax.specs.trees.Located.{Located, Form, Parts, at}
 use Rattle.cedar_syntax.specs.trees.Tree.{Operator}
 use Rattle.cedar_conversion.specs.outcome.Conversion.{tree_place}
 use Rattle.cedar_policy_parser.specs.faults.DueKinds as due
-use Rattle.cedar_policy_parser.specs.faults.DueKinds.{IsDue, IsDueRight, IsFieldForm, IsFieldNode, AreFields, NamesAttributes, one_member}
+use Rattle.cedar_policy_parser.specs.faults.DueKinds.{IsDue, IsDueRight, AreFields, NamesAttributes}
 use Rattle.cedar_conversion.specs.strict.Extensions.{Extensions}
 use Rattle.cedar_conversion.specs.parts.HasSide.{attributes_of, begins_with, beginning_outcome, behind_first, field_form, field_of, fields_of, no_sign, right_form, right_side, string_alone}
 use Rattle.cedar_conversion.specs.outcome.Held.{Held, expression, variable, bare_name, bare_truth, bare_string, unqualified}
@@ -26,7 +26,7 @@ use Rattle.cedar_conversion.specs.parts.Names.{name_outcome, named_variable, unr
 use Rattle.cedar_conversion.specs.outcome.Outcome as k
 use Rattle.cedar_conversion.specs.outcome.Outcome.{Kind, NamedFault, Outcome, fault_outcome, both, next}
 use Rattle.cedar_policy_parser.specs.faults.Sites as site
-use Rattle.cedar_policy_parser.specs.faults.Sites.{Site, IsPart, IsAmong, IsTruth, IsQuoted}
+use Rattle.cedar_policy_parser.specs.faults.Sites.{Site, IsPart, IsAmong, IsBeginning, IsFieldForm, IsFieldNode, IsTruth, IsQuoted, one_member}
 use Rattle.cedar_policy_parser.specs.faults.Standing.{LiesWithin}
 use Rattle.cedar_conversion.specs.parts.Strings.{text_outcome}
 use Rattle.cedar_conversion.proofs.Inverted.{ok_is}
@@ -41,26 +41,26 @@ use Rattle.cedar_policy_parser.proofs.due.DueSides.{given, unqualified_due, no_e
 -- the fields behind the first attribute, of which none is another access
 
 field_form_due : (e : Extensions) (P : NamedFault → Type 0) (w p : Option Loc) (u : Form) → LiesWithin w p → AccessFormNested p u
-    → ((fault : NamedFault) → Due e (site.node (at p u)) fault → P fault) → (¬ (IsFieldForm u) → (q : Option Loc) → LiesWithin w q → P (k.invalid_has_rhs, q)) → Tells P Anything (field_form p u)
-field_form_due e P w p (f.field n) l h below other = lift (Due e (site.node (at p (f.field n)))) P Anything (unreserved_ident n) below (unreserved_due e p n h)
+    → (IsFieldForm u → (fault : NamedFault) → Due e (site.node (at p u)) fault → P fault) → (¬ (IsFieldForm u) → (q : Option Loc) → LiesWithin w q → P (k.invalid_has_rhs, q)) → Tells P Anything (field_form p u)
+field_form_due e P w p (f.field n) l h below other = lift (Due e (site.node (at p (f.field n)))) P Anything (unreserved_ident n) (below tt) (unreserved_due e p n h)
 field_form_due e P w p (f.call items) l h below other = one P k.invalid_has_rhs p (other (λ x. x) p l)
 field_form_due e P w p (f.index n) l h below other = one P k.invalid_has_rhs p (other (λ x. x) p l)
 field_form_due e P w p u l h below other = absurd h
 
 field_node_due : (e : Extensions) (P : NamedFault → Type 0) (w v : Option Loc) (n : Located) → LiesWithin w v → AccessNested v n
-    → ((fault : NamedFault) → Due e (site.node n) fault → P fault) → (¬ (IsFieldNode n) → (q : Option Loc) → LiesWithin w q → P (k.invalid_has_rhs, q)) → Tells P Anything (field_of n)
+    → (IsFieldNode n → (fault : NamedFault) → Due e (site.node n) fault → P fault) → (¬ (IsFieldNode n) → (q : Option Loc) → LiesWithin w q → P (k.invalid_has_rhs, q)) → Tells P Anything (field_of n)
 field_node_due e P w v (f.missing p) l h below other = absurd h
 field_node_due e P w v (f.at p u) l h below other = field_form_due e P w p u (within_within w v p l h.0) h.1 below other
 
 fields_due : (e : Extensions) (P : NamedFault → Type 0) (w v : Option Loc) (ps : Parts) → LiesWithin w v → AccessesNested v ps
-    → ((op : Operator) (n : Located) → IsAmong op n ps → (fault : NamedFault) → Due e (site.node n) fault → P fault) → (¬ (AreFields ps) → (q : Option Loc) → LiesWithin w q → P (k.invalid_has_rhs, q)) → Tells P Anything (fields_of ps)
+    → ((op : Operator) (n : Located) → IsAmong op n ps → IsFieldNode n → (fault : NamedFault) → Due e (site.node n) fault → P fault) → (¬ (AreFields ps) → (q : Option Loc) → LiesWithin w q → P (k.invalid_has_rhs, q)) → Tells P Anything (fields_of ps)
 fields_due e P w v f.none l h below other = tt
 fields_due e P w v (f.more op n ps) l h below other =
     next_tells P Anything Anything (field_of n) _ (field_node_due e P w v n l h.0 (below op n site.first) (λ g. other (λ i. g i.0)))
     (λ id c _. next_tells P Anything Anything (fields_of ps) _ (fields_due e P w v ps l h.1 (λ oq m i. below oq m (site.later i)) (λ g. other (λ i. g i.1))) (λ ids d _. tt))
 
 behind_due : (e : Extensions) (P : NamedFault → Type 0) (w v : Option Loc) (ps : Parts) (first : List ℕ) → LiesWithin w v → AccessesNested v ps
-    → ((op : Operator) (n : Located) → IsAmong op n ps → (fault : NamedFault) → Due e (site.node n) fault → P fault) → (¬ (AreFields ps) → (q : Option Loc) → LiesWithin w q → P (k.invalid_has_rhs, q)) → Tells P Anything (behind_first ps first)
+    → ((op : Operator) (n : Located) → IsAmong op n ps → IsFieldNode n → (fault : NamedFault) → Due e (site.node n) fault → P fault) → (¬ (AreFields ps) → (q : Option Loc) → LiesWithin w q → P (k.invalid_has_rhs, q)) → Tells P Anything (behind_first ps first)
 behind_due e P w v ps first l h below other = next_tells P Anything Anything (fields_of ps) _ (fields_due e P w v ps l h below other) (λ ids c _. tt)
 
 -- ---- what begins it
@@ -110,7 +110,7 @@ nothing_before q [] id y e = refl
 nothing_before q (x ∷ path) id y e = cc
 
 name_attributes : (e : Extensions) (P : NamedFault → Type 0) (w v p : Option Loc) (m : Node (Option Name)) (ps : Parts) (h : Held) → LiesWithin w v → LiesWithin w (place_held h) → AccessesNested v ps → NameHeld m h
-    → ((op : Operator) (n : Located) → IsAmong op n ps → (fault : NamedFault) → Due e (site.node n) fault → P fault) → ((kind : Kind) (q : Option Loc) → IsDueRight kind (Some (at p (f.name m), ps)) → LiesWithin w q → P (kind, q)) → Tells P Anything (attributes_of w ps h)
+    → ((op : Operator) (n : Located) → IsAmong op n ps → IsFieldNode n → (fault : NamedFault) → Due e (site.node n) fault → P fault) → ((kind : Kind) (q : Option Loc) → IsDueRight kind (Some (at p (f.name m), ps)) → LiesWithin w q → P (kind, q)) → Tells P Anything (attributes_of w ps h)
 name_attributes e P w v p m ps (expression q x) l g h c below side = absurd c
 name_attributes e P w v p m ps (variable q x) l g h c below side =
     behind_due e P w v ps (var_text x) l h below (λ t r s. side k.invalid_has_rhs r (due.other (λ i. i) (λ i. variable_no_path (named_variable m.node) c i.0) t) s)
@@ -143,50 +143,58 @@ literal_attributes e P w p m ps (bare_name q x) l g r c head side = absurd c
 literal_attributes e P w p m ps (bare_truth q x) l g r c head side = one P k.reserved_identifier q (side k.reserved_identifier q (due.truth c) g)
 literal_attributes e P w p m ps (bare_string q raw) l g r c head side = string_attributes e P w p q m raw ps l r c head side
 
+-- the fields behind a name
+abbrev FieldsRead : Extensions → (NamedFault → Type 0) → Located → Parts → Type 0
+FieldsRead e P n ps = (p : Option Loc) (m : Node (Option Name)) → n ≡ at p (f.name m) → (op : Operator) (i : Located) → IsAmong op i ps → IsFieldNode i → (fault : NamedFault) → Due e (site.node i) fault → P fault
+
 -- any primary
 begun_due : (e : Extensions) (P : NamedFault → Type 0) (w v p : Option Loc) (u : Form) (ps : Parts) → LiesWithin w w → LiesWithin w v → LiesWithin v p → FormNested p u → AccessesNested v ps
-    → ((fault : NamedFault) → Due e (site.node (at p u)) fault → P fault) → ((op : Operator) (n : Located) → IsAmong op n ps → (fault : NamedFault) → Due e (site.node n) fault → P fault)
+    → (IsBeginning (at p u) → (fault : NamedFault) → Due e (site.node (at p u)) fault → P fault) → FieldsRead e P (at p u) ps
     → ((kind : Kind) (q : Option Loc) → IsDueRight kind (Some (at p u, ps)) → LiesWithin w q → P (kind, q)) → Tells P Anything (beginning_outcome w ps p u)
 begun_due e P w v p (f.literal m) ps s l g h t head below side =
     let i = within_within w v p l g in
-    next_tells P (HeldAt (at p (f.literal m))) Anything (literal_outcome m.loc m.node) _ (lift (Due e (site.node (at p (f.literal m)))) P (HeldAt (at p (f.literal m))) (literal_outcome m.loc m.node) head (literal_due e p m h))
-    (λ x c r. literal_attributes e P w p m ps x s (within_within w p (place_held x) i r.0) r.0 (literal_held m.loc m.node x c) head side)
+    next_tells P (HeldAt (at p (f.literal m))) Anything (literal_outcome m.loc m.node) _ (lift (Due e (site.node (at p (f.literal m)))) P (HeldAt (at p (f.literal m))) (literal_outcome m.loc m.node) (head tt) (literal_due e p m h))
+    (λ x c r. literal_attributes e P w p m ps x s (within_within w p (place_held x) i r.0) r.0 (literal_held m.loc m.node x c) (head tt) side)
 begun_due e P w v p (f.name m) ps s l g h t head below side =
     let i = within_within w v p l g in
-    next_tells P (HeldAt (at p (f.name m))) Anything (name_leaf p m) _ (lift (Due e (site.node (at p (f.name m)))) P (HeldAt (at p (f.name m))) (name_leaf p m) head (named_due e p m (self_within v p g) h))
-    (λ x c r. name_attributes e P w v p m ps x l (within_within w p (place_held x) i r.0) t (name_held p (named_variable m.node) m (name_outcome m) x refl refl c) below side)
+    next_tells P (HeldAt (at p (f.name m))) Anything (name_leaf p m) _ (lift (Due e (site.node (at p (f.name m)))) P (HeldAt (at p (f.name m))) (name_leaf p m) (head tt) (named_due e p m (self_within v p g) h))
+    (λ x c r. name_attributes e P w v p m ps x l (within_within w p (place_held x) i r.0) t (name_held p (named_variable m.node) m (name_outcome m) x refl refl c) (below p m refl) side)
 begun_due e P w v p u ps s l g h t head below side = one P k.invalid_has_rhs p (side k.invalid_has_rhs p (due.other (λ x. x) (λ x. x) (λ x. x)) (within_within w v p l g))
 
 begins_due : (e : Extensions) (P : NamedFault → Type 0) (w v : Option Loc) (n : Located) (ps : Parts) → LiesWithin w w → LiesWithin w v → Nested v n → AccessesNested v ps
-    → ((fault : NamedFault) → Due e (site.node n) fault → P fault) → ((op : Operator) (n : Located) → IsAmong op n ps → (fault : NamedFault) → Due e (site.node n) fault → P fault)
+    → (IsBeginning n → (fault : NamedFault) → Due e (site.node n) fault → P fault) → FieldsRead e P n ps
     → ((kind : Kind) (q : Option Loc) → IsDueRight kind (Some (n, ps)) → LiesWithin w q → P (kind, q)) → Tells P Anything (begins_with w ps n)
 begins_due e P w v (f.missing p) ps s l h t head below side = absurd h
 begins_due e P w v (f.at p u) ps s l h t head below side = begun_due e P w v p u ps s l h.0 h.1 t head below side
 
 -- ---- the whole of it
 
+-- what is read of the one member that a node is
+abbrev MemberRead : Extensions → (NamedFault → Type 0) → Option (Located × Parts) → Type 0
+MemberRead e P one = (n : Located) (ps : Parts) → one ≡ Some (n, ps) → (IsBeginning n → (fault : NamedFault) → Due e (site.node n) fault → P fault) × FieldsRead e P n ps
+
 mutual
   unfolding right_side right_form
 
   -- w is the place of the whole, v that of a node around n
   pub right_due : (e : Extensions) (P : NamedFault → Type 0) (w v : Option Loc) (n : Located) → LiesWithin w w → LiesWithin w v → Nested v n
-      → ((fault : NamedFault) → Due e (site.node n) fault → P fault) → ((kind : Kind) (q : Option Loc) → IsDueRight kind (one_member n) → LiesWithin w q → P (kind, q)) → Tells P Anything (right_side w n)
-  right_due e P w v (f.missing p) s l h below side = absurd h
-  right_due e P w v (f.at p u) s l h below side = right_form_due e P w p u s (within_within w v p l h.0) h.1 below side
+      → MemberRead e P (one_member n) → ((kind : Kind) (q : Option Loc) → IsDueRight kind (one_member n) → LiesWithin w q → P (kind, q)) → Tells P Anything (right_side w n)
+  right_due e P w v (f.missing p) s l h read side = absurd h
+  right_due e P w v (f.at p u) s l h read side = right_form_due e P w p u s (within_within w v p l h.0) h.1 read side
 
   right_form_due : (e : Extensions) (P : NamedFault → Type 0) (w p : Option Loc) (u : Form) → LiesWithin w w → LiesWithin w p → FormNested p u
-      → ((fault : NamedFault) → Due e (site.node (at p u)) fault → P fault) → ((kind : Kind) (q : Option Loc) → IsDueRight kind (one_member (at p u)) → LiesWithin w q → P (kind, q)) → Tells P Anything (right_form w u)
-  right_form_due e P w p (f.chain level n f.none) s l h below side = right_due e P w p n s l h.0 (λ fault d. below fault (in_part e _ _ site.through_chain fault d)) side
-  right_form_due e P w p (f.unary op n) s l h below side =
+      → MemberRead e P (one_member (at p u)) → ((kind : Kind) (q : Option Loc) → IsDueRight kind (one_member (at p u)) → LiesWithin w q → P (kind, q)) → Tells P Anything (right_form w u)
+  right_form_due e P w p (f.chain level n f.none) s l h read side = right_due e P w p n s l h.0 read side
+  right_form_due e P w p (f.unary op n) s l h read side =
       if_tells P Anything (no_sign op) _ _
-      (λ c. right_due e P w p n s l h (λ fault d. below fault (in_part e _ _ (site.through_unary c) fault d)) (λ kind q d i. side kind q (subst (λ b. IsDueRight kind (cond b (one_member n) None)) (sym c) d) i))
+      (λ c. right_due e P w p n s l h (subst (λ b. MemberRead e P (cond b (one_member n) None)) c read) (λ kind q d i. side kind q (subst (λ b. IsDueRight kind (cond b (one_member n) None)) (sym c) d) i))
       (λ c. one P k.invalid_has_rhs w (side k.invalid_has_rhs w (subst (λ b. IsDueRight k.invalid_has_rhs (cond b (one_member n) None)) (sym c) (due.other (λ x. x) (λ x. x) (λ x. x))) s))
-  right_form_due e P w p (f.member n ps) s l h below side = begins_due e P w p n ps s l h.0 h.1 (λ fault d. below fault (in_part e _ _ site.head fault d)) (λ op m i fault d. below fault (in_part e _ _ (site.access i) fault d)) side
-  right_form_due e P w p u s l h below side = one P k.invalid_has_rhs w (side k.invalid_has_rhs w (due.other (λ x. x) (λ x. x) (λ x. x)) s)
+  right_form_due e P w p (f.member n ps) s l h read side = let r = read n ps refl in begins_due e P w p n ps s l h.0 h.1 r.0 r.1 side
+  right_form_due e P w p u s l h read side = one P k.invalid_has_rhs w (side k.invalid_has_rhs w (due.other (λ x. x) (λ x. x) (λ x. x)) s)
 
 -- within its own place
 pub whole_due : (e : Extensions) (P : NamedFault → Type 0) (v : Option Loc) (n : Located) → Nested v n
-    → ((fault : NamedFault) → Due e (site.node n) fault → P fault) → ((kind : Kind) (q : Option Loc) → IsDueRight kind (one_member n) → LiesWithin (tree_place n) q → P (kind, q)) → Tells P Anything (right_side (tree_place n) n)
+    → MemberRead e P (one_member n) → ((kind : Kind) (q : Option Loc) → IsDueRight kind (one_member n) → LiesWithin (tree_place n) q → P (kind, q)) → Tells P Anything (right_side (tree_place n) n)
 unfolding right_side
-whole_due e P v (f.missing p) h below side = absurd h
-whole_due e P v (f.at p u) h below side = let s = self_within v p h.0 in right_form_due e P p p u s s h.1 below side
+whole_due e P v (f.missing p) h read side = absurd h
+whole_due e P v (f.at p u) h read side = let s = self_within v p h.0 in right_form_due e P p p u s s h.1 read side

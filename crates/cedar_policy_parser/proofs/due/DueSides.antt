@@ -118,11 +118,8 @@ of_string e n h c g i = g (quoted_gives i.1.1.0.loc i.1.0 i.0 h i.1.2 (literal_o
 
 -- ---- where an expression is wanted
 
-no_pattern_role : site.expression ≢ site.pattern
-no_pattern_role e = cc
-
 pub expression_part : {n : Located} → IsPart (site.node n) (site.wanted site.expression n)
-expression_part = site.itself no_pattern_role
+expression_part = site.itself refl
 
 pub expression_due : (e : Extensions) (n : Located) (h : Held) → HeldAt n h → Tells (Due e (site.wanted site.expression n)) Anything (as_expression h)
 expression_due e n (expression p x) i = tt
@@ -159,11 +156,8 @@ type_due e n (bare_name p x) c i = tt
 type_due e n (bare_truth p x) c i = one (Due e (site.wanted site.entity_type n)) k.invalid_is_type p (no_type_due e n p _ c (λ x. x) i.0)
 type_due e n (bare_string p x) c i = one (Due e (site.wanted site.entity_type n)) k.invalid_is_type p (no_type_due e n p _ c (λ x. x) i.0)
 
-no_text_role : site.string ≢ site.pattern
-no_text_role e = cc
-
 pub text_part : {n : Located} → IsPart (site.node n) (site.wanted site.string n)
-text_part = site.itself no_text_role
+text_part = site.itself refl
 
 no_text_due : (e : Extensions) (n : Located) (p : Option Loc) (h : Held) → outcome e n ≡ Ok h → ¬ (OfString h) → LiesWithin (tree_place n) p → Due e (site.wanted site.string n) (k.invalid_string, p)
 no_text_due e n p h c g w = here e (site.wanted site.string n) k.invalid_string p (due.no_text (of_string e n h c g)) w
@@ -182,11 +176,8 @@ pub unqualified_due : (P : NamedFault → Type 0) (p : Option Loc) (path : List 
 unqualified_due P p [] id h = tt
 unqualified_due P p (x ∷ xs) id h = one P k.path_as_attribute p (h (more x xs))
 
-no_key_role : site.key ≢ site.pattern
-no_key_role e = cc
-
 pub key_part : {n : Located} → IsPart (site.node n) (site.wanted site.key n)
-key_part = site.itself no_key_role
+key_part = site.itself refl
 
 pub key_due : (e : Extensions) (n : Located) (h : Held) → outcome e n ≡ Ok h → HeldAt n h → Tells (Due e (site.wanted site.key n)) Anything (as_attribute h)
 key_due e n (expression p x) c i =

@@ -195,20 +195,13 @@ lies : (p : Option Loc) (n : Located) → Nested p n → LiesWithin p (tree_plac
 lies p (f.missing q) h = absurd h
 lies p (f.at q u) h = h.0
 
-no_attributes_role : site.attributes ≢ site.pattern
-no_attributes_role e = cc
-
-no_type_role : site.entity_type ≢ site.pattern
-no_type_role e = cc
-
 -- right of `has`
-attributes_part : {n : Located} → IsPart (site.node n) (site.wanted site.attributes n)
-attributes_part = site.itself no_attributes_role
-
 attributes_due : (e : Extensions) (p : Option Loc) (n : Located) → Nested p n → Tells (Due e (site.wanted site.attributes n)) Anything (right_side (tree_place n) n)
 attributes_due e p n h =
     let s : Site = site.wanted site.attributes n in
-    whole_due e (Due e s) p n h (in_part e (site.node n) s attributes_part) (λ kind q d i. here e s kind q (due.no_attributes d) i)
+    whole_due e (Due e s) p n h
+    (λ m ps c. ((λ b. in_part e (site.node m) s (site.beginning c b)), (λ q x g op i a b. in_part e (site.node i) s (site.attribute (c ∙ ap (λ y. Some (y, ps)) g) a b))))
+    (λ kind q d i. here e s kind q (due.no_attributes d) i)
 
 -- right of `like`: what gives nothing is no string
 as_pattern_side : (e : Extensions) (n : Located) (o : Outcome Held) → outcome e n ≡ o → Tells (Due e (site.node n)) (HeldAt n) o → Tells (Due e (site.wanted site.pattern n)) (HeldAt n) o
@@ -217,7 +210,7 @@ as_pattern_side e n (Err fs) c h = up e (site.node n) (site.wanted site.pattern 
 
 -- the type right of `is`
 type_part : {n : Located} → IsPart (site.node n) (site.wanted site.entity_type n)
-type_part = site.itself no_type_role
+type_part = site.itself refl
 
 typed_due : (e : Extensions) (s : Site) (n : Located) (x : Outcome Value) → Tells (Due e s) Anything x → Tells (Due e (site.node n)) (HeldAt n) (outcome e n) → IsPart (site.wanted site.entity_type n) s → Tells (Due e s) Anything (next (outcome e n) (beside_type x))
 typed_due e s n x h g i =

@@ -1,4 +1,4 @@
--- The faults of a text's tree are due.
+-- The faults of a text's tree are due, and those of each expression in it.
 use Rattle.std.proofs.Common.{ℕ, List, sym, ◌∙◌, subst}
 use Rattle.cedar_lexer.specs.Token.{Lexeme}
 use Rattle.cedar_syntax.specs.declared.cst.Expr.{Expr}
@@ -13,7 +13,9 @@ use Rattle.cedar_conversion.specs.outcome.Conversion.{value_outcome}
 use Rattle.cedar_policy_parser.specs.faults.DueKinds.{AreDueIn}
 use Rattle.cedar_conversion.specs.strict.Extensions.{Extensions}
 use Rattle.cedar_policy_parser.specs.faults.Sites.{wanted, expression}
+use Rattle.cedar_policy_parser.specs.faults.Standing.{AreTokensOf}
 use Rattle.cedar_policy_parser.proofs.standing.Fitting.{all_fit}
+use Rattle.cedar_policy_parser.proofs.standing.StandingTexts.{some_fit}
 use Rattle.cedar_policy_parser.proofs.standing.NestedTrees.{sits, expr_holds}
 use Rattle.cedar_policy_parser.proofs.due.DueTrees.{faults_are_due}
 
@@ -26,3 +28,11 @@ expr_due e text tree g =
     let c : Cell Expr = placed text ts x in
     subst (λ y. AreDueIn e (wanted expression (located expr_form y)) (value_outcome e (located expr_form y))) (sym (g.stands.is ∙ start_is text ts x some))
     (faults_are_due e c.loc (located expr_form c) (sits c.loc text expr_form ts x h some (λ i. expr_holds g.stands.reads i)))
+
+pub each_expr_due : (e : Extensions) (text : List ℕ) (ts : List Lexeme) (x : Expr) → AreTokensOf text ts → ReadsExpr text ts x
+    → AreDueIn e (wanted expression (located expr_form (placed text ts x))) (value_outcome e (located expr_form (placed text ts x)))
+each_expr_due e text ts x g r =
+    let some = expr_some r in
+    let h = some_fit text ts g some in
+    let c : Cell Expr = placed text ts x in
+    faults_are_due e c.loc (located expr_form c) (sits c.loc text expr_form ts x h some (λ i. expr_holds r i))

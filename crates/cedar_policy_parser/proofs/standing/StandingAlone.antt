@@ -36,7 +36,7 @@ string_form_stands : (o : Origin) (p : Option Loc) (u : Form) → LiesIn o p →
 string_form_stands o p (f.literal n) w h = next_stands IsPlain o (HeldWithin o) Anything (literal_outcome n.loc n.node) as_string (literal_stands o n.loc n.node h.0 h.1) (string_held o)
 string_form_stands o p u w h = alone IsPlain o invalid_string p tt w
 
-string_stands : (o : Origin) (n : Located) → Tidy o n → Stands IsPlain o Anything (string_outcome n)
+pub string_stands : (o : Origin) (n : Located) → Tidy o n → Stands IsPlain o Anything (string_outcome n)
 string_stands o (f.missing p) h = alone IsPlain o empty_node p h (anywhere o p h)
 string_stands o (f.at p u) h = string_form_stands o p u h.0 h.1
 

@@ -1,5 +1,5 @@
 -- Where the faults of a text's tree stand.
-use Rattle.std.proofs.Common.{◌≡◌, ℕ, List, [], ◌∷◌, Option, Some, None, sym, refl, ◌∙◌, ap, subst, arith}
+use Rattle.std.proofs.Common.{◌≡◌, ℕ, List, [], ◌∷◌, ◌++◌, Option, Some, None, sym, refl, ◌∙◌, ap, subst, arith}
 use Rattle.std.specs.List.{All}
 use Rattle.std.proofs.lemmas.List.Elements.{All-nil, All-cons}
 use Rattle.cedar_lexer.specs.Cut.{Cuts}
@@ -17,6 +17,7 @@ use Rattle.cedar_grammar.specs.grammar.LoosePolicies.{ReadsPolicies, ReadsPolicy
 use Rattle.cedar_grammar.specs.grammar.Place.{placed, placed_or_start, extent, loc_at}
 use Rattle.cedar_syntax.specs.trees.Trees.{Cell}
 use Rattle.cedar_grammar.proofs.ExpressionTokens.{expr_some}
+use Rattle.cedar_grammar.proofs.Lying.{Some_of}
 use Rattle.cedar_grammar.proofs.WordPlaces.{start_is}
 use Rattle.cedar_policy_conversion.specs.AnnotationKeys.{annotation_outcome, with_new_key}
 use Rattle.cedar_policy_parser.specs.faults.Blocks.{PartsStandWithin}
@@ -26,8 +27,8 @@ use Rattle.cedar_conversion.specs.strict.Extensions.{Extensions}
 use Rattle.cedar_conversion.specs.outcome.Outcome.{next}
 use Rattle.cedar_policy_conversion.specs.Policies.{effect_outcome, template_outcome, policies_outcome}
 use Rattle.cedar_policy_conversion.specs.Scope.{scope_outcome}
-use Rattle.cedar_policy_parser.specs.faults.Standing.{LiesWithin, StandWithin}
-use Rattle.cedar_policy_parser.proofs.standing.Fitting.{Fits, all_fit, within}
+use Rattle.cedar_policy_parser.specs.faults.Standing.{AreTokensOf, LiesWithin, StandWithin}
+use Rattle.cedar_policy_parser.proofs.standing.Fitting.{Fits, all_fit, own_fit, parts, within}
 use Rattle.cedar_policy_parser.proofs.standing.Standing.{Origin, parsed, IsTold, Stands, Anything, self_within, stand_within}
 use Rattle.cedar_policy_parser.proofs.standing.StandingPolicies.{new_annotation_stands, condition_stands, effect_stands, template_stands, policies_stand}
 use Rattle.cedar_policy_parser.proofs.standing.StandingScopes.{scope_stands}
@@ -115,6 +116,20 @@ all_of_each P Q k (x ∷ xs) h = All-cons Q x xs (k x h.0) (all_of_each P Q k xs
 some_place : (text : List ℕ) (ts : List Lexeme) → Cuts text ts → (w : Origin) × Fits w text ts
 some_place text [] cut = (parsed (loc_at text (Some record { start = 0; end = 0 })), from_start text)
 some_place text (t ∷ ts) cut = (parsed (loc_at text (extent (t ∷ ts))), all_fit text _ _ (t ∷ ts) cut tt)
+
+-- tokens among those of a text, within their own place
+pub some_fit : (text : List ℕ) (ts : List Lexeme) → AreTokensOf text ts → Some_of ts → Fits (parsed (loc_at text (extent ts))) text ts
+some_fit text ts g s =
+    let there = some_place text (g.0 ++ ts ++ g.1) g.2 in
+    let front = (parts there.0 text (g.0 ++ ts) g.1 there.1).0 in
+    own_fit there.0 text ts (parts there.0 text g.0 ts front).1 s
+
+pub each_expr_faults : (e : Extensions) (text : List ℕ) (ts : List Lexeme) (x : Expr) → AreTokensOf text ts → ReadsExpr text ts x → StandWithin (placed text ts x).loc (value_outcome e (located expr_form (placed text ts x)))
+each_expr_faults e text ts x g r =
+    let some = expr_some r in
+    let h = some_fit text ts g some in
+    let c : Cell Expr = placed text ts x in
+    value_faults e c.loc (located expr_form c) (sits (parsed c.loc) text expr_form ts x h some (expr_holds r h))
 
 in_node : (text : List ℕ) (ts : List Lexeme) (x : Policies) → (placed_or_start text ts x).node ≡ Some x
 in_node text [] x = refl

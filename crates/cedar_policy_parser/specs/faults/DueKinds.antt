@@ -38,7 +38,7 @@ use Rattle.cedar_conversion.specs.parts.Members.{takes_one, plain_name}
 use Rattle.cedar_conversion.specs.parts.Names.{name_outcome, named_variable, valid_ident, unreserved_ident, identifiers, path_of}
 use Rattle.cedar_conversion.specs.outcome.Outcome as k
 use Rattle.cedar_conversion.specs.outcome.Outcome.{Kind, NamedFault, Outcome}
-use Rattle.cedar_policy_parser.specs.faults.Sites.{Role, Site, node, wanted, name, identifier, expression, attributes, pattern, entity_type, string, key, site_place, IsSiteOf, IsAmong, IsNameSite, IsVariableSite, IsNamed, IsTruth, IsTruthValue, IsQuoted, IsString, IsAnyString}
+use Rattle.cedar_policy_parser.specs.faults.Sites.{Role, Site, node, wanted, name, identifier, expression, attributes, pattern, entity_type, string, key, site_place, IsSiteOf, IsAmong, one_member, IsFieldNode, IsNameSite, IsVariableSite, IsNamed, IsTruth, IsTruthValue, IsQuoted, IsString, IsAnyString}
 use Rattle.cedar_policy_parser.specs.faults.Standing.{LiesWithin}
 use Rattle.cedar_conversion.specs.strict.Strict.{largest}
 use Rattle.cedar_conversion.specs.strict.StrictCalls.{standard_method, names_method}
@@ -66,21 +66,6 @@ IsMisspelled (words.Invalid text) = Unit {0}
 IsMisspelled _ = ⊥
 
 -- ---- right of `has`
-
--- the head and the accesses of the member that a node is, if it is one without operators or signs
-abbrev pub one_member : Located → Option (Located × Parts)
-one_member (at p (f.chain level n none)) = one_member n
-one_member (at p (f.unary op n)) = if no_sign op then one_member n else None
-one_member (at p (f.member n accesses)) = Some (n, accesses)
-one_member _ = None
-
-abbrev pub IsFieldForm : Form → Type 0
-IsFieldForm (f.field n) = Unit {0}
-IsFieldForm _ = ⊥
-
-abbrev pub IsFieldNode : Located → Type 0
-IsFieldNode (at p form) = IsFieldForm form
-IsFieldNode _ = ⊥
 
 abbrev pub AreFields : Parts → Type 0
 AreFields none = Unit {0}

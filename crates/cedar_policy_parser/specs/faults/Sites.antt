@@ -1,7 +1,7 @@
 -- The sites of an expression's tree, at which a rule of the conversion may refuse it: a node by
 -- itself, a node as what is wanted where it stands, a name, an identifier; and which sites are
 -- right below which.
-use Rattle.std.specs.Prelude.{◌≡◌, ◌≢◌, ℕ, suc, Bool, true, false, List, Option, Some, None, Ok}
+use Rattle.std.specs.Prelude.{◌≡◌, ℕ, suc, Bool, true, false, List, Option, Some, None, Ok, if◌then◌else◌}
 use Rattle.std.specs.List.{Contains}
 use Rattle.cedar_expressions.specs.Path.{Path}
 use Rattle.cedar_expressions.specs.declared.atoms.Var.{Var}
@@ -18,7 +18,7 @@ use Rattle.cedar_syntax.specs.declared.cst.Str.TheVariants as str
 use Rattle.cedar_syntax.specs.declared.loc.Loc.{Loc}
 use Rattle.cedar_syntax.specs.declared.node.Node.{Node}
 use Rattle.cedar_syntax.specs.trees.Located as f
-use Rattle.cedar_syntax.specs.trees.Located.{Located, Parts, at, none, more}
+use Rattle.cedar_syntax.specs.trees.Located.{Located, Form, Parts, at, none, more}
 use Rattle.cedar_syntax.specs.trees.Tree.{Level, Operator}
 use Rattle.cedar_policy_parser.specs.faults.Alone.{ComesTo}
 use Rattle.cedar_conversion.specs.outcome.Conversion.{tree_place}
@@ -96,6 +96,36 @@ IsString n raw = (c : Option Literal) × IsLiteral n c × IsQuoted c raw
 abbrev pub IsAnyString : Located → Type 0
 IsAnyString n = (raw : List ℕ) × IsString n raw
 
+-- ---- right of `has`
+
+-- the head and the accesses of the member that a node is, if it is one without operators or signs
+abbrev pub one_member : Located → Option (Located × Parts)
+one_member (at p (f.chain level n none)) = one_member n
+one_member (at p (f.unary op n)) = if no_sign op then one_member n else None
+one_member (at p (f.member n accesses)) = Some (n, accesses)
+one_member _ = None
+
+-- a literal or a name, which alone may begin attributes
+abbrev pub IsBeginning : Located → Type 0
+IsBeginning (at p (f.literal m)) = Unit {0}
+IsBeginning (at p (f.name m)) = Unit {0}
+IsBeginning _ = ⊥
+
+abbrev pub IsFieldForm : Form → Type 0
+IsFieldForm (f.field n) = Unit {0}
+IsFieldForm _ = ⊥
+
+abbrev pub IsFieldNode : Located → Type 0
+IsFieldNode (at p form) = IsFieldForm form
+IsFieldNode _ = ⊥
+
+-- what a node is read as by itself, where this is wanted: a string right of `like` is read as a
+-- pattern, and a right side of `has` by a rule of its own
+abbrev pub is_read_itself : Role → Bool
+is_read_itself attributes = false
+is_read_itself pattern = false
+is_read_itself _ = true
+
 -- ---- what is right below a site
 
 -- a node among parts, behind this operator
@@ -110,9 +140,16 @@ is_negated (Some (sign.Dash (suc n))) (Some k) = true
 is_negated _ _ = false
 
 -- The first is right below the second. A level of the grammar with one part gives itself over to
--- it. A string right of `like` is read as a pattern, and not by itself.
+-- it. Of a right side of `has` its rule reads just what begins the one member, and the fields
+-- behind a name.
 pub data IsPart : Site → Site → Type 0 where
-  itself : {role : Role} {n : Located} → role ≢ pattern → IsPart (node n) (wanted role n)
+  itself : {role : Role} {n : Located} → is_read_itself role ≡ true
+      → IsPart (node n) (wanted role n)
+  beginning : {n m : Located} {accesses : Parts} → one_member n ≡ Some (m, accesses)
+      → IsBeginning m → IsPart (node m) (wanted attributes n)
+  attribute : {p : Option Loc} {op : Operator} {m : Node (Option Name)} {n i : Located}
+      {accesses : Parts} → one_member n ≡ Some (at p (f.name m), accesses)
+      → IsAmong op i accesses → IsFieldNode i → IsPart (node i) (wanted attributes n)
   no_string : {n : Located} → ¬ (IsAnyString n) → IsPart (node n) (wanted pattern n)
   through_only : {p : Option Loc} {n : Located} → IsPart (node n) (node (at p (f.only n)))
   through_chain : {p : Option Loc} {level : Level} {n : Located}

@@ -1,6 +1,8 @@
 -- Where the faults of a conversion stand: within the place of what is converted.
-use Rattle.std.specs.Prelude.{◌≢◌, ◌≤◌, [], Option, Some, Ok, Err, ◌≡◌}
+use Rattle.std.specs.Prelude.{◌≢◌, ◌≤◌, ℕ, List, [], ◌++◌, Option, Some, Ok, Err, ◌≡◌}
 use Rattle.std.specs.List.{All}
+use Rattle.cedar_lexer.specs.Cut.{Cuts}
+use Rattle.cedar_lexer.specs.Token.{Lexeme}
 use Rattle.cedar_syntax.specs.declared.loc.Loc.{Loc}
 use Rattle.cedar_syntax.specs.places.Span.{end_of}
 use Rattle.cedar_conversion.specs.outcome.Outcome.{Outcome, NamedFault, empty_node, invalid_identifier}
@@ -22,3 +24,8 @@ FaultWithin outer fault =
 abbrev pub StandWithin : {Y : Type 0} → Option Loc → Outcome Y → Type 0
 StandWithin outer (Ok y) = Unit {0}
 StandWithin outer (Err faults) = (faults ≢ []) × All (FaultWithin outer) faults
+
+-- tokens that stand one behind the other among those of a text
+abbrev pub AreTokensOf : List ℕ → List Lexeme → Type 0
+AreTokensOf text ts =
+    (before : List Lexeme) × (after : List Lexeme) × Cuts text (before ++ ts ++ after)

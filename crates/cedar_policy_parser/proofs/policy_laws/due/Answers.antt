@@ -72,3 +72,12 @@ returns-clause-scope_names c = told.scope_names
 
 pub returns-clause-condition_names : goal.returns-clause-condition_names
 returns-clause-condition_names c = told.condition_names
+
+pub returns-clause-string_names : goal.returns-clause-string_names
+returns-clause-string_names c = told.string_names
+
+pub returns-clause-entity_names : goal.returns-clause-entity_names
+returns-clause-entity_names c = told.entity_names
+
+pub returns-clause-identifier_names : goal.returns-clause-identifier_names
+returns-clause-identifier_names c = told.identifier_names
