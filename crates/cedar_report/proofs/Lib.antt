@@ -1,0 +1,11 @@
+pub mod SpotSteps
+pub mod Telling
+pub mod OneLine
+pub mod Meeting
+pub mod Writing
+pub mod JsonShape
+pub mod Placing
+pub mod Parts
+pub mod Pieces
+pub mod Margins
+pub mod Reading

@@ -1,0 +1,11 @@
+pub mod Spots
+pub mod Codes
+pub mod Escapes
+pub mod Findings
+pub mod PlainLines
+pub mod JsonLines
+pub mod Signs
+pub mod Rows
+pub mod Parts
+pub mod Behind
+pub mod Encoding

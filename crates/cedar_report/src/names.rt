@@ -1,0 +1,72 @@
+//! Names that the language has, and which of them a word is nearest to.
+
+use std::alloc::{AllocError, Global};
+use strsim::osa_distance;
+
+/// The methods of the language and of Cedar's own extensions.
+pub const METHODS: &[&str] = &[
+    "contains",
+    "containsAll",
+    "containsAny",
+    "isEmpty",
+    "hasTag",
+    "getTag",
+    "isIpv4",
+    "isIpv6",
+    "isLoopback",
+    "isMulticast",
+    "isInRange",
+    "lessThan",
+    "lessThanOrEqual",
+    "greaterThan",
+    "greaterThanOrEqual",
+    "offset",
+    "durationSince",
+    "toDate",
+    "toTime",
+    "toMilliseconds",
+    "toSeconds",
+    "toMinutes",
+    "toHours",
+    "toDays",
+];
+
+/// The functions of Cedar's own extensions.
+pub const FUNCTIONS: &[&str] = &["ip", "decimal", "datetime", "duration"];
+
+/// The variables of a condition.
+pub const VARIABLES: &[&str] = &["principal", "action", "resource", "context"];
+
+/// The effects of policies.
+pub const EFFECTS: &[&str] = &["permit", "forbid"];
+
+/// The words that begin conditions.
+pub const CONDITIONS: &[&str] = &["when", "unless"];
+
+/// Longer words are near to no name.
+const LONGEST: usize = 64;
+
+/// The name to which a word is nearest, where it is near to one: equal but for capital letters, or
+/// with at most a third of its letters changed. Only want of memory refuses it.
+pub fn nearest(
+    alloc: Global,
+    word: &str,
+    names: &[&'static str],
+) -> Result<Option<&'static str>, AllocError> {
+    if word.len() > LONGEST {
+        return Ok(None);
+    }
+    let mut limit = word.len() / 3;
+    let mut found = None;
+    for name in names {
+        if word.eq_ignore_ascii_case(*name) {
+            return Ok(Some(*name));
+        }
+        let distance = osa_distance(alloc, word, *name)?;
+        if distance <= limit && (found.is_none() || distance < limit) {
+            limit = distance;
+            found = Some(*name);
+        }
+    }
+    Ok(found)
+}
