@@ -1,0 +1,2 @@
+permit (principal, action, resource)
+when { geo::here(context.place).near(1) };

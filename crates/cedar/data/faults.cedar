@@ -1,0 +1,4 @@
+permit (principal, action, resource)
+when { resource.owner = principal };
+forbid (principal, action, resource)
+when { principal.isIpv5() };

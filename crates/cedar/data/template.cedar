@@ -1,0 +1,2 @@
+@note("a \"b\"")
+permit (principal == ?principal, action, resource in ?resource);

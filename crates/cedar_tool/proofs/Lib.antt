@@ -1,0 +1,8 @@
+mod Bytes
+mod Judging
+mod Serving
+mod Stopping
+mod Listing
+mod PolicyShape
+mod Annotating
+mod Deepening

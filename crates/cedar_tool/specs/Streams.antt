@@ -1,0 +1,70 @@
+-- What is seen of a run's streams, and what a call leaves.
+use Rattle.std.specs.Prelude.{◌≡◌, ◌⊎◌, ℕ, List, [], Option, Result, Ok, Err, option_and_then, ⊤}
+use Rattle.std.specs.IoError.{error_kind}
+use Rattle.std.specs.declared.io.ErrorKind.TheVariants as kind
+use Rattle.std.specs.declared.io.Error.{Error}
+use Rattle.cedar_command.specs.Streams.{Writing, AreBytesWritten}
+use Rattle.cedar_tool.specs.declared.streams.Input.{Input}
+use Rattle.cedar_tool.specs.declared.streams.Output.{Output}
+use Rattle.cedar_tool.specs.declared.streams.Console.{Console}
+use Rattle.cedar_tool.specs.declared.streams.WriterState.{WriterState}
+use Rattle.cedar_tool.specs.declared.streams.WriterState.TheVariants.{Failed}
+use Rattle.cedar_tool.specs.declared.request.Format.{Format}
+use Rattle.cedar_tool.specs.declared.request.Format.TheVariants.{Human, Plain, Json}
+
+-- what a reader that wasn't read yet is known to give
+abbrev pub known_of : {R : Type 0} → (R → Option (List ℕ)) → Input R → Option (List ℕ)
+known_of remaining input = option_and_then remaining input.reader
+
+-- why reading failed, if it did
+abbrev pub input_failure : {R : Type 0} → Input R → Option Error
+input_failure input = input.failure
+
+abbrev pub output_state : {W : Type 0} → Output W → WriterState
+output_state output = output.state
+
+abbrev pub output_writer : {W : Type 0} → Output W → W
+output_writer output = output.writer
+
+-- what a writer of a type whose bytes are known so held before some calls and holds after them
+abbrev pub output_writing : {W : Type 0} → (W → Option (List ℕ)) → Output W → Output W → Writing
+output_writing contents old new =
+    record { before = contents (output_writer old); after = contents (output_writer new) }
+
+-- The state before a call of a writer that comes to the state `next` where it succeeds, its
+-- answer, and the state behind it. Behind a failure each call answers that failure.
+abbrev pub LeavesState : {A : Type 0} → WriterState → WriterState → Result A Error → WriterState
+    → Type 0
+LeavesState next (Failed first) answer state = (answer ≡ Err first) × (state ≡ Failed first)
+LeavesState next _ (Ok done) state = state ≡ next
+LeavesState next _ (Err error) state = state ≡ Failed error
+
+-- What the writer itself answers to a call is answered, but where a call failed before, that
+-- failure.
+abbrev pub RepeatsFailure : {A : Type 0} → WriterState → Result A Error → Result A Error → Type 0
+RepeatsFailure (Failed first) given answer = answer ≡ Err first
+RepeatsFailure _ given answer = answer ≡ given
+
+-- memory was refused
+abbrev pub IsWant : Error → Type 0
+IsWant error = error_kind error ≡ kind.OutOfMemory
+
+-- why a run stops before all texts were tried: memory was refused, or one of its streams failed
+abbrev pub StopsRun : {O E : Type 0} → Console O E → Error → Type 0
+StopsRun console error = IsWant error
+    ⊎ ((output_state console.output ≡ Failed error) ⊎ (output_state console.errors ≡ Failed error))
+
+-- What is told of a text stands on standard output as JSON, and else on the stream of errors; the
+-- other stream stays as it was.
+abbrev pub IsToldOn : {O E : Type 0} → (O → Option (List ℕ)) → Format → Console O E → Console O E
+    → Type 0
+IsToldOn contents Json old new = (new.errors ≡ old.errors)
+    × ((told : List ℕ) × AreBytesWritten told (output_writing contents old.output new.output))
+IsToldOn contents Plain old new = new.output ≡ old.output
+IsToldOn contents (Human colours) old new = new.output ≡ old.output
+
+-- so standard output may hold this of what is told
+abbrev pub MayHold : Format → List ℕ → Type 0
+MayHold Json told = ⊤
+MayHold Plain told = told ≡ []
+MayHold (Human colours) told = told ≡ []

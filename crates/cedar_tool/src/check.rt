@@ -1,0 +1,152 @@
+//! Whether a text means policies, and what is told where it doesn't.
+ghost use Rattle.std.specs.Prelude.{◌≡◌, IfOk, IfErr, OnOk};
+ghost use Rattle.cedar_conversion.specs.strict.Table.{table_of};
+ghost use Rattle.cedar_policy_parser.specs.meaning.Formatted.{MeansSet};
+ghost use Rattle.cedar_policy_store.specs.PlaceFree.{set_meaning};
+ghost use Rattle.cedar_syntax.specs.faults.ParseErrors.{IsMemory};
+ghost use Rattle.cedar_tool.specs.Answers.{HasMeaning, IsJudged};
+ghost use Rattle.cedar_tool.specs.Streams.{IsToldOn, StopsRun, output_writing};
+ghost use Rattle.cedar_tool.specs.declared.ending.Verdict.TheVariants as verdict;
+ghost use Rattle.cedar_tool.specs.declared.request.Task.TheVariants as task;
+
+use crate::depth::pieces_fit;
+use crate::ending::Verdict;
+use crate::remark::{told, too_deep};
+use crate::request::{Format, Request, Task};
+use crate::streams::Console;
+use crate::texts::{Named, Source, Unreadable};
+use cedar_policy_parser::err::{Failure, ParseErrors};
+use cedar_policy_parser::{ExtStyles, PolicySet, parse_policyset};
+use cedar_report::Report;
+use std::alloc::{AllocError, Global};
+use std::io::{self, Write};
+
+/// Whether a text means policies; else its faults are told.
+pub(crate) fn check<O: Write, E: Write>(
+    alloc: Global,
+    request: &Request,
+    source: &Source<'_>,
+    console: &mut Console<O, E>,
+) -> io::Result<Verdict>
+    ensures judged { IfOk result (λ v. IsJudged task.Check request.now.format
+        (table_of request.now.styles) source.now.name.now source.now.text.now v
+        (output_writing O.contents console.old.output console.new.output)) }
+    ensures quiet { IfOk result (λ v. v ≡ verdict.Accepted
+        → console.new.errors ≡ console.old.errors) }
+    ensures stops { IfErr result (StopsRun console.new) }
+{
+    match set_of(alloc, source.text, &request.styles) {
+        Ok(set) => Ok(accept(set)),
+        Err(failure) => refuse(alloc, request, source, &failure, console),
+    }
+}
+
+/// The set that a text means under a table.
+pub(crate) fn set_of(alloc: Global, text: &str, styles: &ExtStyles) -> Result<PolicySet, Failure>
+    ensures meant { IfOk result (λ set. HasMeaning (table_of styles.now) text.now) }
+    ensures set { IfOk result (λ set. MeansSet
+        (table_of styles.now) text.now (set_meaning set)) }
+    ensures only { HasMeaning (table_of styles.now) text.now → IfErr result IsMemory }
+{
+    parse_policyset(alloc, text, styles)
+}
+
+/// The verdict on a text that means a set, which is let go.
+fn accept(set: PolicySet) -> Verdict
+    ensures { result ≡ verdict.Accepted }
+{
+    drop(set);
+    Verdict::Accepted
+}
+
+/// Tells why a text is refused; want of memory ends the run.
+pub(crate) fn refuse<O: Write, E: Write>(
+    alloc: Global,
+    request: &Request,
+    source: &Source<'_>,
+    failure: &Failure,
+    console: &mut Console<O, E>,
+) -> io::Result<Verdict>
+    ensures verdict { IfOk result (λ v. (v ≡ verdict.Refused) × ¬ (IsMemory failure.now)) }
+    ensures told { OnOk result (IsToldOn O.contents request.now.format console.old console.new) }
+    ensures stops { IfErr result (StopsRun console.new) }
+{
+    match failure {
+        Failure::Memory(error) => Err(io::Error::from(*error)),
+        Failure::Errors(faults) => {
+            let report = report_of(alloc, request, source, faults)?;
+            tell(alloc, &report, request.format, console)?;
+            Ok(Verdict::Refused)
+        }
+    }
+}
+
+/// What is told of the faults of a text; of one that is to be laid out no more than why it has no
+/// tree.
+fn report_of<'a>(
+    alloc: Global,
+    request: &Request,
+    source: &Source<'a>,
+    faults: &ParseErrors,
+) -> Result<Report<'a>, AllocError> {
+    match request.task {
+        Task::Check | Task::List if pieces_fit(source.text) => {
+            Report::beyond(alloc, source.name, source.text, faults, &request.styles)
+        }
+        _ => Report::of(alloc, source.name, source.text, faults),
+    }
+}
+
+/// Tells why bytes aren't given to the parser.
+pub(crate) fn tell_unreadable<O: Write, E: Write>(
+    alloc: Global,
+    format: Format,
+    named: &Named<'_>,
+    why: Unreadable,
+    console: &mut Console<O, E>,
+) -> io::Result<Verdict>
+    ensures verdict { IfOk result (λ v. v ≡ verdict.Refused) }
+    ensures told { OnOk result (IsToldOn O.contents format console.old console.new) }
+    ensures stops { IfErr result (StopsRun console.new) }
+{
+    match report_unreadable(alloc, named, why)? {
+        Some(report) => {
+            tell(alloc, &report, format, console)?;
+            Ok(Verdict::Refused)
+        }
+        None => Ok(Verdict::Refused),
+    }
+}
+
+/// What is told of bytes that aren't given to the parser; `None` only where there is no reason why.
+fn report_unreadable<'a>(
+    alloc: Global,
+    named: &Named<'a>,
+    why: Unreadable,
+) -> Result<Option<Report<'a>>, AllocError> {
+    match why {
+        Unreadable::NotUtf8 => Report::not_utf8(alloc, named.name, named.bytes),
+        Unreadable::TooDeep(place) => match str::from_utf8(named.bytes) {
+            Ok(text) => Ok(Some(too_deep(alloc, named.name, text, place)?)),
+            Err(_) => Ok(None),
+        },
+    }
+}
+
+/// Writes what is told where it belongs.
+pub(crate) fn tell<O: Write, E: Write>(
+    alloc: Global,
+    report: &Report<'_>,
+    format: Format,
+    console: &mut Console<O, E>,
+) -> io::Result<()>
+    ensures told { OnOk result (IsToldOn O.contents format console.old console.new) }
+    ensures stops { IfErr result (StopsRun console.new) }
+{
+    let told = told(alloc, report, format)?;
+    match format {
+        Format::Json => write!(&mut console.output, "{told}"),
+        Format::Plain => write!(&mut console.errors, "{told}"),
+        Format::Human(_) => write!(&mut console.errors, "{told}"),
+    }
+}
