@@ -21,7 +21,8 @@ kinds_expected (ToAST fault) = []
 
 -- both ends of a range have the lines and columns of its bytes
 abbrev pub IsSeen : List ℕ → Extent → Type 0
-IsSeen text extent = (extent.from ≡ spot_of text extent.start) × (extent.to ≡ spot_of text extent.end)
+IsSeen text extent =
+    (extent.from ≡ spot_of text extent.start) × (extent.to ≡ spot_of text extent.end)
 
 -- a range is these bytes, seen
 abbrev pub IsSeenAt : List ℕ → ℕ → ℕ → Option Extent → Type 0

@@ -17,7 +17,8 @@ utf16_behind bytes = sum_by utf16_units (last_line bytes) + 1
 
 -- where people and editors see the place behind these bytes
 abbrev pub spot_behind : List ℕ → Spot
-spot_behind bytes = record { line = line_behind bytes; column = column_behind bytes; utf16 = utf16_behind bytes }
+spot_behind bytes =
+    record { line = line_behind bytes; column = column_behind bytes; utf16 = utf16_behind bytes }
 
 -- where they see a byte of a text; its end, where the byte lies behind it
 abbrev pub spot_of : List ℕ → ℕ → Spot

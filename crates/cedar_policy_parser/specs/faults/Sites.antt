@@ -119,7 +119,7 @@ abbrev pub IsFieldNode : Located → Type 0
 IsFieldNode (at p form) = IsFieldForm form
 IsFieldNode _ = ⊥
 
--- what a node is read as by itself, where this is wanted: a string right of `like` is read as a
+-- whether a node is read by itself where this is wanted: a string right of `like` is read as a
 -- pattern, and a right side of `has` by a rule of its own
 abbrev pub is_read_itself : Role → Bool
 is_read_itself attributes = false
