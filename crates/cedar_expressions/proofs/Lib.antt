@@ -1,7 +1,12 @@
+pub mod CopiesAt
 pub mod Deciding
 pub mod EqualExprs
 pub mod EqualParts
+pub mod EscapesAt
+pub mod FilledAt
+pub mod ForksAt
 pub mod Opened
+pub mod PartsAt
 pub mod PlacesAside
 pub mod Repeats
 pub mod SlotsAt

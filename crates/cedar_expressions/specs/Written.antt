@@ -28,6 +28,7 @@ use Rattle.cedar_expressions.specs.declared.expr.ExprKind.TheViews.{out-ExprKind
 use Rattle.cedar_expressions.specs.declared.expr.ListCall.{ListCall}
 use Rattle.cedar_expressions.specs.declared.expr.ListCall.TheVariants as list
 use Rattle.cedar_expressions.specs.Path.{name_text}
+use Rattle.cedar_expressions.specs.Escapes.{quoted, escaped_text}
 
 -- operators by their signs
 abbrev pub add_op_text : AddOp → List ℕ
@@ -49,19 +50,16 @@ abbrev pub slot_text : SlotId → List ℕ
 slot_text slot.Principal = codes "?principal"
 slot_text slot.Resource = codes "?resource"
 
--- a text between double quotes, as it is
-abbrev pub text_in_quotes : List ℕ → List ℕ
-text_in_quotes text = codes "\"" ++ (text ++ codes "\"")
-
--- an entity: its type, `::` and the identifier in double quotes
+-- an entity: its type, `::` and the identifier as a string is written, so that the text is read as
+-- that entity
 abbrev pub entity_text : EntityUID → List ℕ
 entity_text entity = name_text entity.entity_type.name
-    ++ (codes "::" ++ text_in_quotes entity.eid.text)
+    ++ (codes "::" ++ quoted (escaped_text entity.eid.text))
 
 abbrev pub literal_text : Literal → List ℕ
 literal_text (literal.Bool b) = if b then codes "true" else codes "false"
 literal_text (literal.Long number) = signed_decimal number
-literal_text (literal.String text) = text_in_quotes text
+literal_text (literal.String text) = quoted text
 literal_text (literal.EntityUID entity) = entity_text entity
 
 -- an element of a pattern: its character, or a star

@@ -1,6 +1,7 @@
 //! Entities: a type, which is a name, and an id.
 ghost use Rattle.std.specs.Prelude.{◌≡◌};
 
+use crate::escape::EscapedChar;
 use crate::{Name, Text, TryClone};
 use std::alloc::AllocError;
 use std::fmt;
@@ -150,6 +151,7 @@ impl fmt::Display for EntityType {
     }
 }
 
+/// The type, `::` and the identifier as a string is written: the text is read as this entity.
 impl fmt::Display for EntityUID {
     ghost use Rattle.std.proofs.Common.{Some};
     ghost use Rattle.cedar_expressions.specs.Written.{entity_text};
@@ -157,6 +159,10 @@ impl fmt::Display for EntityUID {
     ghost output = { λ entity. Some (entity_text entity) };
 
     fn fmt<W: fmt::Write>(&self, f: &mut fmt::Formatter<W>) -> fmt::Result {
-        write!(f, "{}::\"{}\"", self.entity_type, self.eid)
+        write!(f, "{}::\"", self.entity_type)?;
+        for c in self.eid.as_str().chars() {
+            EscapedChar::new(c).fmt(f)?;
+        }
+        f.write_str("\"")
     }
 }

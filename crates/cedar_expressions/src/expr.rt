@@ -11,7 +11,7 @@ use std::fmt;
 
 /// An expression: the tree of the builder calls that made it. Equality looks at no place.
 #[cycle(expr)]
-#[derive(Debug, Drop, PartialEq, Eq)]
+#[derive(Debug, PartialEq, Eq)]
 pub struct Expr {
     kind: ExprKind,
     place: NodePlace,
@@ -41,6 +41,16 @@ pub enum ExprKind {
     List(ListCall, Items<Expr>),
     /// A record: its pairs in the order in which they were given.
     Record(Items<(Text, Expr)>),
+}
+
+/// A loop, so that an expression of any depth is let go in a small stack (`release.rt`).
+impl Drop for Expr {
+    fn drop(self) {
+        let mut waiting = self.fork();
+        while let Some(fork) = waiting {
+            waiting = fork.descend();
+        }
+    }
 }
 
 /// The calls of one expression, with what else they take.
@@ -120,6 +130,14 @@ impl Expr {
         ensures { result.now ≡ self.now.kind }
     {
         &self.kind
+    }
+
+    /// The kind with its parts, moved out.
+    pub(crate) fn into_kind(self) -> ExprKind
+        ensures { result ≡ self.kind }
+    {
+        let Expr { kind, place: _ } = self;
+        kind
     }
 
     /// Where the expression stands, if that is known.

@@ -1,6 +1,10 @@
 pub mod ActionTypes
 pub mod EqualPolicies
 pub mod FirstSlots
+pub mod Linked
+pub mod Listed
 pub mod MapsByText
 pub mod NamedPolicies
+pub mod Numbers
+pub mod Removed
 pub mod ScopeSlots

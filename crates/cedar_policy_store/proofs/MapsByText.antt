@@ -1,12 +1,12 @@
 -- Trees of entries by text, and the finite maps that they are seen as.
-use Rattle.std.proofs.Common.{◌≡◌, ◌&&◌, ℕ, Bool, true, false, T, List, [], ◌∷◌, length, Some, is_some, refl, sym, ap, ◌∙◌, subst, cond}
+use Rattle.std.proofs.Common.{◌≡◌, ◌&&◌, ℕ, Bool, true, false, T, List, [], ◌∷◌, length, Some, None, is_some, refl, sym, ap, ◌∙◌, subst, cond}
 use Rattle.std.specs.declared.cmp.Ordering.{Ordering}
 use Rattle.std.specs.declared.cmp.Ordering.TheVariants.{Less, Equal, Greater}
-use Rattle.std.specs.Ordering.{is_lt, match_ordering}
+use Rattle.std.specs.Ordering.{is_lt, is_eq, match_ordering, ordering_reverse, eq_by_cmp}
 use Rattle.std.specs.List.{AllByRecursion}
 use Rattle.std.specs.List.Sorted.{IsStrictlySortedBy}
 use Rattle.std.specs.Cmp.Lexicographic.{pointwise, nat_list_cmp_total}
-use Rattle.std.specs.FinMap.{from_sorted, find, put, is_sorted, entries, get, contains_key, insert, empty, len, values, same_entries_map, entries-from_sorted, entries-insert, get-entries, empty_of_len, len-entries, nat_cmp-IsAntisymmetric, slice_cmp-IsAntisymmetric}
+use Rattle.std.specs.FinMap.{from_sorted, find, put, is_sorted, entries, get, contains_key, insert, remove, get-remove, same_map, empty, len, values, same_entries_map, entries-from_sorted, entries-insert, get-entries, empty_of_len, len-entries, nat_cmp-IsAntisymmetric, slice_cmp-IsAntisymmetric}
 use Rattle.std.specs.FinMap.Entries.{below_all, by_order}
 use Rattle.std.specs.Map.{keys_of, values_of, lookup}
 use Rattle.std.specs.BTreeMap.{BTreeMap, IsOrdered, IsClone, is_at, insert_entry}
@@ -17,6 +17,11 @@ use Rattle.cedar_policy_store.specs.TextMap.{text_order, map_in, same_entry_by, 
 both : (a b : Bool) → T a → T b → T (a && b)
 both true b p q = q
 both false b p q = p
+
+either_way : (r s : Ordering) → r ≡ ordering_reverse s → is_eq r ≡ is_eq s
+either_way r Less e = ap is_eq e
+either_way r Equal e = ap is_eq e
+either_way r Greater e = ap is_eq e
 
 module _ {X : Type 0} where
   below : (k : List ℕ) (es : List (List ℕ × X)) → AllByRecursion (λ y. text_order k y ≡ Less) (keys_of es) → T (below_all text_order k es)
@@ -67,6 +72,13 @@ module _ {X : Type 0} where
   map_in-insert m n k v h g e =
       same_entries_map (map_in n) (insert (map_in m) k v)
       (entries-map_in n g ∙ e ∙ sym (put_is k v m.entries) ∙ ap (put text_order k v) (sym (entries-map_in m h)) ∙ sym (entries-insert nat_list_cmp_total (map_in m) k v))
+
+  -- without an entry
+  pub map_in-remove : (m n : BTreeMap (List ℕ) X) (k : List ℕ) → IsOrdered text_order m → IsOrdered text_order n → ((q : List ℕ) → tree.get text_order n q ≡ cond (is_at (text_order k) q) None (tree.get text_order m q)) → map_in n ≡ remove (map_in m) k
+  map_in-remove m n k h g e =
+      same_map nat_list_cmp_total (slice_cmp-IsAntisymmetric nat_cmp-IsAntisymmetric) (map_in n) (remove (map_in m) k)
+      (λ q. get-map_in n q g ∙ e q ∙ ap (λ b. cond b None (tree.get text_order m q)) (either_way (text_order k q) (text_order q k) (nat_list_cmp_total.antisymm k q))
+      ∙ ap (cond (eq_by_cmp text_order q k) None) (sym (get-map_in m q h)) ∙ sym (get-remove nat_list_cmp_total (map_in m) k q))
 
   -- the same entries
   pub map_in-same : (m n : BTreeMap (List ℕ) X) → n.entries ≡ m.entries → map_in n ≡ map_in m

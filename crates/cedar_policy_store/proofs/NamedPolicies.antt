@@ -4,7 +4,7 @@ use Rattle.std.specs.declared.cmp.Ordering.{Ordering}
 use Rattle.std.specs.declared.cmp.Ordering.TheVariants.{Less, Equal, Greater}
 use Rattle.std.specs.Ordering.{is_eq, match_ordering}
 use Rattle.std.specs.Option.{option_copied}
-use Rattle.std.specs.Map.{lookup}
+use Rattle.std.specs.Map.{lookup, remove_entry}
 use Rattle.std.specs.BTreeMap.{is_at, insert_entry}
 use Rattle.cedar_policy_store.specs.declared.template.Template.{Template}
 use Rattle.cedar_policy_store.specs.PolicyMaps.{StandByName}
@@ -23,6 +23,15 @@ put_named Greater k v e es rest tie own named next = (named.0, next)
 pub named-insert : (es : Entries) (k : List ℕ) (v : Template) → v.id ≡ k → StandByName es → StandByName (insert_entry text_order es k v)
 named-insert [] k v own named = (own, tt)
 named-insert (e ∷ es) k v own named = put_named (text_order k e.0) k v e es (insert_entry text_order es k v) refl own named (named-insert es k v own named.1)
+
+kept_named : (b : Bool) (e : List ℕ × Template) (es rest : Entries) → StandByName (e ∷ es) → StandByName rest → StandByName (cond b es (e ∷ rest))
+kept_named true e es rest named next = named.1
+kept_named false e es rest named next = (named.0, next)
+
+-- one less
+pub named-remove : (test : List ℕ → Bool) (es : Entries) → StandByName es → StandByName (remove_entry test es)
+named-remove test [] named = tt
+named-remove test (e ∷ es) named = kept_named (test e.0) e es (remove_entry test es) named (named-remove test es named.1)
 
 own_name : (r : Ordering) (q : List ℕ) (e : List ℕ × Template) (rest : Option Template) → text_order q e.0 ≡ r → e.1.id ≡ e.0 → IfSome rest (λ v. v.id ≡ q) → IfSome (cond (is_eq r) (Some e.1) rest) (λ v. v.id ≡ q)
 own_name Less q e rest tie own next = next

@@ -1,7 +1,11 @@
 pub mod Actions
+pub mod IdOrder
+pub mod Links
+pub mod Listing
 pub mod PlaceFree
 pub mod PolicyMaps
 pub mod PolicyText
 pub mod StaticPolicies
 pub mod TemplateSlots
 pub mod TextMap
+pub mod Zeros

@@ -1,5 +1,7 @@
 -- A policy set as contracts see it: two finite maps by name.
-use Rattle.std.specs.Prelude.{refl, ◌≡◌, ℕ, List, [], ◌∷◌, Bool, ◌||◌, ◌&&◌}
+use Rattle.std.specs.Prelude.{refl, ◌≡◌, ℕ, ◌+◌, List, [], ◌∷◌, Bool, ◌||◌, ◌&&◌, if◌then◌else◌, Option, Some, None}
+use Rattle.either.specs.declared.Either.{Either}
+use Rattle.either.specs.declared.Either.TheVariants.{Left, Right}
 use Rattle.std.specs.Coded.{Coded, code_by, coded×, coded_list, coded_ℕ}
 use Rattle.std.specs.FinMap as map
 use Rattle.std.specs.FinMap.{FinMap, contains_key}
@@ -30,6 +32,36 @@ maps_code template =
 -- whether a static policy or a template has this name
 abbrev pub holds_id : PolicyMaps → List ℕ → Bool
 holds_id maps id = contains_key maps.policies id || contains_key maps.templates id
+
+-- how many there are
+abbrev pub policy_count : PolicyMaps → ℕ
+policy_count maps = map.len maps.policies + map.len maps.templates
+
+-- the name of a policy, or of a template
+abbrev pub either_id : Either Template Template → List ℕ
+either_id (Left t) = t.id
+either_id (Right t) = t.id
+
+-- the policy is added under its name, or the template under its
+abbrev pub maps_with : PolicyMaps → Either Template Template → PolicyMaps
+maps_with maps (Left t) = record maps { policies = map.insert maps.policies t.id t }
+maps_with maps (Right t) = record maps { templates = map.insert maps.templates t.id t }
+
+-- what stands under a name
+abbrev pub or_template : Option Template → Option Template → Option (Either Template Template)
+or_template (Some t) other = Some (Left t)
+or_template None (Some t) = Some (Right t)
+or_template None None = None
+
+abbrev pub policy_named : PolicyMaps → List ℕ → Option (Either Template Template)
+policy_named maps id = or_template (map.get maps.policies id) (map.get maps.templates id)
+
+-- what is left without what stands under a name
+abbrev pub maps_without : PolicyMaps → List ℕ → PolicyMaps
+maps_without maps id =
+    if contains_key maps.policies id
+    then record maps { policies = map.remove maps.policies id }
+    else record maps { templates = map.remove maps.templates id }
 
 -- what can refuse a policy of this name, since a set has each name once: want of memory, or that
 -- the name is there

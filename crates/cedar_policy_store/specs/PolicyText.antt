@@ -20,8 +20,12 @@ use Rattle.cedar_policy_store.specs.declared.constraints.ActionConstraint.TheVar
 use Rattle.cedar_policy_store.specs.declared.template.Template.{Template}
 use Rattle.cedar_policy_store.specs.declared.static_policy.UnexpectedSlotError.{UnexpectedSlotError}
 use Rattle.cedar_policy_store.specs.declared.static_policy.UnexpectedSlotError.TheVariants.{FoundSlot}
+use Rattle.cedar_policy_store.specs.declared.static_policy.NotStatic.{NotStatic}
+use Rattle.cedar_policy_store.specs.declared.static_policy.NotStatic.TheVariants as reasons
 use Rattle.cedar_policy_store.specs.declared.policy_set.PolicySetError.{PolicySetError}
 use Rattle.cedar_policy_store.specs.declared.policy_set.PolicySetError.TheVariants.{Memory, Occupied}
+use Rattle.cedar_policy_store.specs.declared.link.LinkError.{LinkError}
+use Rattle.cedar_policy_store.specs.declared.link.LinkError.TheVariants as unlinked
 use Rattle.cedar_policy_store.specs.PolicyMaps.{PolicyMaps}
 use Rattle.cedar_policy_store.specs.TextMap.{text_order}
 
@@ -81,6 +85,21 @@ abbrev pub unexpected_slot_text : UnexpectedSlotError → List ℕ
 unexpected_slot_text (FoundSlot slot) =
     codes "found slot `" ++ (slot_text slot.id ++ codes "` where slots are not allowed")
 
+abbrev pub not_static_text : NotStatic → List ℕ
+not_static_text (reasons.Memory want) = codes "want of memory"
+not_static_text (reasons.UnexpectedSlot error) = unexpected_slot_text error
+
 abbrev pub set_error_text : PolicySetError → List ℕ
 set_error_text (Memory want) = codes "want of memory"
 set_error_text (Occupied id) = codes "duplicate template or policy id `" ++ (id ++ codes "`")
+
+abbrev pub link_error_text : LinkError → List ℕ
+link_error_text (unlinked.Memory want) = codes "want of memory"
+link_error_text (unlinked.NoSuchTemplate id) =
+    codes "no template has the id `" ++ (id ++ codes "`")
+link_error_text (unlinked.Occupied id) =
+    codes "duplicate template or policy id `" ++ (id ++ codes "`")
+link_error_text (unlinked.NoEntity slot) =
+    codes "no entity for the slot `" ++ (slot_text slot ++ codes "`")
+link_error_text (unlinked.NoSlot slot) =
+    codes "the template has no slot `" ++ (slot_text slot ++ codes "`")

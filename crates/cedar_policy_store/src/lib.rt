@@ -4,9 +4,11 @@
 mod annotation;
 mod constraints;
 mod effect;
-mod first_slot;
 mod held;
+mod id_order;
 pub mod laws;
+mod link;
+mod listing;
 mod policy_id;
 mod policy_set;
 mod static_policy;
@@ -18,7 +20,9 @@ pub use constraints::{
     ResourceConstraint,
 };
 pub use effect::Effect;
+pub use link::LinkError;
+pub use listing::Policies;
 pub use policy_id::PolicyID;
 pub use policy_set::{PolicySet, PolicySetError};
-pub use static_policy::{StaticPolicy, UnexpectedSlotError};
+pub use static_policy::{NotStatic, RefusedTemplate, StaticPolicy, UnexpectedSlotError};
 pub use template::Template;

@@ -2,7 +2,7 @@
 ghost use Rattle.std.specs.Prelude.{◌≡◌, string_bytes};
 
 use cedar_expressions::{OwnedText, TryClone};
-use std::alloc::AllocError;
+use std::alloc::{AllocError, Global};
 use std::fmt;
 use std::marker::Model;
 
@@ -40,6 +40,11 @@ impl PolicyID {
         ensures { result.now ≡ self.now }
     {
         self.text.as_str()
+    }
+
+    /// Where the text's memory comes from.
+    pub fn alloc(&self) -> Global {
+        self.text.alloc()
     }
 
     /// The text, moved out; it takes no memory.

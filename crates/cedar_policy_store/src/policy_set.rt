@@ -4,12 +4,13 @@ ghost use Rattle.std.specs.BTreeMap.{IsOrdered, IsUnchanged, insert_entry};
 ghost use Rattle.std.specs.Option.{option_copied};
 ghost use Rattle.std.specs.FinMap as map;
 ghost use Rattle.cedar_policy_store.specs.declared.policy_set.PolicySetError.TheVariants.{Memory, Occupied};
-ghost use Rattle.cedar_policy_store.specs.PolicyMaps.{PolicyMaps, IsRefusalOf, holds_id};
+ghost use Rattle.cedar_policy_store.specs.PolicyMaps.{PolicyMaps, IsRefusalOf, holds_id, policy_count, either_id, maps_with, maps_without, policy_named};
 ghost use Rattle.cedar_policy_store.specs.TextMap.{text_order};
 
 use crate::held::beside;
 use crate::{PolicyID, StaticPolicy, Template};
 use cedar_expressions::TryClone;
+use either::Either;
 use std::alloc::{AllocError, AllocFailed, Global};
 use std::collections::BTreeMap;
 use std::collections::btree_map::Values;
@@ -77,7 +78,7 @@ impl PolicySet {
         ensures refused { IfErr result (λ error. IsRefusalOf policy.id error) }
         ensures unchanged { OnErr result (self.new ≡ self.old) }
     {
-        if self.holds(policy.id()) {
+        if self.contains(policy.id()) {
             return Err(PolicySetError::Occupied {
                 id: Template::from(policy).into_id(),
             });
@@ -98,7 +99,7 @@ impl PolicySet {
         ensures refused { IfErr result (λ error. IsRefusalOf template.id error) }
         ensures unchanged { OnErr result (self.new ≡ self.old) }
     {
-        if self.holds(template.id()) {
+        if self.contains(template.id()) {
             return Err(PolicySetError::Occupied {
                 id: template.into_id(),
             });
@@ -138,10 +139,56 @@ impl PolicySet {
     }
 
     /// Whether the set has a static policy or a template of a name.
-    fn holds(&self, id: &PolicyID) -> bool
+    pub fn contains(&self, id: &PolicyID) -> bool
         ensures { result ≡ holds_id self.now id.now }
     {
         self.policies.contains_key(id) || self.templates.contains_key(id)
+    }
+
+    /// How many static policies and templates there are.
+    pub fn len(&self) -> usize
+        ensures { result ≡ policy_count self.now }
+    {
+        let policies = self.policies.len();
+        let templates = self.templates.len();
+        policies + templates
+    }
+
+    /// Whether there is neither a static policy nor a template.
+    pub fn is_empty(&self) -> bool
+        ensures { IsTrue result ↔ (policy_count self.now ≡ 0) }
+    {
+        self.len() == 0
+    }
+
+    /// Adds a static policy or a template under its name, as `add_static` and `add_template` do.
+    pub fn add(&mut self, policy: Either<StaticPolicy, Template>) -> Result<(), PolicySetError>
+        ensures added { OnOk result (self.new ≡ maps_with self.old policy) }
+        ensures free { OnOk result (holds_id self.old (either_id policy) ≡ false) }
+        ensures occupied { (result ≡ Err (Occupied (either_id policy)))
+            ↔ IsTrue (holds_id self.old (either_id policy)) }
+        ensures refused { IfErr result (λ error. IsRefusalOf (either_id policy) error) }
+        ensures unchanged { OnErr result (self.new ≡ self.old) }
+    {
+        match policy {
+            Either::Left(policy) => self.add_static(policy),
+            Either::Right(template) => self.add_template(template),
+        }
+    }
+
+    /// Takes the static policy or the template of a name out of the set, if there is one; else
+    /// the set is as it was.
+    pub fn remove(&mut self, id: &PolicyID) -> Option<Either<StaticPolicy, Template>>
+        ensures taken { result ≡ policy_named self.old id.now }
+        ensures left { self.new ≡ maps_without self.old id.now }
+    {
+        match self.policies.remove(id) {
+            Some(policy) => Some(Either::Left(policy)),
+            None => match self.templates.remove(id) {
+                Some(template) => Some(Either::Right(template)),
+                None => None,
+            },
+        }
     }
 }
 

@@ -4,7 +4,6 @@ ghost use Rattle.std.specs.Option.{option_copied};
 ghost use Rattle.cedar_expressions.specs.Placed.{marked_place};
 ghost use Rattle.cedar_policy_store.specs.TemplateSlots.{template_slots};
 
-use crate::first_slot::first_slot;
 use crate::held::beside;
 use crate::{
     ActionConstraint, Annotations, Effect, PolicyID, PrincipalConstraint, ResourceConstraint,
@@ -170,20 +169,12 @@ impl Template {
         Ok(slots)
     }
 
-    /// The first of the slots, if there is one; it takes no memory.
-    pub fn first_slot(&self) -> Option<Slot>
-        ensures { result ≡ slice_get (template_slots self.now) 0 }
+    /// The first of the slots, if there is one.
+    pub fn first_slot(&self, alloc: Global) -> Result<Option<Slot>, AllocError>
+        ensures { IfOk result (λ first. first ≡ slice_get (template_slots self.now) 0) }
     {
-        if let Some(slot) = self.principal.slot() {
-            return Some(slot);
-        }
-        if let Some(slot) = self.resource.slot() {
-            return Some(slot);
-        }
-        match &self.condition {
-            Some(condition) => first_slot(condition),
-            None => None,
-        }
+        let slots = self.slots(alloc)?;
+        Ok(slots.first().copied())
     }
 }
 

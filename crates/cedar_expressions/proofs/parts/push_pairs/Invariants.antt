@@ -1,0 +1,10 @@
+-- What waits are those from `left` on, before what waited.
+use Rattle.std.proofs.Common.{◌≡◌, ◌≤◌, ◌++◌, length, drop, map}
+use Rattle.cedar_expressions.specs.Walks.{shown}
+use Rattle.cedar_expressions.proofs.parts.push_pairs.Given as goal
+
+abbrev pub invariant-loop-left : goal.invariant-loop-left
+invariant-loop-left l = (l.left ≤ length l.fn.pairs) × (shown l.rest ≡ map (λ t. t.1) (drop l.left l.fn.pairs) ++ shown l.fn.rest)
+
+abbrev pub decreases-loop-left : goal.decreases-loop-left
+decreases-loop-left l = l.left

@@ -1,0 +1,10 @@
+-- What is left of the list has no more forks than the whole, and what waited still waits.
+use Rattle.std.proofs.Common.{◌≡◌, ◌≤◌, length}
+use Rattle.cedar_expressions.specs.Forks.{terms_forks}
+use Rattle.cedar_expressions.proofs.release.lists.step_terms.Given as goal
+
+abbrev pub invariant-loop-item : goal.invariant-loop-item
+invariant-loop-item l = (terms_forks l.rest.items ≤ terms_forks l.fn.rest.items) × (l.up ≡ l.fn.up)
+
+abbrev pub decreases-loop-item : goal.decreases-loop-item
+decreases-loop-item l = length l.rest.items
