@@ -23,7 +23,7 @@ use Rattle.cedar_syntax.specs.declared.cst.Primary.{Primary, out-Primary}
 use Rattle.cedar_syntax.specs.declared.cst.Relation.{Relation, out-Relation}
 use Rattle.cedar_syntax.specs.declared.cst.Add.{Add, out-Add}
 use Rattle.cedar_syntax.specs.declared.cst.And.{And}
-use Rattle.cedar_syntax.specs.declared.cst.ExprImpl.{ExprImpl}
+use Rattle.cedar_syntax.specs.declared.cst.ExprImpl.{ExprImpl, out-ExprImpl}
 use Rattle.cedar_syntax.specs.declared.cst.Member.{Member}
 use Rattle.cedar_syntax.specs.declared.cst.Mult.{Mult, out-Mult}
 use Rattle.cedar_syntax.specs.declared.cst.Or.{Or, out-Or}
@@ -128,7 +128,7 @@ pub init_texts : (d : RecInit) → node_texts (option_texts (texts expr_tree)) d
 unfolding printed
 init_texts d = (λ i. at expr_tree d.0.node i ++ (codes ":" ∷ at expr_tree d.1.node i)) ∙ ap printed (sym (init_out d))
 
-pub impl_texts : (d : ExprImpl) → printed (data_tree d.expr) ≡ printed (impl_tree d)
+pub impl_texts : (d : ExprImpl) → printed (data_tree (out-ExprImpl d).expr.content) ≡ printed (impl_tree d)
 impl_texts d = ap printed (sym (impl_out d))
 
 pub expr_texts : (x : Expr) (e : ExprImpl) → x ≡ EV.Expr e → printed (impl_tree e) ≡ printed (expr_tree x)

@@ -1,4 +1,5 @@
 pub mod Forms
+pub mod Inside
 pub mod Located
 pub mod Node
 pub mod Slots
@@ -8,3 +9,4 @@ pub mod Trees
 pub mod Unlocated
 pub mod UnlocatedTrees
 pub mod Unplaced
+pub mod Weight

@@ -1,7 +1,17 @@
 //! The syntax trees. A node is `Node<Option<T>>`: empty where a fault was found.
+ghost use Rattle.std.specs.Prelude.{◌≡◌, ◌<◌, ◌+◌, suc, IfOk};
+ghost use Rattle.cedar_syntax.specs.declared.cst.ExprImpl.{out-ExprImpl};
+ghost use Rattle.cedar_syntax.specs.declared.cst.Expr.TheVariants as variants;
+ghost use Rattle.cedar_syntax.specs.trees.Trees.{impl_of};
+ghost use Rattle.cedar_syntax.specs.trees.Weight.{expr_weight, impl_weight, linked_weight, data_weight, waiting_weight};
+
+use crate::depth::Depth;
+use crate::dismantle::Dismantle;
 use crate::node::Node;
 pub use cedar_expressions::AddOp;
 use cedar_expressions::{Boxed, Items, Text};
+use std::alloc::{AllocError, Global};
+use std::mem;
 
 /// The policies of a set.
 #[derive(Debug, Drop, PartialEq, Eq)]
@@ -80,9 +90,19 @@ pub struct Cond {
 
 /// What an expression holds, in memory of its own.
 #[cycle(cst)]
-#[derive(Debug, Drop, PartialEq, Eq)]
+#[derive(Debug, PartialEq, Eq)]
 pub struct ExprImpl {
-    pub expr: Boxed<ExprData>,
+    pub expr: Boxed<Linked>,
+}
+
+/// What an expression holds, and how it is dropped. While trees are dropped, another expression
+/// waits behind it.
+#[cycle(cst)]
+#[derive(Debug, Drop, PartialEq, Eq)]
+pub struct Linked {
+    pub content: ExprData,
+    pub(crate) depth: Depth,
+    pub(crate) next: Option<Expr>,
 }
 
 /// An expression.
@@ -271,4 +291,199 @@ pub enum Slot {
     Principal,
     Resource,
     Other(Text),
+}
+
+impl ExprImpl {
+    /// Puts what an expression holds into memory of its own.
+    pub fn new(alloc: Global, content: ExprData) -> Result<ExprImpl, AllocError>
+        ensures { IfOk result (λ made. made ≡ impl_of content) }
+    {
+        ExprImpl::nested(alloc, content, true)
+    }
+
+    /// The same, by one who knows how deep it nests. One that isn't deep is dropped faster, and
+    /// takes stack for each expression in the other.
+    #[inline(always)]
+    pub fn nested(alloc: Global, content: ExprData, is_deep: bool) -> Result<ExprImpl, AllocError>
+        ensures { IfOk result (λ made. made ≡ impl_of content) }
+    {
+        let depth = Depth::new(is_deep);
+        let next = None;
+        let linked = Linked {
+            content,
+            depth,
+            next,
+        };
+        let expr = Boxed::new(alloc, linked)?;
+        Ok(ExprImpl { expr })
+    }
+
+    /// What it holds, lent.
+    pub fn as_ref(&self) -> &ExprData
+        ensures { result.now ≡ (out-ExprImpl self.now).expr.content }
+    {
+        &self.expr.as_ref().content
+    }
+
+    /// Whether it may nest deeper than calls may go.
+    #[inline(always)]
+    pub(crate) fn may_be_deep(&self) -> bool {
+        self.expr.as_ref().depth.may_be_deep()
+    }
+
+    /// Where its memory comes from.
+    pub fn alloc(&self) -> Global {
+        self.expr.alloc()
+    }
+
+    /// What it holds, in its memory.
+    #[tactic(auto, using(crate::proofs::Weights::impl_out))]
+    #[inline(always)]
+    fn cell(self) -> Box<Linked>
+        ensures { impl_weight self ≡ linked_weight result.value }
+    {
+        let ExprImpl { expr } = self;
+        expr.into_box()
+    }
+
+    /// What it holds, and what waits behind it.
+    #[tactic(auto, using(crate::proofs::Weights::linked_out))]
+    #[inline(always)]
+    fn parts(self) -> (ExprData, Option<Expr>)
+        ensures { impl_weight self ≡ suc (data_weight result.0 + waiting_weight result.1) }
+    {
+        let Linked {
+            content,
+            depth: _,
+            next,
+        } = Box::into_inner(self.cell());
+        (content, next)
+    }
+
+    /// Lets it go, and all that is in it, without recursion.
+    #[cold]
+    fn let_go(self) {
+        let (content, next) = self.parts();
+        let mut pending = content.dismantle(next);
+        while let Some(expr) = pending {
+            let (content, next) = expr.parts();
+            pending = content.dismantle(next);
+        }
+    }
+}
+
+/// What an expression holds, before those that wait; and what waited behind it.
+#[tactic(auto, using(crate::proofs::Weights::linked_out))]
+#[inline(always)]
+fn put_before(cell: Box<Linked>, pending: Option<Expr>) -> (Box<Linked>, Option<Expr>)
+    ensures weight { linked_weight result.0.value + waiting_weight result.1
+        ≡ linked_weight cell.value + waiting_weight pending }
+    ensures less { waiting_weight result.1 < linked_weight cell.value }
+{
+    let mut cell = cell;
+    let behind = mem::replace(&mut cell.next, pending);
+    (cell, behind)
+}
+
+impl Expr {
+    /// Its one form, lent.
+    pub fn inner(&self) -> &ExprImpl
+        ensures { self.now ≡ variants.Expr result.now }
+    {
+        match self {
+            Expr::Expr(inner) => inner,
+        }
+    }
+
+    /// Its one form.
+    #[inline(always)]
+    fn into_impl(self) -> ExprImpl
+        ensures { self ≡ variants.Expr result }
+    {
+        match self {
+            Expr::Expr(inner) => inner,
+        }
+    }
+
+    /// What it holds, in its memory.
+    #[tactic(auto, using(crate::proofs::Weights::expr_out))]
+    #[inline(always)]
+    fn cell(self) -> Box<Linked>
+        ensures { expr_weight self ≡ linked_weight result.value }
+    {
+        self.into_impl().cell()
+    }
+
+    /// The expression that holds this.
+    #[inline(always)]
+    fn of_cell(cell: Box<Linked>) -> Expr
+        ensures { expr_weight result ≡ linked_weight cell.value }
+    {
+        let expr = Boxed::from(cell);
+        Expr::Expr(ExprImpl { expr })
+    }
+
+    /// What it holds, and what waits behind it.
+    #[tactic(auto, using(crate::proofs::Weights::expr_out))]
+    #[inline(always)]
+    fn parts(self) -> (ExprData, Option<Expr>)
+        ensures { expr_weight self ≡ suc (data_weight result.0 + waiting_weight result.1) }
+    {
+        self.into_impl().parts()
+    }
+
+    /// Lets it wait before those that wait.
+    #[inline(always)]
+    pub(crate) fn wait(self, pending: Option<Expr>) -> Expr
+        ensures { expr_weight result ≡ expr_weight self + waiting_weight pending }
+    {
+        let (cell, behind) = put_before(self.cell(), pending);
+        let first = Expr::of_cell(cell);
+        match behind {
+            None => first,
+            Some(others) => others.join(first),
+        }
+    }
+
+    /// Puts these before those that wait. Nothing waits behind an expression but while trees are
+    /// dropped, so this is never so.
+    #[cold]
+    fn join(self, first: Expr) -> Expr
+        ensures { expr_weight result ≡ expr_weight self + expr_weight first }
+    {
+        let mut row = first;
+        let mut rest = self;
+        'rest: loop {
+            let (cell, behind) = put_before(rest.cell(), Some(row));
+            row = Expr::of_cell(cell);
+            match behind {
+                None => return row,
+                Some(others) => rest = others,
+            }
+        }
+    }
+}
+
+/// What may be deep is taken apart by a loop; else the calls go down the tree, which is faster.
+impl Drop for ExprImpl {
+    #[cycle(drop)]
+    fn drop(self) {
+        if self.may_be_deep() {
+            self.let_go();
+        } else {
+            let ExprImpl { expr: _ } = self;
+        }
+    }
+}
+
+impl Relation {
+    /// Where the memory of its further parts comes from.
+    pub(crate) fn alloc(&self) -> Global {
+        match self {
+            Relation::Common { extended, .. } => extended.alloc(),
+            Relation::Has { field, .. } => field.alloc(),
+            Relation::Like { pattern, .. } => pattern.alloc(),
+            Relation::IsIn { entity_type, .. } => entity_type.alloc(),
+        }
+    }
 }

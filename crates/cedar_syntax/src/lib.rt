@@ -4,13 +4,17 @@
 
 mod copy;
 pub mod cst;
+mod depth;
+mod dismantle;
 pub mod err;
 pub mod laws;
 pub mod loc;
 pub mod node;
+mod pieces;
 pub mod position;
 mod print;
 mod slots;
+pub mod stack;
 pub mod unescape;
 pub mod util;
 

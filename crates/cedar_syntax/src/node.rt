@@ -82,6 +82,7 @@ impl<T> Node<T> {
     }
 
     /// The value and its place.
+    #[inline(always)]
     pub fn into_inner(self) -> (T, Option<Loc>)
         ensures { result ≡ (self.node, self.loc) }
     {

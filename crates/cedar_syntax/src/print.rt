@@ -5,3 +5,4 @@ mod expressions;
 mod leaves;
 mod policies;
 mod tokens;
+mod unfolded;

@@ -14,13 +14,14 @@ use Rattle.cedar_syntax.specs.declared.cst.Relation.{Relation}
 use Rattle.cedar_syntax.specs.declared.cst.Add.{Add}
 use Rattle.cedar_syntax.specs.declared.cst.And.{And}
 use Rattle.cedar_syntax.specs.declared.cst.ExprImpl.{ExprImpl}
+use Rattle.cedar_syntax.specs.declared.cst.Linked.{Linked}
 use Rattle.cedar_syntax.specs.declared.cst.Member.{Member}
 use Rattle.cedar_syntax.specs.declared.cst.Mult.{Mult}
 use Rattle.cedar_syntax.specs.declared.cst.Or.{Or}
 use Rattle.cedar_syntax.specs.declared.cst.RecInit.{RecInit}
 use Rattle.cedar_syntax.specs.declared.cst.Unary.{Unary}
-use Rattle.cedar_syntax.specs.declared.cst.Expr.TheOpen.{Expr-F, ExprData-F, MemAccess-F, Primary-F, Relation-F, Add-F, And-F, ExprImpl-F, Member-F, Mult-F, Or-F, RecInit-F, Unary-F}
-use Rattle.cedar_syntax.specs.declared.cst.Expr.TheFolds.{fold-Expr, fold-ExprData, fold-MemAccess, fold-Primary, fold-Relation, fold-Add, fold-And, fold-ExprImpl, fold-Member, fold-Mult, fold-Or, fold-RecInit, fold-Unary}
+use Rattle.cedar_syntax.specs.declared.cst.Expr.TheOpen.{Expr-F, ExprData-F, MemAccess-F, Primary-F, Relation-F, Add-F, And-F, ExprImpl-F, Linked-F, Member-F, Mult-F, Or-F, RecInit-F, Unary-F}
+use Rattle.cedar_syntax.specs.declared.cst.Expr.TheFolds.{fold-Expr, fold-ExprData, fold-MemAccess, fold-Primary, fold-Relation, fold-Add, fold-And, fold-ExprImpl, fold-Linked, fold-Member, fold-Mult, fold-Or, fold-RecInit, fold-Unary}
 use Rattle.cedar_syntax.specs.trees.Tree.{Operator, disjunction, conjunction, relation, sum, product, or_or, and_and, compare, add, multiply, beside}
 use Rattle.cedar_syntax.specs.trees.Located.{Located, Form, Parts, missing, at, only, ite, chain, has, like, is, is_in, unary, member, field, call, index, literal, name, slot, reference, parens, set, record_of, init, none, more}
 
@@ -47,20 +48,24 @@ parts_of (p ∷ ps) = more p.0 p.1 (parts_of ps)
 abbrev pub F : Type 0
 F = Form
 
-abbrev pub expr_step : Expr-F F F F F F F F F F F F F F → Form
+abbrev pub expr_step : Expr-F F F F F F F F F F F F F F F → Form
 expr_step (Expr-F.«Expr::Expr» e) = e
 
-abbrev pub impl_step : ExprImpl-F F F F F F F F F F F F F F → Form
+abbrev pub impl_step : ExprImpl-F F F F F F F F F F F F F F F → Form
 impl_step e = e.expr
 
-abbrev pub data_step : ExprData-F F F F F F F F F F F F F F → Form
+-- what waits behind an expression while trees are dropped is no part of it
+abbrev pub linked_step : Linked-F F F F F F F F F F F F F F F → Form
+linked_step l = l.content
+
+abbrev pub data_step : ExprData-F F F F F F F F F F F F F F F → Form
 data_step (ExprData-F.Or n) = only (cell n)
 data_step (ExprData-F.If a b c) = ite (cell a) (cell b) (cell c)
 
-abbrev pub or_step : Or-F F F F F F F F F F F F F F → Form
+abbrev pub or_step : Or-F F F F F F F F F F F F F F F → Form
 or_step o = chain disjunction (cell o.initial) (parts_of (map (λ n. (or_or, cell n)) o.extended))
 
-abbrev pub and_step : And-F F F F F F F F F F F F F F → Form
+abbrev pub and_step : And-F F F F F F F F F F F F F F F → Form
 and_step o =
     chain conjunction (cell o.initial) (parts_of (map (λ n. (and_and, cell n)) o.extended))
 
@@ -69,7 +74,7 @@ abbrev pub type_relation_form : Located → Located → Option (Node (Option For
 type_relation_form target entity_type None = is target entity_type
 type_relation_form target entity_type (Some n) = is_in target entity_type (cell n)
 
-abbrev pub relation_step : Relation-F F F F F F F F F F F F F F → Form
+abbrev pub relation_step : Relation-F F F F F F F F F F F F F F F → Form
 relation_step (Relation-F.Common initial extended) =
     chain relation (cell initial) (parts_of (map (λ p. (compare p.0, cell p.1)) extended))
 relation_step (Relation-F.Has target right) = has (cell target) (cell right)
@@ -77,25 +82,25 @@ relation_step (Relation-F.Like target pattern) = like (cell target) (cell patter
 relation_step (Relation-F.IsIn target entity_type in_entity) =
     type_relation_form (cell target) (cell entity_type) in_entity
 
-abbrev pub add_step : Add-F F F F F F F F F F F F F F → Form
+abbrev pub add_step : Add-F F F F F F F F F F F F F F F → Form
 add_step o = chain sum (cell o.initial) (parts_of (map (λ p. (add p.0, cell p.1)) o.extended))
 
-abbrev pub mult_step : Mult-F F F F F F F F F F F F F F → Form
+abbrev pub mult_step : Mult-F F F F F F F F F F F F F F F → Form
 mult_step o =
     chain product (cell o.initial) (parts_of (map (λ p. (multiply p.0, cell p.1)) o.extended))
 
-abbrev pub unary_step : Unary-F F F F F F F F F F F F F F → Form
+abbrev pub unary_step : Unary-F F F F F F F F F F F F F F F → Form
 unary_step u = unary u.op (cell u.item)
 
-abbrev pub member_step : Member-F F F F F F F F F F F F F F → Form
+abbrev pub member_step : Member-F F F F F F F F F F F F F F F → Form
 member_step m = member (cell m.item) (parts_of (map (λ n. (beside, cell n)) m.access))
 
-abbrev pub access_step : MemAccess-F F F F F F F F F F F F F F → Form
+abbrev pub access_step : MemAccess-F F F F F F F F F F F F F F F → Form
 access_step (MemAccess-F.Field n) = field n
 access_step (MemAccess-F.Call ns) = call (parts_of (map (λ n. (beside, cell n)) ns))
 access_step (MemAccess-F.Index n) = index (cell n)
 
-abbrev pub primary_step : Primary-F F F F F F F F F F F F F F → Form
+abbrev pub primary_step : Primary-F F F F F F F F F F F F F F F → Form
 primary_step (Primary-F.Literal n) = literal n
 primary_step (Primary-F.Ref n) = reference n
 primary_step (Primary-F.Name n) = name n
@@ -104,64 +109,80 @@ primary_step (Primary-F.«Primary::Expr» n) = parens (cell n)
 primary_step (Primary-F.EList ns) = set (parts_of (map (λ n. (beside, cell n)) ns))
 primary_step (Primary-F.RInits ns) = record_of (parts_of (map (λ n. (beside, cell n)) ns))
 
-abbrev pub init_step : RecInit-F F F F F F F F F F F F F F → Form
+abbrev pub init_step : RecInit-F F F F F F F F F F F F F F F → Form
 init_step i = init (cell i.0) (cell i.1)
 
 -- ---- expressions
 
 unfoldable pub expr_form : Expr → Form
-expr_form = fold-Expr F F F F F F F F F F F F F expr_step data_step access_step primary_step
-    relation_step add_step and_step impl_step member_step mult_step or_step init_step unary_step
+expr_form = fold-Expr F F F F F F F F F F F F F F expr_step data_step access_step primary_step
+    relation_step add_step and_step impl_step linked_step member_step mult_step or_step init_step
+    unary_step
 
 unfoldable pub data_form : ExprData → Form
-data_form = fold-ExprData F F F F F F F F F F F F F expr_step data_step access_step primary_step
-    relation_step add_step and_step impl_step member_step mult_step or_step init_step unary_step
+data_form = fold-ExprData F F F F F F F F F F F F F F expr_step data_step access_step primary_step
+    relation_step add_step and_step impl_step linked_step member_step mult_step or_step init_step
+    unary_step
 
 unfoldable pub access_form : MemAccess → Form
-access_form = fold-MemAccess F F F F F F F F F F F F F expr_step data_step access_step
-    primary_step relation_step add_step and_step impl_step member_step mult_step or_step init_step
-    unary_step
+access_form = fold-MemAccess F F F F F F F F F F F F F F expr_step data_step access_step
+    primary_step relation_step add_step and_step impl_step linked_step member_step mult_step
+    or_step init_step unary_step
 
 unfoldable pub primary_form : Primary → Form
-primary_form = fold-Primary F F F F F F F F F F F F F expr_step data_step access_step primary_step
-    relation_step add_step and_step impl_step member_step mult_step or_step init_step unary_step
+primary_form = fold-Primary F F F F F F F F F F F F F F expr_step data_step access_step
+    primary_step relation_step add_step and_step impl_step linked_step member_step mult_step
+    or_step init_step unary_step
 
 unfoldable pub relation_form : Relation → Form
-relation_form = fold-Relation F F F F F F F F F F F F F expr_step data_step access_step
-    primary_step relation_step add_step and_step impl_step member_step mult_step or_step init_step
-    unary_step
+relation_form = fold-Relation F F F F F F F F F F F F F F expr_step data_step access_step
+    primary_step relation_step add_step and_step impl_step linked_step member_step mult_step
+    or_step init_step unary_step
 
 unfoldable pub add_form : Add → Form
-add_form = fold-Add F F F F F F F F F F F F F expr_step data_step access_step primary_step
-    relation_step add_step and_step impl_step member_step mult_step or_step init_step unary_step
+add_form = fold-Add F F F F F F F F F F F F F F expr_step data_step access_step primary_step
+    relation_step add_step and_step impl_step linked_step member_step mult_step or_step init_step
+    unary_step
 
 unfoldable pub and_form : And → Form
-and_form = fold-And F F F F F F F F F F F F F expr_step data_step access_step primary_step
-    relation_step add_step and_step impl_step member_step mult_step or_step init_step unary_step
+and_form = fold-And F F F F F F F F F F F F F F expr_step data_step access_step primary_step
+    relation_step add_step and_step impl_step linked_step member_step mult_step or_step init_step
+    unary_step
 
 unfoldable pub impl_form : ExprImpl → Form
-impl_form = fold-ExprImpl F F F F F F F F F F F F F expr_step data_step access_step primary_step
-    relation_step add_step and_step impl_step member_step mult_step or_step init_step unary_step
+impl_form = fold-ExprImpl F F F F F F F F F F F F F F expr_step data_step access_step primary_step
+    relation_step add_step and_step impl_step linked_step member_step mult_step or_step init_step
+    unary_step
+
+unfoldable pub linked_form : Linked → Form
+linked_form = fold-Linked F F F F F F F F F F F F F F expr_step data_step access_step primary_step
+    relation_step add_step and_step impl_step linked_step member_step mult_step or_step init_step
+    unary_step
 
 unfoldable pub member_form : Member → Form
-member_form = fold-Member F F F F F F F F F F F F F expr_step data_step access_step primary_step
-    relation_step add_step and_step impl_step member_step mult_step or_step init_step unary_step
+member_form = fold-Member F F F F F F F F F F F F F F expr_step data_step access_step primary_step
+    relation_step add_step and_step impl_step linked_step member_step mult_step or_step init_step
+    unary_step
 
 unfoldable pub mult_form : Mult → Form
-mult_form = fold-Mult F F F F F F F F F F F F F expr_step data_step access_step primary_step
-    relation_step add_step and_step impl_step member_step mult_step or_step init_step unary_step
+mult_form = fold-Mult F F F F F F F F F F F F F F expr_step data_step access_step primary_step
+    relation_step add_step and_step impl_step linked_step member_step mult_step or_step init_step
+    unary_step
 
 unfoldable pub or_form : Or → Form
-or_form = fold-Or F F F F F F F F F F F F F expr_step data_step access_step primary_step
-    relation_step add_step and_step impl_step member_step mult_step or_step init_step unary_step
+or_form = fold-Or F F F F F F F F F F F F F F expr_step data_step access_step primary_step
+    relation_step add_step and_step impl_step linked_step member_step mult_step or_step init_step
+    unary_step
 
 unfoldable pub init_form : RecInit → Form
-init_form = fold-RecInit F F F F F F F F F F F F F expr_step data_step access_step primary_step
-    relation_step add_step and_step impl_step member_step mult_step or_step init_step unary_step
+init_form = fold-RecInit F F F F F F F F F F F F F F expr_step data_step access_step primary_step
+    relation_step add_step and_step impl_step linked_step member_step mult_step or_step init_step
+    unary_step
 
 unfoldable pub unary_form : Unary → Form
-unary_form = fold-Unary F F F F F F F F F F F F F expr_step data_step access_step primary_step
-    relation_step add_step and_step impl_step member_step mult_step or_step init_step unary_step
+unary_form = fold-Unary F F F F F F F F F F F F F F expr_step data_step access_step primary_step
+    relation_step add_step and_step impl_step linked_step member_step mult_step or_step init_step
+    unary_step
 
 -- ---- parts with what stands before them
 

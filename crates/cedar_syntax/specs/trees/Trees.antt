@@ -1,11 +1,13 @@
 -- The syntax trees, made from their parts.
-use Rattle.std.specs.Prelude.{ℕ, List, Option, nat_le, cond}
+use Rattle.std.specs.Prelude.{ℕ, List, Option, None, nat_le, cond}
 use Rattle.cedar_expressions.specs.declared.operators.AddOp.{AddOp}
 use Rattle.cedar_syntax.specs.declared.node.Node.{Node}
 use Rattle.cedar_syntax.specs.tokens.Signs.{sign_limit}
 use Rattle.cedar_syntax.specs.declared.cst.Expr.{Expr}
 use Rattle.cedar_syntax.specs.declared.cst.Expr.TheVariants as expr
+use Rattle.cedar_syntax.specs.declared.cst.ExprData.{ExprData}
 use Rattle.cedar_syntax.specs.declared.cst.ExprData.TheVariants as data_of
+use Rattle.cedar_syntax.specs.declared.cst.ExprImpl.{ExprImpl, roll-ExprImpl}
 use Rattle.cedar_syntax.specs.declared.cst.Or.{Or, roll-Or}
 use Rattle.cedar_syntax.specs.declared.cst.And.{And, roll-And}
 use Rattle.cedar_syntax.specs.declared.cst.RelOp.{RelOp}
@@ -37,11 +39,15 @@ use Rattle.cedar_syntax.specs.declared.cst.Policies.{Policies}
 abbrev pub Cell : Type 0 → Type 0
 Cell T = Node (Option T)
 
+-- what an expression holds, in its memory; nothing waits behind it
+abbrev pub impl_of : ExprData → ExprImpl
+impl_of d = roll-ExprImpl record { expr = record { content = d; depth = tt; next = None } }
+
 abbrev pub expr_of : Cell Or → Expr
-expr_of x = expr.Expr record { expr = data_of.Or x }
+expr_of x = expr.Expr (impl_of (data_of.Or x))
 
 abbrev pub if_of : Cell Expr → Cell Expr → Cell Expr → Expr
-if_of c x y = expr.Expr record { expr = data_of.If c x y }
+if_of c x y = expr.Expr (impl_of (data_of.If c x y))
 
 abbrev pub or_of : Cell And → List (Cell And) → Or
 or_of x xs = roll-Or record { initial = x; extended = xs }

@@ -194,6 +194,14 @@ impl ParseErrors {
         &self.faults
     }
 
+    /// The list inside, moved out.
+    pub fn into_non_empty(self) -> NonEmpty<ParseError>
+        ensures { result ≡ self.faults }
+    {
+        let ParseErrors { faults } = self;
+        faults
+    }
+
     /// The list inside, lent to be written.
     pub fn as_mut(&mut self) -> &mut NonEmpty<ParseError>
         ensures* writes_back { sem 𝓛 (LendsFaults self.entry result) }

@@ -1,6 +1,5 @@
-//! The tokens of expressions.
-ghost use Rattle.std.specs.Prelude.{◌≡◌};
-ghost use Rattle.cedar_syntax.specs.declared.cst.Expr.TheVariants as variants;
+//! The tokens of expressions. What may be deep is unfolded into a list of what is still to be
+//! printed; else the calls go down the tree, which is faster.
 ghost use Rattle.cedar_syntax.specs.printing.Printed.{printed};
 ghost use Rattle.cedar_syntax.specs.trees.Unplaced.{expr_tree, data_tree, access_tree, primary_tree, relation_tree, add_tree, and_tree, impl_tree, member_tree, mult_tree, or_tree, init_tree, unary_tree};
 
@@ -9,15 +8,8 @@ use crate::cst::{
     Unary,
 };
 use crate::print::tokens::{Tokens, write_between, write_marked, write_opt_marked, write_token};
+use crate::print::unfolded::write_unfolded;
 use std::fmt;
-
-fn inner_of(expr: &Expr) -> &ExprImpl
-    ensures { expr.now ≡ variants.Expr result.now }
-{
-    match expr {
-        Expr::Expr(inner) => inner,
-    }
-}
 
 impl Tokens for Expr {
     ghost tokens = { λ x. printed (expr_tree x) };
@@ -28,7 +20,7 @@ impl Tokens for Expr {
         fresh: bool,
         f: &mut fmt::Formatter<W>,
     ) -> Result<bool, fmt::Error> {
-        let fresh = inner_of(self).write_tokens(fresh, f)?;
+        let fresh = self.inner().write_tokens(fresh, f)?;
         Ok(fresh)
     }
 }
@@ -220,7 +212,10 @@ impl Tokens for ExprImpl {
         fresh: bool,
         f: &mut fmt::Formatter<W>,
     ) -> Result<bool, fmt::Error> {
-        let fresh = self.expr.write_tokens(fresh, f)?;
+        if self.may_be_deep() {
+            return write_unfolded(self.alloc(), self.as_ref(), fresh, f);
+        }
+        let fresh = self.as_ref().write_tokens(fresh, f)?;
         Ok(fresh)
     }
 }

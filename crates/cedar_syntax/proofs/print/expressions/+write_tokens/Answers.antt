@@ -1,11 +1,14 @@
-use Rattle.cedar_syntax.proofs.Printing.{after, as_texts}
+use Rattle.std.proofs.Common.{ap, ◌∙◌}
+use Rattle.cedar_syntax.specs.printing.Printed.{printed}
+use Rattle.cedar_syntax.specs.trees.Unplaced.{data_tree}
+use Rattle.cedar_syntax.proofs.Printing.{after, as_texts, prints-of_eq}
 use Rattle.cedar_syntax.proofs.Texts.{expr_texts, data_or_texts, data_if_texts, access_field_texts, access_call_texts, access_index_texts, primary_literal_texts, primary_ref_texts, primary_name_texts, primary_slot_texts, primary_expr_texts, primary_list_texts, primary_inits_texts, relation_common_texts, relation_has_texts, relation_like_texts, relation_is_texts, add_texts, and_texts, impl_texts, member_texts, mult_texts, or_texts, init_texts, unary_texts}
 use Rattle.cedar_syntax.proofs.print.expressions.+write_tokens.Goals as goal
 
 pub ExprTokens::write_tokens-returns : goal.ExprTokens::write_tokens-returns
 ExprTokens::write_tokens-returns g t c =
     let took = g.W.Write.write_str_gives in
-    as_texts took (expr_texts _ _ c.inner_of.ensures) c.in_ok-fresh.ensures
+    as_texts took (expr_texts _ _ c.inner.ensures) c.in_ok-fresh.ensures
 
 pub ExprDataTokens::write_tokens-returns-in_ok-fresh-in-Or : goal.ExprDataTokens::write_tokens-returns-in_ok-fresh-in-Or
 ExprDataTokens::write_tokens-returns-in_ok-fresh-in-Or g t c =
@@ -97,10 +100,15 @@ AndTokens::write_tokens-returns g t c =
     let took = g.W.Write.write_str_gives in
     as_texts took (and_texts c.args.self.now) (after took c.in_ok-fresh.ensures c.in_ok-fresh-2.ensures)
 
+pub ExprImplTokens::write_tokens-returns-then-may_be_deep : goal.ExprImplTokens::write_tokens-returns-then-may_be_deep
+ExprImplTokens::write_tokens-returns-then-may_be_deep g t c =
+    let took = g.W.Write.write_str_gives in
+    prints-of_eq took _ _ _ _ _ _ (ap (λ d. printed (data_tree d)) c.as_ref.ensures ∙ impl_texts c.args.self.now) c.write_unfolded.ensures
+
 pub ExprImplTokens::write_tokens-returns : goal.ExprImplTokens::write_tokens-returns
 ExprImplTokens::write_tokens-returns g t c =
     let took = g.W.Write.write_str_gives in
-    as_texts took (impl_texts c.args.self.now) c.in_ok-fresh.ensures
+    as_texts took (ap (λ d. printed (data_tree d)) c.as_ref-2.ensures ∙ impl_texts c.args.self.now) c.in_ok-fresh.ensures
 
 pub MemberTokens::write_tokens-returns : goal.MemberTokens::write_tokens-returns
 MemberTokens::write_tokens-returns g t c =

@@ -1,0 +1,12 @@
+use Rattle.std.proofs.Common.{◌≡◌, ◌++◌}
+use Rattle.cedar_syntax.specs.printing.Pieces.{pieces_texts, exprs_in}
+use Rattle.cedar_syntax.specs.printing.Printing.{texts_behind_mark}
+use Rattle.cedar_syntax.specs.trees.Inside.{all_inside}
+use Rattle.cedar_syntax.proofs.pieces.unfold_marked.Given as goal
+
+abbrev pub invariant-loop-item : goal.invariant-loop-item
+invariant-loop-item g l =
+    (texts_behind_mark l.mark g.T.Unfold.tokens l.item-iterator.iter.rest.now ++ pieces_texts l.rest
+    ≡ texts_behind_mark l.mark g.T.Unfold.tokens l.initial.items ++ pieces_texts l.initial.rest)
+    × (all_inside g.T.Unfold.inside l.item-iterator.iter.rest.now ++ exprs_in l.rest
+    ≡ all_inside g.T.Unfold.inside l.initial.items ++ exprs_in l.initial.rest)
