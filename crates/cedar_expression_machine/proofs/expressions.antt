@@ -1,6 +1,6 @@
 pub mod Acted
 pub mod Basics
-pub mod Doors
+pub mod Parsers
 pub mod Followed
 pub mod Held
 pub mod Last

@@ -1,4 +1,4 @@
-pub mod Entries
+pub mod NamesRead
 pub mod Images
 pub mod Keeping
 pub mod Named
@@ -7,5 +7,5 @@ pub mod WholeExpressions
 pub mod WordPlans
 pub mod WordShapes
 pub mod Words
-pub mod WordsDoor
+pub mod WordsParser
 pub mod WordsSound

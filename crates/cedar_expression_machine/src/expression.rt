@@ -4,11 +4,12 @@
 
 mod behind;
 mod brackets;
-pub mod entries;
+mod depth;
 mod finish;
 mod levels;
 mod operand;
 mod plan;
+pub mod start_symbols;
 pub mod state;
 mod step;
 mod whole;

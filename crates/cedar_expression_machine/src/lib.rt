@@ -3,6 +3,6 @@
 #![tactic(auto)]
 
 pub mod expression;
-mod ground;
 pub mod laws;
+mod node_builder;
 pub mod words;

@@ -24,13 +24,14 @@ use Rattle.cedar_syntax.specs.declared.cst.Name.{Name}
 use Rattle.cedar_syntax.specs.declared.cst.Ident.TheVariants as ident
 use Rattle.cedar_syntax.specs.declared.cst.RecInit.{RecInit}
 use Rattle.cedar_syntax.specs.trees.Tree.{Operator, disjunction, sum, product}
-use Rattle.cedar_syntax.specs.trees.Located.{Located, Form, only, ite, chain, unary}
+use Rattle.cedar_syntax.specs.trees.Located.{Located, Form, chain, unary}
 use Rattle.cedar_syntax.specs.trees.Forms.{located, parts_of, expr_form, or_form, and_form, relation_form, add_form, mult_form, unary_form, member_form, access_form, primary_form, init_form, or_operand, and_operand, relation_operand, add_operand, mult_operand, listed_access, listed_expr, listed_init}
-use Rattle.cedar_syntax.proofs.FormLevels.{or_out, and_out, add_out, mult_out, unary_out, member_out, init_out, impl_out, expr_out, data_or, data_if, relation_common, relation_has, relation_like, relation_is, relation_is_in, access_field, access_call, access_index, primary_literal, primary_ref, primary_name, primary_slot, primary_expr, primary_list, primary_inits}
+use Rattle.cedar_syntax.proofs.FormLevels.{or_out, and_out, add_out, mult_out, unary_out, member_out, init_out, relation_common, relation_has, relation_like, relation_is, relation_is_in, access_field, access_call, access_index, primary_literal, primary_ref, primary_name, primary_slot, primary_expr, primary_list, primary_inits}
+use Rattle.cedar_grammar.proofs.MadeExpressions.{expr_made, if_made}
 use Rattle.cedar_grammar.specs.grammar.Grammar.{IsTreeOf}
 use Rattle.cedar_grammar.specs.grammar.Place.{extent, loc_at, placed}
 use Rattle.cedar_syntax.specs.tokens.Tokens.{Spot, one}
-use Rattle.cedar_syntax.specs.trees.Trees.{Cell, expr_of, if_of, or_of, and_of, common_of, add_of, mult_of, unary_of, member_of, rec_init_of, name_of, bangs_of, dashes_of}
+use Rattle.cedar_syntax.specs.trees.Trees.{Cell, or_of, and_of, common_of, add_of, mult_of, unary_of, member_of, rec_init_of, name_of, bangs_of, dashes_of}
 use Rattle.cedar_syntax.specs.trees.TreePlaces.{IsPlace, node_places, ident_places, name_places, literal_places, slot_places, ref_places, located_places, form_places, parts_places, expr_places, primary_places}
 use Rattle.cedar_grammar.specs.grammar.LooseWords.{ReadsName}
 use Rattle.cedar_grammar.specs.grammar.LooseExpressions.{if_name, lone_add, lone_expr, ReadsExpr, or_expr, if_expr, ReadsOr, or, ReadsAnds, one_and, more_and, ReadsAnd, and, ReadsRelations, one_relation, more_relation, ReadsRelation, common, has, has_if, like, is, is_in, ReadsAdds, one_add, more_add, ReadsAdd, add, ReadsMults, one_mult, more_mult, ReadsMult, mult, ReadsUnaries, one_unary, more_unary, ReadsUnary, plain, banged, dashed, ReadsMember, member, ReadsAccesses, no_access, more_access, ReadsAccess, field, call, index, ReadsPrimary, literally, referred, named, slotted, paren, set, in_braces, ReadsExprs, no_expr, exprs, exprs_comma, ReadsExprItems, one_expr, more_exprs, ReadsRecInits, no_init, inits, inits_comma, ReadsInitItems, one_init, more_inits, ReadsRecInit, rec_init, if_init}
@@ -118,18 +119,12 @@ lone_add_holds src ts x h s l =
     (held src (mult_is (placed src ts (unary_of None (placed src ts x))) [])
     (lone src unary_form (placed src ts (unary_of None (placed src ts x))) (sits src unary_form ts (unary_of None (placed src ts x)) h s (held src (unary_is None (placed src ts x)) (sits src member_form ts x h s l)))))))
 
-expr_is : (x : Cell Or) → expr_form (expr_of x) ≡ only (located or_form x)
-expr_is x = expr_out _ ∙ impl_out _ ∙ data_or x
-
-if_is : (c x y : Cell Expr) → expr_form (if_of c x y) ≡ ite (located expr_form c) (located expr_form x) (located expr_form y)
-if_is c x y = expr_out _ ∙ impl_out _ ∙ data_if c x y
-
 lone_expr_holds : (src : List ℕ) (ts : List Lexeme) (x : Member) → Stand src ts → Some_of ts → Holds src (member_form x) → Holds src (expr_form (lone_expr src ts x))
 lone_expr_holds src ts x h s l =
     let a : Cell Add = placed src ts (lone_add src ts x) in
     let r : Cell Relation = placed src ts (common_of a []) in
     let n : Cell And = placed src ts (and_of r []) in
-    held src (expr_is (placed src ts (or_of n [])))
+    held src (expr_made (placed src ts (or_of n [])))
     (sits src or_form ts (or_of n []) h s (held src (or_is n [])
     (lone src and_form n (sits src and_form ts (and_of r []) h s (held src (and_out (and_of r []))
     (lone src relation_form r (sits src relation_form ts (common_of a []) h s (held src (relation_common a [])
@@ -139,12 +134,12 @@ lone_expr_holds src ts x h s l =
 
 mutual
   pub expr_holds : {src : List ℕ} {ts : List Lexeme} {x : Expr} → ReadsExpr src ts x → Stand src ts → Holds src (expr_form x)
-  expr_holds {src = src} (or_expr {ts = ts} {x = x} r) h = held src (expr_is (placed src ts x)) (sits src or_form ts x h (or_some r) (or_holds r h))
+  expr_holds {src = src} (or_expr {ts = ts} {x = x} r) h = held src (expr_made (placed src ts x)) (sits src or_form ts x h (or_some r) (or_holds r h))
   expr_holds {src = src} (if_expr {ts = ts} {us = us} {vs = vs} {c = c} {x = x} {y = y} l m n r s t) h =
       let a = around src (one kind.If l ++ ts ++ one kind.Then m ++ us) vs kind.Else n h in
       let b = around src (one kind.If l ++ ts) us kind.Then m a.0 in
       let g = (parts src (one kind.If l) ts b.0).1 in
-      held src (if_is (placed src ts c) (placed src us x) (placed src vs y))
+      held src (if_made (placed src ts c) (placed src us x) (placed src vs y))
       (both src ((located_places (located expr_form (placed src ts c))) ++ (located_places (located expr_form (placed src us x)))) (located_places (located expr_form (placed src vs y))) (both src (located_places (located expr_form (placed src ts c))) (located_places (located expr_form (placed src us x))) (sits src expr_form ts c g (expr_some r) (expr_holds r g)) (sits src expr_form us x b.1 (expr_some s) (expr_holds s b.1)))
       (sits src expr_form vs y a.1 (expr_some t) (expr_holds t a.1)))
 

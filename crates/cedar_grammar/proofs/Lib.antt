@@ -1,6 +1,7 @@
 pub mod ExpressionPlaces
 pub mod ExpressionTokens
 pub mod Lying
+pub mod MadeExpressions
 pub mod Newest
 pub mod PolicyPlaces
 pub mod Quotes

@@ -1,5 +1,5 @@
 pub mod Classes
-pub mod Door
+pub mod Machine
 pub mod Judged
 pub mod Marks
 pub mod Mending

@@ -13,7 +13,7 @@ pub mod Placing
 pub mod Policies
 pub mod Policy
 pub mod PolicyActs
-pub mod PolicyEntries
+pub mod PolicyFaults
 pub mod PolicyRecovery
 pub mod PolicyShapes
 pub mod Recovery

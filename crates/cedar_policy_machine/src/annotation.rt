@@ -7,7 +7,7 @@ ghost use Rattle.cedar_policy_machine.specs.machines.Annotation.{annotation_shap
 
 use cedar_expressions::Source;
 use cedar_grammar::never;
-use cedar_grammar::reading::driver::Entry;
+use cedar_grammar::reading::driver::PushParser;
 use cedar_grammar::reading::put::{put, take_node};
 use cedar_grammar::reading::tokens::{ident_node, if_ident, string_node};
 use cedar_lexer::token::{Token, TokenKind};
@@ -98,7 +98,7 @@ impl AnnotationState {
     }
 }
 
-impl Entry<Annotation> for AnnotationState {
+impl PushParser<Annotation> for AnnotationState {
     ghost use Rattle.cedar_policy_machine.specs.machines.Annotation.{annotation_reader};
 
     type Act = AnnotationAct;

@@ -9,7 +9,7 @@ ghost use Rattle.cedar_policy_machine.specs.machines.Condition.{condition_state,
 use crate::annotation::if_mark;
 use cedar_expressions::Source;
 use cedar_grammar::never;
-use cedar_grammar::reading::driver::Entry;
+use cedar_grammar::reading::driver::PushParser;
 use cedar_grammar::reading::put::{put, take_node};
 use cedar_grammar::reading::tokens::{ident_node, if_ident};
 use cedar_lexer::token::{Token, TokenKind};
@@ -52,7 +52,7 @@ pub enum ConditionAct<A> {
     CloseEmpty,
 }
 
-impl<E: Entry<Node<Option<Expr>>>> ConditionState<E> {
+impl<E: PushParser<Node<Option<Expr>>>> ConditionState<E> {
     /// The first token in braces.
     #[inline(never)]
     fn enter(
@@ -173,7 +173,7 @@ impl<E: Entry<Node<Option<Expr>>>> ConditionState<E> {
     }
 }
 
-impl<E: Entry<Node<Option<Expr>>>> Entry<Cond> for ConditionState<E> {
+impl<E: PushParser<Node<Option<Expr>>>> PushParser<Cond> for ConditionState<E> {
     ghost use Rattle.cedar_policy_machine.specs.machines.Condition.{condition_reader};
 
     type Act = ConditionAct<E::Act>;

@@ -6,9 +6,9 @@ use crate::condition::{ConditionPart, ConditionState};
 use crate::policy::{
     AnnotationSequence, Begun, ConditionSequence, ElementSequence, PolicyState, Section,
 };
-use crate::sequence::{Sequence, SequenceAct, Spanned};
+use crate::sequence::{Sequence, SequenceAct, SpannedState};
 use cedar_expressions::{Items, Source};
-use cedar_grammar::reading::driver::Entry;
+use cedar_grammar::reading::driver::PushParser;
 use cedar_grammar::reading::put::put;
 use cedar_grammar::reading::recovery::{Recovering, RecoveryWay};
 use cedar_lexer::token::{Token, TokenKind};
@@ -16,7 +16,7 @@ use cedar_syntax::cst::{Add, Expr, Name, Policy};
 use cedar_syntax::node::Node;
 use std::alloc::{AllocError, Global};
 
-impl<E: Entry<Node<Option<Expr>>>> ConditionState<E> {
+impl<E: PushParser<Node<Option<Expr>>>> ConditionState<E> {
     /// How a fault in it is left.
     fn way(&self) -> RecoveryWay
         ensures { result ≡ condition_way self.now.part }
@@ -42,8 +42,8 @@ impl<E: Entry<Node<Option<Expr>>>> ConditionState<E> {
 }
 
 /// How a fault in a condition is left, where one may be begun.
-fn condition_way<E: Entry<Node<Option<Expr>>>>(
-    begun: &Option<Spanned<ConditionState<E>>>,
+fn condition_way<E: PushParser<Node<Option<Expr>>>>(
+    begun: &Option<SpannedState<ConditionState<E>>>,
 ) -> RecoveryWay
     ensures { result ≡ begun_condition_way begun.now }
 {
@@ -55,9 +55,9 @@ fn condition_way<E: Entry<Node<Option<Expr>>>>(
 
 impl<N, S, E> PolicyState<AnnotationSequence, ElementSequence<N, S, E>, ConditionSequence<E>>
 where
-    N: Entry<Node<Option<Name>>>,
-    S: Entry<Node<Option<Add>>>,
-    E: Entry<Node<Option<Expr>>>,
+    N: PushParser<Node<Option<Name>>>,
+    S: PushParser<Node<Option<Add>>>,
+    E: PushParser<Node<Option<Expr>>>,
 {
     /// How a fault in it is left; behind a whole policy, as is said.
     fn way(&self, behind: RecoveryWay) -> RecoveryWay
@@ -85,11 +85,11 @@ where
     }
 }
 
-impl<N, S, E> Recovering for Spanned<Begun<N, S, E>>
+impl<N, S, E> Recovering for SpannedState<Begun<N, S, E>>
 where
-    N: Entry<Node<Option<Name>>>,
-    S: Entry<Node<Option<Add>>>,
-    E: Entry<Node<Option<Expr>>>,
+    N: PushParser<Node<Option<Name>>>,
+    S: PushParser<Node<Option<Add>>>,
+    E: PushParser<Node<Option<Expr>>>,
 {
     ghost use Rattle.cedar_grammar.specs.declared.reading.recovery.RecoveryWay.TheVariants as way;
     ghost use Rattle.cedar_policy_machine.specs.machines.Policies.{policy_way, policy_closing, policy_ending};
@@ -114,21 +114,21 @@ where
 }
 
 /// Policies that stand one behind the other.
-pub type PolicySequence<N, S, E> = Sequence<Spanned<Begun<N, S, E>>, Node<Option<Policy>>>;
+pub type PolicySequence<N, S, E> = Sequence<SpannedState<Begun<N, S, E>>, Node<Option<Policy>>>;
 
 /// What policies do with a token.
-type PoliciesAct<N, S, E> = SequenceAct<<Begun<N, S, E> as Entry<Policy>>::Act>;
+type PoliciesAct<N, S, E> = SequenceAct<<Begun<N, S, E> as PushParser<Policy>>::Act>;
 
-impl<N, S, E> Entry<Items<Node<Option<Policy>>>> for PolicySequence<N, S, E>
+impl<N, S, E> PushParser<Items<Node<Option<Policy>>>> for PolicySequence<N, S, E>
 where
-    N: Entry<Node<Option<Name>>>,
-    S: Entry<Node<Option<Add>>>,
-    E: Entry<Node<Option<Expr>>>,
+    N: PushParser<Node<Option<Name>>>,
+    S: PushParser<Node<Option<Add>>>,
+    E: PushParser<Node<Option<Expr>>>,
 {
     ghost use Rattle.cedar_policy_machine.specs.machines.Policies.{all_policies_reader};
     ghost use Rattle.cedar_policy_machine.specs.machines.Scope.{readers_of};
 
-    type Act = SequenceAct<<Begun<N, S, E> as Entry<Policy>>::Act>;
+    type Act = SequenceAct<<Begun<N, S, E> as PushParser<Policy>>::Act>;
 
     ghost reader = { all_policies_reader (readers_of N.reader S.reader E.reader) };
 
@@ -174,9 +174,9 @@ where
 
 impl<N, S, E> Recovering for PolicySequence<N, S, E>
 where
-    N: Entry<Node<Option<Name>>>,
-    S: Entry<Node<Option<Add>>>,
-    E: Entry<Node<Option<Expr>>>,
+    N: PushParser<Node<Option<Name>>>,
+    S: PushParser<Node<Option<Add>>>,
+    E: PushParser<Node<Option<Expr>>>,
 {
     ghost use Rattle.cedar_policy_machine.specs.machines.Policies.{begun_policy_way, policies_closing, policies_ending};
 
@@ -206,7 +206,7 @@ where
                 policy.state.forget(alloc);
             }
             None => {
-                let over = Spanned {
+                let over = SpannedState {
                     extent: None,
                     state: PolicyState::unknown(alloc),
                 };
@@ -217,13 +217,13 @@ where
 }
 
 /// Policies as a whole text.
-pub type SpannedSequence<N, S, E> = Spanned<PolicySequence<N, S, E>>;
+pub type SpannedSequence<N, S, E> = SpannedState<PolicySequence<N, S, E>>;
 
 impl<N, S, E> Recovering for SpannedSequence<N, S, E>
 where
-    N: Entry<Node<Option<Name>>>,
-    S: Entry<Node<Option<Add>>>,
-    E: Entry<Node<Option<Expr>>>,
+    N: PushParser<Node<Option<Name>>>,
+    S: PushParser<Node<Option<Add>>>,
+    E: PushParser<Node<Option<Expr>>>,
 {
     ghost use Rattle.cedar_policy_machine.specs.machines.Policies.{begun_policy_way, text_closing, text_ending};
 

@@ -9,9 +9,9 @@ ghost use Rattle.cedar_policy_machine.specs.machines.Scope.{readers_of};
 use crate::annotation::{AnnotationAct, AnnotationState, if_mark};
 use crate::condition::{ConditionAct, ConditionState};
 use crate::scope::{ElementAct, ElementState};
-use crate::sequence::{Sequence, SequenceAct, Spanned};
+use crate::sequence::{Sequence, SequenceAct, SpannedState};
 use cedar_expressions::{Items, Source};
-use cedar_grammar::reading::driver::Entry;
+use cedar_grammar::reading::driver::PushParser;
 use cedar_grammar::reading::put::{put, take_node};
 use cedar_grammar::reading::tokens::{ident_node, if_ident};
 use cedar_lexer::token::{Token, TokenKind};
@@ -23,16 +23,16 @@ use std::alloc::{AllocError, Global};
 use std::mem;
 
 /// The annotations of a policy.
-pub type AnnotationSequence = Sequence<Spanned<AnnotationState>, Node<Option<Annotation>>>;
+pub type AnnotationSequence = Sequence<SpannedState<AnnotationState>, Node<Option<Annotation>>>;
 
 /// The elements of its scope.
 pub type ElementSequence<N, S, E> = Sequence<
-    Spanned<ElementState<N, S, E>>,
+    SpannedState<ElementState<N, S, E>>,
     Node<Option<VariableDef>>,
 >;
 
 /// Its conditions.
-pub type ConditionSequence<E> = Sequence<Spanned<ConditionState<E>>, Node<Option<Cond>>>;
+pub type ConditionSequence<E> = Sequence<SpannedState<ConditionState<E>>, Node<Option<Cond>>>;
 
 /// Where a policy stands.
 #[derive(Drop, Clone, Copy)]
@@ -84,9 +84,9 @@ pub enum PolicyAct<A, V, C> {
 
 impl<N, S, E> PolicyState<AnnotationSequence, ElementSequence<N, S, E>, ConditionSequence<E>>
 where
-    N: Entry<Node<Option<Name>>>,
-    S: Entry<Node<Option<Add>>>,
-    E: Entry<Node<Option<Expr>>>,
+    N: PushParser<Node<Option<Name>>>,
+    S: PushParser<Node<Option<Add>>>,
+    E: PushParser<Node<Option<Expr>>>,
 {
     /// A policy of which nothing is known.
     pub fn unknown(
@@ -141,12 +141,12 @@ where
     }
 }
 
-impl<N, S, E> Entry<Policy>
+impl<N, S, E> PushParser<Policy>
     for PolicyState<AnnotationSequence, ElementSequence<N, S, E>, ConditionSequence<E>>
 where
-    N: Entry<Node<Option<Name>>>,
-    S: Entry<Node<Option<Add>>>,
-    E: Entry<Node<Option<Expr>>>,
+    N: PushParser<Node<Option<Name>>>,
+    S: PushParser<Node<Option<Add>>>,
+    E: PushParser<Node<Option<Expr>>>,
 {
     ghost use Rattle.cedar_policy_machine.specs.machines.Policies.{sections};
     ghost use Rattle.cedar_policy_machine.specs.machines.Policy.{policy_reader};

@@ -6,7 +6,7 @@ ghost use Rattle.cedar_policy_machine.specs.machines.Scope.{readers_of, reader_p
 
 use cedar_expressions::Source;
 use cedar_grammar::never;
-use cedar_grammar::reading::driver::Entry;
+use cedar_grammar::reading::driver::PushParser;
 use cedar_grammar::reading::mark::as_relation;
 use cedar_grammar::reading::put::{put, take_node};
 use cedar_grammar::reading::tokens::{ident_node, if_ident};
@@ -77,9 +77,9 @@ fn plan_narrow<N: Drop, S: Drop, E: Drop>(kind: TokenKind) -> Option<ElementAct<
 
 impl<N, S, E> ElementState<N, S, E>
 where
-    N: Entry<Node<Option<Name>>>,
-    S: Entry<Node<Option<Add>>>,
-    E: Entry<Node<Option<Expr>>>,
+    N: PushParser<Node<Option<Name>>>,
+    S: PushParser<Node<Option<Add>>>,
+    E: PushParser<Node<Option<Expr>>>,
 {
     /// The variable. Each part is turned to in a function of its own, so that what is done with
     /// other tokens clears no room for it.
@@ -182,11 +182,11 @@ where
     }
 }
 
-impl<N, S, E> Entry<VariableDef> for ElementState<N, S, E>
+impl<N, S, E> PushParser<VariableDef> for ElementState<N, S, E>
 where
-    N: Entry<Node<Option<Name>>>,
-    S: Entry<Node<Option<Add>>>,
-    E: Entry<Node<Option<Expr>>>,
+    N: PushParser<Node<Option<Name>>>,
+    S: PushParser<Node<Option<Add>>>,
+    E: PushParser<Node<Option<Expr>>>,
 {
     ghost use Rattle.cedar_policy_machine.specs.machines.Scope.{readers_of, element_reader};
 

@@ -3,13 +3,13 @@ ghost use Rattle.std.specs.Prelude.{◌≡◌, [], Some, None, IfOk, OnOk, IsTru
 ghost use Rattle.cedar_lexer.specs.Token.{lexeme_of};
 ghost use Rattle.cedar_grammar.specs.grammar.WrittenTokens.{IsWritten};
 ghost use Rattle.cedar_grammar.specs.grammar.Place.{extent_of, joint_extent};
-ghost use Rattle.cedar_grammar.specs.machines.Door.{option_image};
+ghost use Rattle.cedar_grammar.specs.machines.Machine.{option_image};
 ghost use Rattle.cedar_grammar.specs.machines.Judged.{done_as};
 ghost use Rattle.cedar_policy_machine.specs.machines.Sequences.{sequence, many_plan, list_plan, sequence_ends, sequence_end, item_begun, item_going, items_ended, next_item, sequence_act, IsItemPlan, IsSequencePlan};
 
 use cedar_expressions::{Items, Source};
 use cedar_grammar::never;
-use cedar_grammar::reading::driver::Entry;
+use cedar_grammar::reading::driver::PushParser;
 use cedar_grammar::reading::extent::Extent;
 use cedar_grammar::reading::place::{loc_at, token_extent};
 use cedar_grammar::reading::put::put;
@@ -20,7 +20,7 @@ use std::mem;
 
 /// A form that is begun, and the bytes of its tokens so far.
 #[derive(Drop)]
-pub struct Spanned<S> {
+pub struct SpannedState<S> {
     pub extent: Option<Extent>,
     pub state: S,
 }
@@ -36,15 +36,15 @@ fn stretch(extent: &mut Option<Extent>, token: &Token<'_>)
     }
 }
 
-impl<T: Drop, S: Entry<T>> Entry<Node<Option<T>>> for Spanned<S> {
+impl<T: Drop, S: PushParser<T>> PushParser<Node<Option<T>>> for SpannedState<S> {
     ghost use Rattle.cedar_policy_machine.specs.machines.Placing.{placing_reader};
 
     type Act = S::Act;
 
     ghost reader = { placing_reader S.reader };
 
-    fn start(alloc: Global) -> Spanned<S> {
-        Spanned {
+    fn start(alloc: Global) -> SpannedState<S> {
+        SpannedState {
             extent: None,
             state: S::start(alloc),
         }
@@ -112,7 +112,7 @@ pub enum SequenceAct<A> {
     Comma,
 }
 
-impl<T: Drop, S: Entry<T>> Sequence<S, T> {
+impl<T: Drop, S: PushParser<T>> Sequence<S, T> {
     /// Before the first item.
     pub fn new(alloc: Global) -> Sequence<S, T>
         ensures { result ≡ sequence [] None }

@@ -31,9 +31,10 @@ use Rattle.cedar_grammar.specs.grammar.Place.{placed}
 use Rattle.cedar_syntax.specs.tokens.Tokens.{Spot, one}
 use Rattle.cedar_syntax.specs.trees.Tree as t
 use Rattle.cedar_syntax.specs.trees.Tree.{Tree, Operator, disjunction, sum, product, beside as next_to, or_or, and_and}
-use Rattle.cedar_syntax.specs.trees.Trees.{Cell, expr_of, if_of, or_of, and_of, common_of, add_of, mult_of, unary_of, member_of, rec_init_of, name_of, bangs_of, dashes_of}
+use Rattle.cedar_syntax.specs.trees.Trees.{Cell, expr_of, or_of, and_of, common_of, add_of, mult_of, unary_of, member_of, rec_init_of, name_of, bangs_of, dashes_of}
 use Rattle.cedar_syntax.specs.trees.Unplaced.{expr_tree, access_tree, primary_tree, relation_tree, add_tree, and_tree, member_tree, mult_tree, or_tree, init_tree, unary_tree, literal_tree, ref_tree, unplaced_node, content, tree_at, rest_behind, rest_of, rel_part, add_part, mult_part, unplaced_relation_part, unplaced_sum_part, unplaced_product_part}
-use Rattle.cedar_syntax.proofs.Levels.{or_out, and_out, add_out, mult_out, unary_out, member_out, init_out, impl_out, expr_out, data_or, data_if, relation_common, relation_has, relation_like, relation_is, relation_is_in, access_field, access_call, access_index, primary_literal, primary_ref, primary_name, primary_slot, primary_expr, primary_list, primary_inits}
+use Rattle.cedar_syntax.proofs.Levels.{or_out, and_out, add_out, mult_out, unary_out, member_out, init_out, relation_common, relation_has, relation_like, relation_is, relation_is_in, access_field, access_call, access_index, primary_literal, primary_ref, primary_name, primary_slot, primary_expr, primary_list, primary_inits}
+use Rattle.cedar_grammar.proofs.MadeExpressions.{expr_tree_made, if_tree_made}
 use Rattle.cedar_text.specs.TreeDepth.{tree_depth, rest_depth}
 use Rattle.cedar_text.proofs.Spanning.{Spans, Keeps, Opens, Closes, lower, nothing_spans, token_spans, beside, followed, led, joined_by, deeper, bracketed, any_keeps}
 
@@ -158,12 +159,6 @@ mult_is x xs = mult_out (mult_of x xs) ∙ ap (λ r. t.chain product (tree_at un
 unary_is : (o : Option NegOp) (x : Cell Member) → unary_tree (unary_of o x) ≡ t.unary o (tree_at member_tree x)
 unary_is o x = unary_out (unary_of o x) ∙ ap (λ r. t.unary r.op (tree_at member_tree r.item)) (out-roll-Unary record { op = o; item = x })
 
-expr_is : (x : Cell Or) → expr_tree (expr_of x) ≡ tree_at or_tree x
-expr_is x = expr_out _ ∙ impl_out _ ∙ data_or x
-
-if_is : (c x y : Cell Expr) → expr_tree (if_of c x y) ≡ t.ite (tree_at expr_tree c) (tree_at expr_tree x) (tree_at expr_tree y)
-if_is c x y = expr_out _ ∙ impl_out _ ∙ data_if c x y
-
 -- a member alone
 lone_add_depth : (src : List ℕ) (ts : List Lexeme) (x : Member) → tree_depth (add_tree (lone_add src ts x)) ≡ tree_depth (member_tree x)
 lone_add_depth src ts x =
@@ -179,7 +174,7 @@ lone_expr_depth src ts x =
     let a : Cell Add = placed src ts (lone_add src ts x) in
     let r : Cell Relation = placed src ts (common_of a []) in
     let n : Cell And = placed src ts (and_of r []) in
-    let first : tree_depth (expr_tree (expr_of (placed src ts (or_of n [])))) ≡ tree_depth (or_tree (or_of n [])) = ap tree_depth (expr_is (placed src ts (or_of n []))) in
+    let first : tree_depth (expr_tree (expr_of (placed src ts (or_of n [])))) ≡ tree_depth (or_tree (or_of n [])) = ap tree_depth (expr_tree_made (placed src ts (or_of n []))) in
     let second : tree_depth (or_tree (or_of n [])) ≡ max (tree_depth (and_tree (and_of r []))) 0 = ap tree_depth (or_is n []) in
     let third : tree_depth (and_tree (and_of r [])) ≡ max (tree_depth (relation_tree (common_of a []))) 0 = ap tree_depth (and_out (and_of r [])) in
     let fourth : tree_depth (relation_tree (common_of a [])) ≡ max (tree_depth (add_tree (lone_add src ts x))) 0 = ap tree_depth (relation_common a []) in
@@ -199,9 +194,9 @@ if_member_depth src p xs =
 
 mutual
   pub expr_spans : {src : List ℕ} {ts : List Lexeme} {x : Expr} → ReadsExpr src ts x → Spans ts (tree_depth (expr_tree x))
-  expr_spans {src = src} (or_expr {ts = ts} {x = x} r) = held (expr_is (placed src ts x)) (or_spans r)
+  expr_spans {src = src} (or_expr {ts = ts} {x = x} r) = held (expr_tree_made (placed src ts x)) (or_spans r)
   expr_spans {src = src} (if_expr {ts = ts} {us = us} {vs = vs} {c = c} {x = x} {y = y} l m n r s t) =
-      held (if_is (placed src ts c) (placed src us x) (placed src vs y))
+      held (if_tree_made (placed src ts c) (placed src us x) (placed src vs y))
       (deeper kind.If l (λ depth. refl) (joined_by kind.Else n stays (joined_by kind.Then m stays (expr_spans r) (expr_spans s)) (expr_spans t)))
 
   or_spans : {src : List ℕ} {ts : List Lexeme} {x : Or} → ReadsOr src ts x → Spans ts (tree_depth (or_tree x))

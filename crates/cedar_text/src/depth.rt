@@ -25,8 +25,10 @@ fn depth_behind(kind: TokenKind, depth: usize) -> usize
 /// How deep the tree of a text nests at most: the brackets that are open and the `if`s of the
 /// policy so far, at the place where they are most.
 ///
-/// It goes over the tokens once and takes no memory, so that a host can refuse a text that is too
-/// deep for its stack before it parses it. Where no token starts it ends, as each parse does.
+/// It is a figure, for one who wants to bound what he works with: no text has to be refused for the
+/// stack's sake, however deep it nests. What only a value nests by isn't counted: the accesses of a
+/// chain, and the conditions of a policy. It goes over the tokens once and takes no memory. Where no
+/// token starts it ends, as each parse does.
 pub fn nesting(text: &str) -> usize
     ensures { IsNesting text.now result }
 {

@@ -27,12 +27,12 @@ ghost use Rattle.cedar_syntax.specs.trees.UnlocatedTrees.{unlocated_expr, unloca
 ghost use Rattle.cedar_syntax.specs.trees.Unplaced.{expr_tree, primary_tree, name_tree, ref_tree, ident_tree, policy_tree, policies_tree};
 
 pub mod laws;
-mod policy_entries;
+mod whole_texts;
 
-use crate::text_to_cst::policy_entries::{WholePoliciesState, WholePolicyState};
-use cedar_expression_machine::expression::entries::{ExprState, PrimaryState};
+use crate::text_to_cst::whole_texts::{WholePoliciesState, WholePolicyState};
+use cedar_expression_machine::expression::start_symbols::{ExprState, PrimaryState};
 use cedar_expression_machine::words::state::{IdentState, PathState, WordsState};
-use cedar_grammar::reading::expected::Narrowing;
+use cedar_grammar::reading::expected::ClosersOnly;
 use cedar_grammar::reading::{driver, mending};
 use cedar_syntax::cst::{Expr, Ident, Name, Policies, Policy, Primary, Ref};
 use cedar_syntax::err::Failure;
@@ -109,9 +109,9 @@ pub fn parse_expr(alloc: Global, text: &str) -> Result<Node<Option<Expr>>, Failu
     ensures only { (y : Cell Expr) → IsTreeOf ReadsExpr text.now y
         → MatchResult result (λ x. x ≡ y) IsMemory }
     ensures refused { IfErr result
-        (λ f. IsRefusal ReadsExpr Narrowing.TokensAndEnd text.now f) }
+        (λ f. IsRefusal ReadsExpr ClosersOnly.TokensAndEnd text.now f) }
 {
-    driver::parse::<Node<Option<Expr>>, ExprState>(alloc, text, Narrowing::TokensAndEnd)
+    driver::parse::<Node<Option<Expr>>, ExprState>(alloc, text, ClosersOnly::TokensAndEnd)
 }
 
 /// The tree of an entity literal.
@@ -133,9 +133,9 @@ pub fn parse_ref(alloc: Global, text: &str) -> Result<Node<Option<Ref>>, Failure
         (λ x. HasSameTree ReadsRef unlocated_ref x (node_text ref_tree x)) }
     ensures only { (y : Cell Ref) → IsTreeOf ReadsRef text.now y
         → MatchResult result (λ x. x ≡ y) IsMemory }
-    ensures refused { IfErr result (λ f. IsRefusal ReadsRef Narrowing.Never text.now f) }
+    ensures refused { IfErr result (λ f. IsRefusal ReadsRef ClosersOnly.Never text.now f) }
 {
-    driver::parse::<Node<Option<Ref>>, WordsState>(alloc, text, Narrowing::Never)
+    driver::parse::<Node<Option<Ref>>, WordsState>(alloc, text, ClosersOnly::Never)
 }
 
 /// The tree of a name: an identifier other than `true`, `false` and `if`, or several joined by
@@ -149,9 +149,9 @@ pub fn parse_name(alloc: Global, text: &str) -> Result<Node<Option<Name>>, Failu
         (λ x. HasSameTree ReadsName unlocated_name x (node_text name_tree x)) }
     ensures only { (y : Cell Name) → IsTreeOf ReadsName text.now y
         → MatchResult result (λ x. x ≡ y) IsMemory }
-    ensures refused { IfErr result (λ f. IsRefusal ReadsName Narrowing.Never text.now f) }
+    ensures refused { IfErr result (λ f. IsRefusal ReadsName ClosersOnly.Never text.now f) }
 {
-    driver::parse::<Node<Option<Name>>, PathState>(alloc, text, Narrowing::Never)
+    driver::parse::<Node<Option<Name>>, PathState>(alloc, text, ClosersOnly::Never)
 }
 
 /// The tree of one identifier, which may be any word.
@@ -164,9 +164,9 @@ pub fn parse_ident(alloc: Global, text: &str) -> Result<Node<Option<Ident>>, Fai
         (λ x. HasSameTree ReadsIdent unlocated_ident x (node_text ident_tree x)) }
     ensures only { (y : Cell Ident) → IsTreeOf ReadsIdent text.now y
         → MatchResult result (λ x. x ≡ y) IsMemory }
-    ensures refused { IfErr result (λ f. IsRefusal ReadsIdent Narrowing.Never text.now f) }
+    ensures refused { IfErr result (λ f. IsRefusal ReadsIdent ClosersOnly.Never text.now f) }
 {
-    driver::parse::<Node<Option<Ident>>, IdentState>(alloc, text, Narrowing::Never)
+    driver::parse::<Node<Option<Ident>>, IdentState>(alloc, text, ClosersOnly::Never)
 }
 
 /// The tree of a primary: a literal, a name, an entity literal, a slot, or what stands in
@@ -183,7 +183,7 @@ pub fn parse_primary(alloc: Global, text: &str) -> Result<Node<Option<Primary>>,
     ensures only { (y : Cell Primary) → IsTreeOf ReadsPrimary text.now y
         → MatchResult result (λ x. x ≡ y) IsMemory }
     ensures refused { IfErr result
-        (λ f. IsRefusal ReadsPrimary Narrowing.TokensAndEnd text.now f) }
+        (λ f. IsRefusal ReadsPrimary ClosersOnly.TokensAndEnd text.now f) }
 {
-    driver::parse::<Node<Option<Primary>>, PrimaryState>(alloc, text, Narrowing::TokensAndEnd)
+    driver::parse::<Node<Option<Primary>>, PrimaryState>(alloc, text, ClosersOnly::TokensAndEnd)
 }

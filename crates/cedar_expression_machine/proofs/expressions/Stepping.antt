@@ -2,26 +2,26 @@
 use Rattle.std.specs.Prelude.{cond}
 use Rattle.std.proofs.Common.{◌≡◌, ℕ, List, [], ◌∷◌, Option, Some, None, refl}
 use Rattle.cedar_lexer.specs.Token.{Lexeme}
-use Rattle.cedar_grammar.specs.declared.reading.class.Beginning.{Beginning}
-use Rattle.cedar_grammar.specs.declared.reading.class.Beginning.TheVariants as beginning
-use Rattle.cedar_grammar.specs.declared.reading.class.Operator.{Operator}
+use Rattle.cedar_grammar.specs.declared.reading.class.StartClass.{StartClass}
+use Rattle.cedar_grammar.specs.declared.reading.class.StartClass.TheVariants as beginning
+use Rattle.cedar_grammar.specs.declared.reading.class.FollowClass.{FollowClass}
 use Rattle.cedar_expression_machine.specs.declared.expression.state.OperandPlace.TheVariants as place
 use Rattle.cedar_grammar.specs.declared.reading.extent.Extent.{Extent}
 use Rattle.cedar_expression_machine.specs.declared.words.state.WordsAct.{WordsAct}
 use Rattle.cedar_expression_machine.specs.declared.words.state.WordsState.{WordsState}
 use Rattle.cedar_expression_machine.specs.declared.expression.state.Act.{Act}
 use Rattle.cedar_expression_machine.specs.declared.expression.state.Frame.{Frame}
-use Rattle.cedar_expression_machine.specs.declared.expression.state.Levels.{Levels}
+use Rattle.cedar_expression_machine.specs.declared.expression.state.PendingOperators.{PendingOperators}
 use Rattle.cedar_expression_machine.specs.declared.expression.state.Operand.{Operand}
-use Rattle.cedar_expression_machine.specs.declared.expression.state.Reach.{Reach}
+use Rattle.cedar_expression_machine.specs.declared.expression.state.FollowSet.{FollowSet}
 use Rattle.cedar_expression_machine.specs.declared.expression.state.State.{State}
-use Rattle.cedar_expression_machine.specs.declared.expression.state.Wanted.{Wanted}
-use Rattle.cedar_grammar.specs.machines.Door.{Reader, machine_of, answer_state, done_answer, end_answer, planned_answer}
+use Rattle.cedar_expression_machine.specs.declared.expression.state.StartSymbol.{StartSymbol}
+use Rattle.cedar_grammar.specs.machines.Machine.{Reader, machine_of, answer_state, done_answer, end_answer, planned_answer}
 use Rattle.cedar_expression_machine.specs.machines.Named.{NameOrEntity}
-use Rattle.cedar_expression_machine.specs.machines.ExpressionShapes.{FrameShape, stack_shape, left_shape, shape_of, WordOutline}
+use Rattle.cedar_expression_machine.specs.machines.ExpressionShapes.{FrameShape, stack_shape, relation_shape, shape_of, WordOutline}
 use Rattle.cedar_expression_machine.specs.machines.ExpressionPlans.{edge, may_follow, class_plan, operand_class_plan, shape_plan}
 use Rattle.cedar_expression_machine.specs.machines.Having.{follow_act}
-use Rattle.cedar_expression_machine.specs.machines.Expressions.{expression_act, wanted_reader}
+use Rattle.cedar_expression_machine.specs.machines.Expressions.{expression_act, symbol_reader}
 
 abbrev pub Names : Type 0
 Names = Reader WordsState WordsAct NameOrEntity
@@ -36,15 +36,15 @@ planned_same None f g h = refl
 planned_same (Some a) f g h = h a
 
 -- what is done with an operator behind an operand that goes on so far
-abbrev pub had : List ℕ → List Frame → Levels → Operand → Reach → Operator → Extent → Option State
-had src st lv m r o e = cond (may_follow (stack_shape st) (left_shape lv.relation) r o) (follow_act src st lv m o e) None
+abbrev pub had : List ℕ → List Frame → PendingOperators → Operand → FollowSet → FollowClass → Extent → Option State
+had src st lv m r o e = cond (may_follow (stack_shape st) (relation_shape lv.relation) r o) (follow_act src st lv m o e) None
 
-pub edge_shape : (w : Wanted) (st : List Frame) → edge w st ≡ edge w (stack_shape st)
+pub edge_shape : (w : StartSymbol) (st : List Frame) → edge w st ≡ edge w (stack_shape st)
 edge_shape w [] = refl
 edge_shape w (f ∷ st) = refl
 
 -- where an expression begins, each token has its plan
-pub begin_as_operand : (st : List FrameShape) (c : Beginning) → operand_class_plan st place.Expr None c ≡ class_plan c
+pub begin_as_operand : (st : List FrameShape) (c : StartClass) → operand_class_plan st place.Expr None c ≡ class_plan c
 begin_as_operand st beginning.Word = refl
 begin_as_operand st beginning.Number = refl
 begin_as_operand st beginning.String = refl
@@ -57,7 +57,7 @@ begin_as_operand st (beginning.Ends c) = refl
 begin_as_operand st beginning.Other = refl
 
 -- one token more
-abbrev pub step_of : {W K : Type 0} → Wanted → List ℕ → Names → WordOutline W K → (WordsState → W) → State → Lexeme → Option State
+abbrev pub step_of : {W K : Type 0} → StartSymbol → List ℕ → Names → WordOutline W K → (WordsState → W) → State → Lexeme → Option State
 step_of w src names n f s t = planned (shape_plan w n (shape_of f s) t.kind) (λ a. expression_act src names s a t)
 
 -- the machine of any of the three readers, by its tree, takes a token so
@@ -74,6 +74,6 @@ planned_kept : {T : Type 0} (does : Act → Option State) (tree : Option T) (o :
 planned_kept {T = T} does tree (Some a) = done_kept T (does a)
 planned_kept does tree None = ended_none tree
 
-pub takes_so : {W K T : Type 0} (w : Wanted) (src : List ℕ) (names : Names) (n : WordOutline W K) (f : WordsState → W) (tree : List ℕ → State → Option T) (s : State) (t : Lexeme) →
-    answer_state ((machine_of src (wanted_reader w names n f tree)).step s t) ≡ step_of w src names n f s t
+pub takes_so : {W K T : Type 0} (w : StartSymbol) (src : List ℕ) (names : Names) (n : WordOutline W K) (f : WordsState → W) (tree : List ℕ → State → Option T) (s : State) (t : Lexeme) →
+    answer_state ((machine_of src (symbol_reader w names n f tree)).step s t) ≡ step_of w src names n f s t
 takes_so w src names n f tree s t = planned_kept (λ a. expression_act src names s a t) (tree src s) (shape_plan w n (shape_of f s) t.kind)

@@ -1,7 +1,7 @@
 pub mod Brackets
 pub mod Complete
 pub mod If
-pub mod Levels
+pub mod OperatorLevels
 pub mod Members
 pub mod Relations
 pub mod Runs

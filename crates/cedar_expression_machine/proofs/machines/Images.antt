@@ -1,16 +1,16 @@
--- A form whose trees are images of another's, from the other's door and outline.
+-- A form whose trees are images of another's: a parser and its outline, from the other's.
 use Rattle.std.proofs.Common.{◌≡◌, ℕ, List, Option, Some, None, refl, ◌∙◌}
 use Rattle.cedar_lexer.specs.Token.{Lexeme}
-use Rattle.cedar_grammar.specs.machines.Door.{Reader, machine_of, Door, Outline, IsOutline, option_image, no_tree}
+use Rattle.cedar_grammar.specs.machines.Machine.{Reader, machine_of, IsParser, Outline, IsOutline, option_image, no_tree}
 use Rattle.cedar_expression_machine.specs.machines.Keeping.{kept_end, kept_reader}
-use Rattle.cedar_expression_machine.proofs.machines.Keeping.{Kept, kept_door, kept_completed}
+use Rattle.cedar_expression_machine.proofs.machines.Keeping.{Kept, kept_parser, kept_completed}
 
 -- each tree turned into another
 abbrev pub image_reader : {S A T U : Type 0} → (List ℕ → T → U) → Reader S A T → Reader S A U
 image_reader h r = kept_reader (λ src x. Some (h src x)) r.ends r
 
-pub image_door : {S A T U : Type 0} (src : List ℕ) (h : List ℕ → T → U) (r : Reader S A T) (R : List Lexeme → T → Type 0) → Door (machine_of src r) R → Door (machine_of src (image_reader h r)) (Kept R (λ x. Some (h src x)))
-image_door src h r R d = kept_door src (λ src x. Some (h src x)) r.ends r R d (λ s. kept_completed src h r.ends r s (d.viable s))
+pub image_parser : {S A T U : Type 0} (src : List ℕ) (h : List ℕ → T → U) (r : Reader S A T) (R : List Lexeme → T → Type 0) → IsParser (machine_of src r) R → IsParser (machine_of src (image_reader h r)) (Kept R (λ x. Some (h src x)))
+image_parser src h r R d = kept_parser src (λ src x. Some (h src x)) r.ends r R d (λ s. kept_completed src h r.ends r s (d.viable s))
 
 image_ends : {T U : Type 0} (h : T → U) (o : Option T) → option_image no_tree o ≡ option_image no_tree (kept_end (λ x. Some (h x)) o)
 image_ends h None = refl

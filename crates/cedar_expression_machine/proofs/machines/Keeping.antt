@@ -1,7 +1,7 @@
--- A form whose trees are some of another's, from the other's door and outline.
+-- A form whose trees are some of another's: a parser and its outline, from the other's.
 use Rattle.std.proofs.Common.{◌≡◌, ℕ, List, [], ◌∷◌, Option, Some, None, Bool, refl, sym, ◌∙◌, ap}
 use Rattle.cedar_lexer.specs.Token.{Lexeme}
-use Rattle.cedar_grammar.specs.machines.Door.{answer_state, step_from, steps, Completed, AnswersRightly, Machine, Reader, done_answer, end_answer, planned_answer, machine_of, Outline, IsOutline, Door, is_some, option_image}
+use Rattle.cedar_grammar.specs.machines.Machine.{answer_state, step_from, steps, Completed, AnswersRightly, Machine, Reader, done_answer, end_answer, planned_answer, machine_of, Outline, IsOutline, IsParser, is_some, option_image}
 use Rattle.cedar_expression_machine.specs.machines.Keeping.{kept_end, kept_reader, kept_outline}
 use Rattle.cedar_grammar.proofs.machines.Laws.{none_some}
 
@@ -35,7 +35,7 @@ steps_alike : {S A T U : Type 0} (src : List ℕ) (h : List ℕ → T → Option
 steps_alike src h e r o [] = refl
 steps_alike src h e r o (t ∷ ts) = ap (λ o. steps (machine_of src (kept_reader h e r)) o ts) (step_alike src h e r o t) ∙ steps_alike src h e r (step_from (machine_of src r) o t) ts
 
--- ---- the door
+-- ---- a parser
 
 kept_ended : {T U : Type 0} (h : T → Option U) (o : Option T) (y : U) → kept_end h o ≡ Some y → (x : T) × (o ≡ Some x) × (h x ≡ Some y)
 kept_ended h (Some x) y e = (x, refl, e)
@@ -53,9 +53,9 @@ kept_rightly : {S A T U : Type 0} (t : Lexeme) (act : A → Option S) (x : Optio
 kept_rightly t act x y (Some a) e = done_rightly t (act a) x y e
 kept_rightly {S = S} t act x y None e = end_rightly S t y
 
-pub kept_door : {S A T U : Type 0} (src : List ℕ) (h : List ℕ → T → Option U) (e : S → Bool) (r : Reader S A T) (R : List Lexeme → T → Type 0) → Door (machine_of src r) R → ((s : S) → Completed (machine_of src (kept_reader h e r)) s) →
-    Door (machine_of src (kept_reader h e r)) (Kept R (h src))
-kept_door src h e r R d v = record {
+pub kept_parser : {S A T U : Type 0} (src : List ℕ) (h : List ℕ → T → Option U) (e : S → Bool) (r : Reader S A T) (R : List Lexeme → T → Type 0) → IsParser (machine_of src r) R → ((s : S) → Completed (machine_of src (kept_reader h e r)) s) →
+    IsParser (machine_of src (kept_reader h e r)) (Kept R (h src))
+kept_parser src h e r R d v = record {
   complete = λ ts y k.
       let w = d.complete ts k.tree k.reads in
       record { last = w.last; goes = steps_alike src h e r (Some r.start) ts ∙ w.goes; ends = ap (λ o. kept_end (h src) o) w.ends ∙ k.is };
@@ -77,8 +77,8 @@ kept_completed src h e r s c = record {
 }
 
 -- another relation that says the same
-pub door_as : {S T : Type 0} {m : Machine Lexeme S T} {R Q : List Lexeme → T → Type 0} → ((ts : List Lexeme) (x : T) → Q ts x → R ts x) → ((ts : List Lexeme) (x : T) → R ts x → Q ts x) → Door m R → Door m Q
-door_as f g d = record {
+pub parser_as : {S T : Type 0} {m : Machine Lexeme S T} {R Q : List Lexeme → T → Type 0} → ((ts : List Lexeme) (x : T) → Q ts x → R ts x) → ((ts : List Lexeme) (x : T) → R ts x → Q ts x) → IsParser m R → IsParser m Q
+parser_as f g d = record {
   complete = λ ts x r. d.complete ts x (f ts x r);
   sound = λ ts s x a e. g ts x (d.sound ts s x a e);
   viable = d.viable;

@@ -1,4 +1,5 @@
--- Names, entity literals and identifiers alone: their machines' doors, in the grammar's words.
+-- Names, entity literals and identifiers alone: their machines are parsers, in the
+-- grammar's words.
 use Rattle.std.proofs.Common.{◌≡◌, ℕ, List, [], ◌∷◌, ◌++◌, Option, Some, None, Bool, true, false, IsTrue, cond, IfSome, refl, sym, ◌∙◌, ap, subst}
 use Rattle.cedar_lexer.specs.Token.{Lexeme}
 use Rattle.cedar_lexer.specs.declared.token.TokenKind.{TokenKind}
@@ -25,7 +26,7 @@ use Rattle.cedar_syntax.specs.tokens.Tokens.{Spot, one, any_of}
 use Rattle.cedar_syntax.specs.trees.Trees.{Cell, name_of}
 use Rattle.cedar_grammar.specs.grammar.LooseWords.{ReadsAny, any, is_common, ReadsName, common, qualified, ReadsRef, ReadsIdent}
 use Rattle.cedar_expression_machine.specs.declared.words.state.OpenEntity.{OpenEntity}
-use Rattle.cedar_grammar.specs.machines.Door.{answer_state, Comes, RunsTo, Completed, Door, option_image}
+use Rattle.cedar_grammar.specs.machines.Machine.{answer_state, Comes, RunsTo, Completed, IsParser, option_image}
 use Rattle.cedar_expression_machine.specs.machines.Words.{word_of, word_node, one_word_path, with_word, path_extent, path_reader, path_node, entity_with_extent, inits_at, words_reader, is_name_among, path_as_name, name_ends, words_as_ref, ref_ends, names, refs, ident_act, ident_end, ident_reader, idents}
 use Rattle.cedar_expression_machine.specs.machines.WordsRead.{word_at, ReadsWholePath, first, further, ReadsWords, a_path, an_entity}
 use Rattle.cedar_grammar.proofs.machines.Laws.{some_is, none_some, some_token}
@@ -34,9 +35,9 @@ use Rattle.cedar_grammar.proofs.machines.ByActs.{keeps}
 use Rattle.cedar_grammar.proofs.machines.Readers.{takes, answers_by}
 use Rattle.cedar_grammar.proofs.machines.SingleTokens.{planned_any, any_case}
 use Rattle.cedar_expression_machine.proofs.machines.Words.{token, entity_runs, PathAs, path_as, as_path, spanned, before_more}
-use Rattle.cedar_expression_machine.proofs.machines.WordsDoor.{words_door, paths_door, nameless}
+use Rattle.cedar_expression_machine.proofs.machines.WordsParser.{words_parser, paths_parser, nameless}
 use Rattle.cedar_expression_machine.proofs.machines.WordShapes.{idents_outlined}
-use Rattle.cedar_expression_machine.proofs.machines.Keeping.{Kept, kept_door, door_as}
+use Rattle.cedar_expression_machine.proofs.machines.Keeping.{Kept, kept_parser, parser_as}
 
 -- the place of tokens of which there are some
 pub at_their_place : {T : Type 0} (src : List ℕ) (ts : List Lexeme) (e : Extent) (x : T) → extent ts ≡ Some e → node_at src (Some e) x ≡ placed_or_start src ts x
@@ -107,10 +108,10 @@ names_completed src (path.Behind q) =
     let w : Path = with_word src q nameless in
     record { more = some_token kind.Identifier ∷ []; last = path.Have w; tree = path_node src w; goes = refl; ends = name_more src q nameless }
 
-pub names_door : (src : List ℕ) → Door (names src) (IsNodeOf ReadsName src)
-names_door src =
-    door_as (λ ts y h. let n = name_as h.reads in record { tree = n.path; reads = n.reads; is = n.is ∙ ap (λ w. Some w) (sym h.is) }) (λ ts y k. as_name k.reads k.is)
-    (kept_door src (λ src p. path_as_name src p) (λ s. name_ends s) path_reader (ReadsWholePath src) (paths_door src) (λ s. names_completed src s))
+pub names_parser : (src : List ℕ) → IsParser (names src) (IsNodeOf ReadsName src)
+names_parser src =
+    parser_as (λ ts y h. let n = name_as h.reads in record { tree = n.path; reads = n.reads; is = n.is ∙ ap (λ w. Some w) (sym h.is) }) (λ ts y k. as_name k.reads k.is)
+    (kept_parser src (λ src p. path_as_name src p) (λ s. name_ends s) path_reader (ReadsWholePath src) (paths_parser src) (λ s. names_completed src s))
 
 -- ---- entity literals
 
@@ -137,9 +138,9 @@ refs_completed src (state.Path (path.Behind q)) = record { more = some_token kin
 refs_completed src (state.Inits s) = ref_inits_completed src s.begun s.place
 refs_completed src (state.Entity e) = record { more = []; last = state.Entity e; tree = e.node; goes = refl; ends = refl }
 
-pub refs_door : (src : List ℕ) → Door (refs src) (IsNodeOf ReadsRef src)
-refs_door src =
-    door_as (λ ts y h. kept_ref src ts y h) (λ ts y k. as_ref src ts k.tree y k.reads k.is) (kept_door src (λ src x. words_as_ref x) (λ s. ref_ends s) words_reader (ReadsWords src) (words_door src) (λ s. refs_completed src s))
+pub refs_parser : (src : List ℕ) → IsParser (refs src) (IsNodeOf ReadsRef src)
+refs_parser src =
+    parser_as (λ ts y h. kept_ref src ts y h) (λ ts y k. as_ref src ts k.tree y k.reads k.is) (kept_parser src (λ src x. words_as_ref x) (λ s. ref_ends s) words_reader (ReadsWords src) (words_parser src) (λ s. refs_completed src s))
 
 -- ---- identifiers
 
@@ -171,8 +172,8 @@ ident_completed : (src : List ℕ) (s : IdentState) → Completed (idents src) s
 ident_completed src one_ident.Start = record { more = some_token kind.Identifier ∷ []; last = one_ident.Have nameless; tree = word_node src nameless; goes = refl; ends = refl }
 ident_completed src (one_ident.Have w) = record { more = []; last = one_ident.Have w; tree = word_node src w; goes = refl; ends = refl }
 
-pub idents_door : (src : List ℕ) → Door (idents src) (IsNodeOf ReadsIdent src)
-idents_door src = record {
+pub idents_parser : (src : List ℕ) → IsParser (idents src) (IsNodeOf ReadsIdent src)
+idents_parser src = record {
   complete = λ ts y h. ident_complete src ts h.tree y h.reads h.is;
   sound = λ ts s y f e. ident_sound src ts s y f e;
   viable = λ s. ident_completed src s;

@@ -11,9 +11,9 @@ use Rattle.cedar_grammar.specs.grammar.LooseExpressions.{ReadsExpr, ReadsAdd, Re
 use Rattle.cedar_syntax.specs.tokens.Tokens.{any_of}
 use Rattle.cedar_syntax.specs.trees.Trees.{Cell}
 use Rattle.cedar_expression_machine.specs.machines.Closing.{node_of}
-use Rattle.cedar_grammar.specs.machines.Door.{machine_of, Door, outline_machine, IsOutline, Shapes, is_some, no_tree}
+use Rattle.cedar_grammar.specs.machines.Machine.{machine_of, IsParser, outline_machine, IsOutline, Shapes, is_some, no_tree}
 use Rattle.cedar_grammar.specs.machines.Judged.{ReadsBy}
-use Rattle.cedar_expression_machine.specs.declared.expression.state.Wanted.TheVariants as form
+use Rattle.cedar_expression_machine.specs.declared.expression.state.StartSymbol.TheVariants as form
 use Rattle.cedar_expression_machine.specs.declared.words.state.WordsAct.{WordsAct}
 use Rattle.cedar_expression_machine.specs.declared.words.state.WordsAct.TheVariants as words_acts
 use Rattle.cedar_expression_machine.specs.declared.words.state.PathAct.TheVariants as path_acts
@@ -26,18 +26,18 @@ use Rattle.cedar_grammar.proofs.WordPlaces.{start_is}
 use Rattle.cedar_grammar.proofs.ExpressionTokens.{expr_some, primary_some}
 use Rattle.cedar_grammar.proofs.machines.Laws.{some_is}
 use Rattle.cedar_grammar.proofs.machines.Readers.{shaped_by, reads_by}
-use Rattle.cedar_expression_machine.proofs.expressions.Doors.{expressions_door, sums_door, primaries_door}
+use Rattle.cedar_expression_machine.proofs.expressions.Parsers.{expressions_parser, sums_parser, primaries_parser}
 use Rattle.cedar_expression_machine.proofs.expressions.Held.{Held}
 use Rattle.cedar_expression_machine.proofs.expressions.shapes.Outlined.{expressions_outlined, sums_outlined, primaries_outlined}
 use Rattle.cedar_expression_machine.proofs.expressions.sound.Begun.{Reading, reads}
 use Rattle.cedar_expression_machine.proofs.expressions.sound.Whole.{AloneAt, alone_reads}
-use Rattle.cedar_expression_machine.proofs.machines.Images.{image_door, image_outlined}
-use Rattle.cedar_expression_machine.proofs.machines.Keeping.{Kept, door_as}
-use Rattle.cedar_expression_machine.proofs.machines.Named.{named_door, named_are_words, named_outlined, named_kind, named_ifs}
+use Rattle.cedar_expression_machine.proofs.machines.Images.{image_parser, image_outlined}
+use Rattle.cedar_expression_machine.proofs.machines.Keeping.{Kept, parser_as}
+use Rattle.cedar_expression_machine.proofs.machines.Named.{named_parser, named_are_words, named_outlined, named_kind, named_ifs}
 
 -- the words that expressions hold
 pub words_held : (src : List ℕ) → Held src named_reader named_outline words_shape named_kind
-words_held src = record { door = named_door src; outlined = named_outlined src; ifs = named_ifs }
+words_held src = record { parser = named_parser src; outlined = named_outlined src; ifs = named_ifs }
 
 planned_where : (a : WordsAct) (b : Bool) → is_some (cond b (Some a) None) ≡ b
 planned_where a true = refl
@@ -64,11 +64,11 @@ expr_node {src = src} {ts = ts} {y = y} k = go k.reads k.is
 expressions_planned : (src : List ℕ) → IsOutline src (expression_reader named_reader named_outline words_shape) (whole_outline form.Expr) (λ s. state_shape s) no_tree
 expressions_planned src = expressions_outlined (words_held src) words_begin
 
-pub whole_expressions_door : (src : List ℕ) → Door (whole_expressions src) (IsNodeOf ReadsExpr src)
-whole_expressions_door src =
-    door_as (λ ts y h. expr_image h) (λ ts y k. expr_node k)
-    (image_door src (λ src x. node_of src x) (expression_reader named_reader named_outline words_shape) (Reading (ReadsExpr src))
-    (expressions_door src named_reader named_outline words_shape named_kind (words_held src) (named_are_words src) (expressions_planned src)))
+pub whole_expressions_parser : (src : List ℕ) → IsParser (whole_expressions src) (IsNodeOf ReadsExpr src)
+whole_expressions_parser src =
+    parser_as (λ ts y h. expr_image h) (λ ts y k. expr_node k)
+    (image_parser src (λ src x. node_of src x) (expression_reader named_reader named_outline words_shape) (Reading (ReadsExpr src))
+    (expressions_parser src named_reader named_outline words_shape named_kind (words_held src) (named_are_words src) (expressions_planned src)))
 
 pub whole_expressions_outlined : (src : List ℕ) → IsOutline src whole_expression_reader (whole_outline form.Expr) (λ s. state_shape s) no_tree
 whole_expressions_outlined src = image_outlined (λ src x. node_of src x) (expressions_planned src)
@@ -77,17 +77,17 @@ pub whole_expressions_shaped : (src : List ℕ) → Shapes (whole_expressions sr
 whole_expressions_shaped src = shaped_by (whole_expressions_outlined src)
 
 pub expressions_read : (src : List ℕ) → ReadsBy src whole_expression_reader (IsNodeOf ReadsExpr src)
-expressions_read src = reads_by (whole_expressions_outlined src) (whole_expressions_door src)
+expressions_read src = reads_by (whole_expressions_outlined src) (whole_expressions_parser src)
 
 -- ---- sums, in a policy
 
 sums_planned : (src : List ℕ) → IsOutline src (sum_reader named_reader named_outline words_shape) (whole_outline form.Sum) (λ s. state_shape s) no_tree
 sums_planned src = sums_outlined (words_held src) words_begin
 
-pub sum_images_door : (src : List ℕ) → Door (machine_of src whole_sum_reader) (Kept (Reading (ReadsAdd src)) (λ x. Some (node_of src x)))
-sum_images_door src =
-    image_door src (λ src x. node_of src x) (sum_reader named_reader named_outline words_shape) (Reading (ReadsAdd src))
-    (sums_door src named_reader named_outline words_shape named_kind (words_held src) (named_are_words src) (sums_planned src))
+pub sum_images_parser : (src : List ℕ) → IsParser (machine_of src whole_sum_reader) (Kept (Reading (ReadsAdd src)) (λ x. Some (node_of src x)))
+sum_images_parser src =
+    image_parser src (λ src x. node_of src x) (sum_reader named_reader named_outline words_shape) (Reading (ReadsAdd src))
+    (sums_parser src named_reader named_outline words_shape named_kind (words_held src) (named_are_words src) (sums_planned src))
 
 pub whole_sums_outlined : (src : List ℕ) → IsOutline src whole_sum_reader (whole_outline form.Sum) (λ s. state_shape s) no_tree
 whole_sums_outlined src = image_outlined (λ src x. node_of src x) (sums_planned src)
@@ -103,13 +103,13 @@ alone_node {src = src} {ts = ts} (alone_reads {x = x} r) = record { tree = x; re
 pub whole_primaries_outlined : (src : List ℕ) → IsOutline src whole_primary_reader (whole_outline form.Primary) (λ s. state_shape s) no_tree
 whole_primaries_outlined src = primaries_outlined (words_held src) words_begin
 
-pub whole_primaries_door : (src : List ℕ) → Door (whole_primaries src) (IsNodeOf ReadsPrimary src)
-whole_primaries_door src =
-    door_as (λ ts y h. primary_alone h) (λ ts y a. alone_node a)
-    (primaries_door src named_reader named_outline words_shape named_kind (words_held src) (named_are_words src) (whole_primaries_outlined src))
+pub whole_primaries_parser : (src : List ℕ) → IsParser (whole_primaries src) (IsNodeOf ReadsPrimary src)
+whole_primaries_parser src =
+    parser_as (λ ts y h. primary_alone h) (λ ts y a. alone_node a)
+    (primaries_parser src named_reader named_outline words_shape named_kind (words_held src) (named_are_words src) (whole_primaries_outlined src))
 
 pub whole_primaries_shaped : (src : List ℕ) → Shapes (whole_primaries src) (outline_machine (whole_outline form.Primary)) (λ s. state_shape s) no_tree
 whole_primaries_shaped src = shaped_by (whole_primaries_outlined src)
 
 pub primaries_read : (src : List ℕ) → ReadsBy src whole_primary_reader (IsNodeOf ReadsPrimary src)
-primaries_read src = reads_by (whole_primaries_outlined src) (whole_primaries_door src)
+primaries_read src = reads_by (whole_primaries_outlined src) (whole_primaries_parser src)

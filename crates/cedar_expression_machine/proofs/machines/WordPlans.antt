@@ -9,7 +9,7 @@ use Rattle.cedar_expression_machine.specs.declared.words.state.InitAct.TheVarian
 use Rattle.cedar_expression_machine.specs.declared.words.state.WordsAct.{WordsAct}
 use Rattle.cedar_expression_machine.specs.declared.words.state.WordsAct.TheVariants as words_acts
 use Rattle.cedar_syntax.specs.tokens.Tokens.{any_of}
-use Rattle.cedar_grammar.specs.machines.Door.{option_image}
+use Rattle.cedar_grammar.specs.machines.Machine.{option_image}
 use Rattle.cedar_expression_machine.specs.machines.WordShapes.{had_plan, more_plan, item_plan, key_plan, value_plan, item_had_plan}
 use Rattle.cedar_grammar.proofs.machines.Laws.{some_is, none_some}
 use Rattle.cedar_grammar.proofs.machines.SingleTokens.{planned_any, any_case}

@@ -27,7 +27,7 @@ use Rattle.cedar_grammar.specs.grammar.Place.{extent_of}
 use Rattle.cedar_syntax.specs.tokens.Tokens.{Spot, fits, any_of}
 use Rattle.cedar_syntax.specs.trees.Trees.{Cell}
 use Rattle.cedar_grammar.specs.grammar.LooseWords.{is_common}
-use Rattle.cedar_grammar.specs.machines.Door.{Shapes, is_some, option_image, IsDone, IsOutline, no_tree}
+use Rattle.cedar_grammar.specs.machines.Machine.{Shapes, is_some, option_image, IsDone, IsOutline, no_tree}
 use Rattle.cedar_expression_machine.specs.machines.Words.{path_begun, path_longer, path_act, word_of, word_node, one_word_path, with_word, path_end, path_reader, paths, inits_at, number_valued, words_act, words_end, words_reader, words_machine, is_name_among, is_name, path_as_name, path_node, name_reader, names, words_as_ref, ref_reader, refs, ident_act, ident_end, ident_reader, idents}
 use Rattle.cedar_expression_machine.specs.machines.WordShapes.{a_name, ident_kind, kind_among, path_kind, PathShape, have, path_shape, first_shape, path_act_shape, path_outline, path_shapes, in_path, in_inits, key, behind_item, words_shape, words_kind, init_shape, init_plan, words_act_shape, words_outline, words_shapes, name_kind, name_outline, name_shapes, entity_kind, ref_outline, ref_shapes, ident_shape, ident_outline, ident_shapes}
 use Rattle.cedar_grammar.proofs.machines.Laws.{some_is, none_some, image_some}

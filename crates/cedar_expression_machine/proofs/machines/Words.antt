@@ -26,7 +26,7 @@ use Rattle.cedar_grammar.specs.grammar.Place.{extent, node_at, placed}
 use Rattle.cedar_syntax.specs.tokens.Tokens.{Spot, one, between_quotes, any_of}
 use Rattle.cedar_syntax.specs.trees.Trees.{Cell, name_of, ref_init_of}
 use Rattle.cedar_grammar.specs.grammar.LooseWords.{ReadsItems, one_item, more_items, ReadsList, no_item, items, items_comma, ReadsLiteral, truth, falsity, number, string, any, ReadsPath, one_word, more_words, ReadsRefInit, ref_init, ReadsRef, uid, with_inits}
-use Rattle.cedar_grammar.specs.machines.Door.{answer_state, steps, Comes, RunsTo, option_image}
+use Rattle.cedar_grammar.specs.machines.Machine.{answer_state, steps, Comes, RunsTo, option_image}
 use Rattle.cedar_expression_machine.specs.declared.words.state.PathAct.TheVariants as path_acts
 use Rattle.cedar_expression_machine.specs.declared.words.state.InitAct.TheVariants as init_acts
 use Rattle.cedar_expression_machine.specs.declared.words.state.WordsAct.TheVariants as words_acts

@@ -29,7 +29,7 @@ use Rattle.cedar_expression_machine.specs.declared.words.state.InitAct.{InitAct}
 use Rattle.cedar_expression_machine.specs.declared.words.state.InitAct.TheVariants as init_acts
 use Rattle.cedar_expression_machine.specs.declared.words.state.WordsAct.{WordsAct}
 use Rattle.cedar_expression_machine.specs.declared.words.state.WordsAct.TheVariants as words_acts
-use Rattle.cedar_grammar.specs.machines.Door.{option_image, Comes}
+use Rattle.cedar_grammar.specs.machines.Machine.{option_image, Comes}
 use Rattle.cedar_expression_machine.specs.machines.Words.{path_extent, path_begun, path_longer, path_act, path_end, path_reader, paths, path_node, entity_with_extent, uid_of, open_entity, inits_at, inits_named, number_valued, words_act, words_end, words_reader, words_machine}
 use Rattle.cedar_expression_machine.specs.machines.WordsRead.{word_at, ReadsWholePath, first, further, ReadsWords, a_path, an_entity}
 use Rattle.cedar_expression_machine.specs.machines.WordShapes.{init_plan, init_shape}

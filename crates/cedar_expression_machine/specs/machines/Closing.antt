@@ -15,13 +15,13 @@ use Rattle.cedar_syntax.specs.declared.cst.MemAccess.{MemAccess}
 use Rattle.cedar_syntax.specs.declared.cst.Primary.{Primary}
 use Rattle.cedar_syntax.specs.declared.cst.Primary.TheVariants as primary
 use Rattle.cedar_syntax.specs.declared.cst.Ident.TheVariants as ident
-use Rattle.cedar_expression_machine.specs.declared.expression.state.Ranged.{Ranged}
+use Rattle.cedar_expression_machine.specs.declared.expression.state.Spanned.{Spanned}
 use Rattle.cedar_expression_machine.specs.declared.expression.state.Chain.{Chain}
 use Rattle.cedar_expression_machine.specs.declared.expression.state.PendingChain.{PendingChain}
 use Rattle.cedar_expression_machine.specs.declared.expression.state.Branch.{Branch}
-use Rattle.cedar_expression_machine.specs.declared.expression.state.Left.{Left}
-use Rattle.cedar_expression_machine.specs.declared.expression.state.Left.TheVariants as left
-use Rattle.cedar_expression_machine.specs.declared.expression.state.Levels.{Levels}
+use Rattle.cedar_expression_machine.specs.declared.expression.state.PendingRelation.{PendingRelation}
+use Rattle.cedar_expression_machine.specs.declared.expression.state.PendingRelation.TheVariants as left
+use Rattle.cedar_expression_machine.specs.declared.expression.state.PendingOperators.{PendingOperators}
 use Rattle.cedar_expression_machine.specs.declared.expression.state.Signs.{Signs}
 use Rattle.cedar_expression_machine.specs.declared.expression.state.Operand.{Operand}
 use Rattle.cedar_syntax.specs.declared.loc.Loc.{Loc}
@@ -31,10 +31,10 @@ use Rattle.cedar_syntax.specs.trees.Trees.{Cell, expr_of, if_of, or_of, and_of, 
 
 -- a tree and its bytes
 
-abbrev pub ranged_tree : {T : Type 0} → Option Extent → T → Ranged T
-ranged_tree e x = record { tree = x; extent = e }
+abbrev pub spanned_tree : {T : Type 0} → Option Extent → T → Spanned T
+spanned_tree e x = record { tree = x; extent = e }
 
-abbrev pub node_of : {T : Type 0} → List ℕ → Ranged T → Cell T
+abbrev pub node_of : {T : Type 0} → List ℕ → Spanned T → Cell T
 node_of src x = node_at src x.extent x.tree
 
 -- chains with and without operators that differ, and one more operand
@@ -46,12 +46,12 @@ abbrev pub Marked : Type 0 → Type 0 → Type 0
 Marked T O = Chain T (O × Cell T)
 
 -- one operand alone, at this place
-abbrev pub begun_at : {T I : Type 0} → Ranged T → Option Loc → Chain T I
+abbrev pub begun_at : {T I : Type 0} → Spanned T → Option Loc → Chain T I
 begun_at x l =
     record { initial = record { node = Some x.tree; loc = l }; extended = []; extent = x.extent }
 
 -- and at its bytes
-abbrev pub begun_chain : {T I : Type 0} → List ℕ → Ranged T → Chain T I
+abbrev pub begun_chain : {T I : Type 0} → List ℕ → Spanned T → Chain T I
 begun_chain src x = begun_at x (loc_at src x.extent)
 
 abbrev pub longer : {T I : Type 0} → Chain T I → I → Option Extent → Chain T I
@@ -61,11 +61,11 @@ longer c y e = record {
   extent = joint_extent c.extent e;
 }
 
-abbrev pub plain_chain : {T : Type 0} → List ℕ → Option (Plain T) → Ranged T → Plain T
+abbrev pub plain_chain : {T : Type 0} → List ℕ → Option (Plain T) → Spanned T → Plain T
 plain_chain src None x = begun_chain src x
 plain_chain src (Some c) x = longer c (node_of src x) x.extent
 
-abbrev pub marked_chain : {T O : Type 0} → List ℕ → Option (PendingChain T O) → Ranged T
+abbrev pub marked_chain : {T O : Type 0} → List ℕ → Option (PendingChain T O) → Spanned T
     → Marked T O
 marked_chain src None x = begun_chain src x
 marked_chain src (Some p) x = longer p.chain (p.op, node_of src x) x.extent
@@ -96,74 +96,75 @@ pending_with (Some p) y e o = record { chain = longer p.chain (p.op, y) e; op = 
 
 -- what a level and its last operand are
 
-abbrev pub unary_at : List ℕ → Operand → Ranged Unary
-unary_at src m = ranged_tree (joint_extent m.signs.extent m.extent)
+abbrev pub unary_at : List ℕ → Operand → Spanned Unary
+unary_at src m = spanned_tree (joint_extent m.signs.extent m.extent)
     (unary_of m.signs.op (node_at src m.extent m.member))
 
-abbrev pub made_mult : Marked Unary MultOp → Ranged Mult
-made_mult c = ranged_tree c.extent (mult_of c.initial c.extended)
+abbrev pub made_mult : Marked Unary MultOp → Spanned Mult
+made_mult c = spanned_tree c.extent (mult_of c.initial c.extended)
 
-abbrev pub made_add : Marked Mult AddOp → Ranged Add
-made_add c = ranged_tree c.extent (add_of c.initial c.extended)
+abbrev pub made_add : Marked Mult AddOp → Spanned Add
+made_add c = spanned_tree c.extent (add_of c.initial c.extended)
 
-abbrev pub made_common : Marked Add RelOp → Ranged Relation
-made_common c = ranged_tree c.extent (common_of c.initial c.extended)
+abbrev pub made_common : Marked Add RelOp → Spanned Relation
+made_common c = spanned_tree c.extent (common_of c.initial c.extended)
 
 -- a relation that ends with this sum
-abbrev pub relation_with_sum : List ℕ → Option Left → Ranged Add → Ranged Relation
+abbrev pub relation_with_sum : List ℕ → Option PendingRelation → Spanned Add → Spanned Relation
 relation_with_sum src None x = made_common (marked_chain src None x)
 relation_with_sum src (Some (left.Common p)) x = made_common (marked_chain src (Some p) x)
 relation_with_sum src (Some (left.Has y)) x =
-    ranged_tree (joint_extent y.extent x.extent) (has_of y.tree (node_of src x))
+    spanned_tree (joint_extent y.extent x.extent) (has_of y.tree (node_of src x))
 relation_with_sum src (Some (left.Like y)) x =
-    ranged_tree (joint_extent y.extent x.extent) (like_of y.tree (node_of src x))
+    spanned_tree (joint_extent y.extent x.extent) (like_of y.tree (node_of src x))
 relation_with_sum src (Some (left.Is y)) x =
-    ranged_tree (joint_extent y.extent x.extent) (is_of y.tree (node_of src x) None)
+    spanned_tree (joint_extent y.extent x.extent) (is_of y.tree (node_of src x) None)
 relation_with_sum src (Some (left.IsIn y z e)) x =
-    ranged_tree (joint_extent e x.extent) (is_of y z (Some (node_of src x)))
+    spanned_tree (joint_extent e x.extent) (is_of y z (Some (node_of src x)))
 
-abbrev pub made_and : Plain Relation → Ranged And
-made_and c = ranged_tree c.extent (and_of c.initial c.extended)
+abbrev pub made_and : Plain Relation → Spanned And
+made_and c = spanned_tree c.extent (and_of c.initial c.extended)
 
-abbrev pub made_or : Plain And → Ranged Or
-made_or c = ranged_tree c.extent (or_of c.initial c.extended)
+abbrev pub made_or : Plain And → Spanned Or
+made_or c = spanned_tree c.extent (or_of c.initial c.extended)
 
-abbrev pub made_expr : List ℕ → Ranged Or → Ranged Expr
-made_expr src x = ranged_tree x.extent (expr_of (node_of src x))
+abbrev pub made_expr : List ℕ → Spanned Or → Spanned Expr
+made_expr src x = spanned_tree x.extent (expr_of (node_of src x))
 
 -- the `if`s around an expression
-abbrev pub with_branches : List ℕ → List Branch → Ranged Expr → Ranged Expr
+abbrev pub with_branches : List ℕ → List Branch → Spanned Expr → Spanned Expr
 with_branches src [] x = x
 with_branches src (b ∷ bs) x =
-    with_branches src bs (ranged_tree (joint_extent b.extent x.extent)
+    with_branches src bs (spanned_tree (joint_extent b.extent x.extent)
     (if_of b.guard b.yes (node_of src x)))
 
-abbrev pub mult_at : List ℕ → Levels → Operand → Ranged Mult
+abbrev pub mult_at : List ℕ → PendingOperators → Operand → Spanned Mult
 mult_at src lv m = made_mult (marked_chain src lv.mult (unary_at src m))
 
-abbrev pub add_at : List ℕ → Levels → Operand → Ranged Add
+abbrev pub add_at : List ℕ → PendingOperators → Operand → Spanned Add
 add_at src lv m = made_add (marked_chain src lv.add (mult_at src lv m))
 
-abbrev pub relation_at : List ℕ → Levels → Operand → Ranged Relation
+abbrev pub relation_at : List ℕ → PendingOperators → Operand → Spanned Relation
 relation_at src lv m = relation_with_sum src lv.relation (add_at src lv m)
 
-abbrev pub and_at : List ℕ → Levels → Operand → Ranged And
+abbrev pub and_at : List ℕ → PendingOperators → Operand → Spanned And
 and_at src lv m = made_and (plain_chain src lv.and (relation_at src lv m))
 
-abbrev pub or_at : List ℕ → Levels → Operand → Ranged Or
+abbrev pub or_at : List ℕ → PendingOperators → Operand → Spanned Or
 or_at src lv m = made_or (plain_chain src lv.or (and_at src lv m))
 
 -- the expression that the levels and a last operand are
-abbrev pub whole : List ℕ → Levels → Operand → Ranged Expr
+abbrev pub whole : List ℕ → PendingOperators → Operand → Spanned Expr
 whole src lv m = with_branches src lv.branches (made_expr src (or_at src lv m))
 
 -- levels
 
-abbrev pub levels_of : List Branch → Option (Plain And) → Option (Plain Relation) → Option Left
-    → Option (PendingChain Mult AddOp) → Option (PendingChain Unary MultOp) → Levels
+abbrev pub levels_of : List Branch → Option (Plain And) → Option (Plain Relation)
+    → Option PendingRelation
+    → Option (PendingChain Mult AddOp) → Option (PendingChain Unary MultOp) → PendingOperators
 levels_of bs o a r s m = record { branches = bs; or = o; and = a; relation = r; add = s; mult = m }
 
-abbrev pub fresh : List Branch → Levels
+abbrev pub fresh : List Branch → PendingOperators
 fresh bs = levels_of bs None None None None None
 
 -- signs
@@ -182,19 +183,19 @@ operand_with sg x xs e b =
     record { signs = sg; member = member_of x xs; extent = e; is_if = b }
 
 -- an operand that has no accesses yet
-abbrev pub operand_of : List ℕ → Signs → Ranged Primary → Operand
+abbrev pub operand_of : List ℕ → Signs → Spanned Primary → Operand
 operand_of src sg x = operand_with sg (node_of src x) [] x.extent false
 
 -- one access more
-abbrev pub with_access : List ℕ → Operand → Ranged MemAccess → Operand
+abbrev pub with_access : List ℕ → Operand → Spanned MemAccess → Operand
 with_access src m x =
     operand_with m.signs m.member.item (m.member.access ++ node_of src x ∷ [])
     (joint_extent m.extent x.extent) m.is_if
 
 -- the word `if` alone as a name
-abbrev pub if_primary : List ℕ → Option Extent → Ranged Primary
+abbrev pub if_primary : List ℕ → Option Extent → Spanned Primary
 if_primary src e =
-    ranged_tree e (primary.Name (node_at src e (name_of [] (node_at src e ident.If))))
+    spanned_tree e (primary.Name (node_at src e (name_of [] (node_at src e ident.If))))
 
 -- right of `has`
 abbrev pub if_operand : List ℕ → Option Extent → Operand

@@ -7,67 +7,67 @@ use Rattle.cedar_syntax.specs.declared.cst.RelOp.{RelOp}
 use Rattle.cedar_syntax.specs.declared.cst.RelOp.TheVariants as rel
 use Rattle.cedar_grammar.specs.declared.reading.class.Sign.{Sign}
 use Rattle.cedar_grammar.specs.declared.reading.class.Sign.TheVariants as sign
-use Rattle.cedar_grammar.specs.declared.reading.class.Beginning.{Beginning}
-use Rattle.cedar_grammar.specs.declared.reading.class.Beginning.TheVariants as beginning
+use Rattle.cedar_grammar.specs.declared.reading.class.StartClass.{StartClass}
+use Rattle.cedar_grammar.specs.declared.reading.class.StartClass.TheVariants as beginning
 use Rattle.cedar_grammar.specs.declared.reading.class.Closing.{Closing}
 use Rattle.cedar_grammar.specs.declared.reading.class.Closing.TheVariants as closing
-use Rattle.cedar_grammar.specs.declared.reading.class.Operator.{Operator}
-use Rattle.cedar_grammar.specs.declared.reading.class.Operator.TheVariants as operator
+use Rattle.cedar_grammar.specs.declared.reading.class.FollowClass.{FollowClass}
+use Rattle.cedar_grammar.specs.declared.reading.class.FollowClass.TheVariants as operator
 use Rattle.cedar_expression_machine.specs.declared.expression.state.OperandPlace.{OperandPlace}
 use Rattle.cedar_expression_machine.specs.declared.expression.state.OperandPlace.TheVariants as place
-use Rattle.cedar_expression_machine.specs.declared.expression.state.Wanted.{Wanted}
-use Rattle.cedar_expression_machine.specs.declared.expression.state.Wanted.TheVariants as form
-use Rattle.cedar_expression_machine.specs.declared.expression.state.Reach.{Reach}
-use Rattle.cedar_expression_machine.specs.declared.expression.state.Reach.TheVariants as reach
+use Rattle.cedar_expression_machine.specs.declared.expression.state.StartSymbol.{StartSymbol}
+use Rattle.cedar_expression_machine.specs.declared.expression.state.StartSymbol.TheVariants as form
+use Rattle.cedar_expression_machine.specs.declared.expression.state.FollowSet.{FollowSet}
+use Rattle.cedar_expression_machine.specs.declared.expression.state.FollowSet.TheVariants as follow_set
 use Rattle.cedar_syntax.specs.tokens.Tokens.{any_of}
-use Rattle.cedar_grammar.specs.machines.Door.{option_image}
-use Rattle.cedar_expression_machine.specs.declared.expression.state.Begin.{Begin}
-use Rattle.cedar_expression_machine.specs.declared.expression.state.Begin.TheVariants as begin
+use Rattle.cedar_grammar.specs.machines.Machine.{option_image}
+use Rattle.cedar_expression_machine.specs.declared.expression.state.StartAct.{StartAct}
+use Rattle.cedar_expression_machine.specs.declared.expression.state.StartAct.TheVariants as begin
 use Rattle.cedar_expression_machine.specs.declared.expression.state.Act.{Act}
 use Rattle.cedar_expression_machine.specs.declared.expression.state.Act.TheVariants as act
-use Rattle.cedar_grammar.specs.machines.Classes.{beginning_of, operator_of}
-use Rattle.cedar_expression_machine.specs.machines.ExpressionShapes.{LeftShape, free, comparing, sided_once, typed, FrameShape, in_paren, in_set, in_call, in_index, in_record, in_guard, in_then, ModeShape, wants, worded, dotted, had_shape, Shape, WordOutline}
+use Rattle.cedar_grammar.specs.machines.Classes.{start_class, follow_class}
+use Rattle.cedar_expression_machine.specs.machines.ExpressionShapes.{RelationShape, free, comparing, sided_once, typed, FrameShape, in_paren, in_set, in_call, in_index, in_record, in_guard, in_then, ModeShape, wants, worded, dotted, had_shape, Shape, WordOutline}
 
 -- how far an operand goes on: inside of brackets as a whole expression's
 
-abbrev pub alone_reach : Wanted → Reach
-alone_reach form.Expr = reach.Whole
-alone_reach form.Sum = reach.Sum
-alone_reach form.Primary = reach.Primary
+abbrev pub start_follow_set : StartSymbol → FollowSet
+start_follow_set form.Expr = follow_set.Whole
+start_follow_set form.Sum = follow_set.Sum
+start_follow_set form.Primary = follow_set.Primary
 
-abbrev pub edge : {F : Type 0} → Wanted → List F → Reach
-edge w [] = alone_reach w
-edge w (f ∷ st) = reach.Whole
+abbrev pub edge : {F : Type 0} → StartSymbol → List F → FollowSet
+edge w [] = start_follow_set w
+edge w (f ∷ st) = follow_set.Whole
 
-abbrev pub reach_of : {F : Type 0} → Wanted → List F → Bool → Reach
-reach_of w st b = cond b reach.If (edge w st)
+abbrev pub follow_set_of : {F : Type 0} → StartSymbol → List F → Bool → FollowSet
+follow_set_of w st b = cond b follow_set.If (edge w st)
 
 -- which operators may stand behind an operand that goes on so far
 
-abbrev pub has_access : Reach → Bool
-has_access reach.Primary = false
+abbrev pub has_access : FollowSet → Bool
+has_access follow_set.Primary = false
 has_access _ = true
 
-abbrev pub has_sum : Reach → Bool
-has_sum reach.Primary = false
-has_sum reach.Sum = true
-has_sum reach.If = false
-has_sum reach.Whole = true
+abbrev pub has_sum : FollowSet → Bool
+has_sum follow_set.Primary = false
+has_sum follow_set.Sum = true
+has_sum follow_set.If = false
+has_sum follow_set.Whole = true
 
-abbrev pub has_relation : Reach → Bool
-has_relation reach.Whole = true
+abbrev pub has_relation : FollowSet → Bool
+has_relation follow_set.Whole = true
 has_relation _ = false
 
-abbrev pub has_and : Reach → Bool
-has_and reach.Primary = false
-has_and reach.Sum = false
-has_and reach.If = true
-has_and reach.Whole = true
+abbrev pub has_and : FollowSet → Bool
+has_and follow_set.Primary = false
+has_and follow_set.Sum = false
+has_and follow_set.If = true
+has_and follow_set.Whole = true
 
 -- ---- behind an operand
 
 -- a comparison may follow this left side; behind `is` and its type only `in`
-abbrev pub may_compare : LeftShape → RelOp → Bool
+abbrev pub may_compare : RelationShape → RelOp → Bool
 may_compare free o = true
 may_compare comparing o = true
 may_compare sided_once o = false
@@ -75,7 +75,7 @@ may_compare typed rel.In = true
 may_compare typed _ = false
 
 -- one of the words has nothing begun before it
-abbrev pub may_side : LeftShape → Bool
+abbrev pub may_side : RelationShape → Bool
 may_side free = true
 may_side _ = false
 
@@ -99,7 +99,7 @@ abbrev pub stack_may_end : List FrameShape → Closing → Bool
 stack_may_end [] c = false
 stack_may_end (f ∷ st) c = may_end f c
 
-abbrev pub may_follow : List FrameShape → LeftShape → Reach → Operator → Bool
+abbrev pub may_follow : List FrameShape → RelationShape → FollowSet → FollowClass → Bool
 may_follow st l r (operator.Access a) = has_access r
 may_follow st l r (operator.Multiply o) = has_sum r
 may_follow st l r (operator.Sum o) = has_sum r
@@ -110,17 +110,18 @@ may_follow st l r operator.Or = has_and r
 may_follow st l r (operator.Ends c) = stack_may_end st c
 may_follow st l r operator.Other = false
 
-abbrev pub if_follows : Bool → Operator → Option Operator
+abbrev pub if_follows : Bool → FollowClass → Option FollowClass
 if_follows b o = cond b (Some o) None
 
-abbrev pub behind_plan : Wanted → List FrameShape → LeftShape → Bool → TokenKind → Option Operator
+abbrev pub behind_plan : StartSymbol → List FrameShape → RelationShape → Bool → TokenKind
+    → Option FollowClass
 behind_plan w st l b k =
-    if_follows (may_follow st l (reach_of w st b) (operator_of k)) (operator_of k)
+    if_follows (may_follow st l (follow_set_of w st b) (follow_class k)) (follow_class k)
 
 -- ---- where an operand is wanted
 
 -- no sign before it, and no list that can end
-abbrev pub class_plan : Beginning → Option Begin
+abbrev pub class_plan : StartClass → Option StartAct
 class_plan beginning.Word = Some begin.Word
 class_plan beginning.Number = Some begin.Number
 class_plan beginning.String = Some begin.String
@@ -132,8 +133,8 @@ class_plan beginning.Brace = Some begin.Brace
 class_plan (beginning.Ends c) = None
 class_plan beginning.Other = None
 
-abbrev pub begin_plan : TokenKind → Option Begin
-begin_plan k = class_plan (beginning_of k)
+abbrev pub begin_plan : TokenKind → Option StartAct
+begin_plan k = class_plan (start_class k)
 
 abbrev pub may_sign : Option Sign → Sign → Bool
 may_sign None s = true
@@ -171,24 +172,25 @@ list_may_end st place.Has c = false
 list_may_end st place.Operand c = false
 list_may_end st place.Primary c = false
 
-abbrev pub operand_class_plan : List FrameShape → OperandPlace → Option Sign → Beginning
-    → Option Begin
+abbrev pub operand_class_plan : List FrameShape → OperandPlace → Option Sign → StartClass
+    → Option StartAct
 operand_class_plan st p q (beginning.Sign s) =
     cond (sign_may_stand p q s) (Some (begin.Sign s)) None
 operand_class_plan st p q (beginning.Ends c) =
     cond (list_may_end st p c) (Some (begin.Ends c)) None
 operand_class_plan st p q c = class_plan c
 
-abbrev pub operand_plan : List FrameShape → OperandPlace → Option Sign → TokenKind → Option Begin
-operand_plan st p q k = operand_class_plan st p q (beginning_of k)
+abbrev pub operand_plan : List FrameShape → OperandPlace → Option Sign → TokenKind
+    → Option StartAct
+operand_plan st p q k = operand_class_plan st p q (start_class k)
 
 -- ---- behind words that have ended
 
 abbrev pub guard_plan : TokenKind → Option Act
 guard_plan k = option_image (λ b. act.Guard b) (begin_plan k)
 
-abbrev pub settle_plan : Option Operator → Option Act
-settle_plan o = option_image (λ x. act.Settle x) o
+abbrev pub reduce_plan : Option FollowClass → Option Act
+reduce_plan o = option_image (λ x. act.Reduce x) o
 
 abbrev pub colon_key_plan : List FrameShape → Option Act
 colon_key_plan (in_record l false ∷ st) = Some act.Key
@@ -198,39 +200,40 @@ abbrev pub key_plan : List FrameShape → TokenKind → Option Act
 key_plan st kind.Colon = colon_key_plan st
 key_plan st k = guard_plan k
 
-abbrev pub if_plan : Wanted → List FrameShape → LeftShape → OperandPlace → TokenKind → Option Act
+abbrev pub if_plan : StartSymbol → List FrameShape → RelationShape → OperandPlace → TokenKind
+    → Option Act
 if_plan w st l place.Expr k = guard_plan k
 if_plan w st l place.Item k = guard_plan k
 if_plan w st l place.Key k = key_plan st k
-if_plan w st l place.Has k = settle_plan (behind_plan w st l true k)
+if_plan w st l place.Has k = reduce_plan (behind_plan w st l true k)
 if_plan w st l place.Operand k = None
 if_plan w st l place.Primary k = None
 
-abbrev pub ended_words_plan : Wanted → List FrameShape → LeftShape → OperandPlace → Option Bool
-    → TokenKind → Option Act
+abbrev pub ended_words_plan : StartSymbol → List FrameShape → RelationShape → OperandPlace
+    → Option Bool → TokenKind → Option Act
 ended_words_plan w st l p None k = None
 ended_words_plan w st l p (Some true) k = if_plan w st l p k
-ended_words_plan w st l p (Some false) k = settle_plan (behind_plan w st l false k)
+ended_words_plan w st l p (Some false) k = reduce_plan (behind_plan w st l false k)
 
 abbrev pub or_else : {A : Type 0} → Option A → Option A → Option A
 or_else (Some a) o = Some a
 or_else None o = o
 
-abbrev pub word_plan : {W K : Type 0} → Wanted → WordOutline W K → List FrameShape → LeftShape
-    → OperandPlace → W → TokenKind → Option Act
+abbrev pub word_plan : {W K : Type 0} → StartSymbol → WordOutline W K → List FrameShape
+    → RelationShape → OperandPlace → W → TokenKind → Option Act
 word_plan w n st l p s k = or_else (option_image (λ a. act.Words a) (n.outline.plan s k))
     (ended_words_plan w st l p (option_image n.is_if (n.outline.finish s)) k)
 
 -- ---- the plan
 
-abbrev pub mode_plan : {W K : Type 0} → Wanted → WordOutline W K → List FrameShape → LeftShape
-    → ModeShape W → TokenKind → Option Act
+abbrev pub mode_plan : {W K : Type 0} → StartSymbol → WordOutline W K → List FrameShape
+    → RelationShape → ModeShape W → TokenKind → Option Act
 mode_plan w n st l (wants p q) k = option_image (λ b. act.Begin b) (operand_plan st p q k)
 mode_plan w n st l (worded p s) k = word_plan w n st l p s k
 mode_plan w n st l (dotted b) k = option_image (λ i. act.Field) (any_of k [])
 mode_plan w n st l (had_shape b) k = option_image (λ o. act.Follow o) (behind_plan w st l b k)
 
-abbrev pub shape_plan : {W K : Type 0} → Wanted → WordOutline W K → Shape W → TokenKind
+abbrev pub shape_plan : {W K : Type 0} → StartSymbol → WordOutline W K → Shape W → TokenKind
     → Option Act
 shape_plan w n u k = mode_plan w n u.stack u.left_side u.mode k
 

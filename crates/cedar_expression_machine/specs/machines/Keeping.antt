@@ -1,6 +1,6 @@
 -- A form that is read as another one, of which it keeps some trees alone: names, of the paths.
 use Rattle.std.specs.Prelude.{ℕ, List, Bool, Option, Some, None}
-use Rattle.cedar_grammar.specs.machines.Door.{Reader, Outline}
+use Rattle.cedar_grammar.specs.machines.Machine.{Reader, Outline}
 
 -- the tree, where it is one of those
 abbrev pub kept_end : {T U : Type 0} → (T → Option U) → Option T → Option U

@@ -1,5 +1,6 @@
 -- What words are as trees: a path, which may be one word alone, or an entity literal; and what the
--- machine of expressions asks of the machine of words that it holds, besides its door.
+-- machine of expressions asks of the machine of words that it holds, besides that it is a
+-- parser.
 use Rattle.std.specs.Prelude.{◌≡◌, ℕ, Bool, true, false, List, [], ◌∷◌, ◌++◌, Some}
 use Rattle.cedar_lexer.specs.Token.{Lexeme}
 use Rattle.cedar_lexer.specs.declared.token.TokenKind.{TokenKind}
@@ -7,7 +8,7 @@ use Rattle.cedar_lexer.specs.declared.token.TokenKind.TheVariants as kind
 use Rattle.cedar_syntax.specs.declared.cst.Ident.{Ident}
 use Rattle.cedar_syntax.specs.declared.cst.Name.{Name}
 use Rattle.cedar_syntax.specs.declared.cst.Ref.{Ref}
-use Rattle.cedar_expression_machine.specs.declared.expression.state.Ranged.{Ranged}
+use Rattle.cedar_expression_machine.specs.declared.expression.state.Spanned.{Spanned}
 use Rattle.cedar_expression_machine.specs.declared.words.state.Words.{Words}
 use Rattle.cedar_expression_machine.specs.declared.words.state.Words.TheVariants as words
 use Rattle.cedar_expression_machine.specs.declared.words.state.WordsState.{WordsState}
@@ -15,27 +16,27 @@ use Rattle.cedar_grammar.specs.grammar.Place.{extent, placed}
 use Rattle.cedar_syntax.specs.tokens.Tokens.{Spot, one}
 use Rattle.cedar_syntax.specs.trees.Trees.{Cell, name_of}
 use Rattle.cedar_grammar.specs.grammar.LooseWords.{ReadsPath, ReadsRef}
-use Rattle.cedar_expression_machine.specs.machines.Closing.{ranged_tree}
+use Rattle.cedar_expression_machine.specs.machines.Closing.{spanned_tree}
 use Rattle.cedar_expression_machine.specs.declared.words.state.WordsAct.{WordsAct}
-use Rattle.cedar_grammar.specs.machines.Door.{Machine, ended, steps, is_some, Reader, machine_of}
+use Rattle.cedar_grammar.specs.machines.Machine.{Machine, ended, steps, is_some, Reader, machine_of}
 use Rattle.cedar_expression_machine.specs.machines.Keeping.{kept_reader}
 use Rattle.cedar_expression_machine.specs.machines.Words.{word_node, path_extent, words_end, words_reader}
 
 pub data NameOrEntity : Type 0 where
-  path : Ranged Name → NameOrEntity
-  entity : Ranged (Cell Ref) → NameOrEntity
+  path : Spanned Name → NameOrEntity
+  entity : Spanned (Cell Ref) → NameOrEntity
 
 pub data ReadsNamed (src : List ℕ) : List Lexeme → NameOrEntity → Type 0 where
   a_path : {ts : List Lexeme} {xs : List (Cell Ident)} {x : Cell Ident} → ReadsPath src ts xs x →
-      ReadsNamed src ts (path (ranged_tree (extent ts) (name_of xs x)))
+      ReadsNamed src ts (path (spanned_tree (extent ts) (name_of xs x)))
   a_ref : {ts : List Lexeme} {x : Ref} → ReadsRef src ts x →
-      ReadsNamed src ts (entity (ranged_tree (extent ts) (placed src ts x)))
+      ReadsNamed src ts (entity (spanned_tree (extent ts) (placed src ts x)))
 
 -- words that have been read, as such a tree
 abbrev pub words_tree : List ℕ → Words → NameOrEntity
 words_tree src (words.Path p) =
-    path (ranged_tree (Some (path_extent p)) (name_of p.before (word_node src p.last)))
-words_tree src (words.Entity e) = entity (ranged_tree (Some e.extent) e.node)
+    path (spanned_tree (Some (path_extent p)) (name_of p.before (word_node src p.last)))
+words_tree src (words.Entity e) = entity (spanned_tree (Some e.extent) e.node)
 
 -- words, with such trees
 abbrev pub named_reader : Reader WordsState WordsAct NameOrEntity
@@ -54,7 +55,7 @@ joins_words _ = false
 pub record IsLonger (names : Machine Lexeme WordsState NameOrEntity) (s : WordsState)
     (ts : List Lexeme) : Type 0 where
   pub last : WordsState
-  pub longer : Ranged Name
+  pub longer : Spanned Name
   pub before : List (Cell Ident)
   pub word : Cell Ident
   pub goes : steps names (Some s) ts ≡ Some last
@@ -66,6 +67,6 @@ pub record IsWords (names : Machine Lexeme WordsState NameOrEntity) : Type 0 whe
   pub ends : (s : WordsState) (x : NameOrEntity) (t : Lexeme) → joins_words t.kind ≡ false →
       names.finish s ≡ Some x → names.step s t ≡ ended x
   -- a path can always go on
-  pub longer : (s : WordsState) (x : Ranged Name) (p q : Spot) →
+  pub longer : (s : WordsState) (x : Spanned Name) (p q : Spot) →
       names.finish s ≡ Some (path x) →
       IsLonger names s (one kind.ColonColon p ++ one kind.Identifier q)

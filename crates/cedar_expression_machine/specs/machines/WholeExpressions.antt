@@ -8,10 +8,10 @@ use Rattle.cedar_syntax.specs.declared.cst.Expr.{Expr}
 use Rattle.cedar_syntax.specs.declared.cst.Primary.{Primary}
 use Rattle.cedar_expression_machine.specs.declared.expression.state.State.{State}
 use Rattle.cedar_expression_machine.specs.declared.expression.state.Act.{Act}
-use Rattle.cedar_expression_machine.specs.declared.expression.state.Wanted.{Wanted}
+use Rattle.cedar_expression_machine.specs.declared.expression.state.StartSymbol.{StartSymbol}
 use Rattle.cedar_syntax.specs.trees.Trees.{Cell}
 use Rattle.cedar_expression_machine.specs.machines.Closing.{node_of}
-use Rattle.cedar_grammar.specs.machines.Door.{Machine, Reader, Outline, machine_of}
+use Rattle.cedar_grammar.specs.machines.Machine.{Machine, Reader, Outline, machine_of}
 use Rattle.cedar_expression_machine.specs.machines.Expressions.{expression_reader, sum_reader, primary_reader}
 use Rattle.cedar_expression_machine.specs.machines.Keeping.{kept_reader}
 use Rattle.cedar_expression_machine.specs.machines.ExpressionShapes.{Shape, shape_of}
@@ -51,9 +51,9 @@ whole_sums src = machine_of src whole_sum_reader
 abbrev pub whole_primaries : List ℕ → Machine Lexeme State (Cell Primary)
 whole_primaries src = machine_of src whole_primary_reader
 
-abbrev pub whole_outline : Wanted → Outline StateShape Act (Unit {0})
+abbrev pub whole_outline : StartSymbol → Outline StateShape Act (Unit {0})
 whole_outline w = expression_outline w named_outline
 
 -- what is planned with a kind, in whichever form is wanted of the whole
 abbrev pub IsPlanned : State → TokenKind → Act → Type 0
-IsPlanned s k a = (w : Wanted) × (shape_plan w named_outline (state_shape s) k ≡ Some a)
+IsPlanned s k a = (w : StartSymbol) × (shape_plan w named_outline (state_shape s) k ≡ Some a)

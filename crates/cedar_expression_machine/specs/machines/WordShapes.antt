@@ -24,7 +24,7 @@ use Rattle.cedar_expression_machine.specs.declared.words.state.WordsAct.{WordsAc
 use Rattle.cedar_expression_machine.specs.declared.words.state.WordsAct.TheVariants as words_acts
 use Rattle.cedar_syntax.specs.tokens.Tokens.{any_of}
 use Rattle.cedar_syntax.specs.trees.Trees.{Cell}
-use Rattle.cedar_grammar.specs.machines.Door.{Machine, option_image, Outline, outline_machine}
+use Rattle.cedar_grammar.specs.machines.Machine.{Machine, option_image, Outline, outline_machine}
 use Rattle.cedar_grammar.specs.machines.SingleTokens.{if_any}
 use Rattle.cedar_expression_machine.specs.machines.Keeping.{kept_outline}
 

@@ -34,7 +34,7 @@ use Rattle.cedar_grammar.specs.grammar.Place.{extent_of, node_at}
 use Rattle.cedar_syntax.specs.tokens.Tokens.{number_of, fits, any_of}
 use Rattle.cedar_syntax.specs.trees.Trees.{Cell, name_of, ref_init_of}
 use Rattle.cedar_grammar.specs.grammar.LooseWords.{is_common}
-use Rattle.cedar_grammar.specs.machines.Door.{Machine, is_some, option_image, Reader, machine_of}
+use Rattle.cedar_grammar.specs.machines.Machine.{Machine, is_some, option_image, Reader, machine_of}
 use Rattle.cedar_grammar.specs.machines.SingleTokens.{string_node}
 use Rattle.cedar_expression_machine.specs.machines.Keeping.{kept_reader}
 use Rattle.cedar_expression_machine.specs.machines.WordShapes.{path_shape, path_plan, words_shape, words_plan, ident_shape, ident_plan}

@@ -1,7 +1,7 @@
 //! What an operand begins with: signs, literals, slots, words.
 
 pub mod begun_words;
-pub mod settle;
+pub mod reduce;
 pub mod signs;
 pub mod slot;
 pub mod want;

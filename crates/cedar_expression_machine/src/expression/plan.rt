@@ -1,45 +1,46 @@
 //! What is done with a token, by its kind and the shape of the state alone: nothing is built.
 ghost use Rattle.std.specs.Prelude.{◌≡◌, [], ◌∷◌, None};
-ghost use Rattle.cedar_grammar.specs.machines.Door.{option_image};
+ghost use Rattle.cedar_grammar.specs.machines.Machine.{option_image};
 ghost use Rattle.cedar_expression_machine.specs.declared.expression.state.OperandPlace.TheVariants as places;
-ghost use Rattle.cedar_expression_machine.specs.machines.ExpressionPlans.{alone_reach, edge, reach_of, has_access, has_sum, has_relation, has_and, may_compare, may_side, may_end, stack_may_end, may_follow, may_sign, sign_may_stand, begin_plan, list_may_end, operand_plan, if_follows, behind_plan, settle_plan, key_plan, if_plan, ended_words_plan, word_plan, shape_plan, ends, if_ends, words_can_end};
-ghost use Rattle.cedar_expression_machine.specs.machines.ExpressionShapes.{left_shape, frame_shape, stack_shape, op_sign, mode_shape};
+ghost use Rattle.cedar_expression_machine.specs.machines.ExpressionPlans.{start_follow_set, edge, follow_set_of, has_access, has_sum, has_relation, has_and, may_compare, may_side, may_end, stack_may_end, may_follow, may_sign, sign_may_stand, begin_plan, list_may_end, operand_plan, if_follows, behind_plan, reduce_plan, key_plan, if_plan, ended_words_plan, word_plan, shape_plan, ends, if_ends, words_can_end};
+ghost use Rattle.cedar_expression_machine.specs.machines.ExpressionShapes.{relation_shape, frame_shape, stack_shape, op_sign, mode_shape};
 ghost use Rattle.cedar_expression_machine.specs.machines.NamedShapes.{named_outline};
 ghost use Rattle.cedar_expression_machine.specs.machines.WholeExpressions.{state_ends, state_shape};
 ghost use Rattle.cedar_expression_machine.specs.machines.WordShapes.{words_shape};
 
 use crate::expression::operand::begun_words;
 use crate::expression::state::{
-    Act, Begin, Frame, Gap, Left, Mode, OperandPlace, Reach, Record, State, Wanted,
+    Act, FollowSet, Frame, OperandMode, OperandPlace, OperandPrefix, PendingRelation, Record,
+    StartAct, StartSymbol, State,
 };
 use crate::words::state::WordsState;
 use cedar_expressions::Boxed;
 use cedar_grammar::reading::class::{
-    Beginning, Closing, Operator, SideWord, Sign, as_beginning, as_operator,
+    Closing, FollowClass, SideWord, Sign, StartClass, follow_class, start_class,
 };
 use cedar_grammar::reading::tokens::if_ident;
 use cedar_lexer::token::TokenKind;
 use cedar_syntax::cst::{NegOp, RelOp};
 
 /// How far an operand of the whole goes on.
-fn alone_reach(wanted: Wanted) -> Reach
-    ensures { result ≡ alone_reach wanted }
+fn start_follow_set(symbol: StartSymbol) -> FollowSet
+    ensures { result ≡ start_follow_set symbol }
 {
-    match wanted {
-        Wanted::Expr => Reach::Whole,
-        Wanted::Sum => Reach::Sum,
-        Wanted::Primary => Reach::Primary,
+    match symbol {
+        StartSymbol::Expr => FollowSet::Whole,
+        StartSymbol::Sum => FollowSet::Sum,
+        StartSymbol::Primary => FollowSet::Primary,
     }
 }
 
-impl Reach {
+impl FollowSet {
     /// Whether an access may follow.
     fn has_access(self) -> bool
         ensures { result ≡ has_access self }
     {
         match self {
-            Reach::Primary => false,
-            Reach::Sum | Reach::If | Reach::Whole => true,
+            FollowSet::Primary => false,
+            FollowSet::Sum | FollowSet::If | FollowSet::Whole => true,
         }
     }
 
@@ -48,8 +49,8 @@ impl Reach {
         ensures { result ≡ has_sum self }
     {
         match self {
-            Reach::Primary | Reach::If => false,
-            Reach::Sum | Reach::Whole => true,
+            FollowSet::Primary | FollowSet::If => false,
+            FollowSet::Sum | FollowSet::Whole => true,
         }
     }
 
@@ -58,8 +59,8 @@ impl Reach {
         ensures { result ≡ has_relation self }
     {
         match self {
-            Reach::Whole => true,
-            Reach::Primary | Reach::Sum | Reach::If => false,
+            FollowSet::Whole => true,
+            FollowSet::Primary | FollowSet::Sum | FollowSet::If => false,
         }
     }
 
@@ -68,29 +69,30 @@ impl Reach {
         ensures { result ≡ has_and self }
     {
         match self {
-            Reach::Primary | Reach::Sum => false,
-            Reach::If | Reach::Whole => true,
+            FollowSet::Primary | FollowSet::Sum => false,
+            FollowSet::If | FollowSet::Whole => true,
         }
     }
 }
 
 /// Whether a comparison may follow this left side.
-fn may_compare(left: &Option<Boxed<Left>>, op: RelOp) -> bool
-    ensures { result ≡ may_compare (left_shape left.now) op }
+fn may_compare(left: &Option<Boxed<PendingRelation>>, op: RelOp) -> bool
+    ensures { result ≡ may_compare (relation_shape left.now) op }
 {
     match left {
         None => true,
         Some(left) => match left.as_ref() {
-            Left::Common(_) => true,
-            Left::Is(_) => matches!(op, RelOp::In),
-            Left::Has(_) | Left::Like(_) | Left::IsIn { .. } => false,
+            PendingRelation::Common(_) => true,
+            PendingRelation::Is(_) => matches!(op, RelOp::In),
+            PendingRelation::Has(_) | PendingRelation::Like(_) | PendingRelation::IsIn { .. } =>
+                false,
         },
     }
 }
 
 /// Whether one of the words may follow this left side.
-fn may_side(left: &Option<Boxed<Left>>) -> bool
-    ensures { result ≡ may_side (left_shape left.now) }
+fn may_side(left: &Option<Boxed<PendingRelation>>) -> bool
+    ensures { result ≡ may_side (relation_shape left.now) }
 {
     matches!(left, None)
 }
@@ -143,45 +145,45 @@ fn may_sign_behind(op: Option<NegOp>, sign: Sign) -> bool
 }
 
 /// Whether a sign may stand behind these.
-fn may_sign(gap: Gap, sign: Sign) -> bool
-    ensures { result ≡ sign_may_stand gap.place (op_sign gap.signs.op) sign }
+fn may_sign(prefix: OperandPrefix, sign: Sign) -> bool
+    ensures { result ≡ sign_may_stand prefix.place (op_sign prefix.signs.op) sign }
 {
-    match gap.place {
+    match prefix.place {
         OperandPlace::Primary => false,
         OperandPlace::Expr
         | OperandPlace::Item
         | OperandPlace::Key
         | OperandPlace::Has
-        | OperandPlace::Operand => { may_sign_behind(gap.signs.op, sign) }
+        | OperandPlace::Operand => { may_sign_behind(prefix.signs.op, sign) }
     }
 }
 
 /// What a token of this kind begins, where no sign stands before it and no list can end.
-pub fn plan_begin(kind: TokenKind) -> Option<Begin>
+pub fn plan_begin(kind: TokenKind) -> Option<StartAct>
     ensures { result ≡ begin_plan kind }
 {
-    match as_beginning(kind) {
-        Beginning::Word => Some(Begin::Word),
-        Beginning::Number => Some(Begin::Number),
-        Beginning::String => Some(Begin::String),
-        Beginning::Slot(slot) => Some(Begin::Slot(slot)),
-        Beginning::Sign(sign) => Some(Begin::Sign(sign)),
-        Beginning::Paren => Some(Begin::Paren),
-        Beginning::Bracket => Some(Begin::Bracket),
-        Beginning::Brace => Some(Begin::Brace),
-        Beginning::Ends(_) | Beginning::Other => None,
+    match start_class(kind) {
+        StartClass::Word => Some(StartAct::Word),
+        StartClass::Number => Some(StartAct::Number),
+        StartClass::String => Some(StartAct::String),
+        StartClass::Slot(slot) => Some(StartAct::Slot(slot)),
+        StartClass::Sign(sign) => Some(StartAct::Sign(sign)),
+        StartClass::Paren => Some(StartAct::Paren),
+        StartClass::Bracket => Some(StartAct::Bracket),
+        StartClass::Brace => Some(StartAct::Brace),
+        StartClass::Ends(_) | StartClass::Other => None,
     }
 }
 
 /// This operator behind an operand, where it may stand.
-fn if_follows(follows: bool, operator: Operator) -> Option<Operator>
+fn if_follows(follows: bool, operator: FollowClass) -> Option<FollowClass>
     ensures { result ≡ if_follows follows operator }
 {
     if follows { Some(operator) } else { None }
 }
 
 /// This, where an operand begins.
-fn begin_with(begin: Option<Begin>) -> Option<Act>
+fn begin_with(begin: Option<StartAct>) -> Option<Act>
     ensures { result ≡ option_image (λ b. Act.Begin b) begin }
 {
     match begin {
@@ -191,7 +193,7 @@ fn begin_with(begin: Option<Begin>) -> Option<Act>
 }
 
 /// This, where the guard of a conditional begins.
-fn guard_with(begin: Option<Begin>) -> Option<Act>
+fn guard_with(begin: Option<StartAct>) -> Option<Act>
     ensures { result ≡ option_image (λ b. Act.Guard b) begin }
 {
     match begin {
@@ -201,11 +203,11 @@ fn guard_with(begin: Option<Begin>) -> Option<Act>
 }
 
 /// This, behind words that have ended.
-fn settle_with(operator: Option<Operator>) -> Option<Act>
-    ensures { result ≡ settle_plan operator }
+fn reduce_with(operator: Option<FollowClass>) -> Option<Act>
+    ensures { result ≡ reduce_plan operator }
 {
     match operator {
-        Some(operator) => Some(Act::Settle(operator)),
+        Some(operator) => Some(Act::Reduce(operator)),
         None => None,
     }
 }
@@ -221,30 +223,30 @@ pub fn plan_first(kind: TokenKind) -> Option<Act>
 pub fn plan_first_unsigned(kind: TokenKind) -> Option<Act>
     ensures { result ≡ option_image (λ b. Act.Begin b) (operand_plan [] places.Primary None kind) }
 {
-    match as_beginning(kind) {
-        Beginning::Sign(_) => None,
+    match start_class(kind) {
+        StartClass::Sign(_) => None,
         _ => plan_first(kind),
     }
 }
 
 impl State {
     /// How far an operand goes on here.
-    fn edge(&self, wanted: Wanted) -> Reach
-        ensures { result ≡ edge wanted (stack_shape self.now.stack) }
+    fn edge(&self, symbol: StartSymbol) -> FollowSet
+        ensures { result ≡ edge symbol (stack_shape self.now.stack) }
     {
         match self.stack.top() {
-            None => alone_reach(wanted),
-            Some(_) => Reach::Whole,
+            None => start_follow_set(symbol),
+            Some(_) => FollowSet::Whole,
         }
     }
 
     /// How far this operand goes on.
-    fn reach(&self, wanted: Wanted, is_if: bool) -> Reach
-        ensures { result ≡ reach_of wanted (stack_shape self.now.stack) is_if }
+    fn follow_set(&self, symbol: StartSymbol, is_if: bool) -> FollowSet
+        ensures { result ≡ follow_set_of symbol (stack_shape self.now.stack) is_if }
     {
         match is_if {
-            true => Reach::If,
-            false => self.edge(wanted),
+            true => FollowSet::If,
+            false => self.edge(symbol),
         }
     }
 
@@ -270,52 +272,52 @@ impl State {
 
     /// Whether a token of this class may follow an operand that goes on so far.
     #[inline(always)]
-    fn may_follow(&self, reach: Reach, operator: Operator) -> bool
+    fn may_follow(&self, follow_set: FollowSet, operator: FollowClass) -> bool
         ensures { result ≡ may_follow (stack_shape self.now.stack)
-            (left_shape self.now.levels.relation) reach operator }
+            (relation_shape self.now.levels.relation) follow_set operator }
     {
         match operator {
-            Operator::Access(_) => reach.has_access(),
-            Operator::Multiply(_) => reach.has_sum(),
-            Operator::Sum(_) => reach.has_sum(),
-            Operator::Compare(op) => {
-                reach.has_relation() && may_compare(&self.levels.relation, op)
+            FollowClass::Access(_) => follow_set.has_access(),
+            FollowClass::Multiply(_) => follow_set.has_sum(),
+            FollowClass::Sum(_) => follow_set.has_sum(),
+            FollowClass::Compare(op) => {
+                follow_set.has_relation() && may_compare(&self.levels.relation, op)
             }
-            Operator::Side(_) => reach.has_relation() && may_side(&self.levels.relation),
-            Operator::And => reach.has_and(),
-            Operator::Or => reach.has_and(),
-            Operator::Ends(closing) => self.may_end(closing),
-            Operator::Other => false,
+            FollowClass::Side(_) => follow_set.has_relation() && may_side(&self.levels.relation),
+            FollowClass::And => follow_set.has_and(),
+            FollowClass::Or => follow_set.has_and(),
+            FollowClass::Ends(closing) => self.may_end(closing),
+            FollowClass::Other => false,
         }
     }
 
     /// What is done with a token of this kind behind an operand.
     #[inline(always)]
-    fn plan_behind(&self, wanted: Wanted, is_if: bool, kind: TokenKind) -> Option<Operator>
-        ensures { result ≡ behind_plan wanted (stack_shape self.now.stack)
-            (left_shape self.now.levels.relation) is_if kind }
+    fn plan_behind(&self, symbol: StartSymbol, is_if: bool, kind: TokenKind) -> Option<FollowClass>
+        ensures { result ≡ behind_plan symbol (stack_shape self.now.stack)
+            (relation_shape self.now.levels.relation) is_if kind }
     {
-        let operator = as_operator(kind);
-        let follows = self.may_follow(self.reach(wanted, is_if), operator);
+        let operator = follow_class(kind);
+        let follows = self.may_follow(self.follow_set(symbol, is_if), operator);
         if_follows(follows, operator)
     }
 
     /// What is done with it where an operand is wanted.
-    fn plan_operand(&self, gap: Gap, kind: TokenKind) -> Option<Begin>
-        ensures { result ≡ operand_plan (stack_shape self.now.stack) gap.place
-            (op_sign gap.signs.op) kind }
+    fn plan_operand(&self, prefix: OperandPrefix, kind: TokenKind) -> Option<StartAct>
+        ensures { result ≡ operand_plan (stack_shape self.now.stack) prefix.place
+            (op_sign prefix.signs.op) kind }
     {
-        match as_beginning(kind) {
-            Beginning::Sign(sign) => {
-                if may_sign(gap, sign) {
-                    Some(Begin::Sign(sign))
+        match start_class(kind) {
+            StartClass::Sign(sign) => {
+                if may_sign(prefix, sign) {
+                    Some(StartAct::Sign(sign))
                 } else {
                     None
                 }
             }
-            Beginning::Ends(closing) => {
-                if self.may_end_list(gap.place, closing) {
-                    Some(Begin::Ends(closing))
+            StartClass::Ends(closing) => {
+                if self.may_end_list(prefix.place, closing) {
+                    Some(StartAct::Ends(closing))
                 } else {
                     None
                 }
@@ -338,14 +340,14 @@ impl State {
     }
 
     /// What is done with it behind the word `if` alone.
-    fn plan_if(&self, wanted: Wanted, place: OperandPlace, kind: TokenKind) -> Option<Act>
-        ensures { result ≡ if_plan wanted (stack_shape self.now.stack)
-            (left_shape self.now.levels.relation) place kind }
+    fn plan_if(&self, symbol: StartSymbol, place: OperandPlace, kind: TokenKind) -> Option<Act>
+        ensures { result ≡ if_plan symbol (stack_shape self.now.stack)
+            (relation_shape self.now.levels.relation) place kind }
     {
         match place {
             OperandPlace::Expr | OperandPlace::Item => guard_with(plan_begin(kind)),
             OperandPlace::Key => self.plan_key(kind),
-            OperandPlace::Has => settle_with(self.plan_behind(wanted, true, kind)),
+            OperandPlace::Has => reduce_with(self.plan_behind(symbol, true, kind)),
             OperandPlace::Operand | OperandPlace::Primary => None,
         }
     }
@@ -353,18 +355,18 @@ impl State {
     /// What is done with it behind words that have ended.
     fn plan_ended(
         &self,
-        wanted: Wanted,
+        symbol: StartSymbol,
         place: OperandPlace,
         words: &WordsState,
         kind: TokenKind,
     ) -> Option<Act>
-        ensures { result ≡ ended_words_plan wanted (stack_shape self.now.stack)
-            (left_shape self.now.levels.relation) place (option_image named_outline.is_if
+        ensures { result ≡ ended_words_plan symbol (stack_shape self.now.stack)
+            (relation_shape self.now.levels.relation) place (option_image named_outline.is_if
             (named_outline.outline.finish (words_shape words.now))) kind }
     {
         match begun_words::ends(words) {
-            Some(true) => self.plan_if(wanted, place, kind),
-            Some(false) => settle_with(self.plan_behind(wanted, false, kind)),
+            Some(true) => self.plan_if(symbol, place, kind),
+            Some(false) => reduce_with(self.plan_behind(symbol, false, kind)),
             None => None,
         }
     }
@@ -372,34 +374,34 @@ impl State {
     /// What is done with it behind words that may go on.
     fn plan_words(
         &self,
-        wanted: Wanted,
+        symbol: StartSymbol,
         place: OperandPlace,
         words: &WordsState,
         kind: TokenKind,
     ) -> Option<Act>
-        ensures { result ≡ word_plan wanted named_outline (stack_shape self.now.stack)
-            (left_shape self.now.levels.relation) place (words_shape words.now) kind }
+        ensures { result ≡ word_plan symbol named_outline (stack_shape self.now.stack)
+            (relation_shape self.now.levels.relation) place (words_shape words.now) kind }
     {
         match words.plan_words(kind) {
             Some(act) => Some(Act::Words(act)),
-            None => self.plan_ended(wanted, place, words, kind),
+            None => self.plan_ended(symbol, place, words, kind),
         }
     }
 
     /// What is done with a token of this kind, or nothing where no sentence has it next.
-    pub fn plan(&self, wanted: Wanted, kind: TokenKind) -> Option<Act>
-        ensures { result ≡ shape_plan wanted named_outline (state_shape self.now) kind }
+    pub fn plan(&self, symbol: StartSymbol, kind: TokenKind) -> Option<Act>
+        ensures { result ≡ shape_plan symbol named_outline (state_shape self.now) kind }
     {
         match &self.mode {
-            Mode::Want { place, signs } => {
+            OperandMode::Want { place, signs } => {
                 let (place, signs) = (*place, *signs);
-                begin_with(self.plan_operand(Gap { place, signs }, kind))
+                begin_with(self.plan_operand(OperandPrefix { place, signs }, kind))
             }
-            Mode::Word { place, words, .. } => self.plan_words(wanted, *place, words, kind),
-            Mode::Have { operand, dot: None } => {
-                follow_with(self.plan_behind(wanted, operand.is_if, kind))
+            OperandMode::Word { place, words, .. } => self.plan_words(symbol, *place, words, kind),
+            OperandMode::Have { operand, dot: None } => {
+                follow_with(self.plan_behind(symbol, operand.is_if, kind))
             }
-            Mode::Have { .. } => if_ident(kind, Act::Field),
+            OperandMode::Have { .. } => if_ident(kind, Act::Field),
         }
     }
 
@@ -415,7 +417,7 @@ impl State {
 }
 
 /// This, behind an operand.
-fn follow_with(operator: Option<Operator>) -> Option<Act>
+fn follow_with(operator: Option<FollowClass>) -> Option<Act>
     ensures { result ≡ option_image (λ o. Act.Follow o) operator }
 {
     match operator {
@@ -449,16 +451,16 @@ fn words_end(place: OperandPlace, words: &WordsState) -> bool
     }
 }
 
-impl Mode {
+impl OperandMode {
     /// Whether the tree can end here, where no bracket is open.
     fn ends(&self) -> bool
         ensures { result ≡ ends named_outline [] (mode_shape words_shape self.now) }
     {
         match self {
-            Mode::Want { .. } => false,
-            Mode::Word { place, words, .. } => words_end(*place, words),
-            Mode::Have { dot: None, .. } => true,
-            Mode::Have { dot: Some(_), .. } => false,
+            OperandMode::Want { .. } => false,
+            OperandMode::Word { place, words, .. } => words_end(*place, words),
+            OperandMode::Have { dot: None, .. } => true,
+            OperandMode::Have { dot: Some(_), .. } => false,
         }
     }
 }

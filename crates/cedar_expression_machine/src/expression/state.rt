@@ -3,7 +3,7 @@
 
 use crate::words::state::{WordsAct, WordsState};
 use cedar_expressions::{Boxed, Items};
-use cedar_grammar::reading::class::{Closing, Operator, Sign, SlotToken};
+use cedar_grammar::reading::class::{Closing, FollowClass, Sign, SlotToken};
 use cedar_grammar::reading::extent::Extent;
 use cedar_grammar::reading::stack::Stack;
 use cedar_syntax::cst::{
@@ -13,7 +13,7 @@ use cedar_syntax::node::Node;
 
 /// A tree that isn't a node yet, and the bytes of its tokens.
 #[derive(Drop)]
-pub struct Ranged<T> {
+pub struct Spanned<T> {
     pub tree: T,
     pub extent: Option<Extent>,
 }
@@ -51,12 +51,12 @@ pub struct Branch {
 /// A left side and the word behind it, whose right side is begun. The bytes are those of all that
 /// stands before the right side.
 #[derive(Drop)]
-pub enum Left {
+pub enum PendingRelation {
     /// A chain of comparisons.
     Common(PendingChain<Add, RelOp>),
-    Has(Ranged<Node<Option<Add>>>),
-    Like(Ranged<Node<Option<Add>>>),
-    Is(Ranged<Node<Option<Add>>>),
+    Has(Spanned<Node<Option<Add>>>),
+    Like(Spanned<Node<Option<Add>>>),
+    Is(Spanned<Node<Option<Add>>>),
     /// Behind `in`.
     IsIn {
         target: Node<Option<Add>>,
@@ -65,14 +65,14 @@ pub enum Left {
     },
 }
 
-/// What is begun before an operand, each level with the operator at its end. A level that is begun
-/// has memory of its own, so that a state that moves is small.
+/// What is pending before an operand, each level with the operator at its end. A level that is
+/// begun has memory of its own, so that a state that moves is small.
 #[derive(Drop)]
-pub struct Levels {
+pub struct PendingOperators {
     pub branches: Stack<Branch>,
     pub or: Option<Boxed<Chain<And, Node<Option<And>>>>>,
     pub and: Option<Boxed<Chain<Relation, Node<Option<Relation>>>>>,
-    pub relation: Option<Boxed<Left>>,
+    pub relation: Option<Boxed<PendingRelation>>,
     pub add: Option<Boxed<PendingChain<Mult, AddOp>>>,
     pub mult: Option<Boxed<PendingChain<Unary, MultOp>>>,
 }
@@ -99,7 +99,7 @@ pub struct Operand {
 /// Open parentheses around an expression.
 #[derive(Drop)]
 pub struct Paren {
-    pub outer: Levels,
+    pub outer: PendingOperators,
     pub signs: Signs,
     pub opened: Extent,
 }
@@ -107,7 +107,7 @@ pub struct Paren {
 /// An open bracket, and the elements before the one that is begun.
 #[derive(Drop)]
 pub struct Set {
-    pub outer: Levels,
+    pub outer: PendingOperators,
     pub signs: Signs,
     pub opened: Extent,
     pub items: Items<Node<Option<Expr>>>,
@@ -116,7 +116,7 @@ pub struct Set {
 /// An open parenthesis behind an operand, and the arguments before the one that is begun.
 #[derive(Drop)]
 pub struct Call {
-    pub outer: Levels,
+    pub outer: PendingOperators,
     pub operand: Operand,
     pub opened: Extent,
     pub items: Items<Node<Option<Expr>>>,
@@ -125,7 +125,7 @@ pub struct Call {
 /// An open bracket behind an operand.
 #[derive(Drop)]
 pub struct Index {
-    pub outer: Levels,
+    pub outer: PendingOperators,
     pub operand: Operand,
     pub opened: Extent,
 }
@@ -141,7 +141,7 @@ pub struct Key {
 /// read.
 #[derive(Drop)]
 pub struct Record {
-    pub outer: Levels,
+    pub outer: PendingOperators,
     pub signs: Signs,
     pub opened: Extent,
     pub items: Items<Node<Option<RecInit>>>,
@@ -196,14 +196,14 @@ pub enum OperandPlace {
 
 /// Where an operand is wanted, and the signs before it.
 #[derive(Drop, Clone, Copy)]
-pub struct Gap {
+pub struct OperandPrefix {
     pub place: OperandPlace,
     pub signs: Signs,
 }
 
 /// What comes next: an operand, or what follows one.
 #[derive(Drop)]
-pub enum Mode {
+pub enum OperandMode {
     Want {
         place: OperandPlace,
         signs: Signs,
@@ -225,13 +225,13 @@ pub enum Mode {
 #[derive(Drop)]
 pub struct State {
     pub stack: Stack<Frame>,
-    pub levels: Levels,
-    pub mode: Mode,
+    pub levels: PendingOperators,
+    pub mode: OperandMode,
 }
 
-/// As what the whole is wanted. Inside of brackets stand whole expressions.
+/// What the whole text is read as. Inside of brackets stand whole expressions.
 #[derive(Drop, Clone, Copy)]
-pub enum Wanted {
+pub enum StartSymbol {
     Expr,
     Sum,
     Primary,
@@ -239,28 +239,28 @@ pub enum Wanted {
 
 /// What one token alone is, among words.
 #[derive(Drop, Clone, Copy)]
-pub enum Alone {
+pub enum SingleWord {
     True,
     False,
     If,
     Name,
 }
 
-/// How far an operand can go on.
+/// What may follow an operand.
 #[derive(Drop, Clone, Copy)]
-pub enum Reach {
-    /// A primary alone: no further.
+pub enum FollowSet {
+    /// Nothing, behind a primary alone.
     Primary,
-    /// By accesses, and in a product or a sum.
+    /// Accesses, and the operators of products and sums.
     Sum,
-    /// By accesses, and in `&&` and `||`.
+    /// Accesses, and `&&` and `||`.
     If,
     Whole,
 }
 
 /// What is done with a token where an operand is wanted.
 #[derive(Drop, Clone, Copy)]
-pub enum Begin {
+pub enum StartAct {
     /// Words begin.
     Word,
     Number,
@@ -281,17 +281,17 @@ pub enum Begin {
 #[derive(Drop, Clone, Copy)]
 pub enum Act {
     /// It begins an operand, or stands before one.
-    Begin(Begin),
+    Begin(StartAct),
     /// The words that are begun go on.
     Words(WordsAct),
     /// They have ended: they are the operand behind which it stands.
-    Settle(Operator),
+    Reduce(FollowClass),
     /// They are `if`: it begins the guard of a conditional.
-    Guard(Begin),
+    Guard(StartAct),
     /// They are `if` as a key, and it is the key's colon.
     Key,
     /// It is the identifier behind `.`.
     Field,
     /// It stands behind an operand.
-    Follow(Operator),
+    Follow(FollowClass),
 }

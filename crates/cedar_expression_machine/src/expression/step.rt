@@ -8,7 +8,7 @@ ghost use Rattle.cedar_expression_machine.specs.machines.Named.{named_reader};
 ghost use Rattle.cedar_expression_machine.specs.machines.WholeExpressions.{IsPlanned};
 
 use crate::expression::state::{Act, State};
-use crate::ground::Ground;
+use crate::node_builder::NodeBuilder;
 use cedar_lexer::token::Token;
 use std::alloc::AllocError;
 
@@ -17,37 +17,37 @@ impl State {
     /// if it is a number that doesn't fit; nor is anything after want of memory.
     pub fn act(
         &mut self,
-        ground: Ground<'_>,
+        builder: NodeBuilder<'_>,
         act: Act,
         token: &Token<'_>,
     ) -> Result<bool, AllocError>
         requires written { IsWritten (lexeme_of token.now) }
         requires is_planned { IsPlanned self.old token.now.kind act }
         ensures { IfOk result (λ fits. done_as fits self.new ≡ expression_act
-            ground.entry.source.now named_reader self.old act (lexeme_of token.now)) }
+            builder.entry.source.now named_reader self.old act (lexeme_of token.now)) }
     {
         match act {
-            Act::Begin(begin) => self.begin(ground, begin, token),
-            Act::Words(act) => self.read_words(ground, act, token),
-            Act::Settle(operator) => {
-                self.settle(ground)?;
-                self.follow(ground, operator, token)?;
+            Act::Begin(begin) => self.begin(builder, begin, token),
+            Act::Words(act) => self.read_words(builder, act, token),
+            Act::Reduce(operator) => {
+                self.reduce(builder)?;
+                self.follow(builder, operator, token)?;
                 Ok(true)
             }
             Act::Guard(begin) => {
-                self.open_guard(ground.alloc)?;
-                self.begin(ground, begin, token)
+                self.open_guard(builder.alloc)?;
+                self.begin(builder, begin, token)
             }
             Act::Key => {
-                self.close_if_key(ground, token)?;
+                self.close_if_key(builder, token)?;
                 Ok(true)
             }
             Act::Field => {
-                self.read_field(ground, token)?;
+                self.read_field(builder, token)?;
                 Ok(true)
             }
             Act::Follow(operator) => {
-                self.follow(ground, operator, token)?;
+                self.follow(builder, operator, token)?;
                 Ok(true)
             }
         }

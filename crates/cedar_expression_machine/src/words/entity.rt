@@ -6,7 +6,7 @@ ghost use Rattle.cedar_lexer.specs.declared.token.TokenKind.TheVariants as kind;
 ghost use Rattle.cedar_grammar.specs.grammar.Place.{extent_of};
 ghost use Rattle.cedar_syntax.specs.tokens.Tokens.{any_of};
 ghost use Rattle.cedar_grammar.specs.grammar.WrittenTokens.{IsWritten, Written};
-ghost use Rattle.cedar_grammar.specs.machines.Door.{is_some};
+ghost use Rattle.cedar_grammar.specs.machines.Machine.{is_some};
 ghost use Rattle.cedar_grammar.specs.machines.Judged.{done_as};
 ghost use Rattle.cedar_expression_machine.specs.machines.Words.{entity_with_extent, uid_of, opened, inits_at, inits_named, inits_parted, with_value, inits_valued, inits_closed, init_act, words_named, words_opened, in_inits, words_act};
 ghost use Rattle.cedar_expression_machine.specs.machines.WordShapes as shape;
@@ -19,7 +19,7 @@ use crate::words::state::{
 };
 use cedar_expressions::{Boxed, Items, Source};
 use cedar_grammar::never;
-use cedar_grammar::reading::driver::Entry;
+use cedar_grammar::reading::driver::PushParser;
 use cedar_grammar::reading::extent::Extent;
 use cedar_grammar::reading::literal::as_number;
 use cedar_grammar::reading::place::{node_at, token_extent};
@@ -381,7 +381,7 @@ impl WordsState {
 }
 
 /// An entity literal as a whole text.
-impl Entry<Node<Option<Ref>>> for WordsState {
+impl PushParser<Node<Option<Ref>>> for WordsState {
     ghost use Rattle.cedar_expression_machine.specs.machines.Words.{ref_reader};
 
     type Act = WordsAct;

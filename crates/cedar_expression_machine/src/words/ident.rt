@@ -4,7 +4,7 @@ use crate::words::nodes::{word_node, word_of};
 use crate::words::state::IdentState;
 use cedar_expressions::Source;
 use cedar_grammar::never;
-use cedar_grammar::reading::driver::Entry;
+use cedar_grammar::reading::driver::PushParser;
 use cedar_grammar::reading::tokens::if_ident;
 use cedar_lexer::token::{Token, TokenKind};
 use cedar_syntax::cst::Ident;
@@ -12,7 +12,7 @@ use cedar_syntax::node::Node;
 use std::alloc::{AllocError, Global};
 use std::mem;
 
-impl Entry<Node<Option<Ident>>> for IdentState {
+impl PushParser<Node<Option<Ident>>> for IdentState {
     ghost use Rattle.cedar_expression_machine.specs.machines.Words.{ident_reader};
 
     type Act = ();

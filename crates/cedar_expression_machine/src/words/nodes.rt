@@ -3,7 +3,7 @@ ghost use Rattle.std.specs.Prelude.{◌≡◌, [], Some, IsTrue, IfOk};
 ghost use Rattle.cedar_lexer.specs.Token.{lexeme_of};
 ghost use Rattle.cedar_syntax.specs.tokens.Tokens.{any_of};
 ghost use Rattle.cedar_grammar.specs.grammar.Place.{extent_of};
-ghost use Rattle.cedar_grammar.specs.machines.Door.{is_some};
+ghost use Rattle.cedar_grammar.specs.machines.Machine.{is_some};
 ghost use Rattle.cedar_expression_machine.specs.machines.Words.{word_node};
 
 use crate::words::state::Word;

@@ -5,7 +5,7 @@ ghost use Rattle.cedar_lexer.specs.declared.token.TokenKind.TheVariants as kind;
 ghost use Rattle.cedar_grammar.specs.grammar.Place.{extent_of};
 ghost use Rattle.cedar_syntax.specs.tokens.Tokens.{any_of};
 ghost use Rattle.cedar_grammar.specs.grammar.LooseWords.{is_common};
-ghost use Rattle.cedar_grammar.specs.machines.Door.{is_some};
+ghost use Rattle.cedar_grammar.specs.machines.Machine.{is_some};
 ghost use Rattle.cedar_expression_machine.specs.machines.Words.{one_word_path, with_word, path_begun, path_parted, path_longer, path_act, path_node, is_name};
 ghost use Rattle.cedar_expression_machine.specs.machines.WordShapes.{path_plan, path_shape};
 
@@ -13,7 +13,7 @@ use crate::words::nodes::{word_node, word_of};
 use crate::words::state::{Path, PathAct, PathState, Word};
 use cedar_expressions::{Items, Source};
 use cedar_grammar::never;
-use cedar_grammar::reading::driver::Entry;
+use cedar_grammar::reading::driver::PushParser;
 use cedar_grammar::reading::extent::Extent;
 use cedar_grammar::reading::place::node_at;
 use cedar_grammar::reading::put::put;
@@ -165,7 +165,7 @@ impl PathState {
 }
 
 /// A name, as a whole text and in a policy.
-impl Entry<Node<Option<Name>>> for PathState {
+impl PushParser<Node<Option<Name>>> for PathState {
     ghost use Rattle.cedar_expression_machine.specs.machines.Words.{name_reader};
 
     type Act = PathAct;

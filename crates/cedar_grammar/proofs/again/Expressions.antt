@@ -41,6 +41,7 @@ use Rattle.cedar_syntax.specs.trees.Trees.{Cell, bangs_of, dashes_of, expr_of, i
 use Rattle.cedar_syntax.specs.trees.Unlocated.{unlocated, unlocated_form, unlocated_parts}
 use Rattle.cedar_syntax.specs.trees.Unplaced.{unplaced_tree, unplaced_tree_form}
 use Rattle.cedar_syntax.proofs.FormLevels as form
+use Rattle.cedar_grammar.proofs.MadeExpressions.{expr_made, if_made}
 use Rattle.cedar_lexer.specs.Words.{TokenText, texts_of, AreSpelled}
 use Rattle.cedar_grammar.specs.printing.SameWords.{Again}
 use Rattle.cedar_grammar.proofs.again.Rereading.{texts-append, both_spelled, same_as, infix_as, beside_as, bracket_as, Reworded}
@@ -135,11 +136,11 @@ init_bare c d = ap unlocated_form (form.init_out (rec_init_of c d))
 
 pub only_bare : (c : Cell Or) → bare expr_form (expr_of c) ≡ f.only (unlocated (located or_form c))
 unfolding unlocated_form
-only_bare c = ap unlocated_form (form.expr_out _ ∙ form.impl_out _ ∙ form.data_or c)
+only_bare c = ap unlocated_form (expr_made c)
 
 pub if_bare : (a b c : Cell Expr) → bare expr_form (if_of a b c) ≡ f.ite (unlocated (located expr_form a)) (unlocated (located expr_form b)) (unlocated (located expr_form c))
 unfolding unlocated_form
-if_bare a b c = ap unlocated_form (form.expr_out _ ∙ form.impl_out _ ∙ form.data_if a b c)
+if_bare a b c = ap unlocated_form (if_made a b c)
 
 pub has_bare : (a b : Cell Add) → bare relation_form (has_of a b) ≡ f.has (unlocated (located add_form a)) (unlocated (located add_form b))
 unfolding unlocated_form

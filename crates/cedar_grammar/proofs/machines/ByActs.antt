@@ -1,7 +1,7 @@
 -- What each act keeps that is planned, holds behind each run.
 use Rattle.std.proofs.Common.{◌≡◌, ℕ, List, [], ◌∷◌, ◌++◌, Option, Some, None, refl, IfSome}
 use Rattle.cedar_lexer.specs.Token.{Lexeme}
-use Rattle.cedar_grammar.specs.machines.Door.{answer_state, Comes, Reader, done_answer, end_answer, planned_answer, machine_of}
+use Rattle.cedar_grammar.specs.machines.Machine.{answer_state, Comes, Reader, done_answer, end_answer, planned_answer, machine_of}
 use Rattle.cedar_grammar.proofs.machines.Holding.{kept}
 
 kept_end : (S : Type 0) {T : Type 0} (P : S → Type 0) (o : Option T) → IfSome (answer_state (end_answer {S = S} o)) P

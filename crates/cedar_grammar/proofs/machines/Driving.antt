@@ -14,12 +14,12 @@ use Rattle.cedar_lexer.proofs.Runs.{cuts_or_stops}
 use Rattle.cedar_syntax.specs.declared.err.faults.Failure.{Failure}
 use Rattle.cedar_syntax.specs.declared.err.faults.Failure.TheVariants.{Memory, Errors}
 use Rattle.cedar_grammar.specs.declared.reading.extent.Extent.{Extent}
-use Rattle.cedar_grammar.specs.declared.reading.expected.Narrowing.{Narrowing}
+use Rattle.cedar_grammar.specs.declared.reading.expected.ClosersOnly.{ClosersOnly}
 use Rattle.cedar_syntax.specs.declared.err.to_cst.RawFault.TheVariants as fault
 use Rattle.cedar_grammar.specs.faults.FirstFault.{end_at, tokens_end, unexpected_fault, early_at, large_at}
 use Rattle.cedar_grammar.specs.grammar.Place.{joint_extent, extent_of, extent}
 use Rattle.cedar_grammar.specs.grammar.WrittenTokens.{IsWritten}
-use Rattle.cedar_grammar.specs.machines.Door.{next, Machine, answer_state, Comes, is_some, Reader, done_answer, planned_answer, machine_of, allowed_by}
+use Rattle.cedar_grammar.specs.machines.Machine.{next, Machine, answer_state, Comes, is_some, Reader, done_answer, planned_answer, machine_of, allowed_by}
 use Rattle.cedar_grammar.specs.machines.Judged.{done_as, wanted_kinds, IsRead, IsFault, FailsWith, large_fault, stop_fault, IsStop, StopsAtToken, StopsAtEnd}
 use Rattle.cedar_grammar.proofs.machines.Laws.{then_steps}
 use Rattle.cedar_grammar.proofs.machines.Extents.{extent-append}
@@ -146,7 +146,7 @@ takes r src s q a t fits g h i =
 
 -- ---- where it stops
 
-pub stops_at_token : {S T : Type 0} {m : Machine Lexeme S T} (p : S → Option TokenKind → Bool) (n : Narrowing) {text : List ℕ} {s : S} {end : ℕ} {l u : LexerState} (t : Token) (f : Failure) → Progress m text s end l → LexerAnswers l (Some (Ok t)) u →
+pub stops_at_token : {S T : Type 0} {m : Machine Lexeme S T} (p : S → Option TokenKind → Bool) (n : ClosersOnly) {text : List ℕ} {s : S} {end : ℕ} {l u : LexerState} (t : Token) (f : Failure) → Progress m text s end l → LexerAnswers l (Some (Ok t)) u →
     StopsAtToken m p n text s (lexeme_of t) f → IsStop m p n text f
 stops_at_token p n t (Memory e) q a h = tt
 stops_at_token p n {text = text} {s = s} {l = l} {u = u} t (Errors errors) q a h =
@@ -166,7 +166,7 @@ stops_at_token p n {text = text} {s = s} {l = l} {u = u} t (Errors errors) q a h
     )
 
 -- a planned number that doesn't fit
-pub stops_at_number : {S A T : Type 0} (r : Reader S A T) (n : Narrowing) (src : List ℕ) (s q : S) (a : A) (t : Lexeme) (fits : Bool) (f : Failure) → r.plan s t.kind ≡ Some a → done_as fits q ≡ r.act src s a t → fits ≡ false → FailsWith src (large_at src t) f →
+pub stops_at_number : {S A T : Type 0} (r : Reader S A T) (n : ClosersOnly) (src : List ℕ) (s q : S) (a : A) (t : Lexeme) (fits : Bool) (f : Failure) → r.plan s t.kind ≡ Some a → done_as fits q ≡ r.act src s a t → fits ≡ false → FailsWith src (large_at src t) f →
     StopsAtToken (machine_of src r) (allowed_by r) n src s t f
 stops_at_number r n src s q a t fits (Memory e) g h i w = tt
 stops_at_number {S = S} {T = T} r n src s q a t fits (Errors errors) g h i w = (
@@ -176,7 +176,7 @@ stops_at_number {S = S} {T = T} r n src s q a t fits (Errors errors) g h i w = (
   w,
 )
 
-pub stops_badly : {S T : Type 0} {m : Machine Lexeme S T} (p : S → Option TokenKind → Bool) (n : Narrowing) {text : List ℕ} {s : S} {end : ℕ} {l u : LexerState} (e : InvalidToken) (f : Failure) → Progress m text s end l → LexerAnswers l (Some (Err e)) u → FailsWith text (fault.InvalidToken e.location) f → IsStop m p n text f
+pub stops_badly : {S T : Type 0} {m : Machine Lexeme S T} (p : S → Option TokenKind → Bool) (n : ClosersOnly) {text : List ℕ} {s : S} {end : ℕ} {l u : LexerState} (e : InvalidToken) (f : Failure) → Progress m text s end l → LexerAnswers l (Some (Err e)) u → FailsWith text (fault.InvalidToken e.location) f → IsStop m p n text f
 stops_badly p n e (Memory w) q a b = tt
 stops_badly p n {text = text} {s = s} {l = l} e (Errors errors) q a b = (
   _,
@@ -192,10 +192,10 @@ stops_badly p n {text = text} {s = s} {l = l} e (Errors errors) q a b = (
   b,
 )
 
-early_told : {S T : Type 0} (m : Machine Lexeme S T) (p : S → Option TokenKind → Bool) (n : Narrowing) (text : List ℕ) (s : S) (ts : List Lexeme) → p s None ≡ false → stop_fault m p n text s ts [] None ≡ Some (early_at (tokens_end ts) (wanted_kinds (p s) n None))
+early_told : {S T : Type 0} (m : Machine Lexeme S T) (p : S → Option TokenKind → Bool) (n : ClosersOnly) (text : List ℕ) (s : S) (ts : List Lexeme) → p s None ≡ false → stop_fault m p n text s ts [] None ≡ Some (early_at (tokens_end ts) (wanted_kinds (p s) n None))
 early_told m p n text s ts h = ap (λ b. cond b None (Some (early_at (tokens_end ts) (wanted_kinds (p s) n None)))) h
 
-stops_at_end : {S T : Type 0} {m : Machine Lexeme S T} (p : S → Option TokenKind → Bool) (n : Narrowing) {text : List ℕ} {s : S} {end : ℕ} {l u : LexerState} (f : Failure) → Progress m text s end l → LexerAnswers l None u → StopsAtEnd m p n text s end f → IsStop m p n text f
+stops_at_end : {S T : Type 0} {m : Machine Lexeme S T} (p : S → Option TokenKind → Bool) (n : ClosersOnly) {text : List ℕ} {s : S} {end : ℕ} {l u : LexerState} (f : Failure) → Progress m text s end l → LexerAnswers l None u → StopsAtEnd m p n text s end f → IsStop m p n text f
 stops_at_end p n (Memory e) q a h = tt
 stops_at_end {m = m} p n {text = text} {s = s} {l = l} {u = u} (Errors errors) q a h = (
   _,
@@ -214,7 +214,7 @@ stops_at_end {m = m} p n {text = text} {s = s} {l = l} {u = u} (Errors errors) q
 reads_whole : {S T : Type 0} {m : Machine Lexeme S T} {text : List ℕ} {s : S} {end : ℕ} {l u : LexerState} (x : T) → Progress m text s end l → LexerAnswers l None u → m.finish s ≡ Some x → IsRead m text x
 reads_whole {text = text} {s = s} {l = l} {u = u} x q a h = record { tokens = q.before; cut = end_behind text q.before l u q.stands a; runs = record { last = s; goes = q.comes; ends = h } }
 
-pub concluded : {S T : Type 0} {m : Machine Lexeme S T} (p : S → Option TokenKind → Bool) (n : Narrowing) {text : List ℕ} {s : S} {end : ℕ} {l : LexerState} (u : LexerState) (r : Result T Failure) → Progress m text s end l → LexerAnswers l None u →
+pub concluded : {S T : Type 0} {m : Machine Lexeme S T} (p : S → Option TokenKind → Bool) (n : ClosersOnly) {text : List ℕ} {s : S} {end : ℕ} {l : LexerState} (u : LexerState) (r : Result T Failure) → Progress m text s end l → LexerAnswers l None u →
     MatchResult r (λ x. m.finish s ≡ Some x) (λ f. StopsAtEnd m p n text s end f) → MatchResult r (λ x. IsRead m text x) (λ f. IsStop m p n text f)
 concluded p n u (Ok x) q a g = reads_whole x q a g
 concluded p n u (Err f) q a g = stops_at_end p n f q a g

@@ -4,7 +4,7 @@ use Rattle.cedar_lexer.specs.Token.{Lexeme}
 use Rattle.cedar_lexer.specs.declared.token.TokenKind.{TokenKind}
 use Rattle.cedar_syntax.specs.declared.cst.Ident.{Ident}
 use Rattle.cedar_syntax.specs.tokens.Tokens.{Spot, any_of}
-use Rattle.cedar_grammar.specs.machines.Door.{Machine, ended, refused, is_taken}
+use Rattle.cedar_grammar.specs.machines.Machine.{Machine, ended, refused, is_taken}
 
 -- the tree of no tokens
 abbrev pub NotEmpty : {S T : Type 0} → Machine Lexeme S T → Type 0

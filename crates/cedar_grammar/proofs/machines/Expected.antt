@@ -4,7 +4,7 @@ use Rattle.std.proofs.Common.{◌≡◌, List, [], ◌∷◌, Option, Some, Bool
 use Rattle.cedar_lexer.specs.Token.{Lexeme}
 use Rattle.cedar_lexer.specs.declared.token.TokenKind.{TokenKind}
 use Rattle.cedar_lexer.specs.declared.token.TokenKind.TheVariants as kind
-use Rattle.cedar_grammar.specs.declared.reading.expected.Narrowing.{Narrowing}
+use Rattle.cedar_grammar.specs.declared.reading.expected.ClosersOnly.{ClosersOnly}
 use Rattle.cedar_grammar.specs.faults.Expected.{by_name, is_closer, can_narrow, IsNarrowed, Picks, no_kind, picked, passed, IsIn, here, there, IsExpected, all_allowed, closers}
 use Rattle.cedar_grammar.specs.grammar.Sentences.{Allowed}
 use Rattle.cedar_grammar.specs.machines.Judged.{any_closer, is_narrowed, picks, picked_kinds, wanted_kinds}
@@ -122,7 +122,7 @@ closer_there : (p : TokenKind → Bool) (k : TokenKind) {ks : List TokenKind} �
 closer_there p k (here {ks = ks}) c e = or_left (is_closer k && p k) (any_closer p ks) (and_true (is_closer k) (p k) c e)
 closer_there p k (there {j = j} {ks = ks} h) c e = or_right (is_closer j && p j) (any_closer p ks) (closer_there p k h c e)
 
-narrowed_so : {T : Type 0} (R : List Lexeme → T → Type 0) (ks : List TokenKind) (p : Option TokenKind → Bool) (n : Narrowing) (after : Option TokenKind) → Decides R ks p → is_narrowed p n after ≡ true → IsNarrowed R n ks after
+narrowed_so : {T : Type 0} (R : List Lexeme → T → Type 0) (ks : List TokenKind) (p : Option TokenKind → Bool) (n : ClosersOnly) (after : Option TokenKind) → Decides R ks p → is_narrowed p n after ≡ true → IsNarrowed R n ks after
 narrowed_so R ks p n after d e =
     let a = both (can_narrow n after) _ e in
     let b = both (p (Some kind.Star) || p (Some kind.AndAnd)) (any_closer (λ k. p (Some k)) by_name) a.1 in
@@ -133,7 +133,7 @@ narrowed_so R ks p n after d e =
     go (inl h) = inl ((d kind.Star).0 h)
     go (inr h) = inr ((d kind.AndAnd).0 h)
 
-so_narrowed : {T : Type 0} (R : List Lexeme → T → Type 0) (ks : List TokenKind) (p : Option TokenKind → Bool) (n : Narrowing) (after : Option TokenKind) → Decides R ks p → IsNarrowed R n ks after → is_narrowed p n after ≡ true
+so_narrowed : {T : Type 0} (R : List Lexeme → T → Type 0) (ks : List TokenKind) (p : Option TokenKind → Bool) (n : ClosersOnly) (after : Option TokenKind) → Decides R ks p → IsNarrowed R n ks after → is_narrowed p n after ≡ true
 so_narrowed R ks p n after d h =
     and_true (can_narrow n after) _ h.may
     (and_true (p (Some kind.Star) || p (Some kind.AndAnd)) (any_closer (λ k. p (Some k)) by_name) (go h.operand) (closer_there (λ k. p (Some k)) h.closer.0 (each_kind h.closer.0) h.closer.1 ((d h.closer.0).1 h.closer.2)))
@@ -144,18 +144,18 @@ so_narrowed R ks p n after d h =
 
 -- ---- what is expected
 
-expected_as : {T : Type 0} (R : List Lexeme → T → Type 0) (ks : List TokenKind) (p : Option TokenKind → Bool) (n : Narrowing) (after : Option TokenKind) (b : Bool) → Decides R ks p → is_narrowed p n after ≡ b → IsExpected R n ks after (picked_kinds b p by_name)
+expected_as : {T : Type 0} (R : List Lexeme → T → Type 0) (ks : List TokenKind) (p : Option TokenKind → Bool) (n : ClosersOnly) (after : Option TokenKind) (b : Bool) → Decides R ks p → is_narrowed p n after ≡ b → IsExpected R n ks after (picked_kinds b p by_name)
 expected_as R ks p n after true d e =
     closers (narrowed_so R ks p n after d e)
     (pick_all (λ k. IsTrue (is_closer k) × Allowed R ks (Some k)) true p (λ k h. let w = both (is_closer k) (p (Some k)) h in (w.0, (d k).0 w.1)) (λ k h w. false_true h (and_true (is_closer k) (p (Some k)) w.0 ((d k).1 w.1))) by_name)
 expected_as R ks p n after false d e =
     all_allowed (λ h. false_true e (so_narrowed R ks p n after d h)) (pick_all (λ k. Allowed R ks (Some k)) false p (λ k h. (d k).0 h) (λ k h w. false_true h ((d k).1 w)) by_name)
 
-pub expected_is : {T : Type 0} (R : List Lexeme → T → Type 0) (ks : List TokenKind) (p : Option TokenKind → Bool) (n : Narrowing) (after : Option TokenKind) → Decides R ks p → IsExpected R n ks after (wanted_kinds p n after)
+pub expected_is : {T : Type 0} (R : List Lexeme → T → Type 0) (ks : List TokenKind) (p : Option TokenKind → Bool) (n : ClosersOnly) (after : Option TokenKind) → Decides R ks p → IsExpected R n ks after (wanted_kinds p n after)
 expected_is R ks p n after d = expected_as R ks p n after (is_narrowed p n after) d refl
 
 -- at most one list is expected
-pub one_list : {T : Type 0} {R : List Lexeme → T → Type 0} {n : Narrowing} {ks : List TokenKind} {after : Option TokenKind} {us vs : List TokenKind} → IsExpected R n ks after us → IsExpected R n ks after vs → us ≡ vs
+pub one_list : {T : Type 0} {R : List Lexeme → T → Type 0} {n : ClosersOnly} {ks : List TokenKind} {after : Option TokenKind} {us vs : List TokenKind} → IsExpected R n ks after us → IsExpected R n ks after vs → us ≡ vs
 one_list (all_allowed h a) (all_allowed k b) = one_pick a b
 one_list (all_allowed h a) (closers k b) = absurd (h k)
 one_list (closers h a) (all_allowed k b) = absurd (k h)

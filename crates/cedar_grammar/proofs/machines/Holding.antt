@@ -2,7 +2,7 @@
 use Rattle.std.proofs.Common.{◌≡◌, List, [], ◌∷◌, ◌++◌, Option, Some, None, refl, ◌∙◌, ap, subst, append_assoc, IfSome}
 use Rattle.std.proofs.lemmas.List.{append-nil}
 use Rattle.cedar_lexer.specs.Token.{Lexeme}
-use Rattle.cedar_grammar.specs.machines.Door.{Machine, Answer, next, ended, refused, too_large, answer_state, steps, Comes}
+use Rattle.cedar_grammar.specs.machines.Machine.{Machine, Answer, next, ended, refused, too_large, answer_state, steps, Comes}
 use Rattle.cedar_grammar.proofs.machines.Laws.{some_is, none_some, steps-none, then_steps}
 
 pub snoc_assoc : {A : Type 0} (ts : List A) (t : A) (us : List A) → (ts ++ t ∷ []) ++ us ≡ ts ++ t ∷ us

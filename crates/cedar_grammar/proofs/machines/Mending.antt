@@ -15,7 +15,7 @@ use Rattle.cedar_grammar.specs.declared.reading.mending.Run.{Run}
 use Rattle.cedar_grammar.specs.declared.reading.recovery.RecoveryWay.{RecoveryWay}
 use Rattle.cedar_grammar.specs.faults.MendedFaults.{faults_with_last}
 use Rattle.cedar_grammar.specs.grammar.WrittenTokens.{IsWritten}
-use Rattle.cedar_grammar.specs.machines.Door.{Machine, Answer, next, ended, refused, too_large, answer_state, steps}
+use Rattle.cedar_grammar.specs.machines.Machine.{Machine, Answer, next, ended, refused, too_large, answer_state, steps}
 use Rattle.cedar_grammar.specs.machines.Judged.{IsRead}
 use Rattle.cedar_grammar.specs.machines.Recovery.{Recovers, Recovery, reading, skipping, stopped}
 use Rattle.cedar_grammar.specs.machines.Marks.{mark_of}

@@ -5,11 +5,11 @@ use Rattle.cedar_lexer.specs.Token.{Lexeme}
 use Rattle.cedar_lexer.specs.declared.token.TokenKind.{TokenKind}
 use Rattle.cedar_lexer.specs.declared.token.TokenKind.TheVariants as kind
 use Rattle.cedar_syntax.specs.declared.err.to_cst.RawFault.{RawFault}
-use Rattle.cedar_grammar.specs.declared.reading.expected.Narrowing.{Narrowing}
-use Rattle.cedar_grammar.specs.declared.reading.expected.Narrowing.TheVariants as narrowing
+use Rattle.cedar_grammar.specs.declared.reading.expected.ClosersOnly.{ClosersOnly}
+use Rattle.cedar_grammar.specs.declared.reading.expected.ClosersOnly.TheVariants as narrowing
 use Rattle.cedar_grammar.specs.faults.Expected.{by_name, is_closer, can_narrow}
 use Rattle.cedar_grammar.specs.faults.FirstFault.{tokens_end, unexpected_fault, early_at}
-use Rattle.cedar_grammar.specs.machines.Door.{Machine, next, ended, refused, too_large, AnswersRightly, Reader, done_answer, end_answer, planned_answer, machine_of, allowed_by, allows, Outline, outline_machine, IsDone, IsOutline, IsShape, option_image, Shapes, is_some, is_taken, Door}
+use Rattle.cedar_grammar.specs.machines.Machine.{Machine, next, ended, refused, too_large, AnswersRightly, Reader, done_answer, end_answer, planned_answer, machine_of, allowed_by, allows, Outline, outline_machine, IsDone, IsOutline, IsShape, option_image, Shapes, is_some, is_taken, IsParser}
 use Rattle.cedar_grammar.specs.machines.Judged.{may_take, ReadsBy, any_closer, is_narrowed, picks, picked_kinds, wanted_kinds, large_fault, stop_fault}
 use Rattle.cedar_grammar.specs.machines.Mending.{refused_fault}
 use Rattle.cedar_grammar.proofs.machines.Laws.{exactly, ends_alike}
@@ -177,10 +177,10 @@ allowed_as i s None = i.ends s
 pub allowed_alike : {S A T U V : Type 0} {src : List ℕ} {r : Reader S A T} {n : Outline U A V} {f : S → U} {g : T → V} → IsOutline src r n f g → (s q : S) → f s ≡ f q → (after : Option TokenKind) → allowed_by r s after ≡ allowed_by r q after
 allowed_alike {n = n} i s q e after = allowed_as i s after ∙ ap (λ u. allows (outline_machine n) u after) e ∙ sym (allowed_as i q after)
 
--- a form that its outline goes with is read by the rule of its door
-pub reads_by : {S A T U V : Type 0} {src : List ℕ} {r : Reader S A T} {n : Outline U A V} {f : S → U} {g : T → V} {R : List Lexeme → T → Type 0} → IsOutline src r n f g → Door (machine_of src r) R → ReadsBy src r R
+-- a form that its outline goes with is read by the rule that its machine parses
+pub reads_by : {S A T U V : Type 0} {src : List ℕ} {r : Reader S A T} {n : Outline U A V} {f : S → U} {g : T → V} {R : List Lexeme → T → Type 0} → IsOutline src r n f g → IsParser (machine_of src r) R → ReadsBy src r R
 reads_by {src = src} {r = r} {f = f} {g = g} i d = record {
-  door = d;
+  parser = d;
   ends = λ s. sym (ends_alike f g (shaped_by i) s) ∙ sym (i.ends s);
   exact = λ ts s after c.
       let e = exactly f g d (shaped_by i) ts s after c in
@@ -196,7 +196,7 @@ closer_same : (p q : Option TokenKind → Bool) → AllowSame p q → (ks : List
 closer_same p q e [] = refl
 closer_same p q e (k ∷ ks) = ap (λ b. (is_closer k && b) || any_closer (λ k. p (Some k)) ks) (e (Some k)) ∙ ap (λ b. (is_closer k && q (Some k)) || b) (closer_same p q e ks)
 
-narrowed_same : (p q : Option TokenKind → Bool) → AllowSame p q → (n : Narrowing) (after : Option TokenKind) → is_narrowed p n after ≡ is_narrowed q n after
+narrowed_same : (p q : Option TokenKind → Bool) → AllowSame p q → (n : ClosersOnly) (after : Option TokenKind) → is_narrowed p n after ≡ is_narrowed q n after
 narrowed_same p q e n after =
     ap (λ b. can_narrow n after && ((b || p (Some kind.AndAnd)) && any_closer (λ k. p (Some k)) by_name)) (e (Some kind.Star)) ∙
     (ap (λ b. can_narrow n after && ((q (Some kind.Star) || b) && any_closer (λ k. p (Some k)) by_name)) (e (Some kind.AndAnd)) ∙ ap (λ b. can_narrow n after && ((q (Some kind.Star) || q (Some kind.AndAnd)) && b)) (closer_same p q e by_name))
@@ -205,7 +205,7 @@ picked_same : (b : Bool) (p q : Option TokenKind → Bool) → AllowSame p q →
 picked_same b p q e [] = refl
 picked_same b p q e (k ∷ ks) = ap (λ c. cond ((not b || is_closer k) && c) (k ∷ picked_kinds b p ks) (picked_kinds b p ks)) (e (Some k)) ∙ ap (λ us. cond (picks b q k) (k ∷ us) us) (picked_same b p q e ks)
 
-pub wanted_same : (p q : Option TokenKind → Bool) → AllowSame p q → (n : Narrowing) (after : Option TokenKind) → wanted_kinds p n after ≡ wanted_kinds q n after
+pub wanted_same : (p q : Option TokenKind → Bool) → AllowSame p q → (n : ClosersOnly) (after : Option TokenKind) → wanted_kinds p n after ≡ wanted_kinds q n after
 wanted_same p q e n after = ap (λ b. picked_kinds b p by_name) (narrowed_same p q e n after) ∙ picked_same (is_narrowed q n after) p q e by_name
 
 -- and so are the faults that are told of it
@@ -214,7 +214,7 @@ pub refused_same : {F : Type 0} (o : List ℕ → RawFault → F) (p q : Option 
 refused_same o p q e src l (Some t) = ap (λ ks. o src (unexpected_fault t ks)) (wanted_same p q e narrowing.Tokens (Some t.kind))
 refused_same o p q e src l None = ap (λ ks. o src (early_at l ks)) (wanted_same p q e narrowing.Tokens None)
 
-pub stop_same : {S T : Type 0} (m : Machine Lexeme S T) (p q : S → Option TokenKind → Bool) (n : Narrowing) (src : List ℕ) (s : S) → AllowSame (p s) (q s) → (ts us : List Lexeme) (bad : Option ℕ) → stop_fault m p n src s ts us bad ≡ stop_fault m q n src s ts us bad
+pub stop_same : {S T : Type 0} (m : Machine Lexeme S T) (p q : S → Option TokenKind → Bool) (n : ClosersOnly) (src : List ℕ) (s : S) → AllowSame (p s) (q s) → (ts us : List Lexeme) (bad : Option ℕ) → stop_fault m p n src s ts us bad ≡ stop_fault m q n src s ts us bad
 stop_same m p q n src s e ts (t ∷ us) bad =
     ap (λ b. cond b (large_fault src (m.step s t) t) (Some (unexpected_fault t (wanted_kinds (p s) n (Some t.kind))))) (e (Some t.kind)) ∙ ap (λ ks. cond (q s (Some t.kind)) (large_fault src (m.step s t) t) (Some (unexpected_fault t ks))) (wanted_same (p s) (q s) e n (Some t.kind))
 stop_same m p q n src s e ts [] None =

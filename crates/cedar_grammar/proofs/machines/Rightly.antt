@@ -2,7 +2,7 @@
 use Rattle.std.proofs.Common.{◌≡◌, ℕ, List, Option, Some, None, true, refl, sym, ◌∙◌, ap, subst, IfSome}
 use Rattle.cedar_lexer.specs.Token.{Lexeme}
 use Rattle.cedar_lexer.specs.declared.token.TokenKind.{TokenKind}
-use Rattle.cedar_grammar.specs.machines.Door.{AnswersRightly, Reader, done_answer, end_answer, planned_answer, machine_of, Outline, IsDone, IsOutline, option_image, is_some}
+use Rattle.cedar_grammar.specs.machines.Machine.{AnswersRightly, Reader, done_answer, end_answer, planned_answer, machine_of, Outline, IsDone, IsOutline, option_image, is_some}
 use Rattle.cedar_grammar.proofs.machines.Laws.{some_is}
 pub use Rattle.cedar_grammar.proofs.machines.Laws.{image_some}
 use Rattle.cedar_grammar.proofs.machines.Readers.{leaves_tree}

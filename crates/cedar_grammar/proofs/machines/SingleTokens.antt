@@ -4,7 +4,7 @@ use Rattle.cedar_lexer.specs.declared.token.TokenKind.{TokenKind}
 use Rattle.cedar_lexer.specs.declared.token.TokenKind.TheVariants as kind
 use Rattle.cedar_syntax.specs.declared.cst.Ident.{Ident}
 use Rattle.cedar_syntax.specs.tokens.Tokens.{any_of}
-use Rattle.cedar_grammar.specs.machines.Door.{is_some}
+use Rattle.cedar_grammar.specs.machines.Machine.{is_some}
 use Rattle.cedar_grammar.specs.machines.SingleTokens.{if_any}
 use Rattle.cedar_grammar.proofs.machines.Laws.{some_is, none_some}
 

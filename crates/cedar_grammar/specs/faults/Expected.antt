@@ -8,8 +8,8 @@ use Rattle.cedar_lexer.specs.Token.{Lexeme}
 use Rattle.cedar_lexer.specs.Names.{kind_name}
 use Rattle.cedar_lexer.specs.declared.token.TokenKind.{TokenKind}
 use Rattle.cedar_lexer.specs.declared.token.TokenKind.TheVariants as kind
-use Rattle.cedar_grammar.specs.declared.reading.expected.Narrowing.{Narrowing}
-use Rattle.cedar_grammar.specs.declared.reading.expected.Narrowing.TheVariants as narrowing
+use Rattle.cedar_grammar.specs.declared.reading.expected.ClosersOnly.{ClosersOnly}
+use Rattle.cedar_grammar.specs.declared.reading.expected.ClosersOnly.TheVariants as narrowing
 use Rattle.cedar_grammar.specs.grammar.Sentences.{Allowed}
 
 -- all kinds, in byte order of their recorded names
@@ -65,7 +65,7 @@ goes_behind k = is_closer k
 -- whether a list of expected kinds may be narrowed where this is refused, a kind or the end:
 -- `Never` never, `Tokens` where the kind can stand behind an operand, `TokensAndEnd` there and at
 -- the end
-abbrev pub can_narrow : Narrowing → Option TokenKind → Bool
+abbrev pub can_narrow : ClosersOnly → Option TokenKind → Bool
 can_narrow narrowing.Never after = false
 can_narrow narrowing.Tokens None = false
 can_narrow narrowing.Tokens (Some k) = goes_behind k
@@ -74,7 +74,7 @@ can_narrow narrowing.TokensAndEnd (Some k) = goes_behind k
 
 -- it is narrowed where it may be, where an operand is complete, so that `*` or `&&` may follow,
 -- and where what ends an expression within something begun may follow too
-pub record IsNarrowed {T : Type 0} (R : List Lexeme → T → Type 0) (n : Narrowing)
+pub record IsNarrowed {T : Type 0} (R : List Lexeme → T → Type 0) (n : ClosersOnly)
     (ks : List TokenKind) (after : Option TokenKind) : Type 0 where
   pub may : IsTrue (can_narrow n after)
   pub operand : Allowed R ks (Some kind.Star) ⊎ Allowed R ks (Some kind.AndAnd)
@@ -89,7 +89,7 @@ pub data Picks (P : TokenKind → Type 0) : List TokenKind → List TokenKind �
 
 -- behind these kinds, where this is refused, these are expected: the kinds that some sentence
 -- allows there, or of them what closes
-pub data IsExpected {T : Type 0} (R : List Lexeme → T → Type 0) (n : Narrowing)
+pub data IsExpected {T : Type 0} (R : List Lexeme → T → Type 0) (n : ClosersOnly)
     (ks : List TokenKind) (after : Option TokenKind) : List TokenKind → Type 0 where
   all_allowed : {us : List TokenKind} → ¬ (IsNarrowed R n ks after) →
       Picks (λ k. Allowed R ks (Some k)) by_name us → IsExpected R n ks after us

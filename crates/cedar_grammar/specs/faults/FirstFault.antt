@@ -13,7 +13,7 @@ use Rattle.cedar_syntax.specs.declared.err.faults.ParseError.TheVariants.{ToCST}
 use Rattle.cedar_syntax.specs.declared.err.to_cst.RawFault.{RawFault}
 use Rattle.cedar_syntax.specs.declared.err.to_cst.RawFault.TheVariants as fault
 use Rattle.cedar_grammar.specs.declared.reading.extent.Extent.{Extent}
-use Rattle.cedar_grammar.specs.declared.reading.expected.Narrowing.{Narrowing}
+use Rattle.cedar_grammar.specs.declared.reading.expected.ClosersOnly.{ClosersOnly}
 use Rattle.cedar_grammar.specs.faults.Expected.{IsExpected}
 use Rattle.cedar_grammar.specs.grammar.Grammar.{Rule}
 use Rattle.cedar_grammar.specs.grammar.Place.{extent_of, extent, loc_at}
@@ -45,7 +45,7 @@ large_at src t = fault.User record { node = too_large; loc = loc_at src (Some (e
 -- the first fault by this rule: the tokens of the first group begin a sentence, those of the
 -- second stand from the fault on, and behind them is the end, or the place at which no token
 -- starts
-pub data FirstFault {T : Type 0} (R : List Lexeme → T → Type 0) (n : Narrowing)
+pub data FirstFault {T : Type 0} (R : List Lexeme → T → Type 0) (n : ClosersOnly)
     (src : List ℕ) : List Lexeme → List Lexeme → Option ℕ → RawFault → Type 0 where
   -- no sentence goes on with the token behind the first group
   unexpected : {ts us : List Lexeme} {t : Lexeme} {bad : Option ℕ} {ks : List TokenKind} →
@@ -64,7 +64,7 @@ pub data FirstFault {T : Type 0} (R : List Lexeme → T → Type 0) (n : Narrowi
       FirstFault R n src ts [] (Some place) (fault.InvalidToken place)
 
 -- it is the first fault of these tokens
-pub record IsFaultIn {T : Type 0} (R : List Lexeme → T → Type 0) (n : Narrowing) (src : List ℕ)
+pub record IsFaultIn {T : Type 0} (R : List Lexeme → T → Type 0) (n : ClosersOnly) (src : List ℕ)
     (ts : List Lexeme) (bad : Option ℕ) (raw : RawFault) : Type 0 where
   pub before : List Lexeme
   pub rest : List Lexeme
@@ -72,7 +72,7 @@ pub record IsFaultIn {T : Type 0} (R : List Lexeme → T → Type 0) (n : Narrow
   pub stands : FirstFault R n src before rest bad raw
 
 -- and of a text
-pub record IsFaultOf {T : Type 0} (R : Rule T) (n : Narrowing) (text : List ℕ)
+pub record IsFaultOf {T : Type 0} (R : Rule T) (n : ClosersOnly) (text : List ℕ)
     (raw : RawFault) : Type 0 where
   pub tokens : List Lexeme
   pub bad : Option ℕ
@@ -80,7 +80,7 @@ pub record IsFaultOf {T : Type 0} (R : Rule T) (n : Narrowing) (text : List ℕ)
   pub fault : IsFaultIn (R text) n text tokens bad raw
 
 -- a refusal is want of memory, or just this one fault
-abbrev pub IsRefusal : {T : Type 0} → Rule T → Narrowing → List ℕ → Failure → Type 0
+abbrev pub IsRefusal : {T : Type 0} → Rule T → ClosersOnly → List ℕ → Failure → Type 0
 IsRefusal R n text (Memory m) = Unit {0}
 IsRefusal R n text (Errors errors) =
     (raw : RawFault) × IsFaultOf R n text raw ×
@@ -93,17 +93,17 @@ abbrev pub HasOneTree : {T : Type 0} → Rule T → Type 0
 HasOneTree {T = T} R = (src : List ℕ) (ts : List Lexeme) (x y : T) → R src ts x → R src ts y →
     x ≡ y
 
-abbrev pub HasTreeOrFault : {T : Type 0} → Rule T → Narrowing → Type 0
+abbrev pub HasTreeOrFault : {T : Type 0} → Rule T → ClosersOnly → Type 0
 HasTreeOrFault R n =
     (src : List ℕ) (ts : List Lexeme) (bad : Option ℕ) → (HasTree (R src) ts × (bad ≡ None)) ⊎
     ((raw : RawFault) × IsFaultIn (R src) n src ts bad raw)
 
-abbrev pub HasOneFault : {T : Type 0} → Rule T → Narrowing → Type 0
+abbrev pub HasOneFault : {T : Type 0} → Rule T → ClosersOnly → Type 0
 HasOneFault R n =
     (src : List ℕ) (ts : List Lexeme) (bad : Option ℕ) (f g : RawFault) →
     IsFaultIn (R src) n src ts bad f → IsFaultIn (R src) n src ts bad g → f ≡ g
 
-abbrev pub HasNotBoth : {T : Type 0} → Rule T → Narrowing → Type 0
+abbrev pub HasNotBoth : {T : Type 0} → Rule T → ClosersOnly → Type 0
 HasNotBoth R n =
     (src : List ℕ) (ts : List Lexeme) (raw : RawFault) → HasTree (R src) ts →
     ¬ (IsFaultIn (R src) n src ts None raw)

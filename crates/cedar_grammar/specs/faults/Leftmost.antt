@@ -10,7 +10,7 @@ use Rattle.cedar_syntax.specs.declared.err.faults.Failure.{Failure}
 use Rattle.cedar_syntax.specs.declared.err.faults.Failure.TheVariants.{Memory, Errors}
 use Rattle.cedar_syntax.specs.declared.err.faults.ParseError.{ParseError}
 use Rattle.cedar_syntax.specs.declared.err.to_cst.RawFault.{RawFault}
-use Rattle.cedar_grammar.specs.declared.reading.expected.Narrowing.TheVariants as narrowing
+use Rattle.cedar_grammar.specs.declared.reading.expected.ClosersOnly.TheVariants as narrowing
 use Rattle.cedar_grammar.specs.faults.FirstFault.{IsFaultIn}
 use Rattle.cedar_grammar.specs.grammar.Grammar.{Rule}
 use Rattle.cedar_grammar.specs.faults.MendedFaults.{fault_of}

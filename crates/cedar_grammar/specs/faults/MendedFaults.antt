@@ -10,8 +10,8 @@ use Rattle.cedar_syntax.specs.declared.err.faults.ParseError.{ParseError}
 use Rattle.cedar_syntax.specs.declared.err.faults.ParseError.TheVariants.{ToCST}
 use Rattle.cedar_syntax.specs.declared.err.to_cst.RawFault.{RawFault}
 use Rattle.cedar_syntax.specs.declared.err.to_cst.RawFault.TheVariants as fault
-use Rattle.cedar_grammar.specs.declared.reading.expected.Narrowing.{Narrowing}
-use Rattle.cedar_grammar.specs.declared.reading.expected.Narrowing.TheVariants as narrowing
+use Rattle.cedar_grammar.specs.declared.reading.expected.ClosersOnly.{ClosersOnly}
+use Rattle.cedar_grammar.specs.declared.reading.expected.ClosersOnly.TheVariants as narrowing
 use Rattle.cedar_grammar.specs.faults.Expected.{IsExpected}
 use Rattle.cedar_grammar.specs.faults.FirstFault.{tokens_end, unexpected_fault, early_at, large_at}
 use Rattle.cedar_grammar.specs.grammar.Grammar.{Rule, IsNodeOf}
@@ -24,7 +24,7 @@ abbrev pub fault_of : List ℕ → RawFault → ParseError
 fault_of src raw = ToCST record { raw = raw; src = src }
 
 -- the fault of a token, or of the end, that no sentence allows behind these tokens
-pub data Unallowed {T : Type 0} (R : List Lexeme → T → Type 0) (n : Narrowing)
+pub data Unallowed {T : Type 0} (R : List Lexeme → T → Type 0) (n : ClosersOnly)
     (src : List ℕ) : List Lexeme → Option Lexeme → ParseError → Type 0 where
   a_token : {ts : List Lexeme} {t : Lexeme} {ks : List TokenKind} →
       IsExpected R n (kinds ts) (Some t.kind) ks →

@@ -12,18 +12,18 @@ use Rattle.cedar_syntax.specs.declared.cst.MultOp.TheVariants as product
 use Rattle.cedar_grammar.specs.declared.reading.class.Sign.{Sign}
 use Rattle.cedar_grammar.specs.declared.reading.class.Sign.TheVariants as sign
 use Rattle.cedar_grammar.specs.declared.reading.class.SlotToken.TheVariants as slot_token
-use Rattle.cedar_grammar.specs.declared.reading.class.Beginning.{Beginning}
-use Rattle.cedar_grammar.specs.declared.reading.class.Beginning.TheVariants as beginning
+use Rattle.cedar_grammar.specs.declared.reading.class.StartClass.{StartClass}
+use Rattle.cedar_grammar.specs.declared.reading.class.StartClass.TheVariants as beginning
 use Rattle.cedar_grammar.specs.declared.reading.class.Closing.TheVariants as closing
 use Rattle.cedar_grammar.specs.declared.reading.class.AccessStart.TheVariants as opens
 use Rattle.cedar_grammar.specs.declared.reading.class.SideWord.TheVariants as side
-use Rattle.cedar_grammar.specs.declared.reading.class.Operator.{Operator}
-use Rattle.cedar_grammar.specs.declared.reading.class.Operator.TheVariants as operator
+use Rattle.cedar_grammar.specs.declared.reading.class.FollowClass.{FollowClass}
+use Rattle.cedar_grammar.specs.declared.reading.class.FollowClass.TheVariants as operator
 use Rattle.cedar_syntax.specs.tokens.Tokens.{any_of}
 use Rattle.cedar_syntax.specs.tokens.Signs.{sign_limit}
 
 -- what a mark is where an operand is wanted; whether a number fits is found where it is read
-abbrev pub mark_class : TokenKind → Beginning
+abbrev pub mark_class : TokenKind → StartClass
 mark_class kind.Number = beginning.Number
 mark_class kind.StringLit = beginning.String
 mark_class kind.PrincipalSlot = beginning.Slot slot_token.Principal
@@ -40,45 +40,45 @@ mark_class kind.CloseBrace = beginning.Ends closing.Brace
 mark_class _ = beginning.Other
 
 -- a word of the language, too, is a word where an operand is wanted
-abbrev pub class_or_word : TokenKind → Option Ident → Beginning
+abbrev pub class_or_word : TokenKind → Option Ident → StartClass
 class_or_word k (Some i) = beginning.Word
 class_or_word k None = mark_class k
 
 -- what a token of this kind is where an operand is wanted
-abbrev pub beginning_of : TokenKind → Beginning
-beginning_of k = class_or_word k (any_of k [])
+abbrev pub start_class : TokenKind → StartClass
+start_class k = class_or_word k (any_of k [])
 
 -- what a token is behind an operand
-abbrev pub operator_of : TokenKind → Operator
-operator_of kind.Dot = operator.Access opens.Dot
-operator_of kind.OpenParen = operator.Access opens.Paren
-operator_of kind.OpenBracket = operator.Access opens.Bracket
-operator_of kind.Star = operator.Multiply product.Times
-operator_of kind.Slash = operator.Multiply product.Divide
-operator_of kind.Percent = operator.Multiply product.Mod
-operator_of kind.Plus = operator.Sum sum.Plus
-operator_of kind.Minus = operator.Sum sum.Minus
-operator_of kind.Less = operator.Compare rel.Less
-operator_of kind.LessEq = operator.Compare rel.LessEq
-operator_of kind.GreaterEq = operator.Compare rel.GreaterEq
-operator_of kind.Greater = operator.Compare rel.Greater
-operator_of kind.NotEq = operator.Compare rel.NotEq
-operator_of kind.EqEq = operator.Compare rel.Eq
-operator_of kind.In = operator.Compare rel.In
-operator_of kind.Eq = operator.Compare rel.InvalidSingleEq
-operator_of kind.Has = operator.Side side.Has
-operator_of kind.Like = operator.Side side.Like
-operator_of kind.Is = operator.Side side.Is
-operator_of kind.AndAnd = operator.And
-operator_of kind.OrOr = operator.Or
-operator_of kind.CloseParen = operator.Ends closing.Paren
-operator_of kind.CloseBracket = operator.Ends closing.Bracket
-operator_of kind.CloseBrace = operator.Ends closing.Brace
-operator_of kind.Comma = operator.Ends closing.Comma
-operator_of kind.Colon = operator.Ends closing.Colon
-operator_of kind.Then = operator.Ends closing.Then
-operator_of kind.Else = operator.Ends closing.Else
-operator_of _ = operator.Other
+abbrev pub follow_class : TokenKind → FollowClass
+follow_class kind.Dot = operator.Access opens.Dot
+follow_class kind.OpenParen = operator.Access opens.Paren
+follow_class kind.OpenBracket = operator.Access opens.Bracket
+follow_class kind.Star = operator.Multiply product.Times
+follow_class kind.Slash = operator.Multiply product.Divide
+follow_class kind.Percent = operator.Multiply product.Mod
+follow_class kind.Plus = operator.Sum sum.Plus
+follow_class kind.Minus = operator.Sum sum.Minus
+follow_class kind.Less = operator.Compare rel.Less
+follow_class kind.LessEq = operator.Compare rel.LessEq
+follow_class kind.GreaterEq = operator.Compare rel.GreaterEq
+follow_class kind.Greater = operator.Compare rel.Greater
+follow_class kind.NotEq = operator.Compare rel.NotEq
+follow_class kind.EqEq = operator.Compare rel.Eq
+follow_class kind.In = operator.Compare rel.In
+follow_class kind.Eq = operator.Compare rel.InvalidSingleEq
+follow_class kind.Has = operator.Side side.Has
+follow_class kind.Like = operator.Side side.Like
+follow_class kind.Is = operator.Side side.Is
+follow_class kind.AndAnd = operator.And
+follow_class kind.OrOr = operator.Or
+follow_class kind.CloseParen = operator.Ends closing.Paren
+follow_class kind.CloseBracket = operator.Ends closing.Bracket
+follow_class kind.CloseBrace = operator.Ends closing.Brace
+follow_class kind.Comma = operator.Ends closing.Comma
+follow_class kind.Colon = operator.Ends closing.Colon
+follow_class kind.Then = operator.Ends closing.Then
+follow_class kind.Else = operator.Ends closing.Else
+follow_class _ = operator.Other
 
 -- one sign more: both kinds of sign never stand together
 abbrev pub with_sign : Option NegOp → Sign → Option NegOp

@@ -13,11 +13,11 @@ use Rattle.cedar_syntax.specs.declared.err.faults.ParseErrors.{ParseErrors}
 use Rattle.cedar_syntax.specs.declared.err.faults.ParseError.TheVariants.{ToCST}
 use Rattle.cedar_syntax.specs.declared.err.to_cst.RawFault.{RawFault}
 use Rattle.cedar_syntax.specs.declared.err.to_cst.RawFault.TheVariants as fault
-use Rattle.cedar_grammar.specs.declared.reading.expected.Narrowing.{Narrowing}
+use Rattle.cedar_grammar.specs.declared.reading.expected.ClosersOnly.{ClosersOnly}
 use Rattle.cedar_grammar.specs.faults.Expected.{by_name, is_closer, can_narrow}
 use Rattle.cedar_grammar.specs.faults.FirstFault.{tokens_end, unexpected_fault, early_at, large_at}
 use Rattle.cedar_grammar.specs.grammar.Sentences.{kinds, Allowed}
-use Rattle.cedar_grammar.specs.machines.Door.{Answer, next, ended, refused, too_large, Machine, Comes, RunsTo, Door, is_some, Reader, machine_of, allowed_by}
+use Rattle.cedar_grammar.specs.machines.Machine.{Answer, next, ended, refused, too_large, Machine, Comes, RunsTo, IsParser, is_some, Reader, machine_of, allowed_by}
 
 -- what an act made of a state: nothing is said of it where a number doesn't fit
 abbrev pub done_as : {S : Type 0} → Bool → S → Option S
@@ -31,11 +31,11 @@ may_take (ended x) = false
 may_take refused = false
 may_take too_large = true
 
--- a form is read by a rule: the door of its machine, and that its states allow just what some
+-- a form is read by a rule: its machine is the rule's parser, and its states allow just what some
 -- sentence has next, a kind or the end
 pub record ReadsBy {S A T : Type 0} (src : List ℕ) (r : Reader S A T)
     (R : List Lexeme → T → Type 0) : Type 0 where
-  pub door : Door (machine_of src r) R
+  pub parser : IsParser (machine_of src r) R
   pub ends : (s : S) → is_some (r.finish src s) ≡ r.ends s
   pub exact : (ts : List Lexeme) (s : S) (after : Option TokenKind) →
       Comes (machine_of src r) ts s → IsTrue (allowed_by r s after) ↔ Allowed R (kinds ts) after
@@ -46,7 +46,7 @@ abbrev pub any_closer : (TokenKind → Bool) → List TokenKind → Bool
 any_closer p [] = false
 any_closer p (k ∷ ks) = (is_closer k && p k) || any_closer p ks
 
-abbrev pub is_narrowed : (Option TokenKind → Bool) → Narrowing → Option TokenKind → Bool
+abbrev pub is_narrowed : (Option TokenKind → Bool) → ClosersOnly → Option TokenKind → Bool
 is_narrowed p n after =
     can_narrow n after &&
     ((p (Some kind.Star) || p (Some kind.AndAnd)) && any_closer (λ k. p (Some k)) by_name)
@@ -58,7 +58,8 @@ abbrev pub picked_kinds : Bool → (Option TokenKind → Bool) → List TokenKin
 picked_kinds b p [] = []
 picked_kinds b p (k ∷ ks) = cond (picks b p k) (k ∷ picked_kinds b p ks) (picked_kinds b p ks)
 
-abbrev pub wanted_kinds : (Option TokenKind → Bool) → Narrowing → Option TokenKind → List TokenKind
+abbrev pub wanted_kinds : (Option TokenKind → Bool) → ClosersOnly → Option TokenKind
+    → List TokenKind
 wanted_kinds p n after = picked_kinds (is_narrowed p n after) p by_name
 
 -- ---- what the driver answers
@@ -101,7 +102,7 @@ large_fault src too_large t = Some (large_at src t)
 -- what it tells in this state behind the tokens of the first group: of the token behind them, of
 -- the end, or of the bad place there
 abbrev pub stop_fault : {S T : Type 0} → Machine Lexeme S T → (S → Option TokenKind → Bool) →
-    Narrowing → List ℕ → S → List Lexeme → List Lexeme → Option ℕ → Option RawFault
+    ClosersOnly → List ℕ → S → List Lexeme → List Lexeme → Option ℕ → Option RawFault
 stop_fault m p n src s ts (t ∷ us) bad =
     cond (p s (Some t.kind)) (large_fault src (m.step s t) t)
     (Some (unexpected_fault t (wanted_kinds (p s) n (Some t.kind))))
@@ -111,7 +112,7 @@ stop_fault m p n src s ts [] (Some place) = Some (fault.InvalidToken place)
 
 -- a text at which the machine stops with this fault
 pub record StopsWith {S T : Type 0} (m : Machine Lexeme S T) (p : S → Option TokenKind → Bool)
-    (n : Narrowing) (text : List ℕ) (raw : RawFault) : Type 0 where
+    (n : ClosersOnly) (text : List ℕ) (raw : RawFault) : Type 0 where
   pub before : List Lexeme
   pub rest : List Lexeme
   pub bad : Option ℕ
@@ -121,14 +122,14 @@ pub record StopsWith {S T : Type 0} (m : Machine Lexeme S T) (p : S → Option T
   pub is : stop_fault m p n text state before rest bad ≡ Some raw
 
 abbrev pub IsStop : {S T : Type 0} → Machine Lexeme S T → (S → Option TokenKind → Bool) →
-    Narrowing → List ℕ → Failure → Type 0
+    ClosersOnly → List ℕ → Failure → Type 0
 IsStop m p n text (Memory e) = Unit {0}
 IsStop m p n text (Errors errors) =
     (raw : RawFault) × StopsWith m p n text raw × IsFault text errors raw
 
 -- a state that doesn't take the token behind it, or stops at it
 abbrev pub StopsAtToken : {S T : Type 0} → Machine Lexeme S T → (S → Option TokenKind → Bool) →
-    Narrowing → List ℕ → S → Lexeme → Failure → Type 0
+    ClosersOnly → List ℕ → S → Lexeme → Failure → Type 0
 StopsAtToken m p n src s t (Memory e) = Unit {0}
 StopsAtToken m p n src s t (Errors errors) =
     (raw : RawFault) × (stop_fault m p n src s [] (t ∷ []) None ≡ Some raw)
@@ -136,7 +137,7 @@ StopsAtToken m p n src s t (Errors errors) =
 
 -- and one that can't end
 abbrev pub StopsAtEnd : {S T : Type 0} → Machine Lexeme S T → (S → Option TokenKind → Bool) →
-    Narrowing → List ℕ → S → ℕ → Failure → Type 0
+    ClosersOnly → List ℕ → S → ℕ → Failure → Type 0
 StopsAtEnd m p n src s end (Memory e) = Unit {0}
 StopsAtEnd m p n src s end (Errors errors) =
     (p s None ≡ false) × IsFault src errors (early_at end (wanted_kinds (p s) n None))

@@ -11,7 +11,7 @@ use Rattle.cedar_syntax.specs.declared.err.faults.Failure.TheVariants.{Memory, E
 use Rattle.cedar_syntax.specs.declared.err.faults.ParseError.{ParseError}
 use Rattle.cedar_syntax.specs.declared.err.to_cst.RawFault.{RawFault}
 use Rattle.cedar_syntax.specs.declared.err.to_cst.RawFault.TheVariants as fault
-use Rattle.cedar_grammar.specs.declared.reading.expected.Narrowing.TheVariants as narrowing
+use Rattle.cedar_grammar.specs.declared.reading.expected.ClosersOnly.TheVariants as narrowing
 use Rattle.cedar_grammar.specs.declared.reading.mending.Phase.{Phase}
 use Rattle.cedar_grammar.specs.declared.reading.mending.Phase.TheVariants as phase
 use Rattle.cedar_grammar.specs.declared.reading.mending.Refusal.{Refusal}
@@ -20,7 +20,7 @@ use Rattle.cedar_grammar.specs.declared.reading.mending.Run.{Run}
 use Rattle.cedar_grammar.specs.declared.reading.recovery.RecoveryWay.{RecoveryWay}
 use Rattle.cedar_grammar.specs.faults.FirstFault.{unexpected_fault, early_at, large_at}
 use Rattle.cedar_grammar.specs.faults.MendedFaults.{fault_of, faults_with_last}
-use Rattle.cedar_grammar.specs.machines.Door.{Machine, Answer, next, ended, refused, too_large}
+use Rattle.cedar_grammar.specs.machines.Machine.{Machine, Answer, next, ended, refused, too_large}
 use Rattle.cedar_grammar.specs.machines.Judged.{wanted_kinds}
 use Rattle.cedar_grammar.specs.machines.Marks.{mark_of}
 use Rattle.cedar_grammar.specs.machines.Recovery.{Recovers, Recovery, reading, skipping, stopped}

@@ -7,7 +7,7 @@ use Rattle.cedar_syntax.specs.declared.cst.Str.TheVariants as str
 use Rattle.cedar_syntax.specs.tokens.Tokens.{any_of, between_quotes}
 use Rattle.cedar_syntax.specs.trees.Trees.{Cell}
 use Rattle.cedar_grammar.specs.grammar.Place.{extent_of, node_at}
-use Rattle.cedar_grammar.specs.machines.Door.{is_some}
+use Rattle.cedar_grammar.specs.machines.Machine.{is_some}
 
 -- this, where the kind is an identifier
 abbrev pub if_any : {A : Type 0} → TokenKind → A → Option A

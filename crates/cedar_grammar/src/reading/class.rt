@@ -1,7 +1,7 @@
 //! Classes of tokens: the 50 kinds are told apart once, where an operand is wanted and behind one.
 
 ghost use Rattle.std.specs.Prelude.{◌≡◌};
-ghost use Rattle.cedar_grammar.specs.machines.Classes.{beginning_of, operator_of, with_sign};
+ghost use Rattle.cedar_grammar.specs.machines.Classes.{start_class, follow_class, with_sign};
 
 use crate::reading::identifier::is_ident;
 use cedar_lexer::token::TokenKind;
@@ -24,7 +24,7 @@ pub enum SlotToken {
 
 /// What a token can be where an operand is wanted.
 #[derive(Drop, Clone, Copy)]
-pub enum Beginning {
+pub enum StartClass {
     /// One of the words, or an identifier.
     Word,
     Number,
@@ -78,7 +78,7 @@ pub enum SideWord {
 
 /// What a token can be behind an operand.
 #[derive(Drop, Clone, Copy)]
-pub enum Operator {
+pub enum FollowClass {
     Access(AccessStart),
     Multiply(MultOp),
     Sum(AddOp),
@@ -91,67 +91,67 @@ pub enum Operator {
 }
 
 /// What a token of this kind can be where an operand is wanted.
-pub fn as_beginning(kind: TokenKind) -> Beginning
-    ensures { result ≡ beginning_of kind }
+pub fn start_class(kind: TokenKind) -> StartClass
+    ensures { result ≡ start_class kind }
 {
     match kind {
-        TokenKind::Number => Beginning::Number,
-        TokenKind::StringLit => Beginning::String,
-        TokenKind::PrincipalSlot => Beginning::Slot(SlotToken::Principal),
-        TokenKind::ResourceSlot => Beginning::Slot(SlotToken::Resource),
-        TokenKind::OtherSlot => Beginning::Slot(SlotToken::Other),
-        TokenKind::Bang => Beginning::Sign(Sign::Bang),
-        TokenKind::Minus => Beginning::Sign(Sign::Dash),
-        TokenKind::OpenParen => Beginning::Paren,
-        TokenKind::OpenBracket => Beginning::Bracket,
-        TokenKind::OpenBrace => Beginning::Brace,
-        TokenKind::CloseParen => Beginning::Ends(Closing::Paren),
-        TokenKind::CloseBracket => Beginning::Ends(Closing::Bracket),
-        TokenKind::CloseBrace => Beginning::Ends(Closing::Brace),
+        TokenKind::Number => StartClass::Number,
+        TokenKind::StringLit => StartClass::String,
+        TokenKind::PrincipalSlot => StartClass::Slot(SlotToken::Principal),
+        TokenKind::ResourceSlot => StartClass::Slot(SlotToken::Resource),
+        TokenKind::OtherSlot => StartClass::Slot(SlotToken::Other),
+        TokenKind::Bang => StartClass::Sign(Sign::Bang),
+        TokenKind::Minus => StartClass::Sign(Sign::Dash),
+        TokenKind::OpenParen => StartClass::Paren,
+        TokenKind::OpenBracket => StartClass::Bracket,
+        TokenKind::OpenBrace => StartClass::Brace,
+        TokenKind::CloseParen => StartClass::Ends(Closing::Paren),
+        TokenKind::CloseBracket => StartClass::Ends(Closing::Bracket),
+        TokenKind::CloseBrace => StartClass::Ends(Closing::Brace),
         _ => {
             if is_ident(kind) {
-                Beginning::Word
+                StartClass::Word
             } else {
-                Beginning::Other
+                StartClass::Other
             }
         }
     }
 }
 
 /// What a token of this kind can be behind an operand.
-pub fn as_operator(kind: TokenKind) -> Operator
-    ensures { result ≡ operator_of kind }
+pub fn follow_class(kind: TokenKind) -> FollowClass
+    ensures { result ≡ follow_class kind }
 {
     match kind {
-        TokenKind::Dot => Operator::Access(AccessStart::Dot),
-        TokenKind::OpenParen => Operator::Access(AccessStart::Paren),
-        TokenKind::OpenBracket => Operator::Access(AccessStart::Bracket),
-        TokenKind::Star => Operator::Multiply(MultOp::Times),
-        TokenKind::Slash => Operator::Multiply(MultOp::Divide),
-        TokenKind::Percent => Operator::Multiply(MultOp::Mod),
-        TokenKind::Plus => Operator::Sum(AddOp::Plus),
-        TokenKind::Minus => Operator::Sum(AddOp::Minus),
-        TokenKind::Less => Operator::Compare(RelOp::Less),
-        TokenKind::LessEq => Operator::Compare(RelOp::LessEq),
-        TokenKind::GreaterEq => Operator::Compare(RelOp::GreaterEq),
-        TokenKind::Greater => Operator::Compare(RelOp::Greater),
-        TokenKind::NotEq => Operator::Compare(RelOp::NotEq),
-        TokenKind::EqEq => Operator::Compare(RelOp::Eq),
-        TokenKind::In => Operator::Compare(RelOp::In),
-        TokenKind::Eq => Operator::Compare(RelOp::InvalidSingleEq),
-        TokenKind::Has => Operator::Side(SideWord::Has),
-        TokenKind::Like => Operator::Side(SideWord::Like),
-        TokenKind::Is => Operator::Side(SideWord::Is),
-        TokenKind::AndAnd => Operator::And,
-        TokenKind::OrOr => Operator::Or,
-        TokenKind::CloseParen => Operator::Ends(Closing::Paren),
-        TokenKind::CloseBracket => Operator::Ends(Closing::Bracket),
-        TokenKind::CloseBrace => Operator::Ends(Closing::Brace),
-        TokenKind::Comma => Operator::Ends(Closing::Comma),
-        TokenKind::Colon => Operator::Ends(Closing::Colon),
-        TokenKind::Then => Operator::Ends(Closing::Then),
-        TokenKind::Else => Operator::Ends(Closing::Else),
-        _ => Operator::Other,
+        TokenKind::Dot => FollowClass::Access(AccessStart::Dot),
+        TokenKind::OpenParen => FollowClass::Access(AccessStart::Paren),
+        TokenKind::OpenBracket => FollowClass::Access(AccessStart::Bracket),
+        TokenKind::Star => FollowClass::Multiply(MultOp::Times),
+        TokenKind::Slash => FollowClass::Multiply(MultOp::Divide),
+        TokenKind::Percent => FollowClass::Multiply(MultOp::Mod),
+        TokenKind::Plus => FollowClass::Sum(AddOp::Plus),
+        TokenKind::Minus => FollowClass::Sum(AddOp::Minus),
+        TokenKind::Less => FollowClass::Compare(RelOp::Less),
+        TokenKind::LessEq => FollowClass::Compare(RelOp::LessEq),
+        TokenKind::GreaterEq => FollowClass::Compare(RelOp::GreaterEq),
+        TokenKind::Greater => FollowClass::Compare(RelOp::Greater),
+        TokenKind::NotEq => FollowClass::Compare(RelOp::NotEq),
+        TokenKind::EqEq => FollowClass::Compare(RelOp::Eq),
+        TokenKind::In => FollowClass::Compare(RelOp::In),
+        TokenKind::Eq => FollowClass::Compare(RelOp::InvalidSingleEq),
+        TokenKind::Has => FollowClass::Side(SideWord::Has),
+        TokenKind::Like => FollowClass::Side(SideWord::Like),
+        TokenKind::Is => FollowClass::Side(SideWord::Is),
+        TokenKind::AndAnd => FollowClass::And,
+        TokenKind::OrOr => FollowClass::Or,
+        TokenKind::CloseParen => FollowClass::Ends(Closing::Paren),
+        TokenKind::CloseBracket => FollowClass::Ends(Closing::Bracket),
+        TokenKind::CloseBrace => FollowClass::Ends(Closing::Brace),
+        TokenKind::Comma => FollowClass::Ends(Closing::Comma),
+        TokenKind::Colon => FollowClass::Ends(Closing::Colon),
+        TokenKind::Then => FollowClass::Ends(Closing::Then),
+        TokenKind::Else => FollowClass::Ends(Closing::Else),
+        _ => FollowClass::Other,
     }
 }
 

@@ -3,10 +3,10 @@ ghost use Rattle.std.specs.Prelude.{◌≡◌, Some, None, IfOk, MatchResult};
 ghost use Rattle.cedar_lexer.specs.Token.{lexeme_of};
 ghost use Rattle.cedar_grammar.specs.grammar.WrittenTokens.{IsWritten};
 ghost use Rattle.cedar_grammar.specs.faults.FirstFault.{unexpected_fault, early_at, large_at};
-ghost use Rattle.cedar_grammar.specs.machines.Door.{next, machine_of, allowed_by};
+ghost use Rattle.cedar_grammar.specs.machines.Machine.{next, machine_of, allowed_by};
 ghost use Rattle.cedar_grammar.specs.machines.Judged.{wanted_kinds, IsRead, FailsWith, GivesToken, StopsBadly, StopsAtToken, StopsAtEnd, IsStop};
 
-use crate::reading::expected::{Narrowing, expected};
+use crate::reading::expected::{ClosersOnly, expected};
 use crate::reading::place::{loc_at, token_extent};
 use crate::reading::put::put;
 use cedar_expressions::{Source, Text};
@@ -19,11 +19,11 @@ use std::alloc::{AllocError, Global};
 /// A form of the grammar that is read token after token, as the state of its machine; its tree is
 /// a `T`. What is done with a token is decided by its kind and the state's shape (`plan`), and
 /// then done (`act`): so a token with which no sentence goes on leaves the state as it was.
-pub trait Entry<T: Drop>: Drop {
+pub trait PushParser<T: Drop>: Drop {
     ghost use Rattle.std.specs.Prelude.{◌≡◌, Some, IsTrue, IfOk};
     ghost use Rattle.cedar_lexer.specs.Token.{lexeme_of};
     ghost use Rattle.cedar_grammar.specs.grammar.WrittenTokens.{IsWritten};
-    ghost use Rattle.cedar_grammar.specs.machines.Door.{Reader};
+    ghost use Rattle.cedar_grammar.specs.machines.Machine.{Reader};
     ghost use Rattle.cedar_grammar.specs.machines.Judged.{done_as};
 
     /// What is done with a token that is taken: decided once, by its kind alone.
@@ -81,7 +81,7 @@ pub trait Entry<T: Drop>: Drop {
 /// Whether some sentence has this next, a kind of token or the end. A call of its own, since only
 /// here nothing is done with what is planned: so it isn't made.
 #[inline(never)]
-pub fn allows<T: Drop, E: Entry<T>>(state: &E, next: Option<TokenKind>) -> bool
+pub fn allows<T: Drop, E: PushParser<T>>(state: &E, next: Option<TokenKind>) -> bool
     ensures { result ≡ allowed_by E.reader state.now next }
 {
     match next {
@@ -106,10 +106,10 @@ pub fn failure(alloc: Global, source: &Source, raw: RawFault) -> Failure
 
 /// No sentence goes on with this token.
 #[cold]
-pub fn unexpected<T: Drop, E: Entry<T>>(
+pub fn unexpected<T: Drop, E: PushParser<T>>(
     alloc: Global,
     state: &E,
-    narrowing: Narrowing,
+    narrowing: ClosersOnly,
     token: &Token<'_>,
 ) -> Result<RawFault, AllocError>
     ensures { IfOk result
@@ -127,10 +127,10 @@ pub fn unexpected<T: Drop, E: Entry<T>>(
 
 /// No sentence ends at the end of the text, which stands at this place.
 #[cold]
-pub fn early<T: Drop, E: Entry<T>>(
+pub fn early<T: Drop, E: PushParser<T>>(
     alloc: Global,
     state: &E,
-    narrowing: Narrowing,
+    narrowing: ClosersOnly,
     end: usize,
 ) -> Result<RawFault, AllocError>
     ensures { IfOk result
@@ -181,10 +181,10 @@ pub fn next_token<'a>(
 
 /// The refusal of a text for a token with which no sentence goes on.
 #[cold]
-fn refuse<T: Drop, E: Entry<T>>(
+fn refuse<T: Drop, E: PushParser<T>>(
     alloc: Global,
     source: &Source,
-    narrowing: Narrowing,
+    narrowing: ClosersOnly,
     state: &E,
     token: &Token<'_>,
 ) -> Failure
@@ -210,10 +210,10 @@ fn refuse_number(alloc: Global, source: &Source, token: &Token<'_>) -> Failure
 }
 
 /// The tree at the end of the text.
-fn conclude<T: Drop, E: Entry<T>>(
+fn conclude<T: Drop, E: PushParser<T>>(
     alloc: Global,
     source: &Source,
-    narrowing: Narrowing,
+    narrowing: ClosersOnly,
     mut state: E,
     end: usize,
 ) -> Result<T, Failure>
@@ -229,11 +229,11 @@ fn conclude<T: Drop, E: Entry<T>>(
 }
 
 /// Reads the text, of which the source is a copy, to its end.
-fn read<T: Drop, E: Entry<T>>(
+fn read<T: Drop, E: PushParser<T>>(
     alloc: Global,
     source: &Source,
     text: &str,
-    narrowing: Narrowing,
+    narrowing: ClosersOnly,
 ) -> Result<T, Failure>
     requires { source.now ≡ text.now }
     ensures { MatchResult result (λ x. IsRead (machine_of source.now E.reader) source.now x)
@@ -264,10 +264,10 @@ fn read<T: Drop, E: Entry<T>>(
 }
 
 /// The tree that a text has by this rule.
-pub fn parse<T: Drop, E: Entry<T>>(
+pub fn parse<T: Drop, E: PushParser<T>>(
     alloc: Global,
     text: &str,
-    narrowing: Narrowing,
+    narrowing: ClosersOnly,
 ) -> Result<T, Failure>
     ensures { MatchResult result (λ x. IsRead (machine_of text.now E.reader) text.now x)
         (λ f. IsStop (machine_of text.now E.reader) (allowed_by E.reader) narrowing text.now f) }

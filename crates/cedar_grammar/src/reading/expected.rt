@@ -1,17 +1,17 @@
 //! The kinds of token that a refusal records as expected.
 ghost use Rattle.std.specs.Prelude.{◌≡◌, Some, IfOk};
 ghost use Rattle.cedar_grammar.specs.faults.Expected.{is_closer, goes_behind, can_narrow};
-ghost use Rattle.cedar_grammar.specs.machines.Door.{allowed_by};
+ghost use Rattle.cedar_grammar.specs.machines.Machine.{allowed_by};
 ghost use Rattle.cedar_grammar.specs.machines.Judged.{any_closer, is_narrowed, picked_kinds, wanted_kinds};
 
-use crate::reading::driver::{Entry, allows};
+use crate::reading::driver::{PushParser, allows};
 use cedar_expressions::Items;
 use cedar_lexer::token::TokenKind;
 use std::alloc::{AllocError, Global};
 
 /// Where a list of expected kinds may be narrowed to what closes something.
 #[derive(Drop, Clone, Copy)]
-pub enum Narrowing {
+pub enum ClosersOnly {
     Never,
     /// At a token.
     Tokens,
@@ -123,16 +123,16 @@ fn goes_behind(kind: TokenKind) -> bool
 }
 
 /// Whether a list may be narrowed where this is refused, a kind of token or the end.
-fn can_narrow(narrowing: Narrowing, refused: Option<TokenKind>) -> bool
+fn can_narrow(narrowing: ClosersOnly, refused: Option<TokenKind>) -> bool
     ensures { result ≡ can_narrow narrowing refused }
 {
     match narrowing {
-        Narrowing::Never => false,
-        Narrowing::Tokens => match refused {
+        ClosersOnly::Never => false,
+        ClosersOnly::Tokens => match refused {
             Some(kind) => goes_behind(kind),
             None => false,
         },
-        Narrowing::TokensAndEnd => match refused {
+        ClosersOnly::TokensAndEnd => match refused {
             Some(kind) => goes_behind(kind),
             None => true,
         },
@@ -140,7 +140,7 @@ fn can_narrow(narrowing: Narrowing, refused: Option<TokenKind>) -> bool
 }
 
 /// Whether one of these kinds closes something that is open.
-fn allows_closer<T: Drop, E: Entry<T>>(state: &E, kinds: &[TokenKind]) -> bool
+fn allows_closer<T: Drop, E: PushParser<T>>(state: &E, kinds: &[TokenKind]) -> bool
     ensures { result ≡ any_closer (λ kind. allowed_by E.reader state.now (Some kind))
         kinds.now }
 {
@@ -153,9 +153,9 @@ fn allows_closer<T: Drop, E: Entry<T>>(state: &E, kinds: &[TokenKind]) -> bool
 }
 
 /// Whether the list is narrowed to what closes something.
-fn is_narrowed<T: Drop, E: Entry<T>>(
+fn is_narrowed<T: Drop, E: PushParser<T>>(
     state: &E,
-    narrowing: Narrowing,
+    narrowing: ClosersOnly,
     refused: Option<TokenKind>,
 ) -> bool
     ensures { result ≡ is_narrowed (allowed_by E.reader state.now) narrowing refused }
@@ -167,7 +167,7 @@ fn is_narrowed<T: Drop, E: Entry<T>>(
 }
 
 /// Those of these kinds that are allowed, or of them what closes something.
-fn allowed_among<T: Drop, E: Entry<T>>(
+fn allowed_among<T: Drop, E: PushParser<T>>(
     alloc: Global,
     state: &E,
     narrowed: bool,
@@ -188,10 +188,10 @@ fn allowed_among<T: Drop, E: Entry<T>>(
 }
 
 /// The kinds that are expected where this is refused, a kind of token or the end.
-pub fn expected<T: Drop, E: Entry<T>>(
+pub fn expected<T: Drop, E: PushParser<T>>(
     alloc: Global,
     state: &E,
-    narrowing: Narrowing,
+    narrowing: ClosersOnly,
     refused: Option<TokenKind>,
 ) -> Result<Items<TokenKind>, AllocError>
     ensures { IfOk result (λ kinds. kinds ≡ wanted_kinds (allowed_by E.reader state.now)

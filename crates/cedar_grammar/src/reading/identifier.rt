@@ -1,7 +1,7 @@
 //! Words: what may be an identifier.
 ghost use Rattle.std.specs.Prelude.{◌≡◌, [], IfOk};
 ghost use Rattle.cedar_syntax.specs.tokens.Tokens.{any_of};
-ghost use Rattle.cedar_grammar.specs.machines.Door.{is_some};
+ghost use Rattle.cedar_grammar.specs.machines.Machine.{is_some};
 
 use cedar_expressions::Text;
 use cedar_lexer::token::TokenKind;

@@ -7,15 +7,15 @@ ghost use Rattle.cedar_grammar.specs.faults.MendedFaults.{fault_of, faults_with_
 ghost use Rattle.cedar_grammar.specs.grammar.WrittenTokens.{IsWritten};
 ghost use Rattle.cedar_grammar.specs.machines.Judged.{IsRead};
 ghost use Rattle.cedar_grammar.specs.faults.FirstFault.{large_at};
-ghost use Rattle.cedar_grammar.specs.machines.Door.{machine_of, allowed_by};
+ghost use Rattle.cedar_grammar.specs.machines.Machine.{machine_of, allowed_by};
 ghost use Rattle.cedar_grammar.specs.machines.Marks.{mark_of};
 ghost use Rattle.cedar_grammar.specs.machines.Recovery.{stopped};
 ghost use Rattle.cedar_grammar.specs.machines.Skipping.{skip, skip_answer};
 ghost use Rattle.cedar_grammar.specs.machines.Mending.{IsSkipping, IsSkippingBy, mended_stage, stopped_stage, bad_fault, refused_fault, bad_or, recovers_of, stage_of, skip_step_by, judgment_by, recovery_step_by, last_of, met_faults, RefusesWith, IsToldBy, IsTold};
 
 use crate::never;
-use crate::reading::driver::{Entry, early, large_number, unexpected};
-use crate::reading::expected::Narrowing;
+use crate::reading::driver::{PushParser, early, large_number, unexpected};
+use crate::reading::expected::ClosersOnly;
 use crate::reading::mark::as_mark;
 use crate::reading::recovery::{Recovering, RecoveryWay, Skipping, skip};
 use cedar_expressions::{Items, Source};
@@ -26,7 +26,7 @@ use std::alloc::{AllocError, Global};
 use std::mem;
 
 /// A fault as it is told of a text.
-pub trait Telling: Drop {
+pub trait FromRawFault: Drop {
     ghost use Rattle.std.specs.Prelude.{◌≡◌, ℕ, List, IfOk};
     ghost use Rattle.cedar_syntax.specs.declared.err.to_cst.RawFault.{RawFault};
 
@@ -34,16 +34,16 @@ pub trait Telling: Drop {
     ghost told: { List ℕ → RawFault → Self };
 
     /// What is told of this fault of the text.
-    fn tell(source: &Source, raw: RawFault) -> Result<Self, AllocError>
+    fn from_raw(source: &Source, raw: RawFault) -> Result<Self, AllocError>
         ensures { IfOk result (λ fault. fault ≡ told source.now raw) };
 }
 
-impl Telling for ParseError {
+impl FromRawFault for ParseError {
     ghost use Rattle.cedar_grammar.specs.faults.MendedFaults.{fault_of};
 
     ghost told = { λ src raw. fault_of src raw };
 
-    fn tell(source: &Source, raw: RawFault) -> Result<ParseError, AllocError> {
+    fn from_raw(source: &Source, raw: RawFault) -> Result<ParseError, AllocError> {
         let src = source.share()?;
         Ok(ParseError::ToCST(ToCSTError { raw, src }))
     }
@@ -97,7 +97,7 @@ impl<F: Drop> From<AllocError> for Refusal<F> {
 }
 
 /// Before the first token.
-fn begin<T: Drop, E: Entry<T>, F: Telling>(alloc: Global) -> Run<E, F>
+fn begin<T: Drop, E: PushParser<T>, F: FromRawFault>(alloc: Global) -> Run<E, F>
     ensures state { E.reader.start ≡ result.state }
     ensures rest { (result.end ≡ 0) × (result.mended ≡ []) × (result.phase ≡ phase.Reading) }
 {
@@ -110,7 +110,7 @@ fn begin<T: Drop, E: Entry<T>, F: Telling>(alloc: Global) -> Run<E, F>
 }
 
 /// Skips a token by this way, to leave a fault.
-fn leave_by<E: Recovering, F: Telling>(
+fn leave_by<E: Recovering, F: FromRawFault>(
     alloc: Global,
     run: &mut Run<E, F>,
     way: RecoveryWay,
@@ -126,7 +126,7 @@ fn leave_by<E: Recovering, F: Telling>(
 
 /// A fault at a token, and what is done with the token to leave it.
 #[cold]
-fn leave<E: Recovering, F: Telling>(
+fn leave<E: Recovering, F: FromRawFault>(
     alloc: Global,
     run: &mut Run<E, F>,
     pending: FaultInHand<F>,
@@ -150,7 +150,7 @@ fn leave<E: Recovering, F: Telling>(
 
 /// Behind the last token that is skipped: reading goes on.
 #[cold]
-fn mend<E: Recovering, F: Telling>(run: &mut Run<E, F>, end: usize) -> Result<(), AllocError>
+fn mend<E: Recovering, F: FromRawFault>(run: &mut Run<E, F>, end: usize) -> Result<(), AllocError>
     requires { IsSkipping run.old.phase }
     ensures { IfOk result (λ _. stage_of run.new ≡ mended_stage run.old end) }
 {
@@ -165,7 +165,7 @@ fn mend<E: Recovering, F: Telling>(run: &mut Run<E, F>, end: usize) -> Result<()
 
 /// Behind a token at which skipping stops: nothing more is read.
 #[cold]
-fn stop<E: Recovering, F: Telling>(run: &mut Run<E, F>)
+fn stop<E: Recovering, F: FromRawFault>(run: &mut Run<E, F>)
     requires { IsSkipping run.old.phase }
     ensures { stage_of run.new ≡ stopped_stage run.old }
 {
@@ -176,7 +176,7 @@ fn stop<E: Recovering, F: Telling>(run: &mut Run<E, F>)
 }
 
 /// Skips one more token; the fault stays where it is until it is left.
-fn skip_on<E: Recovering, F: Telling>(
+fn skip_on<E: Recovering, F: FromRawFault>(
     alloc: Global,
     run: &mut Run<E, F>,
     way: RecoveryWay,
@@ -200,7 +200,7 @@ fn skip_on<E: Recovering, F: Telling>(
 
 /// A token with which no sentence goes on.
 #[cold]
-fn refuse<T: Drop, E: Entry<T> + Recovering, F: Telling>(
+fn refuse<T: Drop, E: PushParser<T> + Recovering, F: FromRawFault>(
     alloc: Global,
     source: &Source,
     run: &mut Run<E, F>,
@@ -213,15 +213,15 @@ fn refuse<T: Drop, E: Entry<T> + Recovering, F: Telling>(
         run.old.mended run.old.end run.old.state (lexeme_of token.now)
         ((machine_of source.now E.reader).step run.old.state (lexeme_of token.now))) }
 {
-    let raw = unexpected::<T, E>(alloc, &run.state, Narrowing::Tokens, token)?;
-    let fault = F::tell(source, raw)?;
+    let raw = unexpected::<T, E>(alloc, &run.state, ClosersOnly::Tokens, token)?;
+    let fault = F::from_raw(source, raw)?;
     let way = run.state.way();
     leave(alloc, run, FaultInHand { way, fault }, token)
 }
 
 /// A number past 64 bits, where a number may stand: nothing more is read.
 #[cold]
-fn refuse_number<E: Recovering, F: Telling>(
+fn refuse_number<E: Recovering, F: FromRawFault>(
     alloc: Global,
     source: &Source,
     run: &mut Run<E, F>,
@@ -232,13 +232,13 @@ fn refuse_number<E: Recovering, F: Telling>(
         (F.told source.now (large_at source.now (lexeme_of token.now)))) }
 {
     let raw = large_number(alloc, source, token)?;
-    run.phase = Phase::Stopped(F::tell(source, raw)?);
+    run.phase = Phase::Stopped(F::from_raw(source, raw)?);
     Ok(())
 }
 
 /// Reads a token.
 #[inline(always)]
-fn judge<T: Drop, E: Entry<T> + Recovering, F: Telling>(
+fn judge<T: Drop, E: PushParser<T> + Recovering, F: FromRawFault>(
     alloc: Global,
     source: &Source,
     run: &mut Run<E, F>,
@@ -265,7 +265,7 @@ fn judge<T: Drop, E: Entry<T> + Recovering, F: Telling>(
 
 /// One more token.
 #[inline(always)]
-fn step<T: Drop, E: Entry<T> + Recovering, F: Telling>(
+fn step<T: Drop, E: PushParser<T> + Recovering, F: FromRawFault>(
     alloc: Global,
     source: &Source,
     run: &mut Run<E, F>,
@@ -289,7 +289,7 @@ fn step<T: Drop, E: Entry<T> + Recovering, F: Telling>(
 }
 
 /// The fault of the end, if the text can't end there.
-fn end_fault<T: Drop, E: Entry<T>, F: Telling>(
+fn end_fault<T: Drop, E: PushParser<T>, F: FromRawFault>(
     alloc: Global,
     source: &Source,
     run: &Run<E, F>,
@@ -302,22 +302,22 @@ fn end_fault<T: Drop, E: Entry<T>, F: Telling>(
     if run.state.ends() {
         return Ok(None);
     }
-    let raw = early::<T, E>(alloc, &run.state, Narrowing::Tokens, run.end)?;
-    Ok(Some(F::tell(source, raw)?))
+    let raw = early::<T, E>(alloc, &run.state, ClosersOnly::Tokens, run.end)?;
+    Ok(Some(F::from_raw(source, raw)?))
 }
 
 /// The fault of a bad place, or the one in hand.
-fn bad_or<F: Telling>(source: &Source, bad: Option<usize>, fault: F) -> Result<F, AllocError>
+fn bad_or<F: FromRawFault>(source: &Source, bad: Option<usize>, fault: F) -> Result<F, AllocError>
     ensures { IfOk result (λ last. last ≡ bad_or F.told source.now bad fault) }
 {
     match bad {
-        Some(location) => F::tell(source, RawFault::InvalidToken { location }),
+        Some(location) => F::from_raw(source, RawFault::InvalidToken { location }),
         None => Ok(fault),
     }
 }
 
 /// The fault at which the parse stops, if there is one: at the end, or at a bad place.
-fn last_fault<T: Drop, E: Entry<T> + Recovering, F: Telling>(
+fn last_fault<T: Drop, E: PushParser<T> + Recovering, F: FromRawFault>(
     alloc: Global,
     source: &Source,
     run: &mut Run<E, F>,
@@ -332,7 +332,9 @@ fn last_fault<T: Drop, E: Entry<T> + Recovering, F: Telling>(
 {
     match mem::replace(&mut run.phase, Phase::Reading) {
         Phase::Reading => match bad {
-            Some(location) => { Ok(Some(F::tell(source, RawFault::InvalidToken { location })?)) }
+            Some(location) => {
+                Ok(Some(F::from_raw(source, RawFault::InvalidToken { location })?))
+            }
             None => end_fault::<T, E, F>(alloc, source, run),
         },
         Phase::Skipping(pending) => Ok(Some(bad_or(source, bad, pending.fault)?)),
@@ -367,7 +369,7 @@ fn all_faults<F: Drop>(last: Option<F>, mended: Items<F>) -> Option<NonEmpty<F>>
 }
 
 /// The tree, or the faults, where no token follows.
-fn conclude<T: Drop, E: Entry<T> + Recovering, F: Telling>(
+fn conclude<T: Drop, E: PushParser<T> + Recovering, F: FromRawFault>(
     alloc: Global,
     source: &Source,
     mut run: Run<E, F>,
@@ -395,7 +397,7 @@ fn conclude<T: Drop, E: Entry<T> + Recovering, F: Telling>(
 }
 
 /// Reads the text, of which the source is a copy, to its end.
-fn read<T: Drop, E: Entry<T> + Recovering, F: Telling>(
+fn read<T: Drop, E: PushParser<T> + Recovering, F: FromRawFault>(
     alloc: Global,
     source: &Source,
     text: &str,
@@ -420,7 +422,10 @@ fn read<T: Drop, E: Entry<T> + Recovering, F: Telling>(
 }
 
 /// The tree that a text has by this rule, or all its faults.
-pub fn parse_on<T: Drop, E: Entry<T> + Recovering>(alloc: Global, text: &str) -> Result<T, Failure>
+pub fn parse_on<T: Drop, E: PushParser<T> + Recovering>(
+    alloc: Global,
+    text: &str,
+) -> Result<T, Failure>
     ensures { MatchResult result (λ x. IsRead (machine_of text.now E.reader) text.now x)
         (λ f. IsTold (machine_of text.now E.reader) (allowed_by E.reader)
         (recovers_of (allowed_by E.reader) E.left E.closed E.over fault_of text.now)

@@ -39,6 +39,14 @@ impl<T> Stack<T> {
         self.items.pop()
     }
 
+    /// Whether it may have held more than so many elements. Nothing is said of the answer, since
+    /// it decides how trees are dropped alone: it is true as soon as the room is larger, which
+    /// doubles where it grows and never shrinks.
+    #[inline(always)]
+    pub fn has_held(&self, count: usize) -> bool {
+        self.items.capacity() > count
+    }
+
     /// Where the elements' memory comes from.
     pub fn alloc(&self) -> Global {
         *self.items.allocator()

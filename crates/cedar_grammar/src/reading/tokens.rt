@@ -4,7 +4,7 @@ ghost use Rattle.cedar_lexer.specs.Token.{lexeme_of};
 ghost use Rattle.cedar_lexer.specs.declared.token.TokenKind.TheVariants as kind;
 ghost use Rattle.cedar_syntax.specs.tokens.Tokens.{any_of};
 ghost use Rattle.cedar_grammar.specs.grammar.WrittenTokens.{Written};
-ghost use Rattle.cedar_grammar.specs.machines.Door.{is_some};
+ghost use Rattle.cedar_grammar.specs.machines.Machine.{is_some};
 ghost use Rattle.cedar_grammar.specs.machines.SingleTokens.{if_any, token_node, string_node};
 
 use crate::never;

@@ -6,7 +6,7 @@ use Rattle.cedar_grammar.specs.declared.reading.mark.Mark.{Mark}
 use Rattle.cedar_grammar.specs.declared.reading.mark.Mark.TheVariants as mark
 use Rattle.cedar_grammar.specs.declared.reading.recovery.RecoveryWay.{RecoveryWay}
 use Rattle.cedar_grammar.specs.declared.reading.recovery.RecoveryWay.TheVariants as way
-use Rattle.cedar_grammar.specs.machines.Door.{Machine, Answer, next, ended, refused, too_large, AnswersRightly, Door, is_some, is_taken, Shapes, no_tree}
+use Rattle.cedar_grammar.specs.machines.Machine.{Machine, Answer, next, ended, refused, too_large, AnswersRightly, IsParser, is_some, is_taken, Shapes, no_tree}
 use Rattle.cedar_grammar.specs.machines.Marks.{mark_of}
 use Rattle.cedar_grammar.specs.machines.Recovery.{Recovers, Recovery, reading, skipping, stopped, skip_step, judgment, recovery_step, run_faults, told_reading, told_end, told_all}
 use Rattle.cedar_grammar.proofs.machines.Laws.{false_true, ends_alike}
@@ -62,7 +62,7 @@ judged_alike r f h xs l s q t too_large (ended y) c o p e i j a b = absurd (fals
 judged_alike r f h xs l s q t too_large refused c o p e i j a b = absurd (false_true (ap (λ c. is_taken c) j) i)
 judged_alike r f h xs l s q t too_large too_large c o p e i j a b = stops
 
-recover_alike : {S T F V : Type 0} {m : Machine Lexeme S T} {n : Machine TokenKind V (Unit {0})} {R : List Lexeme → T → Type 0} (r : Recovers S F) (f : S → V) → IsByShape r f → Door m R → Shapes m n f no_tree → {a b : Recovery S F} (t : Lexeme) → Alike f a b →
+recover_alike : {S T F V : Type 0} {m : Machine Lexeme S T} {n : Machine TokenKind V (Unit {0})} {R : List Lexeme → T → Type 0} (r : Recovers S F) (f : S → V) → IsByShape r f → IsParser m R → Shapes m n f no_tree → {a b : Recovery S F} (t : Lexeme) → Alike f a b →
     Alike f (recovery_step m r a t) (recovery_step m r b t)
 recover_alike {m = m} {n = n} r f h d i t (reads {xs = xs} {l = l} {s = s} {q = q} e) =
     judged_alike r f h xs l s q t (m.step s t) (m.step q t) (n.step (f s) t.kind) (m.finish s) (m.finish q) e (i.steps s t) (subst (λ u. IsShapeBy f (m.step q t) (n.step u t.kind)) (sym e) (i.steps q t)) (d.answers s t) (d.answers q t)
@@ -81,12 +81,12 @@ ends_told {m = m} {n = n} r f h i (reads {xs = xs} {l = l} {s = s} {q = q} e) =
 ends_told r f h i (skips e) = refl
 ends_told r f h i stops = refl
 
-all_alike : {S T F V : Type 0} {m : Machine Lexeme S T} {n : Machine TokenKind V (Unit {0})} {R : List Lexeme → T → Type 0} (r : Recovers S F) (f : S → V) → IsByShape r f → Door m R → Shapes m n f no_tree → {a b : Recovery S F} (ts : List Lexeme) → Alike f a b →
+all_alike : {S T F V : Type 0} {m : Machine Lexeme S T} {n : Machine TokenKind V (Unit {0})} {R : List Lexeme → T → Type 0} (r : Recovers S F) (f : S → V) → IsByShape r f → IsParser m R → Shapes m n f no_tree → {a b : Recovery S F} (ts : List Lexeme) → Alike f a b →
     told_all m r a ts ≡ told_all m r b ts
 all_alike r f h d i [] e = ends_told r f h i e
 all_alike r f h d i (t ∷ ts) e = all_alike r f h d i ts (recover_alike r f h d i t e)
 
 -- two states of one shape
-pub states_alike : {S T F V : Type 0} {m : Machine Lexeme S T} {n : Machine TokenKind V (Unit {0})} {R : List Lexeme → T → Type 0} (r : Recovers S F) (f : S → V) → IsByShape r f → Door m R → Shapes m n f no_tree → (xs : List F) (l : ℕ) (s q : S) (ts : List Lexeme) →
+pub states_alike : {S T F V : Type 0} {m : Machine Lexeme S T} {n : Machine TokenKind V (Unit {0})} {R : List Lexeme → T → Type 0} (r : Recovers S F) (f : S → V) → IsByShape r f → IsParser m R → Shapes m n f no_tree → (xs : List F) (l : ℕ) (s q : S) (ts : List Lexeme) →
     f s ≡ f q → told_all m r (reading xs l s) ts ≡ told_all m r (reading xs l q) ts
 states_alike r f h d i xs l s q ts e = all_alike r f h d i ts (reads e)

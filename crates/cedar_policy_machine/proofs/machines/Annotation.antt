@@ -1,4 +1,4 @@
--- The door of the machine of annotations.
+-- The machine of annotations is a parser.
 use Rattle.std.proofs.Common.{◌≡◌, ℕ, List, [], ◌∷◌, ◌++◌, Option, Some, None, true, refl, sym, ◌∙◌, ap, subst, IfSome}
 use Rattle.cedar_lexer.specs.Token.{Lexeme}
 use Rattle.cedar_lexer.specs.declared.token.TokenKind.{TokenKind}
@@ -14,7 +14,7 @@ use Rattle.cedar_grammar.specs.grammar.Place.{placed}
 use Rattle.cedar_syntax.specs.trees.Trees.{Cell, annotation_of}
 use Rattle.cedar_grammar.specs.grammar.LooseWords.{ReadsAny, any}
 use Rattle.cedar_grammar.specs.grammar.LoosePolicies.{ReadsAnnotation, key_alone, with_value}
-use Rattle.cedar_grammar.specs.machines.Door.{next, answer_state, steps, Comes, RunsTo, Completed, Door, IsDone, is_taken, is_some, option_image, planned_answer}
+use Rattle.cedar_grammar.specs.machines.Machine.{next, answer_state, steps, Comes, RunsTo, Completed, IsParser, IsDone, is_taken, is_some, option_image, planned_answer}
 use Rattle.cedar_grammar.specs.machines.SingleTokens.{token_node, string_node, if_any}
 use Rattle.cedar_policy_machine.specs.machines.Annotation.{any_node, AnnotationShape, no_annotation, behind_at, has_key, wants_value, has_value, whole_annotation, annotation_shape, annotation_mark_plan, annotation_open_plan, annotation_value_plan, annotation_close_plan, annotation_plan, annotation_act, annotation_finish, annotation_reader, annotations}
 use Rattle.cedar_grammar.proofs.machines.ByActs.{keeps}
@@ -168,8 +168,8 @@ one_does src (annotation.Closed i x) k a p h = elim h [ ]
 pub annotation_does : (src : List ℕ) → DoesRightly src annotation_reader
 annotation_does src s a t e = one_does src s t.kind a (spot_of t) (annotation_planned (annotation_shape s) t.kind a e)
 
-pub annotation_door : (src : List ℕ) → Door (annotations src) (ReadsAnnotation src)
-annotation_door src = record {
+pub annotation_parser : (src : List ℕ) → IsParser (annotations src) (ReadsAnnotation src)
+annotation_parser src = record {
   complete = λ ts x r. annotation_complete src r;
   sound = λ ts s x f e. annotation_sound src x (annotation_kept src ts s f) e;
   viable = annotation_viable src;

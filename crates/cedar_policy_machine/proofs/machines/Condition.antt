@@ -1,4 +1,4 @@
--- The door of the machine of conditions, from the door of the machine of expressions that it
+-- The machine of conditions is a parser, since the machine of expressions is one that it
 -- holds. Nothing here knows which machine that is.
 use Rattle.std.proofs.Common.{◌≡◌, ℕ, List, [], ◌∷◌, ◌++◌, Option, Some, None, Bool, true, false, refl, sym, ◌∙◌, ap, subst, append_assoc, IfSome}
 use Rattle.std.proofs.lemmas.List.{append-nil}
@@ -20,7 +20,7 @@ use Rattle.cedar_syntax.specs.trees.Trees.{Cell, cond_of}
 use Rattle.cedar_grammar.specs.grammar.LooseWords.{ReadsAny, any}
 use Rattle.cedar_grammar.specs.grammar.LooseExpressions.{ReadsExpr}
 use Rattle.cedar_grammar.specs.grammar.LoosePolicies.{ReadsBody, no_body, body, ReadsCond, cond}
-use Rattle.cedar_grammar.specs.machines.Door.{Answer, next, ended, refused, answer_state, steps, Comes, RunsTo, Completed, Door, IsOutside, Reader, machine_of, IsDone, option_image, is_some}
+use Rattle.cedar_grammar.specs.machines.Machine.{Answer, next, ended, refused, answer_state, steps, Comes, RunsTo, Completed, IsParser, IsOutside, Reader, machine_of, IsDone, option_image, is_some}
 use Rattle.cedar_policy_machine.specs.machines.Placing.{AsNode, as_node}
 use Rattle.cedar_grammar.specs.machines.SingleTokens.{token_node, if_any}
 use Rattle.cedar_policy_machine.specs.machines.Condition.{condition_state, brace_plan, empty_plan, opened_plan, close_plan, body_plan, condition_plan, body_going, condition_act, condition_ends, finished_condition, condition_finish, condition_reader, conditions}
@@ -80,7 +80,7 @@ some_body src e o r i (t ∷ us) x h = record {
   closes = λ p. closes_body src e o r i h.last x p h.ends;
 }
 
-pub body_runs : {E C : Type 0} (src : List ℕ) (e : Reader E C (Cell Expr)) → Door (machine_of src e) (AsNode src (ReadsExpr src)) → IsOutside (machine_of src e) kind.CloseBrace → EndsRightly src e → (i : Cell Ident) {us : List Lexeme} {x : Option (Cell Expr)} →
+pub body_runs : {E C : Type 0} (src : List ℕ) (e : Reader E C (Cell Expr)) → IsParser (machine_of src e) (AsNode src (ReadsExpr src)) → IsOutside (machine_of src e) kind.CloseBrace → EndsRightly src e → (i : Cell Ident) {us : List Lexeme} {x : Option (Cell Expr)} →
     ReadsBody src us x → BodyAt src e i us x
 body_runs src e d o r i no_body = record { last = condition_state i part.Opened; goes = refl; closes = λ p. closes_empty src e o i p }
 body_runs src e d o r i (body {ts = us} {x = x} w) = some_body src e o r i us (placed src us x) (d.complete us (placed src us x) (as_node w))
@@ -95,7 +95,7 @@ word_runs src e k q i w =
 pub opened : {E C : Type 0} (src : List ℕ) (e : Reader E C (Cell Expr)) {ts : List Lexeme} {i : Ident} (l : Spot) → ReadsAny ts i → Comes (conditions src e) (ts ++ one kind.OpenBrace l) (condition_state (placed src ts i) part.Opened)
 opened src e l (any {k = k} {i = i} q w) = ap (λ a. steps (conditions src e) (answer_state a) (one kind.OpenBrace l)) (word_runs src e k q i w)
 
-condition_complete : {E C : Type 0} (src : List ℕ) (e : Reader E C (Cell Expr)) → Door (machine_of src e) (AsNode src (ReadsExpr src)) → IsOutside (machine_of src e) kind.CloseBrace → EndsRightly src e → {ts : List Lexeme} {c : Cond} → ReadsCond src ts c → RunsTo (conditions src e) ts c
+condition_complete : {E C : Type 0} (src : List ℕ) (e : Reader E C (Cell Expr)) → IsParser (machine_of src e) (AsNode src (ReadsExpr src)) → IsOutside (machine_of src e) kind.CloseBrace → EndsRightly src e → {ts : List Lexeme} {c : Cond} → ReadsCond src ts c → RunsTo (conditions src e) ts c
 condition_complete src e d o r (cond {ts = ts} {us = us} {i = i} {x = x} l b w v) =
     let h = body_runs src e d o r (placed src ts i) v in
     record {
@@ -170,7 +170,7 @@ body_of (as_node r) = body r
 snoc : (ts us : List Lexeme) (t : Lexeme) → ts ++ (us ++ t ∷ []) ≡ ts ++ us ++ t ∷ []
 snoc ts us t = simp append_assoc
 
-one_kept : {E C : Type 0} (src : List ℕ) (e : Reader E C (Cell Expr)) → Door (machine_of src e) (AsNode src (ReadsExpr src)) → EndsRightly src e → (ts : List Lexeme) (s : ConditionState E) (k : TokenKind) (a : ConditionAct C) (p : Spot) →
+one_kept : {E C : Type 0} (src : List ℕ) (e : Reader E C (Cell Expr)) → IsParser (machine_of src e) (AsNode src (ReadsExpr src)) → EndsRightly src e → (ts : List Lexeme) (s : ConditionState E) (k : TokenKind) (a : ConditionAct C) (p : Spot) →
     ConditionRead src e ts s → ConditionPlanned e s.part k a → IfSome (condition_act e src s a (token_at k p)) (λ q. ConditionRead src e (ts ++ one k p) q)
 one_kept src e d r ts s k a p is_start (words h) = word_kept src (token_at k p) (λ i. condition_state i part.Word) (λ q. ConditionRead src e (one k p) q) (λ i w. is_word (any p w))
 one_kept src e d r ts s k a p (is_word w) brace = is_opened p w
@@ -188,7 +188,7 @@ one_kept src e d r ts s k a p (is_body {ts = vs} {i = i} {s = q} l us w c) (body
     subst (λ x. ConditionRead src e (vs ++ one kind.OpenBrace l ++ us ++ one kind.CloseBrace p) (condition_state (placed src vs i) (part.Closed x))) (sym f.1) (is_closed l p us w (body_of (d.sound us q f.0 c f.1)))
 one_kept src e d r ts s k a p (is_closed l b us w v) h = elim h [ ]
 
-pub condition_read : {E C : Type 0} (src : List ℕ) (e : Reader E C (Cell Expr)) → Door (machine_of src e) (AsNode src (ReadsExpr src)) → EndsRightly src e → (ts : List Lexeme) (s : ConditionState E) → Comes (conditions src e) ts s → ConditionRead src e ts s
+pub condition_read : {E C : Type 0} (src : List ℕ) (e : Reader E C (Cell Expr)) → IsParser (machine_of src e) (AsNode src (ReadsExpr src)) → EndsRightly src e → (ts : List Lexeme) (s : ConditionState E) → Comes (conditions src e) ts s → ConditionRead src e ts s
 condition_read src e d r =
     keeps src (condition_reader e) (λ ts s. ConditionRead src e ts s) is_start (λ ts s t a w g. one_kept src e d r ts s t.kind a (spot_of t) w (condition_planned e s.part t.kind a g))
 
@@ -204,7 +204,7 @@ condition_sound {src = src} x (is_closed {ts = ts} l b us v r) w = subst (λ x. 
 abbrev some_brace : Spot
 some_brace = spot_of (some_token kind.CloseBrace)
 
-viable_at : {E C : Type 0} (src : List ℕ) (e : Reader E C (Cell Expr)) → Door (machine_of src e) (AsNode src (ReadsExpr src)) → IsOutside (machine_of src e) kind.CloseBrace → EndsRightly src e → (i : Cell Ident) (u : ConditionPart E) → Completed (conditions src e) (condition_state i u)
+viable_at : {E C : Type 0} (src : List ℕ) (e : Reader E C (Cell Expr)) → IsParser (machine_of src e) (AsNode src (ReadsExpr src)) → IsOutside (machine_of src e) kind.CloseBrace → EndsRightly src e → (i : Cell Ident) (u : ConditionPart E) → Completed (conditions src e) (condition_state i u)
 viable_at src e d o r i part.Start =
     let w = token_node src (some_token kind.Identifier) (ident.Ident []) in
     record { more = some_token kind.Identifier ∷ some_token kind.OpenBrace ∷ some_token kind.CloseBrace ∷ []; last = condition_state w (part.Closed None); tree = cond_of w None; goes = ap (λ a. answer_state a) (closes_empty src e o w some_brace); ends = refl }
@@ -247,8 +247,8 @@ does_at src e d i u k a p (body_ends g) = λ w. absurd (cc)
 pub condition_does : {E C : Type 0} (src : List ℕ) (e : Reader E C (Cell Expr)) → DoesRightly src e → DoesRightly src (condition_reader e)
 condition_does src e d s a t w = does_at src e d s.word s.part t.kind a (spot_of t) (condition_planned e s.part t.kind a w)
 
-pub condition_door : {E C : Type 0} (src : List ℕ) (e : Reader E C (Cell Expr)) → Door (machine_of src e) (AsNode src (ReadsExpr src)) → IsOutside (machine_of src e) kind.CloseBrace → EndsRightly src e → Door (conditions src e) (ReadsCond src)
-condition_door src e d o r = record {
+pub condition_parser : {E C : Type 0} (src : List ℕ) (e : Reader E C (Cell Expr)) → IsParser (machine_of src e) (AsNode src (ReadsExpr src)) → IsOutside (machine_of src e) kind.CloseBrace → EndsRightly src e → IsParser (conditions src e) (ReadsCond src)
+condition_parser src e d o r = record {
   complete = λ ts c w. condition_complete src e d o r w;
   sound = λ ts s c f w. condition_sound c (condition_read src e d r ts s f) w;
   viable = λ s. viable_at src e d o r s.word s.part;

@@ -13,7 +13,7 @@ use Rattle.cedar_policy_machine.specs.declared.scope.ElementAct.TheVariants as a
 use Rattle.cedar_syntax.specs.tokens.Tokens.{any_of}
 use Rattle.cedar_syntax.specs.trees.Trees.{Cell}
 use Rattle.cedar_grammar.specs.grammar.LooseExpressions.{ReadsRelOp}
-use Rattle.cedar_grammar.specs.machines.Door.{option_image}
+use Rattle.cedar_grammar.specs.machines.Machine.{option_image}
 use Rattle.cedar_grammar.specs.machines.Marks.{relation_of}
 use Rattle.cedar_grammar.specs.machines.SingleTokens.{token_node, if_any}
 use Rattle.cedar_policy_machine.specs.machines.Scope.{PartReaders, compare_plan, narrow_plan, bare_plan, type_name_plan, entity_type_plan, constraint_plan, PartPlans, reader_plans, element_plan, element_act, with_variable}

@@ -11,8 +11,8 @@ use Rattle.cedar_grammar.specs.declared.reading.recovery.RecoveryWay.TheVariants
 use Rattle.cedar_syntax.specs.tokens.Tokens.{fits}
 use Rattle.cedar_grammar.specs.grammar.Sentences.{kinds, Allowed, IsFirstRefused, first}
 use Rattle.cedar_grammar.specs.faults.Mended.{Mended, head, Faults, no_fault, too_large, last_fault, more_faults}
-use Rattle.cedar_grammar.specs.machines.Door.{Machine, Answer, next, ended, refused, answer_state, steps, Comes, AnswersRightly, Door, is_taken, is_some, allows, Shapes, no_tree}
-use Rattle.cedar_grammar.specs.machines.Door as door
+use Rattle.cedar_grammar.specs.machines.Machine.{Machine, Answer, next, ended, refused, answer_state, steps, Comes, AnswersRightly, IsParser, is_taken, is_some, allows, Shapes, no_tree}
+use Rattle.cedar_grammar.specs.machines.Machine as parser
 use Rattle.cedar_grammar.specs.machines.Recovery.{Recovers, reading, skipping, stopped, judgment, RunFaults, run_faults, told_reading, told_all}
 use Rattle.cedar_grammar.proofs.machines.Laws.{false_true, starts_from, comes, exactly, stops_at, ends_alike}
 use Rattle.cedar_grammar.proofs.machines.Holding.{snoc_assoc, one_more}
@@ -23,7 +23,7 @@ use Rattle.cedar_policy_machine.proofs.machines.Recovery.{end_from, Recoverable,
 -- what a definition says of a fault, recovery tells
 
 -- no sentence goes on so, by the shape
-stops_there : {S T V : Type 0} {m : Machine Lexeme S T} {n : Machine TokenKind V (Unit {0})} {R : List Lexeme → T → Type 0} (f : S → V) → Door m R → Shapes m n f no_tree → (ts : List Lexeme) (s : S) (o : Option TokenKind) → Comes m ts s → ¬ (Allowed R (kinds ts) o) → allows n (f s) o ≡ false
+stops_there : {S T V : Type 0} {m : Machine Lexeme S T} {n : Machine TokenKind V (Unit {0})} {R : List Lexeme → T → Type 0} (f : S → V) → IsParser m R → Shapes m n f no_tree → (ts : List Lexeme) (s : S) (o : Option TokenKind) → Comes m ts s → ¬ (Allowed R (kinds ts) o) → allows n (f s) o ≡ false
 stops_there {n = n} f d i ts s o c h = not_true (allows n (f s) o) (λ e. h ((exactly f no_tree d i ts s o c).0 e))
   where
     not_true : (b : Bool) → (b ≡ true → ⊥) → b ≡ false
@@ -36,7 +36,7 @@ large_told : {S T F V : Type 0} (r : Recovers S F) (f : S → V) (xs : List F) (
 large_told r f xs l s t (next q) c o i e h k g = absurd (false_true g (h k))
 large_told r f xs l s t (ended x) c o i e h k g = absurd (false_true (ap (λ c. is_taken c) i) e)
 large_told r f xs l s t refused c o i e h k g = absurd (false_true (ap (λ c. is_taken c) i) e)
-large_told r f xs l s t door.too_large c o i e h k g = refl
+large_told r f xs l s t parser.too_large c o i e h k g = refl
 
 skipped_last : {S T F V : Type 0} {src : List ℕ} {m : Machine Lexeme S T} {R : List Lexeme → T → Type 0} {W : List Lexeme → Type 0} {U : List Lexeme → Option Lexeme → F → Type 0} {L : Lexeme → F → Type 0} {r : Recovers S F} {n : Machine TokenKind V (Unit {0})} {f : S → V} →
     Recoverable src m R W U L r n f → (before : List Lexeme) (s : S) (xs : List F) (x : F) (w : RecoveryWay) (b : Bool) → r.way s ≡ w → skips_on w ≡ b → Comes m before s → {us : List Lexeme} → Search (braced w) us → ((vs : List Lexeme) → ¬ (Mended src W before us vs)) →
@@ -58,7 +58,7 @@ at_fault : {S T F V : Type 0} {src : List ℕ} {m : Machine Lexeme S T} {R : Lis
     Recoverable src m R W U L r n f → (xs : List F) (ts us : List Lexeme) (s : S) (x : F) → Comes m ts s → ¬ (Allowed R (kinds ts) (first us)) → U ts (head us) x →
     told_all m r (reading xs 0 m.start) (ts ++ us) ≡ told_all m r (skipping xs (r.way s) s x) us
 at_fault {m = m} {r = r} {n = n} {f = f} d xs ts us s x c h u =
-    reads m r xs 0 m.start s ts us c ∙ fault_told r f d.shaped xs (end_from 0 ts) s us (stops_there f d.door d.shaped ts s (first us) c h)
+    reads m r xs 0 m.start s ts us c ∙ fault_told r f d.shaped xs (end_from 0 ts) s us (stops_there f d.parser d.shaped ts s (first us) c h)
     ∙ ap (λ x. told_all m r (skipping xs (r.way s) s x) us) ((d.tells ts s (head us) x c).0 u)
 
 again : {S T F V : Type 0} {m : Machine Lexeme S T} {r : Recovers S F} {f : S → V} {s : S} {rest mended : List Lexeme} (xs : List F) (x : F) → (g : Resumed m r f s rest mended) →
@@ -69,22 +69,22 @@ again {m = m} {r = r} {s = s} xs x g =
 in_place : {S T F V : Type 0} {src : List ℕ} {m : Machine Lexeme S T} {R : List Lexeme → T → Type 0} {W : List Lexeme → Type 0} {U : List Lexeme → Option Lexeme → F → Type 0} {L : Lexeme → F → Type 0} {r : Recovers S F} {n : Machine TokenKind V (Unit {0})} {f : S → V} →
     Recoverable src m R W U L r n f → {ts : List Lexeme} {ys : List F} {y : Option F} → Faults src R W U L ts ys y → (xs : List F) → told_all m r (reading xs 0 m.start) ts ≡ run_faults (xs ++ ys) y
 in_place {m = m} {r = r} d (no_fault {ts = ts} h) xs =
-    let c = d.door.complete ts h.0 h.1 in
+    let c = d.parser.complete ts h.0 h.1 in
     ap (λ w. told_all m r (reading xs 0 m.start) w) (sym (append-nil ts)) ∙ reads m r xs 0 m.start c.last ts [] c.goes ∙ ap (λ o. told_reading xs (r.tell c.last (end_from 0 ts) None) o) c.ends ∙ ap (λ xs. run_faults xs None) (sym (append-nil xs))
 in_place {m = m} {r = r} {n = n} {f = f} d (too_large ts us {t = t} {x = x} h a k e l) xs =
-    let c = comes d.door ts h in
-    let i : is_taken (n.step (f c.0) t.kind) ≡ true = ap (λ k. is_taken (n.step (f c.0) k)) k ∙ (exactly f no_tree d.door d.shaped ts c.0 (Some kind.Number) c.1).1 a in
+    let c = comes d.parser ts h in
+    let i : is_taken (n.step (f c.0) t.kind) ≡ true = ap (λ k. is_taken (n.step (f c.0) k)) k ∙ (exactly f no_tree d.parser d.shaped ts c.0 (Some kind.Number) c.1).1 a in
     reads m r xs 0 m.start c.0 ts (t ∷ us) c.1
-    ∙ ap (λ q. told_all m r q us) (large_told r f xs (end_from 0 ts) c.0 t (m.step c.0 t) (n.step (f c.0) t.kind) (m.finish c.0) (d.shaped.steps c.0 t) i (d.door.answers c.0 t) k e)
+    ∙ ap (λ q. told_all m r q us) (large_told r f xs (end_from 0 ts) c.0 t (m.step c.0 t) (n.step (f c.0) t.kind) (m.finish c.0) (d.shaped.steps c.0 t) i (d.parser.answers c.0 t) k e)
     ∙ stays m r xs (r.large t) us ∙ ap (λ x. run_faults xs (Some x)) ((d.larges t x).0 l) ∙ ap (λ xs. run_faults xs (Some x)) (sym (append-nil xs))
 in_place {r = r} d (last_fault ts us {x = x} h u none) xs =
-    let c = comes d.door ts h.starts in
+    let c = comes d.parser ts h.starts in
     at_fault d xs ts us c.0 x c.1 h.refuses u ∙ skipped_last d ts c.0 xs x (r.way c.0) (skips_on (r.way c.0)) refl refl c.1 (search (braced (r.way c.0)) us) none ∙ ap (λ xs. run_faults xs (Some x)) (sym (append-nil xs))
 in_place {m = m} {r = r} {f = f} d (more_faults ts us {vs = vs} {x = x} {xs = ys} {y = y} h u e w) xs =
-    let c = comes d.door ts h.starts in
+    let c = comes d.parser ts h.starts in
     let g = resumed d c.0 e c.1 in
     let zs = xs ++ x ∷ [] in
-    at_fault d xs ts us c.0 x c.1 h.refuses u ∙ again xs x g ∙ states_alike r f d.by_shape d.door d.shaped zs g.stop.end g.to g.state g.after g.alike
+    at_fault d xs ts us c.0 x c.1 h.refuses u ∙ again xs x g ∙ states_alike r f d.by_shape d.parser d.shaped zs g.stop.end g.to g.state g.after g.alike
     ∙ ap (λ l. told_all m r (reading zs l g.state) g.after) (sym g.last) ∙ sym (reads m r zs 0 m.start g.state g.front g.after g.comes)
     ∙ ap (λ ts. told_all m r (reading zs 0 m.start) ts) (sym g.mends) ∙ in_place d w zs ∙ ap (λ xs. run_faults xs y) (snoc_assoc xs x ys)
 
@@ -138,9 +138,9 @@ refused_faults {r = r} d before s false e c h (found vs t ws k j) w =
 
 end_faults : {S T F V : Type 0} {src : List ℕ} {m : Machine Lexeme S T} {R : List Lexeme → T → Type 0} {W : List Lexeme → Type 0} {U : List Lexeme → Option Lexeme → F → Type 0} {L : Lexeme → F → Type 0} {r : Recovers S F} {n : Machine TokenKind V (Unit {0})} {f : S → V} →
     Recoverable src m R W U L r n f → (before : List Lexeme) (s : S) (o : Option T) → Comes m before s → m.finish s ≡ o → HasFaults src R W U L (before ++ [])
-end_faults {src = src} {R = R} {W = W} {U = U} {L = L} d before s (Some x) c e = record { mended = []; last = None; stands = subst (λ ts. Faults src R W U L ts [] None) (sym (append-nil before)) (no_fault (x, d.door.sound before s x c e)) }
+end_faults {src = src} {R = R} {W = W} {U = U} {L = L} d before s (Some x) c e = record { mended = []; last = None; stands = subst (λ ts. Faults src R W U L ts [] None) (sym (append-nil before)) (no_fault (x, d.parser.sound before s x c e)) }
 end_faults {r = r} {f = f} d before s None c e =
-    refused_faults d before s (skips_on (r.way s)) refl c (stops_at f no_tree d.door d.shaped before s None c (ends_alike f no_tree d.shaped s ∙ ap (λ o. is_some o) e)) (found_none tt) tt
+    refused_faults d before s (skips_on (r.way s)) refl c (stops_at f no_tree d.parser d.shaped before s None c (ends_alike f no_tree d.shaped s ∙ ap (λ o. is_some o) e)) (found_none tt) tt
 
 one_faults : {S T F V : Type 0} {src : List ℕ} {m : Machine Lexeme S T} {R : List Lexeme → T → Type 0} {W : List Lexeme → Type 0} {U : List Lexeme → Option Lexeme → F → Type 0} {L : Lexeme → F → Type 0} {r : Recovers S F} {n : Machine TokenKind V (Unit {0})} {f : S → V} →
     Recoverable src m R W U L r n f → (t : Lexeme) (ts : List Lexeme) → Below (Behind src m R W U L) (t ∷ ts) → (before : List Lexeme) (s : S) (a : Answer S T) → Comes m before s → m.step s t ≡ a → IsShapeBy f a (n.step (f s) t.kind) → AnswersRightly t a (m.finish s) →
@@ -148,19 +148,19 @@ one_faults : {S T F V : Type 0} {src : List ℕ} {m : Machine Lexeme S T} {R : L
 one_faults {src = src} {m = m} {R = R} {W = W} {U = U} {L = L} d t ts b before s (next q) c e i h =
     subst (λ ts. HasFaults src R W U L ts) (snoc_assoc before t ts) (b.0 (before ++ t ∷ []) q (one_more m before s q t c e))
 one_faults {r = r} {f = f} d t ts b before s (ended x) c e i h =
-    refused_faults d before s (skips_on (r.way s)) refl c (stops_at f no_tree d.door d.shaped before s (Some t.kind) c (ap (λ c. is_taken c) i)) (search (braced (r.way s)) (t ∷ ts)) b
+    refused_faults d before s (skips_on (r.way s)) refl c (stops_at f no_tree d.parser d.shaped before s (Some t.kind) c (ap (λ c. is_taken c) i)) (search (braced (r.way s)) (t ∷ ts)) b
 one_faults {r = r} {f = f} d t ts b before s refused c e i h =
-    refused_faults d before s (skips_on (r.way s)) refl c (stops_at f no_tree d.door d.shaped before s (Some t.kind) c (ap (λ c. is_taken c) i)) (search (braced (r.way s)) (t ∷ ts)) b
-one_faults {R = R} {r = r} {f = f} d t ts b before s door.too_large c e i h = record {
+    refused_faults d before s (skips_on (r.way s)) refl c (stops_at f no_tree d.parser d.shaped before s (Some t.kind) c (ap (λ c. is_taken c) i)) (search (braced (r.way s)) (t ∷ ts)) b
+one_faults {R = R} {r = r} {f = f} d t ts b before s parser.too_large c e i h = record {
   mended = [];
   last = Some (r.large t);
-  stands = too_large before ts (starts_from d.door before s c) (subst (λ k. Allowed R (kinds before) (Some k)) h.0 ((exactly f no_tree d.door d.shaped before s (Some t.kind) c).0 i)) h.0 h.1 ((d.larges t (r.large t)).1 refl);
+  stands = too_large before ts (starts_from d.parser before s c) (subst (λ k. Allowed R (kinds before) (Some k)) h.0 ((exactly f no_tree d.parser d.shaped before s (Some t.kind) c).0 i)) h.0 h.1 ((d.larges t (r.large t)).1 refl);
 }
 
 all_faults : {S T F V : Type 0} {src : List ℕ} {m : Machine Lexeme S T} {R : List Lexeme → T → Type 0} {W : List Lexeme → Type 0} {U : List Lexeme → Option Lexeme → F → Type 0} {L : Lexeme → F → Type 0} {r : Recovers S F} {n : Machine TokenKind V (Unit {0})} {f : S → V} →
     Recoverable src m R W U L r n f → (ts : List Lexeme) → Below (Behind src m R W U L) ts → Behind src m R W U L ts
 all_faults {m = m} d [] b = λ before s c. end_faults d before s (m.finish s) c refl
-all_faults {m = m} {n = n} {f = f} d (t ∷ ts) b = λ before s c. one_faults d t ts b before s (m.step s t) c refl (d.shaped.steps s t) (d.door.answers s t)
+all_faults {m = m} {n = n} {f = f} d (t ∷ ts) b = λ before s c. one_faults d t ts b before s (m.step s t) c refl (d.shaped.steps s t) (d.parser.answers s t)
 
 pub has_faults : {S T F V : Type 0} {src : List ℕ} {m : Machine Lexeme S T} {R : List Lexeme → T → Type 0} {W : List Lexeme → Type 0} {U : List Lexeme → Option Lexeme → F → Type 0} {L : Lexeme → F → Type 0} {r : Recovers S F} {n : Machine TokenKind V (Unit {0})} {f : S → V} →
     Recoverable src m R W U L r n f → (ts : List Lexeme) → HasFaults src R W U L ts

@@ -16,8 +16,8 @@ use Rattle.cedar_syntax.specs.declared.err.faults.Failure.{Failure}
 use Rattle.cedar_syntax.specs.declared.err.faults.Failure.TheVariants.{Memory, Errors}
 use Rattle.cedar_syntax.specs.declared.err.faults.ParseError.{ParseError}
 use Rattle.cedar_syntax.specs.declared.err.to_cst.RawFault.{RawFault}
-use Rattle.cedar_grammar.specs.declared.reading.expected.Narrowing.{Narrowing}
-use Rattle.cedar_grammar.specs.declared.reading.expected.Narrowing.TheVariants as narrowing
+use Rattle.cedar_grammar.specs.declared.reading.expected.ClosersOnly.{ClosersOnly}
+use Rattle.cedar_grammar.specs.declared.reading.expected.ClosersOnly.TheVariants as narrowing
 use Rattle.cedar_grammar.specs.faults.Expected.{IsNarrowed, Picks, no_kind, picked, passed, IsExpected, all_allowed, closers}
 use Rattle.cedar_grammar.specs.faults.FirstFault.{tokens_end, FirstFault, unexpected, early_end, large_number, bad_place, IsFaultIn}
 use Rattle.cedar_grammar.specs.grammar.Grammar.{Rule, IsNodeOf}
@@ -299,14 +299,14 @@ picks_by f g no_kind = no_kind
 picks_by f g (picked {k = k} p h) = picked (f k p) (picks_by f g h)
 picks_by f g (passed {k = k} p h) = passed (λ q. p (g k q)) (picks_by f g h)
 
-narrowed_by : {A B : Type 0} {R : List Lexeme → A → Type 0} {Q : List Lexeme → B → Type 0} {n : Narrowing} {ks : List TokenKind} {after : Option TokenKind} → ((k : TokenKind) → Allowed R ks (Some k) → Allowed Q ks (Some k)) → IsNarrowed R n ks after → IsNarrowed Q n ks after
+narrowed_by : {A B : Type 0} {R : List Lexeme → A → Type 0} {Q : List Lexeme → B → Type 0} {n : ClosersOnly} {ks : List TokenKind} {after : Option TokenKind} → ((k : TokenKind) → Allowed R ks (Some k) → Allowed Q ks (Some k)) → IsNarrowed R n ks after → IsNarrowed Q n ks after
 narrowed_by {R = R} {Q = Q} {ks = ks} f h = record { may = h.may; operand = operand h.operand; closer = (h.closer.0, h.closer.1, f h.closer.0 h.closer.2) }
   where
     operand : Allowed R ks (Some kind.Star) ⊎ Allowed R ks (Some kind.AndAnd) → Allowed Q ks (Some kind.Star) ⊎ Allowed Q ks (Some kind.AndAnd)
     operand (inl w) = inl (f kind.Star w)
     operand (inr w) = inr (f kind.AndAnd w)
 
-expected_by_rule : {T : Type 0} (R : Rule T) (src : List ℕ) {n : Narrowing} (ks : List TokenKind) {after : Option TokenKind} {us : List TokenKind} → IsExpected (IsNodeOf R src) n ks after us → IsExpected (R src) n ks after us
+expected_by_rule : {T : Type 0} (R : Rule T) (src : List ℕ) {n : ClosersOnly} (ks : List TokenKind) {after : Option TokenKind} {us : List TokenKind} → IsExpected (IsNodeOf R src) n ks after us → IsExpected (R src) n ks after us
 expected_by_rule R src ks (all_allowed h p) = all_allowed (λ w. h (narrowed_by (λ k. to_allowed R src ks (Some k)) w)) (picks_by (λ k. of_allowed R src ks (Some k)) (λ k. to_allowed R src ks (Some k)) p)
 expected_by_rule R src ks (closers h p) = closers (narrowed_by (λ k. of_allowed R src ks (Some k)) h) (picks_by (λ k w. (w.0, of_allowed R src ks (Some k) w.1)) (λ k w. (w.0, to_allowed R src ks (Some k) w.1)) p)
 
@@ -316,7 +316,7 @@ starts_by_rule R src ts s = (s.0, (s.1.1.tree, s.1.1.reads))
 refused_by_rule : {T : Type 0} (R : Rule T) (src : List ℕ) (ts : List Lexeme) (after : Option TokenKind) → IsFirstRefused (IsNodeOf R src) ts after → IsFirstRefused (R src) ts after
 refused_by_rule R src ts after u = record { starts = starts_by_rule R src ts u.starts; refuses = λ a. u.refuses (to_allowed R src (kinds ts) after a) }
 
-fault_by_rule : {T : Type 0} (R : Rule T) (src : List ℕ) {n : Narrowing} {ts us : List Lexeme} {bad : Option ℕ} {raw : RawFault} → FirstFault (IsNodeOf R src) n src ts us bad raw → FirstFault (R src) n src ts us bad raw
+fault_by_rule : {T : Type 0} (R : Rule T) (src : List ℕ) {n : ClosersOnly} {ts us : List Lexeme} {bad : Option ℕ} {raw : RawFault} → FirstFault (IsNodeOf R src) n src ts us bad raw → FirstFault (R src) n src ts us bad raw
 fault_by_rule R src (unexpected {ts = ts} {t = t} u h) = unexpected (refused_by_rule R src ts (Some t.kind) u) (expected_by_rule R src (kinds ts) h)
 fault_by_rule R src (early_end {ts = ts} u h) = early_end (refused_by_rule R src ts None u) (expected_by_rule R src (kinds ts) h)
 fault_by_rule R src (large_number {ts = ts} s a k e) = large_number (starts_by_rule R src ts s) (of_allowed R src (kinds ts) (Some kind.Number) a) k e

@@ -3,7 +3,7 @@ use Rattle.std.specs.Prelude.{◌↔◌}
 use Rattle.std.proofs.Common.{◌≡◌, ℕ, List, ◌++◌, Option, sym, ◌∙◌, ap}
 use Rattle.cedar_lexer.specs.Token.{Lexeme}
 use Rattle.cedar_lexer.specs.declared.token.TokenKind.{TokenKind}
-use Rattle.cedar_grammar.specs.machines.Door.{Machine, Comes, Door, Shapes, no_tree}
+use Rattle.cedar_grammar.specs.machines.Machine.{Machine, Comes, IsParser, Shapes, no_tree}
 use Rattle.cedar_grammar.specs.machines.Recovery.{Recovers}
 use Rattle.cedar_policy_machine.proofs.machines.Recovery.{end_from, Comparable, Recoverable}
 
@@ -25,12 +25,12 @@ comparable_so f h {ts = ts} e c =
 
 pub lifted : {S T H Z F G V : Type 0} {src : List ℕ} {m : Machine Lexeme S T} {u : Machine Lexeme H Z} {R : List Lexeme → T → Type 0} {Q : List Lexeme → Z → Type 0} {W : List Lexeme → Type 0} {U : List Lexeme → Option Lexeme → F → Type 0} {L : Lexeme → F → Type 0}
     {r : Recovers S F} {v : Recovers H G} {n : Machine TokenKind V (Unit {0})} {f : S → V} (A : List Lexeme → Option Lexeme → G → Type 0) (B : Lexeme → G → Type 0) (held : H → S) →
-    Recoverable src m R W U L r n f → Holds m u held → LeftAs r v held → Door u Q → Shapes u n (λ q. f (held q)) no_tree →
+    Recoverable src m R W U L r n f → Holds m u held → LeftAs r v held → IsParser u Q → Shapes u n (λ q. f (held q)) no_tree →
     ((s q : H) (l : ℕ) (o : Option Lexeme) → f (held s) ≡ f (held q) → v.tell s l o ≡ v.tell q l o) →
     ((ts : List Lexeme) (q : H) (o : Option Lexeme) (x : G) → Comes u ts q → A ts o x ↔ (v.tell q (end_from 0 ts) o ≡ x)) → ((t : Lexeme) (x : G) → B t x ↔ (v.large t ≡ x)) →
     Recoverable src u Q W A B v n (λ q. f (held q))
-lifted {f = f} A B held d h k door shaped a b c = record {
-  door = door;
+lifted {f = f} A B held d h k parser shaped a b c = record {
+  parser = parser;
   shaped = shaped;
   by_shape = record {
     ways = λ s q e. k.ways s ∙ (d.by_shape.ways (held s) (held q) e ∙ sym (k.ways q));

@@ -1,16 +1,16 @@
--- The door, the outline and the runs of a form whose tree is another's, put in another way.
+-- The parser, the outline and the runs of a form whose tree is another's, put in another way.
 use Rattle.std.proofs.Common.{◌≡◌, ℕ, List, [], ◌∷◌, Option, Some, None, refl, sym, ◌∙◌, ap, subst}
 use Rattle.cedar_lexer.specs.Token.{Lexeme}
 use Rattle.cedar_syntax.specs.declared.cst.Policy.{Policy}
 use Rattle.cedar_syntax.specs.declared.cst.Policies.{Policies}
 use Rattle.cedar_grammar.specs.declared.reading.extent.Extent.{Extent}
-use Rattle.cedar_policy_machine.specs.declared.sequence.Spanned.{Spanned}
+use Rattle.cedar_policy_machine.specs.declared.sequence.SpannedState.{SpannedState}
 use Rattle.cedar_grammar.specs.grammar.Grammar.{IsNodeOf}
 use Rattle.cedar_grammar.specs.grammar.LoosePolicies.{ReadsMany, ReadsPolicy, ReadsPolicies}
 use Rattle.cedar_grammar.specs.grammar.LoosePolicies as loose
 use Rattle.cedar_grammar.specs.grammar.Place.{joint_extent, extent_of, extent, loc_at, placed, placed_or_start}
 use Rattle.cedar_syntax.specs.trees.Trees.{Cell, policies_of}
-use Rattle.cedar_grammar.specs.machines.Door.{steps, Comes, Door, option_image, Reader, machine_of, Outline, no_tree}
+use Rattle.cedar_grammar.specs.machines.Machine.{steps, Comes, IsParser, option_image, Reader, machine_of, Outline, no_tree}
 use Rattle.cedar_policy_machine.specs.machines.Placing.{loc_or_start, policies_node, AsNode, as_node, spanned_state, placing_reader, mapped_reader}
 use Rattle.cedar_grammar.proofs.machines.Laws.{some_is}
 use Rattle.cedar_grammar.proofs.machines.Holding as holding
@@ -46,7 +46,7 @@ pub mapped_back : {S H A T Z : Type 0} (src : List ℕ) (out : H → S) (into : 
 mapped_back src out into g r w ts h c =
     ap (λ s. steps (machine_of src r) (Some s) ts) (sym (w.there r.start)) ∙ held (machine_of src (mapped_reader out into g r)) (machine_of src r) out (takes_out src out into g r w) ts (into r.start) h c
 
--- the door
+-- the parser
 
 pub mapped_right : {S H A T Z : Type 0} (src : List ℕ) (out : H → S) (into : S → H) (g : List ℕ → T → Z) (r : Reader S A T) → EndsRightly src r → EndsRightly src (mapped_reader out into g r)
 mapped_right src out into g r i h = i (out h) ∙ sym (image_some (g src) (r.finish src (out h)))
@@ -58,9 +58,9 @@ mapped_sound : {T Z : Type 0} (g : T → Z) (R : T → Type 0) (Q : Z → Type 0
 mapped_sound g R Q z None h k e = absurd (cc)
 mapped_sound g R Q z (Some x) h k e = subst Q (some_is e) (k x (h x refl))
 
-pub mapped_door : {S H A T Z : Type 0} (src : List ℕ) (out : H → S) (into : S → H) (g : List ℕ → T → Z) (r : Reader S A T) → IsWrapped out into → (R : List Lexeme → T → Type 0) (Q : List Lexeme → Z → Type 0) → Door (machine_of src r) R → ((ts : List Lexeme) (x : T) → R ts x → Q ts (g src x)) →
-    ((ts : List Lexeme) (z : Z) → Q ts z → (x : T) × R ts x × (g src x ≡ z)) → Door (machine_of src (mapped_reader out into g r)) Q
-mapped_door src out into g r w R Q d to of = record {
+pub mapped_parser : {S H A T Z : Type 0} (src : List ℕ) (out : H → S) (into : S → H) (g : List ℕ → T → Z) (r : Reader S A T) → IsWrapped out into → (R : List Lexeme → T → Type 0) (Q : List Lexeme → Z → Type 0) → IsParser (machine_of src r) R → ((ts : List Lexeme) (x : T) → R ts x → Q ts (g src x)) →
+    ((ts : List Lexeme) (z : Z) → Q ts z → (x : T) × R ts x × (g src x ≡ z)) → IsParser (machine_of src (mapped_reader out into g r)) Q
+mapped_parser src out into g r w R Q d to of = record {
   complete = λ ts z q. let v = of ts z q in let h = d.complete ts v.0 v.1 in
       record { last = into h.last; goes = mapped_forth src out into g r w ts h.last h.goes; ends = ap (λ s. option_image (g src) (r.finish src s)) (w.there h.last) ∙ ap (λ o. option_image (g src) o) h.ends ∙ ap (λ z. Some z) v.2 };
   sound = λ ts h z c e. mapped_sound (g src) (λ x. R ts x) (λ z. Q ts z) z (r.finish src (out h)) (λ x f. d.sound ts (out h) x (mapped_back src out into g r w ts h c) f) (λ x v. to ts x v) e;
@@ -94,7 +94,7 @@ mapped_outlined src out into g r w n f i = record {
 }
 
 -- what a form holds whose tree is put as a node
-pub placed_holds : {S H A T Z : Type 0} (src : List ℕ) (out : H → Spanned S) (into : Spanned S → H) (g : List ℕ → Cell T → Z) (r : Reader S A T) → IsWrapped out into → Holds (machine_of src r) (machine_of src (mapped_reader out into g (placing_reader r))) (λ h. (out h).state)
+pub placed_holds : {S H A T Z : Type 0} (src : List ℕ) (out : H → SpannedState S) (into : SpannedState S → H) (g : List ℕ → Cell T → Z) (r : Reader S A T) → IsWrapped out into → Holds (machine_of src r) (machine_of src (mapped_reader out into g (placing_reader r))) (λ h. (out h).state)
 placed_holds src out into g r w = record {
   down = λ ts h c. (back src r None r.start ts (out h) (mapped_back src out into g (placing_reader r) w ts h c)).goes;
   up = λ ts s c. (into (spanned_state (extent ts) s), mapped_forth src out into g (placing_reader r) w ts (spanned_state (extent ts) s) (forth src r None r.start s ts c), ap (λ q. q.state) (w.there (spanned_state (extent ts) s)));

@@ -1,4 +1,4 @@
--- The clauses of the entries in which reading goes on behind a fault.
+-- The clauses of the rules in which reading goes on behind a fault.
 use Rattle.std.specs.Prelude.{MatchResult, IfOk, IfErr}
 use Rattle.std.specs.Str.{IsUtf8}
 use Rattle.std.proofs.Common.{◌≡◌, ℕ, List, [], ◌∷◌, Option, Some, None, Result, Ok, Err, sym, ◌∙◌, ap, subst}
@@ -11,7 +11,7 @@ use Rattle.cedar_lexer.proofs.Runs.{not_both}
 use Rattle.cedar_syntax.specs.declared.err.faults.Failure.{Failure}
 use Rattle.cedar_syntax.specs.declared.err.faults.Failure.TheVariants.{Memory, Errors}
 use Rattle.cedar_syntax.specs.declared.err.faults.ParseError.{ParseError}
-use Rattle.cedar_grammar.specs.declared.reading.expected.Narrowing.TheVariants as narrowing
+use Rattle.cedar_grammar.specs.declared.reading.expected.ClosersOnly.TheVariants as narrowing
 use Rattle.cedar_syntax.specs.faults.ParseErrors.{IsMemory}
 use Rattle.cedar_grammar.specs.grammar.Grammar.{Rule, IsNodeOf, IsTreeOf}
 use Rattle.cedar_grammar.specs.faults.Leftmost.{NumbersFit, HasLeftmost}
@@ -19,7 +19,7 @@ use Rattle.cedar_grammar.specs.faults.Mended.{no_fault}
 use Rattle.cedar_grammar.specs.faults.MendedFaults.{Unallowed, IsLarge, FaultsOf, faults_with_last, IsListed, IsFaultList, IsMendedRefusal}
 use Rattle.cedar_grammar.specs.grammar.Sentences.{HasTree}
 use Rattle.cedar_syntax.specs.trees.Trees.{Cell}
-use Rattle.cedar_grammar.specs.machines.Door.{Machine, Reader, machine_of, allowed_by}
+use Rattle.cedar_grammar.specs.machines.Machine.{Machine, Reader, machine_of, allowed_by}
 use Rattle.cedar_grammar.specs.machines.Judged.{IsRead}
 use Rattle.cedar_grammar.specs.machines.Mending.{IsTold}
 use Rattle.cedar_grammar.specs.machines.Recovery.{Recovers, reading, run_faults, told_all}
@@ -38,14 +38,14 @@ pub record Mends {S A T V : Type 0} (R : Rule T) (W : List ℕ → List Lexeme �
   pub apart : TellsApart r
 
 tree_of : {S A T V : Type 0} {R : Rule T} {text : List ℕ} {p : Reader S A (Cell T)} {r : Recovers S ParseError} {n : Machine TokenKind V (Unit {0})} {f : S → V} (W : List ℕ → List Lexeme → Type 0) → Mends R W text p r n f → (x : Cell T) → IsRead (machine_of text p) text x → IsTreeOf R text x
-tree_of W d x h = record { tokens = h.tokens; cut = h.cut; stands = d.mended.door.sound h.tokens h.runs.last x h.runs.goes h.runs.ends }
+tree_of W d x h = record { tokens = h.tokens; cut = h.cut; stands = d.mended.parser.sound h.tokens h.runs.last x h.runs.goes h.runs.ends }
 
 one_cut : (text : List ℕ) (ts us : List Lexeme) → Cuts text ts → Cuts text us → ts ≡ us
 one_cut text ts us c d = (one_end c (nothing_at_end text) d (nothing_at_end text)).0
 
 one_tree : {S A T V : Type 0} {R : Rule T} {text : List ℕ} {p : Reader S A (Cell T)} {r : Recovers S ParseError} {n : Machine TokenKind V (Unit {0})} {f : S → V} (W : List ℕ → List Lexeme → Type 0) → Mends R W text p r n f → (x y : Cell T) → IsTreeOf R text x → IsTreeOf R text y → x ≡ y
 one_tree {R = R} {text = text} W d x y h g =
-    at_most_one d.mended.door g.tokens x y (subst (λ ts. IsNodeOf R text ts x) (one_cut text h.tokens g.tokens h.cut g.cut) h.stands) g.stands
+    at_most_one d.mended.parser g.tokens x y (subst (λ ts. IsNodeOf R text ts x) (one_cut text h.tokens g.tokens h.cut g.cut) h.stands) g.stands
 
 none_listed : (x : ParseError) (xs : List ParseError) → x ∷ xs ≡ [] → ⊥
 none_listed x xs e = cc
@@ -83,9 +83,9 @@ refused_clause {text = text} {p = p} W d (Err e) h = refused_list W text p d.rig
 -- mended tokens go on from a stop
 goes_from_stop : {S A T V : Type 0} {R : Rule T} {text : List ℕ} {p : Reader S A (Cell T)} {r : Recovers S ParseError} {n : Machine TokenKind V (Unit {0})} {f : S → V} (W : List ℕ → List Lexeme → Type 0) → Mends R W text p r n f → Resumes text (IsNodeOf R text) (W text)
 goes_from_stop W d before rest mended q s =
-    let c = comes d.mended.door before s in
+    let c = comes d.mended.parser before s in
     let g = resumed d.mended c.0 q c.1 in
-    record { skips = g.skips; stop = g.stop; after = g.after; front = g.front; parts = g.parts; mends = g.mends; starts = starts_from d.mended.door g.front g.state g.comes; last = g.last }
+    record { skips = g.skips; stop = g.stop; after = g.after; front = g.front; parts = g.parts; mends = g.mends; starts = starts_from d.mended.parser g.front g.state g.comes; last = g.last }
 
 pub leftmost_clause : {S A T V : Type 0} {R : Rule T} {text : List ℕ} {p : Reader S A (Cell T)} {r : Recovers S ParseError} {n : Machine TokenKind V (Unit {0})} {f : S → V} (W : List ℕ → List Lexeme → Type 0) → Mends R W text p r n f → (o : Result (Cell T) Failure) →
     MatchResult o (λ x. IsRead (machine_of text p) text x) (λ e. IsTold (machine_of text p) (allowed_by p) r text e) → IsUtf8 text → (ts : List Lexeme) → Cuts text ts → NumbersFit ts → IfErr o (λ e. HasLeftmost R text ts e)

@@ -13,7 +13,7 @@ use Rattle.cedar_policy_machine.specs.declared.condition.ConditionState.{Conditi
 use Rattle.cedar_policy_machine.specs.declared.condition.ConditionPart.TheVariants as part
 use Rattle.cedar_grammar.specs.declared.reading.recovery.RecoveryWay.{RecoveryWay}
 use Rattle.cedar_grammar.specs.declared.reading.recovery.RecoveryWay.TheVariants as way
-use Rattle.cedar_policy_machine.specs.declared.sequence.Spanned.{Spanned}
+use Rattle.cedar_policy_machine.specs.declared.sequence.SpannedState.{SpannedState}
 use Rattle.cedar_syntax.specs.tokens.Tokens.{Spot, one}
 use Rattle.cedar_grammar.specs.grammar.Place.{joint_extent, extent, placed}
 use Rattle.cedar_syntax.specs.trees.Trees.{Cell}
@@ -22,7 +22,7 @@ use Rattle.cedar_grammar.specs.grammar.LooseExpressions.{ReadsExpr}
 use Rattle.cedar_grammar.specs.grammar.LoosePolicies.{ReadsBody, no_body, body, ReadsCond}
 use Rattle.cedar_grammar.specs.faults.Mended.{OpenPolicy, open_policy}
 use Rattle.cedar_grammar.specs.grammar.Sentences.{HasTree, Starts}
-use Rattle.cedar_grammar.specs.machines.Door.{Machine, answer_state, steps, Comes, Door, Reader, machine_of}
+use Rattle.cedar_grammar.specs.machines.Machine.{Machine, answer_state, steps, Comes, IsParser, Reader, machine_of}
 use Rattle.cedar_policy_machine.specs.machines.Placing.{AsNode, as_node, spanned_state, placing_reader, placing}
 use Rattle.cedar_policy_machine.specs.machines.Sequences.{sequence, many}
 use Rattle.cedar_policy_machine.specs.machines.Scope.{PartReaders}
@@ -36,13 +36,13 @@ use Rattle.cedar_grammar.proofs.machines.Rightly.{EndsRightly}
 use Rattle.cedar_policy_machine.proofs.machines.Placing.{forth, back, placed_right, placed_ends}
 use Rattle.cedar_policy_machine.proofs.machines.Sequences.{item_at, many_holds, many_next, ManyRead, is_between, is_begun, many_read}
 use Rattle.cedar_policy_machine.proofs.machines.Condition.{holds_body, enters_body, body_runs, opened, ConditionRead, is_start, is_word, is_opened, is_body, is_closed, condition_read, condition_right, condition_ends_at}
-use Rattle.cedar_policy_machine.proofs.machines.Policy.{SectionDoors, conditions_at, holds_conditions, head_runs, PolicyRead, is_annotated, is_effect, is_scope, is_conditions, policy_read}
+use Rattle.cedar_policy_machine.proofs.machines.Policy.{SectionParsers, conditions_at, holds_conditions, head_runs, PolicyRead, is_annotated, is_effect, is_scope, is_conditions, policy_read}
 use Rattle.cedar_policy_machine.proofs.machines.Policy as read
-use Rattle.cedar_policy_machine.proofs.machines.Policies.{Grounds, section_doors, conditions_right, one_condition_door}
+use Rattle.cedar_policy_machine.proofs.machines.Policies.{Grounds, section_parsers, conditions_right, one_condition_parser}
 
 -- one condition
 
-abbrev pub one_condition : {E C : Type 0} → List ℕ → Reader E C (Cell Expr) → Machine Lexeme (Spanned (ConditionState E)) (Cell Cond)
+abbrev pub one_condition : {E C : Type 0} → List ℕ → Reader E C (Cell Expr) → Machine Lexeme (SpannedState (ConditionState E)) (Cell Cond)
 one_condition src e = placing src (condition_reader e)
 
 -- in braces: where a condition may stand, its word and brace have been read
@@ -78,7 +78,7 @@ expression_starts t ts more us no_body e = absurd (nothing e)
     nothing e = cc
 expression_starts {src = src} t ts more us (body {x = x} r) e = (more, (placed src ((t ∷ ts) ++ more) x, as_node (subst (λ us. ReadsExpr src us x) e r)))
 
-body_begun : {E C : Type 0} (src : List ℕ) (m : Reader E C (Cell Expr)) → Door (machine_of src m) (AsNode src (ReadsExpr src)) → (i : Cell Ident) (vs : List Lexeme) → Starts (ReadsBody src) vs → BodyBegun src m i vs
+body_begun : {E C : Type 0} (src : List ℕ) (m : Reader E C (Cell Expr)) → IsParser (machine_of src m) (AsNode src (ReadsExpr src)) → (i : Cell Ident) (vs : List Lexeme) → Starts (ReadsBody src) vs → BodyBegun src m i vs
 body_begun src m d i [] h = record { state = condition_state i part.Opened; goes = refl; is = refl }
 body_begun src m d i (t ∷ ts) h =
     let c = comes d (t ∷ ts) (expression_starts t ts h.0 ((t ∷ ts) ++ h.0) h.1.1 refl) in
@@ -101,7 +101,7 @@ record PolicyBraces {N S E A B C : Type 0} (src : List ℕ) (m : PartReaders N S
 
 policy_braces : {N S E A B C : Type 0} (src : List ℕ) (m : PartReaders N S E A B C) → Grounds src m → {ts us : List Lexeme} {i : Ident} (l : Spot) → OpenPolicy src ts → ReadsAny us i → PolicyBraces src m (ts ++ us ++ one kind.OpenBrace l) (placed src us i)
 policy_braces src m g {us = es} {i = j} l (open_policy {ts = ts} {us = us} {vs = vs} {ws = ws} {xs = xs} {i = i} {ys = ys} {zs = zs} p q r w v c) a =
-    let d = section_doors src m g in
+    let d = section_parsers src m g in
     let n = policies src (sections m) in
     let s = machine_of src (sections m).conditions in
     let h = d.conditions.complete ws zs c in
@@ -129,7 +129,7 @@ lifted : {N S E A B C : Type 0} (src : List ℕ) (m : PartReaders N S E A B C) �
 lifted src m g xs i ys zs e ts s q h =
     let n = one_condition src m.expression in
     let p = placing_reader (condition_reader m.expression) in
-    held (machine_of src (sections m).conditions) (policies src (sections m)) (λ q. conditions_at xs i ys q) (holds_conditions src (sections m) (section_doors src m g) (sequence xs None) i (sequence ys None)) ts (item_at zs (spanned_state e s)) (item_at zs (spanned_state (joint_extent e (extent ts)) q))
+    held (machine_of src (sections m).conditions) (policies src (sections m)) (λ q. conditions_at xs i ys q) (holds_conditions src (sections m) (section_parsers src m g) (sequence xs None) i (sequence ys None)) ts (item_at zs (spanned_state e s)) (item_at zs (spanned_state (joint_extent e (extent ts)) q))
     (held n (many src p) (λ s. item_at zs s) (many_holds src p (conditions_right src m) zs) ts (spanned_state e s) (spanned_state (joint_extent e (extent ts)) q) (forth src (condition_reader m.expression) e s q ts h))
 
 -- the state of one policy, as a node
@@ -181,7 +181,7 @@ pub record OpenTokens (src : List ℕ) (ts : List Lexeme) : Type 0 where
   pub starts : Starts (ReadsBody src) body
   pub is : before ++ word ++ one kind.OpenBrace brace ++ body ≡ ts
 
-body_of : {E C : Type 0} (src : List ℕ) (m : Reader E C (Cell Expr)) → Door (machine_of src m) (AsNode src (ReadsExpr src)) → (ts : List Lexeme) (s : E) → Comes (machine_of src m) ts s → Starts (ReadsBody src) ts
+body_of : {E C : Type 0} (src : List ℕ) (m : Reader E C (Cell Expr)) → IsParser (machine_of src m) (AsNode src (ReadsExpr src)) → (ts : List Lexeme) (s : E) → Comes (machine_of src m) ts s → Starts (ReadsBody src) ts
 body_of src m d ts s c = let h = starts_from d ts s c in (h.0, some (ts ++ h.0) h.1.0 h.1.1)
   where
     some : (us : List Lexeme) (x : Cell Expr) → AsNode src (ReadsExpr src) us x → HasTree (ReadsBody src) us
@@ -197,7 +197,7 @@ record OpenCondition (src : List ℕ) (ts : List Lexeme) : Type 0 where
   starts : Starts (ReadsBody src) body
   is : word ++ one kind.OpenBrace brace ++ body ≡ ts
 
-condition_open : {E C : Type 0} (src : List ℕ) (m : Reader E C (Cell Expr)) → Door (machine_of src m) (AsNode src (ReadsExpr src)) → {ts : List Lexeme} {s : ConditionState E} → ConditionRead src m ts s → condition_way s.part ≡ way.ToBrace → OpenCondition src ts
+condition_open : {E C : Type 0} (src : List ℕ) (m : Reader E C (Cell Expr)) → IsParser (machine_of src m) (AsNode src (ReadsExpr src)) → {ts : List Lexeme} {s : ConditionState E} → ConditionRead src m ts s → condition_way s.part ≡ way.ToBrace → OpenCondition src ts
 condition_open src m d is_start e = absurd (cc)
 condition_open src m d (is_word a) e = absurd (cc)
 condition_open src m d (is_opened {ts = ts} {i = i} l a) e = record { word = ts; ident = i; brace = l; body = []; reads = a; starts = ([], (None, no_body)); is = append-nil (ts ++ one kind.OpenBrace l) }
@@ -209,7 +209,7 @@ open_tokens src m g w h (is_annotated c) e = absurd (cc)
 open_tokens src m g w h (is_effect r a) e = absurd (cc)
 open_tokens src m g w h (is_scope l vs r a c) e = absurd (cc)
 open_tokens {E = E} src m g w h (is_conditions {ts = ts} {us = us} {vs = vs} {s = s} l p ws r a v c) e =
-    from_read (many_read src (placing_reader (condition_reader m.expression)) (ReadsCond src) (one_condition_door src m g) (conditions_right src m) ws s c) e
+    from_read (many_read src (placing_reader (condition_reader m.expression)) (ReadsCond src) (one_condition_parser src m g) (conditions_right src m) ws s c) e
   where
     before : List Lexeme
     before = ts ++ us ++ one kind.OpenParen l ++ vs ++ one kind.CloseParen p
@@ -238,4 +238,4 @@ open_tokens src m g w h (read.is_closed r) e = absurd (h e)
 pub opened_by : {N S E A B C : Type 0} (src : List ℕ) (m : PartReaders N S E A B C) → Grounds src m → (w : RecoveryWay) → (w ≡ way.ToBrace → ⊥) → (ts : List Lexeme) (s : SpannedPolicy N S E) → Comes (policy_machine src m) ts s → policy_way w s.state ≡ way.ToBrace → OpenTokens src ts
 opened_by src m g w h ts s c e =
     let b = back src (policy_reader (sections m)) None (policies src (sections m)).start ts s c in
-    open_tokens src m g w h (policy_read src (sections m) (section_doors src m g) ts s.state b.goes) e
+    open_tokens src m g w h (policy_read src (sections m) (section_parsers src m g) ts s.state b.goes) e

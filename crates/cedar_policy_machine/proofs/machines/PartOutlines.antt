@@ -16,7 +16,7 @@ use Rattle.cedar_policy_machine.specs.declared.condition.ConditionPart.{Conditio
 use Rattle.cedar_policy_machine.specs.declared.condition.ConditionPart.TheVariants as inner
 use Rattle.cedar_policy_machine.specs.declared.condition.ConditionAct.{ConditionAct}
 use Rattle.cedar_syntax.specs.trees.Trees.{Cell}
-use Rattle.cedar_grammar.specs.machines.Door.{Reader, Outline, IsOutline, option_image, is_some, ends_with, no_tree}
+use Rattle.cedar_grammar.specs.machines.Machine.{Reader, Outline, IsOutline, option_image, is_some, ends_with, no_tree}
 use Rattle.cedar_policy_machine.specs.machines.Annotation.{any_node, annotation_shape, annotation_ends, annotation_act, annotation_finish, annotation_reader}
 use Rattle.cedar_policy_machine.specs.machines.Scope.{PartReaders, element_with_part, type_name_plan, entity_type_plan, constraint_plan, reader_plans, element_plan, element_ends, element_act, with_variable, finished_element, element_reader}
 use Rattle.cedar_policy_machine.specs.machines.Condition.{condition_state, opened_plan, body_plan, condition_plan, condition_act, condition_ends, finished_condition, condition_reader}

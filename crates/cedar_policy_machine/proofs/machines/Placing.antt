@@ -1,11 +1,11 @@
--- The door of a form whose tree is put as a node, from that form's own.
+-- A form whose tree is put as a node has a parser, since that form has.
 use Rattle.std.proofs.Common.{◌≡◌, ℕ, List, [], ◌∷◌, Option, Some, None, refl, sym, ◌∙◌, ap, subst}
 use Rattle.cedar_lexer.specs.Token.{Lexeme}
 use Rattle.cedar_grammar.specs.declared.reading.extent.Extent.{Extent}
-use Rattle.cedar_policy_machine.specs.declared.sequence.Spanned.{Spanned}
+use Rattle.cedar_policy_machine.specs.declared.sequence.SpannedState.{SpannedState}
 use Rattle.cedar_grammar.specs.grammar.Place.{joint_extent, extent_of, extent, node_at}
 use Rattle.cedar_syntax.specs.trees.Trees.{Cell}
-use Rattle.cedar_grammar.specs.machines.Door.{Machine, Answer, next, ended, refused, too_large, answer_state, steps, RunsTo, AnswersRightly, Door, is_taken, is_some, Reader, machine_of, done_answer, end_answer, planned_answer, option_image}
+use Rattle.cedar_grammar.specs.machines.Machine.{Machine, Answer, next, ended, refused, too_large, answer_state, steps, RunsTo, AnswersRightly, IsParser, is_taken, is_some, Reader, machine_of, done_answer, end_answer, planned_answer, option_image}
 use Rattle.cedar_policy_machine.specs.machines.Placing.{AsNode, as_node, spanned_state, spanned_by, node_if, placing_reader, placing}
 use Rattle.cedar_grammar.proofs.machines.Laws.{some_is, none_some, steps-none}
 use Rattle.cedar_grammar.proofs.machines.Ending.{NotEmpty, EndsAt, Refuses, Begins}
@@ -23,24 +23,24 @@ join-assoc (Some a) (Some b) (Some c) = refl
 
 -- a step, told by what the machine inside answers
 
-abbrev pub spanned_answer : {S T : Type 0} → List ℕ → Option Extent → Lexeme → Answer S T → Answer (Spanned S) (Cell T)
+abbrev pub spanned_answer : {S T : Type 0} → List ℕ → Option Extent → Lexeme → Answer S T → Answer (SpannedState S) (Cell T)
 spanned_answer src e t (next s) = next (spanned_by e t s)
 spanned_answer src e t (ended x) = ended (node_at src e x)
 spanned_answer src e t refused = refused
 spanned_answer src e t too_large = too_large
 
-done_told : {S T : Type 0} (src : List ℕ) (e : Option Extent) (t : Lexeme) (o : Option S) → ◌≡◌ {A = Answer (Spanned S) (Cell T)} (done_answer (option_image (λ q. spanned_by e t q) o)) (spanned_answer src e t (done_answer o))
+done_told : {S T : Type 0} (src : List ℕ) (e : Option Extent) (t : Lexeme) (o : Option S) → ◌≡◌ {A = Answer (SpannedState S) (Cell T)} (done_answer (option_image (λ q. spanned_by e t q) o)) (spanned_answer src e t (done_answer o))
 done_told src e t (Some q) = refl
 done_told src e t None = refl
 
-end_told : {S T : Type 0} (src : List ℕ) (e : Option Extent) (t : Lexeme) (o : Option T) → ◌≡◌ {A = Answer (Spanned S) (Cell T)} (end_answer (node_if src e o)) (spanned_answer src e t (end_answer o))
+end_told : {S T : Type 0} (src : List ℕ) (e : Option Extent) (t : Lexeme) (o : Option T) → ◌≡◌ {A = Answer (SpannedState S) (Cell T)} (end_answer (node_if src e o)) (spanned_answer src e t (end_answer o))
 end_told src e t (Some x) = refl
 end_told src e t None = refl
 
-pub placed_told : {S A T : Type 0} (src : List ℕ) (r : Reader S A T) (s : Spanned S) (t : Lexeme) → (placing src r).step s t ≡ spanned_answer src s.extent t ((machine_of src r).step s.state t)
+pub placed_told : {S A T : Type 0} (src : List ℕ) (r : Reader S A T) (s : SpannedState S) (t : Lexeme) → (placing src r).step s t ≡ spanned_answer src s.extent t ((machine_of src r).step s.state t)
 placed_told {S = S} {A = A} {T = T} src r s t = go (r.plan s.state t.kind)
   where
-    go : (o : Option A) → planned_answer {S = Spanned S} (λ a. option_image (λ q. spanned_by s.extent t q) (r.act src s.state a t)) (node_if src s.extent (r.finish src s.state)) o ≡ spanned_answer src s.extent t (planned_answer (λ a. r.act src s.state a t) (r.finish src s.state) o)
+    go : (o : Option A) → planned_answer {S = SpannedState S} (λ a. option_image (λ q. spanned_by s.extent t q) (r.act src s.state a t)) (node_if src s.extent (r.finish src s.state)) o ≡ spanned_answer src s.extent t (planned_answer (λ a. r.act src s.state a t) (r.finish src s.state) o)
     go (Some a) = done_told src s.extent t (r.act src s.state a t)
     go None = end_told src s.extent t (r.finish src s.state)
 
@@ -68,11 +68,11 @@ forth src r e s l (t ∷ ts) h =
     ap (λ a. steps (placing src r) (answer_state a) ts) (placed_told src r (spanned_state e s) t) ∙ forth_by src r e s l t ts ((machine_of src r).step s t) h (λ q g. forth src r (joint_extent e (Some (extent_of t))) q l ts g)
 
 -- behind these tokens the machine inside has come to the same state, and the extent is theirs
-pub record Inside {S T : Type 0} (m : Machine Lexeme S T) (e : Option Extent) (s : S) (ts : List Lexeme) (r : Spanned S) : Type 0 where
+pub record Inside {S T : Type 0} (m : Machine Lexeme S T) (e : Option Extent) (s : S) (ts : List Lexeme) (r : SpannedState S) : Type 0 where
   pub goes : steps m (Some s) ts ≡ Some r.state
   pub span : r.extent ≡ joint_extent e (extent ts)
 
-back_by : {S A T : Type 0} (src : List ℕ) (r : Reader S A T) (e : Option Extent) (s : S) (t : Lexeme) (ts : List Lexeme) (l : Spanned S) (a : Answer S T) → (machine_of src r).step s t ≡ a →
+back_by : {S A T : Type 0} (src : List ℕ) (r : Reader S A T) (e : Option Extent) (s : S) (t : Lexeme) (ts : List Lexeme) (l : SpannedState S) (a : Answer S T) → (machine_of src r).step s t ≡ a →
     ((q : S) → steps (placing src r) (Some (spanned_by e t q)) ts ≡ Some l → Inside (machine_of src r) (joint_extent e (Some (extent_of t))) q ts l) →
     steps (placing src r) (answer_state (spanned_answer src e t a)) ts ≡ Some l → Inside (machine_of src r) e s (t ∷ ts) l
 back_by src r e s t ts l (next q) w go h = record { goes = ap (λ a. steps (machine_of src r) (answer_state a) ts) w ∙ (go q h).goes; span = (go q h).span ∙ join-assoc e (Some (extent_of t)) (extent ts) }
@@ -80,20 +80,20 @@ back_by src r e s t ts l (ended x) w go h = absurd (none_some (steps-none (placi
 back_by src r e s t ts l refused w go h = absurd (none_some (steps-none (placing src r) ts) h)
 back_by src r e s t ts l too_large w go h = absurd (none_some (steps-none (placing src r) ts) h)
 
-pub back : {S A T : Type 0} (src : List ℕ) (r : Reader S A T) (e : Option Extent) (s : S) (ts : List Lexeme) (l : Spanned S) → steps (placing src r) (Some (spanned_state e s)) ts ≡ Some l → Inside (machine_of src r) e s ts l
+pub back : {S A T : Type 0} (src : List ℕ) (r : Reader S A T) (e : Option Extent) (s : S) (ts : List Lexeme) (l : SpannedState S) → steps (placing src r) (Some (spanned_state e s)) ts ≡ Some l → Inside (machine_of src r) e s ts l
 back src r e s [] l h = record { goes = ap (λ q. Some q.state) (some_is h); span = ap (λ q. q.extent) (sym (some_is h)) ∙ sym (join-none e) }
 back src r e s (t ∷ ts) l h =
     back_by src r e s t ts l ((machine_of src r).step s t) refl (λ q g. back src r (joint_extent e (Some (extent_of t))) q ts l g)
     (ap (λ a. steps (placing src r) (answer_state a) ts) (sym (placed_told src r (spanned_state e s) t)) ∙ h)
 
--- the door
+-- the parser
 
-node_complete : {S A T : Type 0} (src : List ℕ) (r : Reader S A T) {R : List Lexeme → T → Type 0} → Door (machine_of src r) R → {ts : List Lexeme} {c : Cell T} → AsNode src R ts c → RunsTo (placing src r) ts c
+node_complete : {S A T : Type 0} (src : List ℕ) (r : Reader S A T) {R : List Lexeme → T → Type 0} → IsParser (machine_of src r) R → {ts : List Lexeme} {c : Cell T} → AsNode src R ts c → RunsTo (placing src r) ts c
 node_complete src r d (as_node {ts = ts} {x = x} w) =
     let h = d.complete ts x w in
     record { last = spanned_state (extent ts) h.last; goes = forth src r None r.start h.last ts h.goes; ends = ap (λ o. node_if src (extent ts) o) h.ends }
 
-node_sound : {S A T : Type 0} (src : List ℕ) (r : Reader S A T) (R : List Lexeme → T → Type 0) → Door (machine_of src r) R → (ts : List Lexeme) (l : Spanned S) (c : Cell T) (o : Option T) →
+node_sound : {S A T : Type 0} (src : List ℕ) (r : Reader S A T) (R : List Lexeme → T → Type 0) → IsParser (machine_of src r) R → (ts : List Lexeme) (l : SpannedState S) (c : Cell T) (o : Option T) →
     Inside (machine_of src r) None r.start ts l → r.finish src l.state ≡ o → node_if src l.extent o ≡ Some c → AsNode src R ts c
 node_sound src r R d ts l c None i e h = absurd (cc)
 node_sound src r R d ts l c (Some x) i e h =
@@ -105,8 +105,8 @@ node_answers src e t (ended x) o h = ap (λ o. node_if src e o) h
 node_answers src e t refused o h = ap (λ o. node_if src e o) h
 node_answers src e t too_large o h = h
 
-pub node_door : {S A T : Type 0} (src : List ℕ) (r : Reader S A T) (R : List Lexeme → T → Type 0) → Door (machine_of src r) R → Door (placing src r) (AsNode src R)
-node_door src r R d = record {
+pub node_parser : {S A T : Type 0} (src : List ℕ) (r : Reader S A T) (R : List Lexeme → T → Type 0) → IsParser (machine_of src r) R → IsParser (placing src r) (AsNode src R)
+node_parser src r R d = record {
   complete = λ ts c w. node_complete src r d w;
   sound = λ ts s c f e. node_sound src r R d ts s c (r.finish src s.state) (back src r None r.start ts s f) refl e;
   viable = λ s. let c = d.viable s.state in

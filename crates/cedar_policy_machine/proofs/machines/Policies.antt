@@ -1,9 +1,9 @@
--- The doors and outlines of one policy and of policies, from those of names, sums and expressions.
+-- The parsers and outlines of one policy and of policies, from those of names, sums, expressions.
 use Rattle.std.proofs.Common.{◌≡◌, ℕ, List, refl, sym, ap, subst}
 use Rattle.cedar_lexer.specs.declared.token.TokenKind.{TokenKind}
 use Rattle.cedar_lexer.specs.declared.token.TokenKind.TheVariants as kind
 use Rattle.cedar_grammar.specs.grammar.LoosePolicies.{ReadsMany, ReadsAnnotation, ReadsVariableDef, ReadsCond, ReadsPolicy}
-use Rattle.cedar_grammar.specs.machines.Door.{ended, Door, IsOutside, Shapes, machine_of, outline_machine, no_tree}
+use Rattle.cedar_grammar.specs.machines.Machine.{ended, IsParser, IsOutside, Shapes, machine_of, outline_machine, no_tree}
 use Rattle.cedar_grammar.specs.machines.Marks.{mark_of}
 use Rattle.cedar_policy_machine.specs.machines.Placing.{AsNode, placing, placing_reader}
 use Rattle.cedar_policy_machine.specs.machines.Following.{IsParting, comma, close_paren}
@@ -17,19 +17,19 @@ use Rattle.cedar_policy_machine.specs.machines.Policies.{sections, one_policy_re
 use Rattle.cedar_grammar.proofs.machines.Readers.{shaped_by}
 use Rattle.cedar_grammar.proofs.machines.Ending.{Begins, IsWord, IsKind}
 use Rattle.cedar_grammar.proofs.machines.Rightly.{EndsRightly}
-use Rattle.cedar_policy_machine.proofs.machines.Placing.{node_door, placed_right, placed_not_empty, placed_ends, placed_refuses, placed_ends_itself}
-use Rattle.cedar_policy_machine.proofs.machines.Sequences.{behind_item, many_door, listed_door, many_ends, listed_ends}
-use Rattle.cedar_policy_machine.proofs.machines.Annotation.{annotation_door, annotation_right, annotation_ends_itself, annotation_ends_at_words, annotation_refuses_words}
-use Rattle.cedar_policy_machine.proofs.machines.Scope.{PartDoors, element_door, element_right, IsBehindElement, element_ends_at, element_refuses}
-use Rattle.cedar_policy_machine.proofs.machines.Condition.{condition_door, condition_right, condition_ends_at, condition_refuses}
+use Rattle.cedar_policy_machine.proofs.machines.Placing.{node_parser, placed_right, placed_not_empty, placed_ends, placed_refuses, placed_ends_itself}
+use Rattle.cedar_policy_machine.proofs.machines.Sequences.{behind_item, many_parser, listed_parser, many_ends, listed_ends}
+use Rattle.cedar_policy_machine.proofs.machines.Annotation.{annotation_parser, annotation_right, annotation_ends_itself, annotation_ends_at_words, annotation_refuses_words}
+use Rattle.cedar_policy_machine.proofs.machines.Scope.{PartParsers, element_parser, element_right, IsBehindElement, element_ends_at, element_refuses}
+use Rattle.cedar_policy_machine.proofs.machines.Condition.{condition_parser, condition_right, condition_ends_at, condition_refuses}
 use Rattle.cedar_policy_machine.proofs.machines.PartOutlines.{annotations_outlined, PartsOutlined, elements_outlined, conditions_outlined}
-use Rattle.cedar_policy_machine.proofs.machines.Policy.{SectionDoors, policy_door, policy_ends}
+use Rattle.cedar_policy_machine.proofs.machines.Policy.{SectionParsers, policy_parser, policy_ends}
 use Rattle.cedar_policy_machine.proofs.machines.SequenceShapes.{IsOutlineBy, nodes_outlined, many_right, list_right, many_outlined, list_outlined}
 use Rattle.cedar_policy_machine.proofs.machines.PolicyShapes.{policy_outlined, policy_right}
 
 -- what the parts show of themselves
 pub record Grounds {N S E A B C : Type 0} (src : List ℕ) (m : PartReaders N S E A B C) : Type 0 where
-  pub parts : PartDoors src m
+  pub parts : PartParsers src m
   pub behind_body : IsOutside (machine_of src m.expression) kind.CloseBrace
 
 -- a closing parenthesis is no comma
@@ -39,19 +39,19 @@ paren_ends {S = S} xs k e = ap (λ k. behind_item {S = S} xs (mark_of k)) e
 pub conditions_right : {N S E A B C : Type 0} (src : List ℕ) (m : PartReaders N S E A B C) → EndsRightly src (placing_reader (condition_reader m.expression))
 conditions_right src m = placed_right src (condition_reader m.expression) (condition_right src m.expression)
 
-pub one_condition_door : {N S E A B C : Type 0} (src : List ℕ) (m : PartReaders N S E A B C) → Grounds src m → Door (placing src (condition_reader m.expression)) (AsNode src (ReadsCond src))
-one_condition_door src m g = node_door src (condition_reader m.expression) (ReadsCond src) (condition_door src m.expression g.parts.expression g.behind_body g.parts.expression_right)
+pub one_condition_parser : {N S E A B C : Type 0} (src : List ℕ) (m : PartReaders N S E A B C) → Grounds src m → IsParser (placing src (condition_reader m.expression)) (AsNode src (ReadsCond src))
+one_condition_parser src m g = node_parser src (condition_reader m.expression) (ReadsCond src) (condition_parser src m.expression g.parts.expression g.behind_body g.parts.expression_right)
 
-pub section_doors : {N S E A B C : Type 0} (src : List ℕ) (m : PartReaders N S E A B C) → Grounds src m → SectionDoors src (sections m)
-section_doors src m g =
+pub section_parsers : {N S E A B C : Type 0} (src : List ℕ) (m : PartReaders N S E A B C) → Grounds src m → SectionParsers src (sections m)
+section_parsers src m g =
     let a : EndsRightly src (placing_reader annotation_reader) = placed_right src annotation_reader (annotation_right src) in
     let v : EndsRightly src (placing_reader (element_reader m)) = placed_right src (element_reader m) (element_right src m g.parts.name_right g.parts.sum_right g.parts.expression_right) in
     let c : EndsRightly src (placing_reader (condition_reader m.expression)) = conditions_right src m in
     record {
-      annotations = many_door src (placing_reader annotation_reader) (ReadsAnnotation src) (node_door src annotation_reader (ReadsAnnotation src) (annotation_door src)) a (placed_not_empty src annotation_reader refl) (placed_ends_itself src annotation_reader (annotation_ends_itself src));
-      scope = listed_door src (placing_reader (element_reader m)) (ReadsVariableDef src) (node_door src (element_reader m) (ReadsVariableDef src) (element_door src m g.parts)) v (placed_not_empty src (element_reader m) refl)
+      annotations = many_parser src (placing_reader annotation_reader) (ReadsAnnotation src) (node_parser src annotation_reader (ReadsAnnotation src) (annotation_parser src)) a (placed_not_empty src annotation_reader refl) (placed_ends_itself src annotation_reader (annotation_ends_itself src));
+      scope = listed_parser src (placing_reader (element_reader m)) (ReadsVariableDef src) (node_parser src (element_reader m) (ReadsVariableDef src) (element_parser src m g.parts)) v (placed_not_empty src (element_reader m) refl)
           (λ s x t p e. placed_ends src (element_reader m) IsBehindElement (element_ends_at src m g.parts) s x t (subst (λ k. IsParting k) (sym p) comma) e);
-      conditions = many_door src (placing_reader (condition_reader m.expression)) (ReadsCond src) (one_condition_door src m g) c (placed_not_empty src (condition_reader m.expression) refl)
+      conditions = many_parser src (placing_reader (condition_reader m.expression)) (ReadsCond src) (one_condition_parser src m g) c (placed_not_empty src (condition_reader m.expression) refl)
           (placed_ends src (condition_reader m.expression) (Begins (placing src (condition_reader m.expression))) (condition_ends_at src m.expression (Begins (placing src (condition_reader m.expression)))));
       annotations_right = many_right src (placing_reader annotation_reader) a;
       scope_right = list_right src (placing_reader (element_reader m)) v;
@@ -71,13 +71,13 @@ one_policy_right src m = placed_right src (policy_reader (sections m)) (policy_r
 pub all_policies_right : {N S E A B C : Type 0} (src : List ℕ) (m : PartReaders N S E A B C) → EndsRightly src (all_policies_reader m)
 all_policies_right src m = many_right src (one_policy_reader m) (one_policy_right src m)
 
-pub one_policy_door : {N S E A B C : Type 0} (src : List ℕ) (m : PartReaders N S E A B C) → Grounds src m → Door (policy_machine src m) (AsNode src (ReadsPolicy src))
-one_policy_door src m g = node_door src (policy_reader (sections m)) (ReadsPolicy src) (policy_door src (sections m) (section_doors src m g))
+pub one_policy_parser : {N S E A B C : Type 0} (src : List ℕ) (m : PartReaders N S E A B C) → Grounds src m → IsParser (policy_machine src m) (AsNode src (ReadsPolicy src))
+one_policy_parser src m g = node_parser src (policy_reader (sections m)) (ReadsPolicy src) (policy_parser src (sections m) (section_parsers src m g))
 
-pub all_policies_door : {N S E A B C : Type 0} (src : List ℕ) (m : PartReaders N S E A B C) → Grounds src m → Door (policies_machine src m) (ReadsMany src (ReadsPolicy src))
-all_policies_door src m g =
+pub all_policies_parser : {N S E A B C : Type 0} (src : List ℕ) (m : PartReaders N S E A B C) → Grounds src m → IsParser (policies_machine src m) (ReadsMany src (ReadsPolicy src))
+all_policies_parser src m g =
     let p = policy_reader (sections m) in
-    many_door src (one_policy_reader m) (ReadsPolicy src) (one_policy_door src m g) (one_policy_right src m) (placed_not_empty src p refl) (placed_ends src p (Begins (placing src p)) (policy_ends src (sections m) (Begins (placing src p))))
+    many_parser src (one_policy_reader m) (ReadsPolicy src) (one_policy_parser src m g) (one_policy_right src m) (placed_not_empty src p refl) (placed_ends src p (Begins (placing src p)) (policy_ends src (sections m) (Begins (placing src p))))
 
 -- outlines
 

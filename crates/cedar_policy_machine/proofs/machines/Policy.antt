@@ -1,4 +1,4 @@
--- The door of a policy, from the doors of its parts. Nothing here knows which readers those are.
+-- A policy has a parser, since its parts have. Nothing here knows which readers those are.
 use Rattle.std.specs.Prelude.{cond}
 use Rattle.std.proofs.Common.{◌≡◌, ℕ, List, [], ◌∷◌, ◌++◌, Option, Some, None, Bool, true, false, refl, sym, ◌∙◌, ap, subst, append_assoc, IfSome}
 use Rattle.std.proofs.lemmas.List.{append-nil}
@@ -24,7 +24,7 @@ use Rattle.cedar_syntax.specs.trees.Trees.{Cell, policy_of}
 use Rattle.cedar_grammar.specs.grammar.LooseWords.{ReadsAny, any, ReadsList}
 use Rattle.cedar_grammar.specs.grammar.LoosePolicies.{ReadsMany, ReadsAnnotation, ReadsVariableDef, ReadsCond, ReadsPolicy}
 use Rattle.cedar_grammar.specs.grammar.LoosePolicies as loose
-use Rattle.cedar_grammar.specs.machines.Door.{Answer, next, ended, refused, too_large, answer_state, steps, Comes, RunsTo, Completed, AnswersRightly, Door, is_some, option_image, machine_of, done_answer, planned_answer}
+use Rattle.cedar_grammar.specs.machines.Machine.{Answer, next, ended, refused, too_large, answer_state, steps, Comes, RunsTo, Completed, AnswersRightly, IsParser, is_some, option_image, machine_of, done_answer, planned_answer}
 use Rattle.cedar_grammar.specs.machines.Marks.{mark_of}
 use Rattle.cedar_policy_machine.specs.machines.Annotation.{any_node}
 use Rattle.cedar_policy_machine.specs.machines.Sequences.{sequence}
@@ -37,11 +37,11 @@ use Rattle.cedar_policy_machine.proofs.machines.PolicyShapes.{word_there}
 use Rattle.cedar_grammar.proofs.machines.Rightly.{EndsRightly}
 use Rattle.cedar_grammar.proofs.machines.Marked.{IsMarked, open_paren, close_paren, semicolon, marked, marked_fits, word_fits}
 
--- the doors of the parts, and where they end
-pub record SectionDoors {A V C X Y Z : Type 0} (src : List ℕ) (m : Sections A V C X Y Z) : Type 0 where
-  pub annotations : Door (machine_of src m.annotations) (ReadsMany src (ReadsAnnotation src))
-  pub scope : Door (machine_of src m.scope) (ReadsList src (ReadsVariableDef src))
-  pub conditions : Door (machine_of src m.conditions) (ReadsMany src (ReadsCond src))
+-- the parsers of the parts, and where they end
+pub record SectionParsers {A V C X Y Z : Type 0} (src : List ℕ) (m : Sections A V C X Y Z) : Type 0 where
+  pub annotations : IsParser (machine_of src m.annotations) (ReadsMany src (ReadsAnnotation src))
+  pub scope : IsParser (machine_of src m.scope) (ReadsList src (ReadsVariableDef src))
+  pub conditions : IsParser (machine_of src m.conditions) (ReadsMany src (ReadsCond src))
   pub annotations_right : EndsRightly src m.annotations
   pub scope_right : EndsRightly src m.scope
   pub conditions_right : EndsRightly src m.conditions
@@ -152,7 +152,7 @@ conditions_told f g s k None false None h i e = refl
 conditions_told f g s k None true None h i e = absurd (cc)
 conditions_told f g s k None false (Some zs) h i e = absurd (cc)
 
-pub policy_told : {A V C X Y Z : Type 0} (src : List ℕ) (m : Sections A V C X Y Z) → SectionDoors src m → (s : PolicyOf A V C) (t : Lexeme) → (policies src m).step s t ≡ policy_step src m s.section s t
+pub policy_told : {A V C X Y Z : Type 0} (src : List ℕ) (m : Sections A V C X Y Z) → SectionParsers src m → (s : PolicyOf A V C) (t : Lexeme) → (policies src m).step s t ≡ policy_step src m s.section s t
 policy_told {A = A} {V = V} {C = C} src m d s t = go s.section s.annotations s.effect s.scope s.conditions
   where
     go : (n : Section) (a : Sequence A (Cell Annotation)) (i : Cell Ident) (v : Sequence V (Cell VariableDef)) (c : Sequence C (Cell Cond)) → (policies src m).step (policy_state n a i v c) t ≡ policy_step src m n (policy_state n a i v c) t
@@ -178,40 +178,40 @@ conditions_at xs i ys c = policy_state section.Conditions (sequence xs None) i (
 abbrev pub closed_at : {A V C : Type 0} → List (Cell Annotation) → Cell Ident → List (Cell VariableDef) → List (Cell Cond) → PolicyOf A V C
 closed_at xs i ys zs = policy_state section.Closed (sequence xs None) i (sequence ys None) (sequence zs None)
 
-holds_annotations : {A V C X Y Z : Type 0} (src : List ℕ) (m : Sections A V C X Y Z) → SectionDoors src m → (i : Cell Ident) (v : Sequence V (Cell VariableDef)) (c : Sequence C (Cell Cond)) → Holds (machine_of src m.annotations) (policies src m) (λ q. policy_state section.Annotations q i v c)
+holds_annotations : {A V C X Y Z : Type 0} (src : List ℕ) (m : Sections A V C X Y Z) → SectionParsers src m → (i : Cell Ident) (v : Sequence V (Cell VariableDef)) (c : Sequence C (Cell Cond)) → Holds (machine_of src m.annotations) (policies src m) (λ q. policy_state section.Annotations q i v c)
 holds_annotations src m d i v c s q t e = policy_told src m d (policy_state section.Annotations s i v c) t ∙ ap (λ a. in_annotations (policy_state section.Annotations s i v c) (any_node src t) a) e
 
-holds_scope : {A V C X Y Z : Type 0} (src : List ℕ) (m : Sections A V C X Y Z) → SectionDoors src m → (a : Sequence A (Cell Annotation)) (i : Cell Ident) (c : Sequence C (Cell Cond)) → Holds (machine_of src m.scope) (policies src m) (λ q. policy_state section.Scope a i q c)
+holds_scope : {A V C X Y Z : Type 0} (src : List ℕ) (m : Sections A V C X Y Z) → SectionParsers src m → (a : Sequence A (Cell Annotation)) (i : Cell Ident) (c : Sequence C (Cell Cond)) → Holds (machine_of src m.scope) (policies src m) (λ q. policy_state section.Scope a i q c)
 holds_scope src m d a i c s q t e = policy_told src m d (policy_state section.Scope a i s c) t ∙ ap (λ w. in_scope (policy_state section.Scope a i s c) (mark_of t.kind) w) e
 
-pub holds_conditions : {A V C X Y Z : Type 0} (src : List ℕ) (m : Sections A V C X Y Z) → SectionDoors src m → (a : Sequence A (Cell Annotation)) (i : Cell Ident) (v : Sequence V (Cell VariableDef)) → Holds (machine_of src m.conditions) (policies src m) (λ q. policy_state section.Conditions a i v q)
+pub holds_conditions : {A V C X Y Z : Type 0} (src : List ℕ) (m : Sections A V C X Y Z) → SectionParsers src m → (a : Sequence A (Cell Annotation)) (i : Cell Ident) (v : Sequence V (Cell VariableDef)) → Holds (machine_of src m.conditions) (policies src m) (λ q. policy_state section.Conditions a i v q)
 holds_conditions src m d a i v s q t e = policy_told src m d (policy_state section.Conditions a i v s) t ∙ ap (λ w. in_conditions (policy_state section.Conditions a i v s) (mark_of t.kind) w) e
 
 -- one token that the policy itself takes
 
-takes_effect : {A V C X Y Z : Type 0} (src : List ℕ) (m : Sections A V C X Y Z) → SectionDoors src m → (q : Sequence A (Cell Annotation)) (i : Cell Ident) (v : Sequence V (Cell VariableDef)) (c : Sequence C (Cell Cond)) (xs : List (Cell Annotation)) (t : Lexeme) (j : Ident) → m.annotations.finish src q ≡ Some xs → any_of t.kind t.text ≡ Some j →
+takes_effect : {A V C X Y Z : Type 0} (src : List ℕ) (m : Sections A V C X Y Z) → SectionParsers src m → (q : Sequence A (Cell Annotation)) (i : Cell Ident) (v : Sequence V (Cell VariableDef)) (c : Sequence C (Cell Cond)) (xs : List (Cell Annotation)) (t : Lexeme) (j : Ident) → m.annotations.finish src q ≡ Some xs → any_of t.kind t.text ≡ Some j →
     (policies src m).step (policy_state section.Annotations q i v c) t ≡ next (policy_state section.Effect (sequence xs None) (token_node src t j) v c)
 takes_effect src m d q i v c xs t j e w =
     let s : _ = policy_state section.Annotations q i v c in
     policy_told src m d s t ∙ ap (λ a. in_annotations s (any_node src t) a) (d.at_words q xs t (j, w) e) ∙ ap (λ o. at_effect s xs (option_image (λ i. token_node src t i) o)) w
 
-takes_open : {A V C X Y Z : Type 0} (src : List ℕ) (m : Sections A V C X Y Z) → SectionDoors src m → (a : Sequence A (Cell Annotation)) (i : Cell Ident) (v : Sequence V (Cell VariableDef)) (c : Sequence C (Cell Cond)) (p : Spot) →
+takes_open : {A V C X Y Z : Type 0} (src : List ℕ) (m : Sections A V C X Y Z) → SectionParsers src m → (a : Sequence A (Cell Annotation)) (i : Cell Ident) (v : Sequence V (Cell VariableDef)) (c : Sequence C (Cell Cond)) (p : Spot) →
     (policies src m).step (policy_state section.Effect a i v c) (token_at kind.OpenParen p) ≡ next (policy_state section.Scope a i v c)
 takes_open src m d a i v c p = policy_told src m d (policy_state section.Effect a i v c) (token_at kind.OpenParen p)
 
-takes_close : {A V C X Y Z : Type 0} (src : List ℕ) (m : Sections A V C X Y Z) → SectionDoors src m → (a : Sequence A (Cell Annotation)) (i : Cell Ident) (q : Sequence V (Cell VariableDef)) (c : Sequence C (Cell Cond)) (ys : List (Cell VariableDef)) (p : Spot) → m.scope.finish src q ≡ Some ys →
+takes_close : {A V C X Y Z : Type 0} (src : List ℕ) (m : Sections A V C X Y Z) → SectionParsers src m → (a : Sequence A (Cell Annotation)) (i : Cell Ident) (q : Sequence V (Cell VariableDef)) (c : Sequence C (Cell Cond)) (ys : List (Cell VariableDef)) (p : Spot) → m.scope.finish src q ≡ Some ys →
     (policies src m).step (policy_state section.Scope a i q c) (token_at kind.CloseParen p) ≡ next (policy_state section.Conditions a i (sequence ys None) c)
 takes_close src m d a i q c ys p e =
     policy_told src m d (policy_state section.Scope a i q c) (token_at kind.CloseParen p) ∙ ap (λ w. in_scope (policy_state section.Scope a i q c) mark.CloseParen w) (d.at_paren q ys (token_at kind.CloseParen p) refl e)
 
-takes_shut : {A V C X Y Z : Type 0} (src : List ℕ) (m : Sections A V C X Y Z) → SectionDoors src m → (a : Sequence A (Cell Annotation)) (i : Cell Ident) (v : Sequence V (Cell VariableDef)) (q : Sequence C (Cell Cond)) (zs : List (Cell Cond)) (p : Spot) → m.conditions.finish src q ≡ Some zs →
+takes_shut : {A V C X Y Z : Type 0} (src : List ℕ) (m : Sections A V C X Y Z) → SectionParsers src m → (a : Sequence A (Cell Annotation)) (i : Cell Ident) (v : Sequence V (Cell VariableDef)) (q : Sequence C (Cell Cond)) (zs : List (Cell Cond)) (p : Spot) → m.conditions.finish src q ≡ Some zs →
     (policies src m).step (policy_state section.Conditions a i v q) (token_at kind.Semicolon p) ≡ next (policy_state section.Closed a i v (sequence zs None))
 takes_shut src m d a i v q zs p e =
     policy_told src m d (policy_state section.Conditions a i v q) (token_at kind.Semicolon p) ∙ ap (λ w. in_conditions (policy_state section.Conditions a i v q) mark.Semicolon w) (d.at_semicolon q zs (token_at kind.Semicolon p) refl e)
 
 -- ---- complete, part by part
 
-effect_runs : {A V C X Y Z : Type 0} (src : List ℕ) (m : Sections A V C X Y Z) → SectionDoors src m → {ts us : List Lexeme} {xs : List (Cell Annotation)} {i : Ident} → ReadsMany src (ReadsAnnotation src) ts xs → ReadsAny us i →
+effect_runs : {A V C X Y Z : Type 0} (src : List ℕ) (m : Sections A V C X Y Z) → SectionParsers src m → {ts us : List Lexeme} {xs : List (Cell Annotation)} {i : Ident} → ReadsMany src (ReadsAnnotation src) ts xs → ReadsAny us i →
     Comes (policies src m) (ts ++ us) (policy_state section.Effect (sequence xs None) (placed src us i) m.scope.start m.conditions.start)
 effect_runs src m d {ts = ts} {xs = xs} r (any {k = k} {i = i} q e) =
     let c = d.annotations.complete ts xs r in
@@ -219,7 +219,7 @@ effect_runs src m d {ts = ts} {xs = xs} r (any {k = k} {i = i} q e) =
     (held (machine_of src m.annotations) (policies src m) (λ q. policy_state section.Annotations q no_ident m.scope.start m.conditions.start) (holds_annotations src m d no_ident m.scope.start m.conditions.start) ts m.annotations.start c.last c.goes)
     (ap (λ a. answer_state a) (takes_effect src m d c.last no_ident m.scope.start m.conditions.start xs (token_at k q) i c.ends e))
 
-scope_runs : {A V C X Y Z : Type 0} (src : List ℕ) (m : Sections A V C X Y Z) → SectionDoors src m → (ts : List Lexeme) {vs : List Lexeme} {a : Sequence A (Cell Annotation)} {i : Cell Ident} {ys : List (Cell VariableDef)} (l e : Spot) → Comes (policies src m) ts (policy_state section.Effect a i m.scope.start m.conditions.start) →
+scope_runs : {A V C X Y Z : Type 0} (src : List ℕ) (m : Sections A V C X Y Z) → SectionParsers src m → (ts : List Lexeme) {vs : List Lexeme} {a : Sequence A (Cell Annotation)} {i : Cell Ident} {ys : List (Cell VariableDef)} (l e : Spot) → Comes (policies src m) ts (policy_state section.Effect a i m.scope.start m.conditions.start) →
     ReadsList src (ReadsVariableDef src) vs ys → Comes (policies src m) (ts ++ one kind.OpenParen l ++ vs ++ one kind.CloseParen e) (policy_state section.Conditions a i (sequence ys None) m.conditions.start)
 scope_runs src m d ts {vs = vs} {a = a} {i = i} {ys = ys} l e f r =
     let c = d.scope.complete vs ys r in
@@ -231,12 +231,12 @@ scope_runs src m d ts {vs = vs} {a = a} {i = i} {ys = ys} l e f r =
     (ap (λ a. answer_state a) (takes_close src m d a i c.last m.conditions.start ys e c.ends))
 
 -- behind the scope
-pub head_runs : {A V C X Y Z : Type 0} (src : List ℕ) (m : Sections A V C X Y Z) → SectionDoors src m → {ts us vs : List Lexeme} {xs : List (Cell Annotation)} {i : Ident} {ys : List (Cell VariableDef)} (l e : Spot) →
+pub head_runs : {A V C X Y Z : Type 0} (src : List ℕ) (m : Sections A V C X Y Z) → SectionParsers src m → {ts us vs : List Lexeme} {xs : List (Cell Annotation)} {i : Ident} {ys : List (Cell VariableDef)} (l e : Spot) →
     ReadsMany src (ReadsAnnotation src) ts xs → ReadsAny us i → ReadsList src (ReadsVariableDef src) vs ys →
     Comes (policies src m) (ts ++ us ++ one kind.OpenParen l ++ vs ++ one kind.CloseParen e) (conditions_at xs (placed src us i) ys m.conditions.start)
 head_runs src m d {ts = ts} {us = us} l e r w v = scope_runs src m d (ts ++ us) l e (effect_runs src m d r w) v
 
-conditions_run : {A V C X Y Z : Type 0} (src : List ℕ) (m : Sections A V C X Y Z) → SectionDoors src m → (ts : List Lexeme) {ws : List Lexeme} {xs : List (Cell Annotation)} {i : Cell Ident} {ys : List (Cell VariableDef)} {zs : List (Cell Cond)} (e : Spot) →
+conditions_run : {A V C X Y Z : Type 0} (src : List ℕ) (m : Sections A V C X Y Z) → SectionParsers src m → (ts : List Lexeme) {ws : List Lexeme} {xs : List (Cell Annotation)} {i : Cell Ident} {ys : List (Cell VariableDef)} {zs : List (Cell Cond)} (e : Spot) →
     Comes (policies src m) ts (conditions_at xs i ys m.conditions.start) → ReadsMany src (ReadsCond src) ws zs → Comes (policies src m) (ts ++ ws ++ one kind.Semicolon e) (closed_at xs i ys zs)
 conditions_run src m d ts {ws = ws} {xs = xs} {i = i} {ys = ys} {zs = zs} e f r =
     let c = d.conditions.complete ws zs r in
@@ -246,7 +246,7 @@ conditions_run src m d ts {ws = ws} {xs = xs} {i = i} {ys = ys} {zs = zs} e f r 
     (held (machine_of src m.conditions) (policies src m) (λ q. conditions_at xs i ys q) (holds_conditions src m d (sequence xs None) i (sequence ys None)) ws m.conditions.start c.last c.goes))
     (ap (λ a. answer_state a) (takes_shut src m d (sequence xs None) i (sequence ys None) c.last zs e c.ends))
 
-policy_complete : {A V C X Y Z : Type 0} (src : List ℕ) (m : Sections A V C X Y Z) → SectionDoors src m → {ts : List Lexeme} {p : Policy} → ReadsPolicy src ts p → RunsTo (policies src m) ts p
+policy_complete : {A V C X Y Z : Type 0} (src : List ℕ) (m : Sections A V C X Y Z) → SectionParsers src m → {ts : List Lexeme} {p : Policy} → ReadsPolicy src ts p → RunsTo (policies src m) ts p
 policy_complete src m d (loose.policy {ts = ts} {us = us} {vs = vs} {xs = xs} {i = i} {ys = ys} {zs = zs} l n e r w v c) =
     record { last = closed_at xs (placed src us i) ys zs; goes = conditions_run src m d (ts ++ us ++ one kind.OpenParen l ++ vs ++ one kind.CloseParen n) e (head_runs src m d l n r w v) c; ends = refl }
 
@@ -272,7 +272,7 @@ effect_after : {A V C X Y Z : Type 0} (src : List ℕ) (m : Sections A V C X Y Z
 effect_after src m q r t None e = tt
 effect_after src m q r t (Some i) e = is_effect r (any (spot_of t) e)
 
-annotated_after : {A V C X Y Z : Type 0} (src : List ℕ) (m : Sections A V C X Y Z) → SectionDoors src m → (ts : List Lexeme) (s : Sequence A (Cell Annotation)) → Comes (machine_of src m.annotations) ts s → (t : Lexeme) (a : Answer (Sequence A (Cell Annotation)) (List (Cell Annotation))) →
+annotated_after : {A V C X Y Z : Type 0} (src : List ℕ) (m : Sections A V C X Y Z) → SectionParsers src m → (ts : List Lexeme) (s : Sequence A (Cell Annotation)) → Comes (machine_of src m.annotations) ts s → (t : Lexeme) (a : Answer (Sequence A (Cell Annotation)) (List (Cell Annotation))) →
     (machine_of src m.annotations).step s t ≡ a → AnswersRightly t a (m.annotations.finish src s) → After src m (ts ++ t ∷ []) (in_annotations (policy_state section.Annotations s no_ident m.scope.start m.conditions.start) (any_node src t) a)
 annotated_after src m d ts s c t (next q) e h = is_annotated (one_more (machine_of src m.annotations) ts s q t c e)
 annotated_after src m d ts s c t (ended xs) e h = effect_after src m s (d.annotations.sound ts s xs c h) t (any_of t.kind t.text) refl
@@ -292,7 +292,7 @@ close_after src m {ts = ts} {us = us} {vs = vs} {xs = xs} {i = i} {ys = ys} l q 
     subst (λ ts'. PolicyRead src m ts' (conditions_at xs (placed src us i) ys m.conditions.start)) (append-nil (ts ++ us ++ one kind.OpenParen l ++ vs ++ one kind.CloseParen p)) (is_conditions l p [] r w v refl)
 close_after src m l q r w v _ k p h = tt
 
-scope_after : {A V C X Y Z : Type 0} (src : List ℕ) (m : Sections A V C X Y Z) → SectionDoors src m → {ts us : List Lexeme} {xs : List (Cell Annotation)} {i : Ident} {s : Sequence V (Cell VariableDef)} (l : Spot) (vs : List Lexeme) → ReadsMany src (ReadsAnnotation src) ts xs → ReadsAny us i →
+scope_after : {A V C X Y Z : Type 0} (src : List ℕ) (m : Sections A V C X Y Z) → SectionParsers src m → {ts us : List Lexeme} {xs : List (Cell Annotation)} {i : Ident} {s : Sequence V (Cell VariableDef)} (l : Spot) (vs : List Lexeme) → ReadsMany src (ReadsAnnotation src) ts xs → ReadsAny us i →
     Comes (machine_of src m.scope) vs s → (t : Lexeme) (a : Answer (Sequence V (Cell VariableDef)) (List (Cell VariableDef))) → (machine_of src m.scope).step s t ≡ a → AnswersRightly t a (m.scope.finish src s) →
     After src m (ts ++ us ++ one kind.OpenParen l ++ vs ++ t ∷ []) (in_scope (policy_state section.Scope (sequence xs None) (placed src us i) s m.conditions.start) (mark_of t.kind) a)
 scope_after src m d {ts = ts} {us = us} {xs = xs} {i = i} {s = s} l vs r w c t (next q) e h =
@@ -307,7 +307,7 @@ shut_after : {A V C X Y Z : Type 0} (src : List ℕ) (m : Sections A V C X Y Z) 
 shut_after src m l e q r w v z mark.Semicolon k p semicolon = is_closed (loose.policy l e p r w v z)
 shut_after src m l e q r w v z _ k p h = tt
 
-conditions_after : {A V C X Y Z : Type 0} (src : List ℕ) (m : Sections A V C X Y Z) → SectionDoors src m → {ts us vs : List Lexeme} {xs : List (Cell Annotation)} {i : Ident} {ys : List (Cell VariableDef)} {s : Sequence C (Cell Cond)} (l e : Spot) (ws : List Lexeme) →
+conditions_after : {A V C X Y Z : Type 0} (src : List ℕ) (m : Sections A V C X Y Z) → SectionParsers src m → {ts us vs : List Lexeme} {xs : List (Cell Annotation)} {i : Ident} {ys : List (Cell VariableDef)} {s : Sequence C (Cell Cond)} (l e : Spot) (ws : List Lexeme) →
     ReadsMany src (ReadsAnnotation src) ts xs → ReadsAny us i → ReadsList src (ReadsVariableDef src) vs ys → Comes (machine_of src m.conditions) ws s → (t : Lexeme) (a : Answer (Sequence C (Cell Cond)) (List (Cell Cond))) → (machine_of src m.conditions).step s t ≡ a →
     AnswersRightly t a (m.conditions.finish src s) → After src m (ts ++ us ++ one kind.OpenParen l ++ vs ++ one kind.CloseParen e ++ ws ++ t ∷ []) (in_conditions (conditions_at xs (placed src us i) ys s) (mark_of t.kind) a)
 conditions_after src m d {ts = ts} {us = us} {vs = vs} {xs = xs} {i = i} {ys = ys} {s = s} l e ws r w v c t (next q) f h =
@@ -316,17 +316,17 @@ conditions_after src m d {s = s} l e ws r w v c t (ended zs) f h = shut_after sr
 conditions_after src m d l e ws r w v c t refused f h = tt
 conditions_after src m d l e ws r w v c t too_large f h = tt
 
-policy_stays : {A V C X Y Z : Type 0} (src : List ℕ) (m : Sections A V C X Y Z) → SectionDoors src m → (ts : List Lexeme) (s : PolicyOf A V C) (t : Lexeme) → PolicyRead src m ts s → After src m (ts ++ t ∷ []) (policy_step src m s.section s t)
+policy_stays : {A V C X Y Z : Type 0} (src : List ℕ) (m : Sections A V C X Y Z) → SectionParsers src m → (ts : List Lexeme) (s : PolicyOf A V C) (t : Lexeme) → PolicyRead src m ts s → After src m (ts ++ t ∷ []) (policy_step src m s.section s t)
 policy_stays src m d ts s t (is_annotated {s = q} c) = annotated_after src m d ts q c t ((machine_of src m.annotations).step q t) refl (d.annotations.answers q t)
 policy_stays src m d ts s t (is_effect r w) = open_after src m r w (mark_of t.kind) t.kind (spot_of t) (marked t.kind)
 policy_stays src m d ts s t (is_scope {s = q} l vs r w c) = scope_after src m d l vs r w c t ((machine_of src m.scope).step q t) refl (d.scope.answers q t)
 policy_stays src m d ts s t (is_conditions {s = q} l e ws r w v c) = conditions_after src m d l e ws r w v c t ((machine_of src m.conditions).step q t) refl (d.conditions.answers q t)
 policy_stays src m d ts s t (is_closed r) = tt
 
-policy_keeps : {A V C X Y Z : Type 0} (src : List ℕ) (m : Sections A V C X Y Z) → SectionDoors src m → (ts : List Lexeme) (s : PolicyOf A V C) (t : Lexeme) → PolicyRead src m ts s → After src m (ts ++ t ∷ []) ((policies src m).step s t)
+policy_keeps : {A V C X Y Z : Type 0} (src : List ℕ) (m : Sections A V C X Y Z) → SectionParsers src m → (ts : List Lexeme) (s : PolicyOf A V C) (t : Lexeme) → PolicyRead src m ts s → After src m (ts ++ t ∷ []) ((policies src m).step s t)
 policy_keeps src m d ts s t h = subst (λ a. After src m (ts ++ t ∷ []) a) (sym (policy_told src m d s t)) (policy_stays src m d ts s t h)
 
-pub policy_read : {A V C X Y Z : Type 0} (src : List ℕ) (m : Sections A V C X Y Z) → SectionDoors src m → (ts : List Lexeme) (s : PolicyOf A V C) → Comes (policies src m) ts s → PolicyRead src m ts s
+pub policy_read : {A V C X Y Z : Type 0} (src : List ℕ) (m : Sections A V C X Y Z) → SectionParsers src m → (ts : List Lexeme) (s : PolicyOf A V C) → Comes (policies src m) ts s → PolicyRead src m ts s
 policy_read src m d ts s f = kept (policies src m) (λ ts s. PolicyRead src m ts s) (is_annotated refl) (λ ts s t h. policy_keeps src m d ts s t h) ts s f
 
 policy_sound : {A V C X Y Z : Type 0} (src : List ℕ) (m : Sections A V C X Y Z) {ts : List Lexeme} {s : PolicyOf A V C} (p : Policy) → PolicyRead src m ts s → policy_finish s ≡ Some p → ReadsPolicy src ts p
@@ -338,7 +338,7 @@ policy_sound src m {ts = ts} p (is_closed r) e = subst (λ p. ReadsPolicy src ts
 
 -- ---- viable
 
-conditions_completed : {A V C X Y Z : Type 0} (src : List ℕ) (m : Sections A V C X Y Z) → SectionDoors src m → (a : Sequence A (Cell Annotation)) (i : Cell Ident) (v : Sequence V (Cell VariableDef)) (s : Sequence C (Cell Cond)) → Completed (policies src m) (policy_state section.Conditions a i v s)
+conditions_completed : {A V C X Y Z : Type 0} (src : List ℕ) (m : Sections A V C X Y Z) → SectionParsers src m → (a : Sequence A (Cell Annotation)) (i : Cell Ident) (v : Sequence V (Cell VariableDef)) (s : Sequence C (Cell Cond)) → Completed (policies src m) (policy_state section.Conditions a i v s)
 conditions_completed src m d a i v s =
     let c = d.conditions.viable s in
     record {
@@ -350,7 +350,7 @@ conditions_completed src m d a i v s =
       ends = refl;
     }
 
-scope_completed : {A V C X Y Z : Type 0} (src : List ℕ) (m : Sections A V C X Y Z) → SectionDoors src m → (a : Sequence A (Cell Annotation)) (i : Cell Ident) (s : Sequence V (Cell VariableDef)) (c : Sequence C (Cell Cond)) → Completed (policies src m) (policy_state section.Scope a i s c)
+scope_completed : {A V C X Y Z : Type 0} (src : List ℕ) (m : Sections A V C X Y Z) → SectionParsers src m → (a : Sequence A (Cell Annotation)) (i : Cell Ident) (s : Sequence V (Cell VariableDef)) (c : Sequence C (Cell Cond)) → Completed (policies src m) (policy_state section.Scope a i s c)
 scope_completed src m d a i s z =
     let c = d.scope.viable s in
     let h = conditions_completed src m d a i (sequence c.tree None) z in
@@ -364,7 +364,7 @@ scope_completed src m d a i s z =
       ends = h.ends;
     }
 
-effect_completed : {A V C X Y Z : Type 0} (src : List ℕ) (m : Sections A V C X Y Z) → SectionDoors src m → (a : Sequence A (Cell Annotation)) (i : Cell Ident) (v : Sequence V (Cell VariableDef)) (c : Sequence C (Cell Cond)) → Completed (policies src m) (policy_state section.Effect a i v c)
+effect_completed : {A V C X Y Z : Type 0} (src : List ℕ) (m : Sections A V C X Y Z) → SectionParsers src m → (a : Sequence A (Cell Annotation)) (i : Cell Ident) (v : Sequence V (Cell VariableDef)) (c : Sequence C (Cell Cond)) → Completed (policies src m) (policy_state section.Effect a i v c)
 effect_completed src m d a i v c =
     let h = scope_completed src m d a i v c in
     record {
@@ -375,7 +375,7 @@ effect_completed src m d a i v c =
       ends = h.ends;
     }
 
-annotated_completed : {A V C X Y Z : Type 0} (src : List ℕ) (m : Sections A V C X Y Z) → SectionDoors src m → (s : Sequence A (Cell Annotation)) (i : Cell Ident) (v : Sequence V (Cell VariableDef)) (c : Sequence C (Cell Cond)) → Completed (policies src m) (policy_state section.Annotations s i v c)
+annotated_completed : {A V C X Y Z : Type 0} (src : List ℕ) (m : Sections A V C X Y Z) → SectionParsers src m → (s : Sequence A (Cell Annotation)) (i : Cell Ident) (v : Sequence V (Cell VariableDef)) (c : Sequence C (Cell Cond)) → Completed (policies src m) (policy_state section.Annotations s i v c)
 annotated_completed src m d s i v z =
     let c = d.annotations.viable s in
     let h = effect_completed src m d (sequence c.tree None) (token_node src (some_token kind.Identifier) (ident.Ident [])) v z in
@@ -389,7 +389,7 @@ annotated_completed src m d s i v z =
       ends = h.ends;
     }
 
-policy_viable : {A V C X Y Z : Type 0} (src : List ℕ) (m : Sections A V C X Y Z) → SectionDoors src m → (s : PolicyOf A V C) → Completed (policies src m) s
+policy_viable : {A V C X Y Z : Type 0} (src : List ℕ) (m : Sections A V C X Y Z) → SectionParsers src m → (s : PolicyOf A V C) → Completed (policies src m) s
 policy_viable {A = A} {V = V} {C = C} src m d s = go s.section s.annotations s.effect s.scope s.conditions
   where
     go : (n : Section) (a : Sequence A (Cell Annotation)) (i : Cell Ident) (v : Sequence V (Cell VariableDef)) (c : Sequence C (Cell Cond)) → Completed (policies src m) (policy_state n a i v c)
@@ -435,15 +435,15 @@ conditions_answers s t (ended zs) o h = shut_answers s zs t (mark_of t.kind) ref
 conditions_answers s t refused o h = refl
 conditions_answers s t too_large o h = h
 
-step_answers : {A V C X Y Z : Type 0} (src : List ℕ) (m : Sections A V C X Y Z) → SectionDoors src m → (n : Section) (s : PolicyOf A V C) (t : Lexeme) → AnswersRightly t (policy_step src m n s t) (finished_policy n s)
+step_answers : {A V C X Y Z : Type 0} (src : List ℕ) (m : Sections A V C X Y Z) → SectionParsers src m → (n : Section) (s : PolicyOf A V C) (t : Lexeme) → AnswersRightly t (policy_step src m n s t) (finished_policy n s)
 step_answers src m d section.Annotations s t = annotated_answers src s t ((machine_of src m.annotations).step s.annotations t) (m.annotations.finish src s.annotations) (d.annotations.answers s.annotations t)
 step_answers src m d section.Effect s t = open_answers s t (mark_of t.kind) refl
 step_answers src m d section.Scope s t = scope_answers s t ((machine_of src m.scope).step s.scope t) (m.scope.finish src s.scope) (d.scope.answers s.scope t)
 step_answers src m d section.Conditions s t = conditions_answers s t ((machine_of src m.conditions).step s.conditions t) (m.conditions.finish src s.conditions) (d.conditions.answers s.conditions t)
 step_answers src m d section.Closed s t = refl
 
-pub policy_door : {A V C X Y Z : Type 0} (src : List ℕ) (m : Sections A V C X Y Z) → SectionDoors src m → Door (policies src m) (ReadsPolicy src)
-policy_door src m d = record {
+pub policy_parser : {A V C X Y Z : Type 0} (src : List ℕ) (m : Sections A V C X Y Z) → SectionParsers src m → IsParser (policies src m) (ReadsPolicy src)
+policy_parser src m d = record {
   complete = λ ts p r. policy_complete src m d r;
   sound = λ ts s p f e. policy_sound src m p (policy_read src m d ts s f) e;
   viable = policy_viable src m d;

@@ -16,7 +16,7 @@ use Rattle.cedar_policy_machine.specs.declared.policy.Section.{Section}
 use Rattle.cedar_policy_machine.specs.declared.policy.Section.TheVariants as section
 use Rattle.cedar_grammar.specs.declared.reading.recovery.RecoveryWay.{RecoveryWay}
 use Rattle.cedar_grammar.specs.declared.reading.recovery.RecoveryWay.TheVariants as way
-use Rattle.cedar_policy_machine.specs.declared.sequence.Spanned.{Spanned}
+use Rattle.cedar_policy_machine.specs.declared.sequence.SpannedState.{SpannedState}
 use Rattle.cedar_syntax.specs.tokens.Tokens.{Spot, one}
 use Rattle.cedar_grammar.specs.grammar.Place.{placed}
 use Rattle.cedar_syntax.specs.trees.Trees.{Cell}
@@ -25,7 +25,7 @@ use Rattle.cedar_grammar.specs.grammar.LoosePolicies.{ReadsMany, none, ReadsPoli
 use Rattle.cedar_grammar.specs.grammar.LoosePolicies as loose
 use Rattle.cedar_grammar.specs.grammar.Sentences.{HasTree}
 use Rattle.cedar_grammar.specs.faults.Mended.{InBraces, in_braces, EndsInBraces, BegunPolicy, stub_token, short_policy}
-use Rattle.cedar_grammar.specs.machines.Door.{Machine, Answer, next, ended, refused, too_large, answer_state, steps, Comes, option_image, outline_machine}
+use Rattle.cedar_grammar.specs.machines.Machine.{Machine, Answer, next, ended, refused, too_large, answer_state, steps, Comes, option_image, outline_machine}
 use Rattle.cedar_policy_machine.specs.machines.Placing.{AsNode, as_node, spanned_state, node_if}
 use Rattle.cedar_policy_machine.specs.machines.Sequences.{many}
 use Rattle.cedar_policy_machine.specs.machines.Annotation.{annotation_shape}
@@ -42,7 +42,7 @@ use Rattle.cedar_policy_machine.proofs.machines.Placing.{spanned_answer, placed_
 use Rattle.cedar_policy_machine.proofs.machines.Sequences.{item_at, many_holds, many_next, many_more, ManyRead, is_between, is_begun, many_read}
 use Rattle.cedar_policy_machine.proofs.machines.Policy.{policy_ends as ends_policy}
 use Rattle.cedar_policy_machine.proofs.machines.PartOutlines.{PartsOutlined}
-use Rattle.cedar_policy_machine.proofs.machines.Policies.{Grounds, one_policy_right, one_policy_door, all_policies_door, one_policy_shaped, all_policies_shaped}
+use Rattle.cedar_policy_machine.proofs.machines.Policies.{Grounds, one_policy_right, one_policy_parser, all_policies_parser, one_policy_shaped, all_policies_shaped}
 use Rattle.cedar_policy_machine.proofs.machines.Opened.{in_body, IsClosed, closed, behind_brace, OpenTokens, opened_by}
 use Rattle.cedar_policy_machine.proofs.machines.Recovery.{end_from, Split, Comparable, Recoverable}
 
@@ -66,7 +66,7 @@ part_way_by h part.Opened = refl
 part_way_by h (part.Body s) = refl
 part_way_by h (part.Closed x) = refl
 
-condition_way_by : {E F : Type 0} (h : E → F) (b : Option (Spanned (ConditionState E))) → begun_condition_way b ≡ condition_shape_way (option_image (spanned_shape (condition_shape h)) b)
+condition_way_by : {E F : Type 0} (h : E → F) (b : Option (SpannedState (ConditionState E))) → begun_condition_way b ≡ condition_shape_way (option_image (spanned_shape (condition_shape h)) b)
 condition_way_by h None = refl
 condition_way_by h (Some s) = part_way_by h s.state.part
 
@@ -98,7 +98,7 @@ part_closed_by h part.Opened = refl
 part_closed_by h (part.Body s) = refl
 part_closed_by h (part.Closed x) = refl
 
-condition_closed_by : {E F : Type 0} (h : E → F) (zs : List (Cell Cond)) (b : Option (Spanned (ConditionState E))) →
+condition_closed_by : {E F : Type 0} (h : E → F) (zs : List (Cell Cond)) (b : Option (SpannedState (ConditionState E))) →
     sequence_shape (spanned_shape (condition_shape h)) (condition_closing zs b) ≡ closed_condition_shape (option_image (spanned_shape (condition_shape h)) b)
 condition_closed_by h zs None = refl
 condition_closed_by h zs (Some s) = ap (λ u. Some u) (part_closed_by h s.state.part)
@@ -157,14 +157,14 @@ node_tree (as_node {x = x} r) = (x, r)
 -- a state that can't end has begun a policy
 begun_by : {N S E A B C : Type 0} (src : List ℕ) (m : PartReaders N S E A B C) → Grounds src m → (us : List Lexeme) (q : SpannedPolicy N S E) → Comes (policy_machine src m) us q → (policy_machine src m).finish q ≡ None → BegunPolicy src us
 begun_by {N = N} {S = S} {E = E} src m g us q c e =
-    let d = one_policy_door src m g in
+    let d = one_policy_parser src m g in
     let v = d.viable q in
     go v.more v.last v.tree v.goes v.ends
   where
     go : (ts : List Lexeme) (last : SpannedPolicy N S E) (x : Cell Policy) → steps (policy_machine src m) (Some q) ts ≡ Some last → (policy_machine src m).finish last ≡ Some x → BegunPolicy src us
     go [] last x h f = absurd (none_some e (ap (λ q. (policy_machine src m).finish q) (some_is h) ∙ f))
     go (t ∷ ts) last x h f =
-        let d = one_policy_door src m g in
+        let d = one_policy_parser src m g in
         let r = node_tree (d.sound (us ++ t ∷ ts) last x (then_steps (policy_machine src m) (Some (policy_machine src m).start) (Some q) (Some last) us (t ∷ ts) c h) f) in
         (t, (ts, subst (λ us. HasTree (ReadsPolicy src) us) (sym (snoc_assoc us t ts)) r))
 
@@ -188,7 +188,7 @@ never_part part.Opened e = cc
 never_part (part.Body s) e = cc
 never_part (part.Closed x) e = cc
 
-never_condition : {E : Type 0} (b : Option (Spanned (ConditionState E))) → begun_condition_way b ≡ way.Stop → ⊥
+never_condition : {E : Type 0} (b : Option (SpannedState (ConditionState E))) → begun_condition_way b ≡ way.Stop → ⊥
 never_condition None e = cc
 never_condition (Some s) e = never_part s.state.part e
 
@@ -244,7 +244,7 @@ alone_braces src m d us vs s (in_braces ts es {ws = ws} l z o a b) c =
 alone_not_begun : {N S E A B C : Type 0} (src : List ℕ) (m : PartReaders N S E A B C) → Grounds src m → (ts us : List Lexeme) (s : SpannedPolicy N S E) → ts ≡ [] → BegunPolicy src us → Comes (policy_machine src m) (ts ++ us) s → policy_way way.Stop s.state ≡ way.Stop → ⊥
 alone_not_begun src m d ts us s z p c e =
     let n = policy_machine src m in
-    let k = comes (one_policy_door src m d) (us ++ p.0 ∷ []) (p.1.0, (placed src ((us ++ p.0 ∷ []) ++ p.1.0) p.1.1.0, as_node p.1.1.1)) in
+    let k = comes (one_policy_parser src m d) (us ++ p.0 ∷ []) (p.1.0, (placed src ((us ++ p.0 ∷ []) ++ p.1.0) p.1.1.0, as_node p.1.1.1)) in
     none_some (ap (λ a. answer_state a) (placed_told src (policy_reader (sections m)) s p.0) ∙ taken_span src s.extent p.0 ((policies src (sections m)).step s.state p.0) (stopped_whole src m s.state e p.0)) (rest_of_run n us (p.0 ∷ []) s (Some k.0) (subst (λ ts. Comes n (ts ++ us) s) z c) k.1)
 
 alone_closes : {N S E A B C L M F : Type 0} (f : N → L) (g : S → M) (h : E → F) (src : List ℕ) (m : PartReaders N S E A B C) → Grounds src m → (us vs : List Lexeme) (s : SpannedPolicy N S E) (e : Spot) → InBraces src Nothing us vs → Comes (policy_machine src m) (us ++ vs) s →
@@ -264,7 +264,7 @@ pub one_recovers : {N S E A B C L M F X : Type 0} (src : List ℕ) (m : PartRead
     ((ts : List Lexeme) (s : SpannedPolicy N S E) (o : Option Lexeme) (x : X) → Comes (policy_machine src m) ts s → U ts o x ↔ (tell s (end_from 0 ts) o ≡ x)) → ((t : Lexeme) (x : X) → L t x ↔ (large t ≡ x)) →
     Recoverable src (policy_machine src m) (AsNode src (ReadsPolicy src)) Nothing U L (policy_recovers tell large) (outline_machine (one_policy_outline n)) (one_policy_shape f g h)
 one_recovers src m n f g h d i tell large U L a b c = record {
-  door = one_policy_door src m d;
+  parser = one_policy_parser src m d;
   shaped = one_policy_shaped src m n f g h i;
   by_shape = record {
     ways = λ s q e. way_by_shape f g h way.Stop s ∙ ap (λ u. shape_way way.Stop u) e ∙ sym (way_by_shape f g h way.Stop q);
@@ -279,7 +279,7 @@ one_recovers src m n f g h d i tell large U L a b c = record {
   begun = λ ts s e w. record { whole = []; part = ts; is = refl; stands = refl; begun = begun_by src m d ts s e (ap (λ o. node_if src s.extent o) (not_stopped s.state w)) };
   not_begun = alone_not_begun src m d;
   closes = alone_closes f g h src m d;
-  ends = λ ts us s e z p w. let r = short_reads src e in let k = (one_policy_door src m d).complete _ _ (as_node r.1) in
+  ends = λ ts us s e z p w. let r = short_reads src e in let k = (one_policy_parser src m d).complete _ _ (as_node r.1) in
       record { state = k.last; comes = subst (λ ts. Comes (policy_machine src m) (ts ++ short_policy e) k.last) (sym z) k.goes; alike = sym (whole_shape f g h src k.last _ k.ends) };
 }
 
@@ -296,7 +296,7 @@ another src m d ts (t ∷ us) xs q r c h =
     let n = policy_machine src m in
     let p = one_policy_reader m in
     let o = one_policy_right src m in
-    let k = (all_policies_door src m d).complete ts xs r in
+    let k = (all_policies_parser src m d).complete ts xs r in
     then_steps (many src p) (Some (many src p).start) (Some k.last) _ ts (t ∷ us) k.goes
     (entered n (many src p) (λ q. item_at xs q) (many_holds src p o xs) k.last t (λ s w. many_next src p o (placed_ends src (policy_reader (sections m)) (Begins n) (ends_policy src (sections m) (Begins n))) k.last xs k.ends t s w) us q c)
 
@@ -372,7 +372,7 @@ all_split src m d (is_begun {ts = ts} us {xs = xs} {s = q} r c) = by_end ((polic
   where
     by_end : (o : Option (Cell Policy)) → (policy_machine src m).finish q ≡ o → Split src (WholePolicies src) (ts ++ us)
     by_end None e = record { whole = ts; part = us; is = refl; stands = (xs, r); begun = begun_by src m d us q c e }
-    by_end (Some x) e = record { whole = ts ++ us; part = []; is = append-nil (ts ++ us); stands = (xs ++ x ∷ [], many_more r ((one_policy_door src m d).sound us q x c e)); begun = none_begun src }
+    by_end (Some x) e = record { whole = ts ++ us; part = []; is = append-nil (ts ++ us); stands = (xs ++ x ∷ [], many_more r ((one_policy_parser src m d).sound us q x c e)); begun = none_begun src }
 
 never_stops : {N S E : Type 0} (b : Option (SpannedPolicy N S E)) → begun_policy_way b ≡ way.Stop → ⊥
 never_stops None e = absurd (cc)
@@ -389,7 +389,7 @@ all_ends : {N S E A B C L M F : Type 0} (f : N → L) (g : S → M) (h : E → F
     Comparable (policies_machine src m) (all_policies_shape f g h) (ts ++ short_policy e) (Some whole_policy)
 all_ends f g h src m d ts e w =
     let r = short_reads src e in
-    let k = (one_policy_door src m d).complete (short_policy e) (placed src (short_policy e) r.0) (as_node r.1) in
+    let k = (one_policy_parser src m d).complete (short_policy e) (placed src (short_policy e) r.0) (as_node r.1) in
     record {
       state = item_at w.0 k.last;
       comes = another src m d ts (short_policy e) w.0 k.last w.1 k.goes (start_whole src m k.last (placed src (short_policy e) r.0) k.ends);
@@ -415,7 +415,7 @@ pub all_recover : {N S E A B C L M F X : Type 0} (src : List ℕ) (m : PartReade
     ((ts : List Lexeme) (s : PoliciesState N S E) (o : Option Lexeme) (x : X) → Comes (policies_machine src m) ts s → U ts o x ↔ (tell s (end_from 0 ts) o ≡ x)) → ((t : Lexeme) (x : X) → L t x ↔ (large t ≡ x)) →
     Recoverable src (policies_machine src m) (ReadsMany src (ReadsPolicy src)) (WholePolicies src) U L (policies_recover tell large) (outline_machine (all_policies_outline n)) (all_policies_shape f g h)
 all_recover src m n f g h d i tell large U L a b c = record {
-  door = all_policies_door src m d;
+  parser = all_policies_parser src m d;
   shaped = all_policies_shaped src m n f g h i;
   by_shape = record {
     ways = λ s q e. all_ways f g h s.begun q.begun e;
@@ -425,9 +425,9 @@ all_recover src m n f g h d i tell large U L a b c = record {
   };
   tells = b;
   larges = c;
-  inside = λ ts s e w. all_inside src m d (many_read src (one_policy_reader m) (ReadsPolicy src) (one_policy_door src m d) (one_policy_right src m) ts s e) w;
+  inside = λ ts s e w. all_inside src m d (many_read src (one_policy_reader m) (ReadsPolicy src) (one_policy_parser src m d) (one_policy_right src m) ts s e) w;
   braces = λ us vs s e w. all_in_braces src m d us vs s e w;
-  begun = λ ts s e w. all_split src m d (many_read src (one_policy_reader m) (ReadsPolicy src) (one_policy_door src m d) (one_policy_right src m) ts s e);
+  begun = λ ts s e w. all_split src m d (many_read src (one_policy_reader m) (ReadsPolicy src) (one_policy_parser src m d) (one_policy_right src m) ts s e);
   not_begun = λ ts us s p q e w. never_stops s.begun w;
   closes = λ us vs s e p w. all_closes f g h src m d us vs s e p w;
   ends = λ ts us s e p q w. all_ends f g h src m d ts e p;

@@ -15,7 +15,7 @@ use Rattle.cedar_policy_machine.specs.declared.policy.PolicyAct.TheVariants as a
 use Rattle.cedar_policy_machine.specs.declared.sequence.Sequence.{Sequence}
 use Rattle.cedar_syntax.specs.tokens.Tokens.{any_of, fits}
 use Rattle.cedar_syntax.specs.trees.Trees.{Cell}
-use Rattle.cedar_grammar.specs.machines.Door.{is_some, option_image, IsDone, no_tree}
+use Rattle.cedar_grammar.specs.machines.Machine.{is_some, option_image, IsDone, no_tree}
 use Rattle.cedar_policy_machine.specs.machines.Annotation.{any_node}
 use Rattle.cedar_policy_machine.specs.machines.Policy.{is_word, PolicyOf, Sections, annotations_plan, open_plan, close_plan, scope_plan, shut_plan, conditions_plan, policy_plan, with_annotations, with_scope, with_conditions, behind_effect, behind_scope, behind_conditions, effect_read, policy_act, policy_ends, finished_policy, policy_reader}
 use Rattle.cedar_policy_machine.specs.machines.PolicyShapes.{section_shape, policy_shape, SectionOutlines, policy_shape_plan, policy_shape_act, policy_shape_finish, policy_outline, in_head, has_effect, in_parens, behind_parens}

@@ -10,8 +10,8 @@ use Rattle.cedar_grammar.specs.declared.reading.recovery.RecoveryWay.TheVariants
 use Rattle.cedar_syntax.specs.tokens.Tokens.{Spot, one}
 use Rattle.cedar_grammar.specs.grammar.Sentences.{first}
 use Rattle.cedar_grammar.specs.faults.Mended.{InBraces, EndsInBraces, BegunPolicy, NoneIs, short_policy, Mended, to_brace, to_end, head}
-use Rattle.cedar_grammar.specs.machines.Door.{Machine, Answer, next, ended, refused, answer_state, steps, Comes, AnswersRightly, Door, is_taken, is_some, allows, IsShape, Shapes, no_tree}
-use Rattle.cedar_grammar.specs.machines.Door as door
+use Rattle.cedar_grammar.specs.machines.Machine.{Machine, Answer, next, ended, refused, answer_state, steps, Comes, AnswersRightly, IsParser, is_taken, is_some, allows, IsShape, Shapes, no_tree}
+use Rattle.cedar_grammar.specs.machines.Machine as parser
 use Rattle.cedar_grammar.specs.machines.Marks.{mark_of}
 use Rattle.cedar_grammar.specs.machines.Recovery.{Recovers, reading, skipping, stopped, skip_step, judgment, run_faults, told_reading, told_all}
 use Rattle.cedar_grammar.proofs.machines.Laws.{some_is, none_some, false_true, steps-none, ends_alike}
@@ -42,7 +42,7 @@ pub record Comparable {S T V : Type 0} (m : Machine Lexeme S T) (f : S → V) (t
 -- what a machine shows of itself to be recovered
 pub record Recoverable {S T F V : Type 0} (src : List ℕ) (m : Machine Lexeme S T) (R : List Lexeme → T → Type 0) (W : List Lexeme → Type 0) (U : List Lexeme → Option Lexeme → F → Type 0) (L : Lexeme → F → Type 0) (r : Recovers S F)
     (n : Machine TokenKind V (Unit {0})) (f : S → V) : Type 0 where
-  pub door : Door m R
+  pub parser : IsParser m R
   pub shaped : Shapes m n f no_tree
   pub by_shape : IsByShape r f
   pub tells : (ts : List Lexeme) (s : S) (o : Option Lexeme) (x : F) → Comes m ts s → U ts o x ↔ (r.tell s (end_from 0 ts) o ≡ x)
@@ -62,7 +62,7 @@ reads_by : {S T F : Type 0} (m : Machine Lexeme S T) (r : Recovers S F) (xs : Li
 reads_by m r xs l s q t ts us (next u) h go = go u h
 reads_by m r xs l s q t ts us (ended x) h go = absurd (none_some (steps-none m ts) h)
 reads_by m r xs l s q t ts us refused h go = absurd (none_some (steps-none m ts) h)
-reads_by m r xs l s q t ts us door.too_large h go = absurd (none_some (steps-none m ts) h)
+reads_by m r xs l s q t ts us parser.too_large h go = absurd (none_some (steps-none m ts) h)
 
 -- tokens that are taken
 pub reads : {S T F : Type 0} (m : Machine Lexeme S T) (r : Recovers S F) (xs : List F) (l : ℕ) (s q : S) (ts us : List Lexeme) → steps m (Some s) ts ≡ Some q →
@@ -148,7 +148,7 @@ refused_by : {S T F V : Type 0} (m : Machine Lexeme S T) (r : Recovers S F) (f :
 refused_by m r f xs l s t ts (next q) c i e = absurd (false_true e (ap (λ c. is_taken c) i))
 refused_by m r f xs l s t ts (ended x) c i e = refl
 refused_by m r f xs l s t ts refused c i e = refl
-refused_by m r f xs l s t ts door.too_large c i e = absurd (false_true e i)
+refused_by m r f xs l s t ts parser.too_large c i e = absurd (false_true e i)
 
 end_told : {T F : Type 0} (xs : List F) (x : F) (o : Option T) → is_some o ≡ false → told_reading xs x o ≡ run_faults xs (Some x)
 end_told xs x None e = refl

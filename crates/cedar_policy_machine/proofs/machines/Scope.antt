@@ -1,4 +1,4 @@
--- The door of the machine of an element of the scope, from the doors of the machines of its parts.
+-- The machine of an element of the scope is a parser, since those of its parts are.
 -- Nothing here knows which machines those are.
 use Rattle.std.proofs.Common.{◌≡◌, ℕ, List, [], ◌∷◌, ◌++◌, Option, Some, None, refl, sym, ◌∙◌, ap, subst, append_assoc, IfSome}
 use Rattle.std.proofs.lemmas.List.{append-nil}
@@ -22,7 +22,7 @@ use Rattle.cedar_syntax.specs.trees.Trees.{Cell, variable_def_of}
 use Rattle.cedar_grammar.specs.grammar.LooseWords.{ReadsAny, any, ReadsName}
 use Rattle.cedar_grammar.specs.grammar.LooseExpressions.{ReadsRelOp, less, less_eq, greater_eq, greater, not_eq, equal, within, single_eq, ReadsExpr, ReadsAdd}
 use Rattle.cedar_grammar.specs.grammar.LoosePolicies.{ReadsTypeName, no_type_name, type_name, ReadsEntityType, no_entity_type, entity_type, ReadsConstraint, no_constraint, constraint, ReadsVariableDef, variable_def}
-use Rattle.cedar_grammar.specs.machines.Door.{next, answer_state, steps, Comes, RunsTo, Completed, Door, machine_of, IsDone, option_image, is_some}
+use Rattle.cedar_grammar.specs.machines.Machine.{next, answer_state, steps, Comes, RunsTo, Completed, IsParser, machine_of, IsDone, option_image, is_some}
 use Rattle.cedar_grammar.specs.machines.Marks.{relation_of}
 use Rattle.cedar_policy_machine.specs.machines.Placing.{AsNode, as_node}
 use Rattle.cedar_policy_machine.specs.machines.Following.{IsParting, comma, close_paren, FollowsSum, operator, parting, FollowsName, is_word, as_sum}
@@ -39,11 +39,11 @@ use Rattle.cedar_policy_machine.proofs.machines.ElementPlans.{NarrowPlanned, the
 use Rattle.cedar_grammar.proofs.machines.Rightly.{EndsRightly, DoesRightly, image_of, image_some, can_end, has_tree, does_by, answers_from, images_done, images_kept}
 use Rattle.cedar_grammar.proofs.machines.SingleTokens.{planned_any}
 
--- the doors of the parts
-pub record PartDoors {N S E A B C : Type 0} (src : List ℕ) (m : PartReaders N S E A B C) : Type 0 where
-  pub name : Door (machine_of src m.name) (AsNode src (ReadsName src))
-  pub sum : Door (machine_of src m.sum) (AsNode src (ReadsAdd src))
-  pub expression : Door (machine_of src m.expression) (AsNode src (ReadsExpr src))
+-- the parsers of the parts
+pub record PartParsers {N S E A B C : Type 0} (src : List ℕ) (m : PartReaders N S E A B C) : Type 0 where
+  pub name : IsParser (machine_of src m.name) (AsNode src (ReadsName src))
+  pub sum : IsParser (machine_of src m.sum) (AsNode src (ReadsAdd src))
+  pub expression : IsParser (machine_of src m.expression) (AsNode src (ReadsExpr src))
   pub name_right : EndsRightly src m.name
   pub sum_right : EndsRightly src m.sum
   pub expression_right : EndsRightly src m.expression
@@ -73,12 +73,12 @@ holds_expression src m s o q r t e =
 
 -- behind a part that ends there
 
-type_leaves : {N S E A B C : Type 0} (src : List ℕ) (m : PartReaders N S E A B C) → PartDoors src m → (q : N) (x : Cell Name) (t : Lexeme) → FollowsName t.kind → m.name.finish src q ≡ Some x →
+type_leaves : {N S E A B C : Type 0} (src : List ℕ) (m : PartReaders N S E A B C) → PartParsers src m → (q : N) (x : Cell Name) (t : Lexeme) → FollowsName t.kind → m.name.finish src q ≡ Some x →
     type_name_plan (m.name.plan q t.kind) (m.name.ends q) t.kind ≡ narrow_plan {A = A} {B = B} {C = C} t.kind
 type_leaves src m d q x t h e =
     ap (λ o. type_name_plan o (m.name.ends q) t.kind) (ended_by src m.name q t x (d.behind_name t.kind h q x t refl e)).0 ∙ ap (λ b. type_name_plan None b t.kind) (can_end src m.name d.name_right q x e)
 
-sum_leaves : {N S E A B C : Type 0} (src : List ℕ) (m : PartReaders N S E A B C) → PartDoors src m → (q : S) (x : Cell Add) (t : Lexeme) → FollowsSum t.kind → m.sum.finish src q ≡ Some x →
+sum_leaves : {N S E A B C : Type 0} (src : List ℕ) (m : PartReaders N S E A B C) → PartParsers src m → (q : S) (x : Cell Add) (t : Lexeme) → FollowsSum t.kind → m.sum.finish src q ≡ Some x →
     entity_type_plan (m.sum.plan q t.kind) (m.sum.ends q) t.kind ≡ compare_plan {A = A} {B = B} {C = C} t.kind
 sum_leaves src m d q x t h e =
     ap (λ o. entity_type_plan o (m.sum.ends q) t.kind) (ended_by src m.sum q t x (d.behind_sum t.kind h q x t refl e)).0 ∙ ap (λ b. entity_type_plan None b t.kind) (can_end src m.sum d.sum_right q x e)
@@ -133,7 +133,7 @@ variable_runs src m (any {k = k} {i = i} q e) =
     (takes src (element_reader m) (element_reader m).start (bare (placed src (one k q) i)) act.Variable (token_at k q) (planned_any k q.text act.Variable i e)
     (ap (λ o. option_image (λ i. with_variable (element_reader m).start i) o) (word_node_is src (token_at k q) i e)))
 
-type_runs : {N S E A B C : Type 0} {src : List ℕ} {m : PartReaders N S E A B C} → PartDoors src m → {ts us : List Lexeme} {i : Ident} {x : Option (Cell Name)} → ReadsAny ts i → ReadsTypeName src us x → Typed src m (ts ++ us) (placed src ts i) x
+type_runs : {N S E A B C : Type 0} {src : List ℕ} {m : PartReaders N S E A B C} → PartParsers src m → {ts us : List Lexeme} {i : Ident} {x : Option (Cell Name)} → ReadsAny ts i → ReadsTypeName src us x → Typed src m (ts ++ us) (placed src ts i) x
 type_runs {src = src} {m = m} d {ts = ts} {i = i} w no_type_name = record {
   last = bare (placed src ts i);
   goes = ap (λ ts. steps (elements src m) (Some (element_reader m).start) ts) (append-nil ts) ∙ variable_runs src m w;
@@ -163,7 +163,7 @@ record EntityTyped {N S E A B C : Type 0} (src : List ℕ) (m : PartReaders N S 
   ends : element_finish m src last ≡ Some (variable_def_of i x y None)
   compares : (k : TokenKind) (p : Spot) (o : RelOp) → ReadsRelOp k o → (elements src m).step last (token_at k p) ≡ next (element_state i x y (part.Constraint o m.expression.start))
 
-entity_runs : {N S E A B C : Type 0} {src : List ℕ} {m : PartReaders N S E A B C} → PartDoors src m → {ts vs : List Lexeme} {i : Cell Ident} {x : Option (Cell Name)} {y : Option (Cell Add)} → Typed src m ts i x → ReadsEntityType src vs y →
+entity_runs : {N S E A B C : Type 0} {src : List ℕ} {m : PartReaders N S E A B C} → PartParsers src m → {ts vs : List Lexeme} {i : Cell Ident} {x : Option (Cell Name)} {y : Option (Cell Add)} → Typed src m ts i x → ReadsEntityType src vs y →
     EntityTyped src m (ts ++ vs) i x y
 entity_runs {src = src} {m = m} d {ts = ts} {i = i} {x = x} g no_entity_type = record {
   last = g.last;
@@ -185,7 +185,7 @@ entity_runs {src = src} {m = m} d {ts = ts} {i = i} {x = x} g (entity_type {ts =
           (ap (λ n. Some (element_state i x n (part.Constraint o m.expression.start))) c.ends);
     }
 
-constraint_runs : {N S E A B C : Type 0} {src : List ℕ} {m : PartReaders N S E A B C} → PartDoors src m → {ts ws : List Lexeme} {i : Cell Ident} {x : Option (Cell Name)} {y : Option (Cell Add)} {z : Option (RelOp × Cell Expr)} → EntityTyped src m ts i x y →
+constraint_runs : {N S E A B C : Type 0} {src : List ℕ} {m : PartReaders N S E A B C} → PartParsers src m → {ts ws : List Lexeme} {i : Cell Ident} {x : Option (Cell Name)} {y : Option (Cell Add)} {z : Option (RelOp × Cell Expr)} → EntityTyped src m ts i x y →
     ReadsConstraint src ws z → RunsTo (elements src m) (ts ++ ws) (variable_def_of i x y z)
 constraint_runs {src = src} {m = m} d {ts = ts} g no_constraint = record { last = g.last; goes = ap (λ ts. steps (elements src m) (Some (element_reader m).start) ts) (append-nil ts) ∙ g.goes; ends = g.ends }
 constraint_runs {src = src} {m = m} d {ts = ts} {i = i} {x = x} {y = y} g (constraint {ts = us} {k = k} {o = o} {x = z} p h r) =
@@ -199,7 +199,7 @@ constraint_runs {src = src} {m = m} d {ts = ts} {i = i} {x = x} {y = y} g (const
       ends = ap (λ z. with_constraint v o z) c.ends;
     }
 
-element_complete : {N S E A B C : Type 0} {src : List ℕ} {m : PartReaders N S E A B C} → PartDoors src m → {ts : List Lexeme} {x : VariableDef} → ReadsVariableDef src ts x → RunsTo (elements src m) ts x
+element_complete : {N S E A B C : Type 0} {src : List ℕ} {m : PartReaders N S E A B C} → PartParsers src m → {ts : List Lexeme} {x : VariableDef} → ReadsVariableDef src ts x → RunsTo (elements src m) ts x
 element_complete {src = src} {m = m} d (variable_def {ts = ts} {us = us} {vs = vs} {ws = ws} {i = i} {x = x} {y = y} {z = z} w t e c) =
     subst (λ ts'. RunsTo (elements src m) ts' (variable_def_of (placed src ts i) x y z)) (assoc ts us vs ws) (constraint_runs d (entity_runs d (type_runs d w t) e) c)
   where
@@ -262,7 +262,7 @@ behind_colon ts us p = simp append_assoc
 behind_is : (ts us : List Lexeme) (p : Spot) → ts ++ (one kind.Is p ++ us) ≡ ts ++ one kind.Is p ++ us
 behind_is ts us p = simp append_assoc
 
-one_kept : {N S E A B C : Type 0} {src : List ℕ} {m : PartReaders N S E A B C} → PartDoors src m → (ts : List Lexeme) (s : ElementState N S E) (k : TokenKind) (a : ElementAct A B C) (p : Spot) → ElementRead src m ts s → ElementPlanned (reader_plans m) s.part k a →
+one_kept : {N S E A B C : Type 0} {src : List ℕ} {m : PartReaders N S E A B C} → PartParsers src m → (ts : List Lexeme) (s : ElementState N S E) (k : TokenKind) (a : ElementAct A B C) (p : Spot) → ElementRead src m ts s → ElementPlanned (reader_plans m) s.part k a →
     IfSome (element_act m src s a (token_at k p)) (λ q. ElementRead src m (ts ++ one k p) q)
 one_kept {src = src} {m = m} d ts s k a p at_start (names h) = word_kept src (token_at k p) (λ i. with_variable (element_reader m).start i) (λ q. ElementRead src m (one k p) q) (λ i e. at_word (any p e))
 one_kept {src = src} {m = m} d ts s k a p (at_word w) colon = name_begins src m w p
@@ -290,11 +290,11 @@ one_kept {src = src} {m = m} d ts s k a p (at_operator {ts = os} {us = us} {vs =
     (λ r e. subst (λ ts'. ElementRead src m ts' (element_state (placed src os i) x y (part.Constraint o r))) (snoc (os ++ us ++ vs ++ one j l) ws (token_at k p))
     (at_operator l (ws ++ one k p) w n f h (one_more (machine_of src m.expression) ws q r (token_at k p) c (takes src m.expression q r b (token_at k p) g e))))
 
-element_kept : {N S E A B C : Type 0} {src : List ℕ} {m : PartReaders N S E A B C} → PartDoors src m → (ts : List Lexeme) (s : ElementState N S E) → Comes (elements src m) ts s → ElementRead src m ts s
+element_kept : {N S E A B C : Type 0} {src : List ℕ} {m : PartReaders N S E A B C} → PartParsers src m → (ts : List Lexeme) (s : ElementState N S E) → Comes (elements src m) ts s → ElementRead src m ts s
 element_kept {src = src} {m = m} d =
     keeps src (element_reader m) (λ ts s. ElementRead src m ts s) at_start (λ ts s t a r e. one_kept d ts s t.kind a (spot_of t) r (element_planned (reader_plans m) s.part t.kind a e))
 
-element_sound : {N S E A B C : Type 0} {src : List ℕ} {m : PartReaders N S E A B C} → PartDoors src m → {ts : List Lexeme} {s : ElementState N S E} (v : VariableDef) → ElementRead src m ts s → element_finish m src s ≡ Some v → ReadsVariableDef src ts v
+element_sound : {N S E A B C : Type 0} {src : List ℕ} {m : PartReaders N S E A B C} → PartParsers src m → {ts : List Lexeme} {s : ElementState N S E} (v : VariableDef) → ElementRead src m ts s → element_finish m src s ≡ Some v → ReadsVariableDef src ts v
 element_sound d v at_start e = absurd (cc)
 element_sound {src = src} d v (at_word {ts = ts} {i = i} w) e =
     let r : ReadsVariableDef src (ts ++ []) (variable_def_of (placed src ts i) None None None) = variable_def w no_type_name no_entity_type no_constraint in
@@ -323,7 +323,7 @@ element_sound {src = src} {m = m} d v (at_operator {ts = ts} {us = us} {vs = vs}
 
 -- ---- viable
 
-viable_at : {N S E A B C : Type 0} {src : List ℕ} {m : PartReaders N S E A B C} → PartDoors src m → (s : ElementState N S E) (u : ElementPart N S E) → Completed (elements src m) (element_with_part s u)
+viable_at : {N S E A B C : Type 0} {src : List ℕ} {m : PartReaders N S E A B C} → PartParsers src m → (s : ElementState N S E) (u : ElementPart N S E) → Completed (elements src m) (element_with_part s u)
 viable_at d s part.Start = record { more = some_token kind.Identifier ∷ []; last = _; tree = _; goes = refl; ends = refl }
 viable_at d s part.Nothing = record { more = []; last = element_with_part s part.Nothing; tree = variable_def_of s.variable s.unused_type_name s.entity_type None; goes = refl; ends = refl }
 viable_at {src = src} {m = m} d s (part.TypeName q) =
@@ -392,11 +392,11 @@ does_at src m d s u k a p (expression_goes {o = o} {s = q} {a = b} h) =
 pub element_does : {N S E A B C : Type 0} (src : List ℕ) (m : PartReaders N S E A B C) → PartsDo src m → DoesRightly src (element_reader m)
 element_does src m d s a t e = does_at src m d s s.part t.kind a (spot_of t) (element_planned (reader_plans m) s.part t.kind a e)
 
-parts_do : {N S E A B C : Type 0} (src : List ℕ) (m : PartReaders N S E A B C) → PartDoors src m → PartsDo src m
+parts_do : {N S E A B C : Type 0} (src : List ℕ) (m : PartReaders N S E A B C) → PartParsers src m → PartsDo src m
 parts_do src m d = record { name = does_by src m.name d.name.answers; sum = does_by src m.sum d.sum.answers; expression = does_by src m.expression d.expression.answers }
 
-pub element_door : {N S E A B C : Type 0} (src : List ℕ) (m : PartReaders N S E A B C) → PartDoors src m → Door (elements src m) (ReadsVariableDef src)
-element_door src m d = record {
+pub element_parser : {N S E A B C : Type 0} (src : List ℕ) (m : PartReaders N S E A B C) → PartParsers src m → IsParser (elements src m) (ReadsVariableDef src)
+element_parser src m d = record {
   complete = λ ts v r. element_complete d r;
   sound = λ ts s v f e. element_sound d v (element_kept d ts s f) e;
   viable = λ s. viable_at d s s.part;
@@ -425,7 +425,7 @@ variable_parted : {A B C : Type 0} (k : TokenKind) → IsParting k → if_any {A
 variable_parted k comma = refl
 variable_parted k close_paren = refl
 
-parted_at : {N S E A B C : Type 0} (src : List ℕ) (m : PartReaders N S E A B C) → PartDoors src m → (s : ElementState N S E) (u : ElementPart N S E) (v : VariableDef) (t : Lexeme) → IsParting t.kind → finished_element src m s u ≡ Some v →
+parted_at : {N S E A B C : Type 0} (src : List ℕ) (m : PartReaders N S E A B C) → PartParsers src m → (s : ElementState N S E) (u : ElementPart N S E) (v : VariableDef) (t : Lexeme) → IsParting t.kind → finished_element src m s u ≡ Some v →
     element_plan (reader_plans m) u t.kind ≡ None
 parted_at src m d s part.Start v t h e = absurd (cc)
 parted_at src m d s part.Nothing v t h e = bare_parted t.kind h
@@ -439,7 +439,7 @@ parted_at src m d s (part.Constraint o q) v t h e =
     let f = image_of (λ z. variable_def_of s.variable s.unused_type_name s.entity_type (Some (o, z))) (m.expression.finish src q) v e in
     ap (λ o. constraint_plan o) (ended_by src m.expression q t f.0 (d.behind_expression t.kind h q f.0 t refl f.1)).0
 
-pub element_ends_at : {N S E A B C : Type 0} (src : List ℕ) (m : PartReaders N S E A B C) → PartDoors src m → EndsAt (elements src m) IsBehindElement
+pub element_ends_at : {N S E A B C : Type 0} (src : List ℕ) (m : PartReaders N S E A B C) → PartParsers src m → EndsAt (elements src m) IsBehindElement
 element_ends_at src m d s v t h e = leaves_tree src (element_reader m) s t v (parted_at src m d s s.part v t h e) e
 
 pub element_refuses : {N S E A B C : Type 0} (src : List ℕ) (m : PartReaders N S E A B C) → Refuses (elements src m) IsBehindElement

@@ -7,7 +7,7 @@ use Rattle.cedar_grammar.specs.declared.reading.extent.Extent.{Extent}
 use Rattle.cedar_policy_machine.specs.declared.sequence.Sequence.{Sequence}
 use Rattle.cedar_policy_machine.specs.declared.sequence.SequenceAct.{SequenceAct}
 use Rattle.cedar_policy_machine.specs.declared.sequence.SequenceAct.TheVariants as act
-use Rattle.cedar_grammar.specs.machines.Door.{Answer, is_some, IsShape, option_image, Reader, Outline, IsDone, IsOutline, no_tree}
+use Rattle.cedar_grammar.specs.machines.Machine.{Answer, is_some, IsShape, option_image, Reader, Outline, IsDone, IsOutline, no_tree}
 use Rattle.cedar_policy_machine.specs.machines.Placing.{spanned_by, node_if, placing_reader}
 use Rattle.cedar_policy_machine.specs.machines.Sequences.{sequence, begun_many_plan, many_plan, begun_list_plan, comma_plan, list_plan, items_with_last, sequence_end, sequence_ends, item_begun, next_item, items_ended, item_act, many_reader, list_reader, IsSequencePlan}
 use Rattle.cedar_policy_machine.specs.machines.SequenceShapes.{spanned_shape, sequence_shape, sequence_shape_end, sequence_shape_act, many_outline, list_outline}

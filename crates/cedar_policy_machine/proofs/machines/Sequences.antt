@@ -1,4 +1,4 @@
--- The doors of the forms that read one item after the other, from the door of one item.
+-- Forms that read one item after the other have parsers, since one item has.
 use Rattle.std.proofs.Common.{◌≡◌, ℕ, List, [], ◌∷◌, ◌++◌, Option, Some, None, Bool, true, false, refl, sym, ◌∙◌, ap, subst, append_assoc, IfSome}
 use Rattle.cedar_lexer.specs.Token.{Lexeme}
 use Rattle.cedar_lexer.specs.declared.token.TokenKind.{TokenKind}
@@ -12,7 +12,7 @@ use Rattle.cedar_grammar.specs.grammar.Place.{placed}
 use Rattle.cedar_syntax.specs.trees.Trees.{Cell}
 use Rattle.cedar_grammar.specs.grammar.LooseWords.{ReadsItems, one_item, more_items, ReadsList, no_item, items, items_comma}
 use Rattle.cedar_grammar.specs.grammar.LoosePolicies.{ReadsMany, none, more}
-use Rattle.cedar_grammar.specs.machines.Door.{Machine, Answer, next, ended, refused, too_large, answer_state, steps, Comes, RunsTo, Completed, AnswersRightly, Door, is_taken, is_some, Reader, machine_of, done_answer, planned_answer, option_image}
+use Rattle.cedar_grammar.specs.machines.Machine.{Machine, Answer, next, ended, refused, too_large, answer_state, steps, Comes, RunsTo, Completed, AnswersRightly, IsParser, is_taken, is_some, Reader, machine_of, done_answer, planned_answer, option_image}
 use Rattle.cedar_grammar.specs.machines.Marks.{mark_of}
 use Rattle.cedar_policy_machine.specs.machines.Placing.{AsNode, as_node}
 use Rattle.cedar_policy_machine.specs.machines.Sequences.{sequence, begun_many_plan, begun_list_plan, comma_plan, items_with_last, sequence_end, item_begun, item_act, many, comma_list}
@@ -150,7 +150,7 @@ pub many_next : {S A T : Type 0} (src : List ℕ) (r : Reader S A T) → EndsRig
     (machine_of src r).step (machine_of src r).start t ≡ next q → (many src r).step u t ≡ next (item_at xs q)
 many_next src r i h u xs e t q w = many_told src r i u t ∙ many_next_by (machine_of src r) h u.done u.begun xs e t q w
 
-many_one_more : {S A T : Type 0} (src : List ℕ) (r : Reader S A (Cell T)) (R : List Lexeme → T → Type 0) → Door (machine_of src r) (AsNode src R) → EndsRightly src r → NotEmpty (machine_of src r) → EndsAt (machine_of src r) (Begins (machine_of src r)) →
+many_one_more : {S A T : Type 0} (src : List ℕ) (r : Reader S A (Cell T)) (R : List Lexeme → T → Type 0) → IsParser (machine_of src r) (AsNode src R) → EndsRightly src r → NotEmpty (machine_of src r) → EndsAt (machine_of src r) (Begins (machine_of src r)) →
     (ts us : List Lexeme) (xs : List (Cell T)) (y : Cell T) → RunsTo (many src r) ts xs → AsNode src R us y → RunsTo (many src r) (ts ++ us) (xs ++ y ∷ [])
 many_one_more src r R d i z h ts us xs y g w =
     let m = machine_of src r in
@@ -162,7 +162,7 @@ many_one_more src r R d i z h ts us xs y g w =
       ends = ap (λ o. items_with_last xs o) c.ends;
     }
 
-many_complete : {S A T : Type 0} (src : List ℕ) (r : Reader S A (Cell T)) (R : List Lexeme → T → Type 0) → Door (machine_of src r) (AsNode src R) → EndsRightly src r → NotEmpty (machine_of src r) → EndsAt (machine_of src r) (Begins (machine_of src r)) →
+many_complete : {S A T : Type 0} (src : List ℕ) (r : Reader S A (Cell T)) (R : List Lexeme → T → Type 0) → IsParser (machine_of src r) (AsNode src R) → EndsRightly src r → NotEmpty (machine_of src r) → EndsAt (machine_of src r) (Begins (machine_of src r)) →
     {ts : List Lexeme} {xs : List (Cell T)} → ReadsMany src R ts xs → RunsTo (many src r) ts xs
 many_complete src r R d i z h none = record { last = sequence [] None; goes = refl; ends = refl }
 many_complete src r R d i z h (more {ts = ts} {us = us} {xs = xs} {y = y} w v) = many_one_more src r R d i z h ts us xs (placed src us y) (many_complete src r R d i z h w) (as_node v)
@@ -181,7 +181,7 @@ many_begins m R r t (ended x) e = tt
 many_begins m R r t refused e = tt
 many_begins m R r t too_large e = tt
 
-many_goes : {S T : Type 0} {src : List ℕ} {m : Machine Lexeme S (Cell T)} {R : List Lexeme → T → Type 0} → Door m (AsNode src R) → {ts : List Lexeme} (us : List Lexeme) {xs : List (Cell T)} {s : S} → ReadsMany src R ts xs → Comes m us s →
+many_goes : {S T : Type 0} {src : List ℕ} {m : Machine Lexeme S (Cell T)} {R : List Lexeme → T → Type 0} → IsParser m (AsNode src R) → {ts : List Lexeme} (us : List Lexeme) {xs : List (Cell T)} {s : S} → ReadsMany src R ts xs → Comes m us s →
     (t : Lexeme) (a : Answer S (Cell T)) → m.step s t ≡ a → AnswersRightly t a (m.finish s) → IfSome (answer_state (many_answer m xs t a)) (λ q. ManyRead src m R ((ts ++ us) ++ t ∷ []) q)
 many_goes {src = src} {m = m} {R = R} d {ts = ts} us {xs = xs} {s = s} r c t (next q) e i = subst (λ w. ManyRead src m R w (item_at xs q)) (assoc ts us t) (is_begun (us ++ t ∷ []) r (one_more m us s q t c e))
   where
@@ -191,31 +191,31 @@ many_goes {m = m} {R = R} d us {s = s} r c t (ended x) e i = many_begins m R (ma
 many_goes d us r c t refused e i = tt
 many_goes d us r c t too_large e i = tt
 
-many_stays : {S T : Type 0} {src : List ℕ} {m : Machine Lexeme S (Cell T)} {R : List Lexeme → T → Type 0} → Door m (AsNode src R) → (ts : List Lexeme) (s : Sequence S (Cell T)) (t : Lexeme) → ManyRead src m R ts s →
+many_stays : {S T : Type 0} {src : List ℕ} {m : Machine Lexeme S (Cell T)} {R : List Lexeme → T → Type 0} → IsParser m (AsNode src R) → (ts : List Lexeme) (s : Sequence S (Cell T)) (t : Lexeme) → ManyRead src m R ts s →
     IfSome (answer_state (many_step m s.done s.begun t)) (λ q. ManyRead src m R (ts ++ t ∷ []) q)
 many_stays {m = m} {R = R} d ts s t (is_between r) = many_begins m R r t (m.step m.start t) refl
 many_stays {m = m} d ts s t (is_begun us {s = q} r c) = many_goes d us r c t (m.step q t) refl (d.answers q t)
 
-many_keeps : {S A T : Type 0} (src : List ℕ) (r : Reader S A (Cell T)) (R : List Lexeme → T → Type 0) → Door (machine_of src r) (AsNode src R) → EndsRightly src r → (ts : List Lexeme) (s : Sequence S (Cell T)) (t : Lexeme) → ManyRead src (machine_of src r) R ts s →
+many_keeps : {S A T : Type 0} (src : List ℕ) (r : Reader S A (Cell T)) (R : List Lexeme → T → Type 0) → IsParser (machine_of src r) (AsNode src R) → EndsRightly src r → (ts : List Lexeme) (s : Sequence S (Cell T)) (t : Lexeme) → ManyRead src (machine_of src r) R ts s →
     IfSome (answer_state ((many src r).step s t)) (λ q. ManyRead src (machine_of src r) R (ts ++ t ∷ []) q)
 many_keeps src r R d i ts s t h = subst (λ a. IfSome (answer_state a) (λ q. ManyRead src (machine_of src r) R (ts ++ t ∷ []) q)) (sym (many_told src r i s t)) (many_stays d ts s t h)
 
-pub many_read : {S A T : Type 0} (src : List ℕ) (r : Reader S A (Cell T)) (R : List Lexeme → T → Type 0) → Door (machine_of src r) (AsNode src R) → EndsRightly src r → (ts : List Lexeme) (s : Sequence S (Cell T)) → Comes (many src r) ts s → ManyRead src (machine_of src r) R ts s
+pub many_read : {S A T : Type 0} (src : List ℕ) (r : Reader S A (Cell T)) (R : List Lexeme → T → Type 0) → IsParser (machine_of src r) (AsNode src R) → EndsRightly src r → (ts : List Lexeme) (s : Sequence S (Cell T)) → Comes (many src r) ts s → ManyRead src (machine_of src r) R ts s
 many_read src r R d i ts s f = kept (many src r) (λ ts s. ManyRead src (machine_of src r) R ts s) (is_between none) (λ ts s t h. many_keeps src r R d i ts s t h) ts s f
 
-many_sound : {S T : Type 0} {src : List ℕ} {m : Machine Lexeme S (Cell T)} {R : List Lexeme → T → Type 0} → Door m (AsNode src R) → {ts : List Lexeme} {s : Sequence S (Cell T)} (xs : List (Cell T)) → ManyRead src m R ts s →
+many_sound : {S T : Type 0} {src : List ℕ} {m : Machine Lexeme S (Cell T)} {R : List Lexeme → T → Type 0} → IsParser m (AsNode src R) → {ts : List Lexeme} {s : Sequence S (Cell T)} (xs : List (Cell T)) → ManyRead src m R ts s →
     sequence_end m.finish s.done s.begun ≡ Some xs → ReadsMany src R ts xs
 many_sound {src = src} {R = R} d {ts = ts} ys (is_between r) e = subst (λ xs. ReadsMany src R ts xs) (some_is e) r
 many_sound {src = src} {m = m} {R = R} d ys (is_begun {ts = ts} us {xs = xs} {s = s} r c) e =
     let f = finished xs (m.finish s) ys e in subst (λ xs. ReadsMany src R (ts ++ us) xs) f.2 (many_more r (d.sound us s f.0 c f.1))
 
-many_viable : {S A T : Type 0} (src : List ℕ) (r : Reader S A T) (R : List Lexeme → T → Type 0) → Door (machine_of src r) R → EndsRightly src r → (xs : List T) (b : Option S) → Completed (many src r) (sequence xs b)
+many_viable : {S A T : Type 0} (src : List ℕ) (r : Reader S A T) (R : List Lexeme → T → Type 0) → IsParser (machine_of src r) R → EndsRightly src r → (xs : List T) (b : Option S) → Completed (many src r) (sequence xs b)
 many_viable src r R d i xs None = record { more = []; last = sequence xs None; tree = xs; goes = refl; ends = refl }
 many_viable src r R d i xs (Some s) =
     let c = d.viable s in
     record { more = c.more; last = item_at xs c.last; tree = xs ++ c.tree ∷ []; goes = held (machine_of src r) (many src r) (λ q. item_at xs q) (many_holds src r i xs) c.more s c.last c.goes; ends = ap (λ o. items_with_last xs o) c.ends }
 
-many_item_answers : {S T : Type 0} {m : Machine Lexeme S T} {R : List Lexeme → T → Type 0} → Door m R → (t : Lexeme) (xs : List T) (a : Answer S T) (o : Option T) → AnswersRightly t a o →
+many_item_answers : {S T : Type 0} {m : Machine Lexeme S T} {R : List Lexeme → T → Type 0} → IsParser m R → (t : Lexeme) (xs : List T) (a : Answer S T) (o : Option T) → AnswersRightly t a o →
     AnswersRightly t (many_answer m xs t a) (items_with_last xs o)
 many_item_answers d t xs (next s) o h = h
 many_item_answers {m = m} d t xs (ended x) o h =
@@ -223,13 +223,13 @@ many_item_answers {m = m} d t xs (ended x) o h =
 many_item_answers d t xs refused o h = ap (λ o. items_with_last xs o) h
 many_item_answers d t xs too_large o h = h
 
-many_answers : {S T : Type 0} {m : Machine Lexeme S T} {R : List Lexeme → T → Type 0} → Door m R → (xs : List T) (b : Option S) (t : Lexeme) → AnswersRightly t (many_step m xs b t) (sequence_end m.finish xs b)
+many_answers : {S T : Type 0} {m : Machine Lexeme S T} {R : List Lexeme → T → Type 0} → IsParser m R → (xs : List T) (b : Option S) (t : Lexeme) → AnswersRightly t (many_step m xs b t) (sequence_end m.finish xs b)
 many_answers {m = m} d xs None t = begin_answers t xs (m.step m.start t) (m.finish m.start) (d.answers m.start t)
 many_answers {m = m} d xs (Some s) t = many_item_answers d t xs (m.step s t) (m.finish s) (d.answers s t)
 
-pub many_door : {S A T : Type 0} (src : List ℕ) (r : Reader S A (Cell T)) (R : List Lexeme → T → Type 0) → Door (machine_of src r) (AsNode src R) → EndsRightly src r → NotEmpty (machine_of src r) → EndsAt (machine_of src r) (Begins (machine_of src r)) →
-    Door (many src r) (ReadsMany src R)
-many_door src r R d i z h = record {
+pub many_parser : {S A T : Type 0} (src : List ℕ) (r : Reader S A (Cell T)) (R : List Lexeme → T → Type 0) → IsParser (machine_of src r) (AsNode src R) → EndsRightly src r → NotEmpty (machine_of src r) → EndsAt (machine_of src r) (Begins (machine_of src r)) →
+    IsParser (many src r) (ReadsMany src R)
+many_parser src r R d i z h = record {
   complete = λ ts xs w. many_complete src r R d i z h w;
   sound = λ ts s xs f e. many_sound d xs (many_read src r R d i ts s f) e;
   viable = λ s. many_viable src r (AsNode src R) d i s.done s.begun;
@@ -256,7 +256,7 @@ comma_taken src r i h {ts = ts} p g =
     then_steps (comma_list src r) (Some (comma_list src r).start) (Some (item_at g.before g.last)) _ ts (one kind.Comma p) g.goes
     (ap (λ a. answer_state a) (listed_told src r i (item_at g.before g.last) t ∙ ap (λ a. listed_answer g.before mark.Comma a) (h g.last g.item t refl g.ends)) ∙ ap (λ xs. Some (sequence xs None)) g.is)
 
-listed_item : {S A T : Type 0} (src : List ℕ) (r : Reader S A (Cell T)) (R : List Lexeme → T → Type 0) → Door (machine_of src r) (AsNode src R) → EndsRightly src r → NotEmpty (machine_of src r) → (ts us : List Lexeme) (xs : List (Cell T)) (y : Cell T) →
+listed_item : {S A T : Type 0} (src : List ℕ) (r : Reader S A (Cell T)) (R : List Lexeme → T → Type 0) → IsParser (machine_of src r) (AsNode src R) → EndsRightly src r → NotEmpty (machine_of src r) → (ts us : List Lexeme) (xs : List (Cell T)) (y : Cell T) →
     Comes (comma_list src r) ts (sequence xs None) → AsNode src R us y → ItemsAt src r (ts ++ us) (xs ++ y ∷ [])
 listed_item src r R d i z ts us xs y g w =
     let m = machine_of src r in
@@ -271,13 +271,13 @@ listed_item src r R d i z ts us xs y g w =
       is = refl;
     }
 
-items_run : {S A T : Type 0} (src : List ℕ) (r : Reader S A (Cell T)) (R : List Lexeme → T → Type 0) → Door (machine_of src r) (AsNode src R) → EndsRightly src r → NotEmpty (machine_of src r) → EndsAt (machine_of src r) (IsKind kind.Comma) → {ts : List Lexeme} {xs : List (Cell T)} →
+items_run : {S A T : Type 0} (src : List ℕ) (r : Reader S A (Cell T)) (R : List Lexeme → T → Type 0) → IsParser (machine_of src r) (AsNode src R) → EndsRightly src r → NotEmpty (machine_of src r) → EndsAt (machine_of src r) (IsKind kind.Comma) → {ts : List Lexeme} {xs : List (Cell T)} →
     ReadsItems src R ts xs → ItemsAt src r ts xs
 items_run src r R d i z h (one_item {ts = ts} {x = x} w) = listed_item src r R d i z [] ts [] (placed src ts x) refl (as_node w)
 items_run src r R d i z h (more_items {ts = ts} {us = us} {xs = xs} {y = y} p w v) =
     listed_item src r R d i z (ts ++ one kind.Comma p) us xs (placed src us y) (comma_taken src r i h p (items_run src r R d i z h w)) (as_node v)
 
-listed_complete : {S A T : Type 0} (src : List ℕ) (r : Reader S A (Cell T)) (R : List Lexeme → T → Type 0) → Door (machine_of src r) (AsNode src R) → EndsRightly src r → NotEmpty (machine_of src r) → EndsAt (machine_of src r) (IsKind kind.Comma) → {ts : List Lexeme} {xs : List (Cell T)} →
+listed_complete : {S A T : Type 0} (src : List ℕ) (r : Reader S A (Cell T)) (R : List Lexeme → T → Type 0) → IsParser (machine_of src r) (AsNode src R) → EndsRightly src r → NotEmpty (machine_of src r) → EndsAt (machine_of src r) (IsKind kind.Comma) → {ts : List Lexeme} {xs : List (Cell T)} →
     ReadsList src R ts xs → RunsTo (comma_list src r) ts xs
 listed_complete src r R d i z h no_item = record { last = sequence [] None; goes = refl; ends = refl }
 listed_complete src r R d i z h (items w) = let g = items_run src r R d i z h w in record { last = item_at g.before g.last; goes = g.goes; ends = ap (λ o. items_with_last g.before o) g.ends ∙ ap (λ xs. Some xs) g.is }
@@ -312,7 +312,7 @@ list_behind : {S T : Type 0} {src : List ℕ} (m : Machine Lexeme S (Cell T)) (R
 list_behind m R r mark.Comma k p comma = wants_item (a_comma p r)
 list_behind m R r _ k p i = tt
 
-list_goes : {S T : Type 0} {src : List ℕ} {m : Machine Lexeme S (Cell T)} {R : List Lexeme → T → Type 0} → Door m (AsNode src R) → {ts : List Lexeme} (us : List Lexeme) {xs : List (Cell T)} {s : S} → Before src R ts xs → Comes m us s →
+list_goes : {S T : Type 0} {src : List ℕ} {m : Machine Lexeme S (Cell T)} {R : List Lexeme → T → Type 0} → IsParser m (AsNode src R) → {ts : List Lexeme} (us : List Lexeme) {xs : List (Cell T)} {s : S} → Before src R ts xs → Comes m us s →
     (t : Lexeme) (a : Answer S (Cell T)) → m.step s t ≡ a → AnswersRightly t a (m.finish s) → IfSome (answer_state (listed_answer xs (mark_of t.kind) a)) (λ q. ListRead src m R ((ts ++ us) ++ t ∷ []) q)
 list_goes {src = src} {m = m} {R = R} d {ts = ts} us {xs = xs} {s = s} r c t (next q) e i = subst (λ w. ListRead src m R w (item_at xs q)) (assoc ts us t) (has_item (us ++ t ∷ []) r (one_more m us s q t c e))
   where
@@ -322,22 +322,22 @@ list_goes {m = m} {R = R} d us {s = s} r c t (ended x) e i = list_behind m R (it
 list_goes d us r c t refused e i = tt
 list_goes d us r c t too_large e i = tt
 
-list_stays : {S T : Type 0} {src : List ℕ} {m : Machine Lexeme S (Cell T)} {R : List Lexeme → T → Type 0} → Door m (AsNode src R) → (ts : List Lexeme) (s : Sequence S (Cell T)) (t : Lexeme) → ListRead src m R ts s →
+list_stays : {S T : Type 0} {src : List ℕ} {m : Machine Lexeme S (Cell T)} {R : List Lexeme → T → Type 0} → IsParser m (AsNode src R) → (ts : List Lexeme) (s : Sequence S (Cell T)) (t : Lexeme) → ListRead src m R ts s →
     IfSome (answer_state (listed_step m s.done s.begun t)) (λ q. ListRead src m R (ts ++ t ∷ []) q)
 list_stays {m = m} {R = R} d ts s t (wants_item r) = list_begins m R r t (m.step m.start t) refl
 list_stays {m = m} d ts s t (has_item us {s = q} r c) = list_goes d us r c t (m.step q t) refl (d.answers q t)
 
-list_keeps : {S A T : Type 0} (src : List ℕ) (r : Reader S A (Cell T)) (R : List Lexeme → T → Type 0) → Door (machine_of src r) (AsNode src R) → EndsRightly src r → (ts : List Lexeme) (s : Sequence S (Cell T)) (t : Lexeme) → ListRead src (machine_of src r) R ts s →
+list_keeps : {S A T : Type 0} (src : List ℕ) (r : Reader S A (Cell T)) (R : List Lexeme → T → Type 0) → IsParser (machine_of src r) (AsNode src R) → EndsRightly src r → (ts : List Lexeme) (s : Sequence S (Cell T)) (t : Lexeme) → ListRead src (machine_of src r) R ts s →
     IfSome (answer_state ((comma_list src r).step s t)) (λ q. ListRead src (machine_of src r) R (ts ++ t ∷ []) q)
 list_keeps src r R d i ts s t h = subst (λ a. IfSome (answer_state a) (λ q. ListRead src (machine_of src r) R (ts ++ t ∷ []) q)) (sym (listed_told src r i s t)) (list_stays d ts s t h)
 
-list_sound : {S T : Type 0} {src : List ℕ} {m : Machine Lexeme S (Cell T)} {R : List Lexeme → T → Type 0} → Door m (AsNode src R) → {ts : List Lexeme} {s : Sequence S (Cell T)} (xs : List (Cell T)) → ListRead src m R ts s →
+list_sound : {S T : Type 0} {src : List ℕ} {m : Machine Lexeme S (Cell T)} {R : List Lexeme → T → Type 0} → IsParser m (AsNode src R) → {ts : List Lexeme} {s : Sequence S (Cell T)} (xs : List (Cell T)) → ListRead src m R ts s →
     sequence_end m.finish s.done s.begun ≡ Some xs → ReadsList src R ts xs
 list_sound {src = src} {R = R} d {ts = ts} ys (wants_item r) e = subst (λ xs. ReadsList src R ts xs) (some_is e) (list_before r)
 list_sound {src = src} {m = m} {R = R} d ys (has_item {ts = ts} us {xs = xs} {s = s} r c) e =
     let f = finished xs (m.finish s) ys e in subst (λ xs. ReadsList src R (ts ++ us) xs) f.2 (items (items_with r (d.sound us s f.0 c f.1)))
 
-listed_viable : {S A T : Type 0} (src : List ℕ) (r : Reader S A T) (R : List Lexeme → T → Type 0) → Door (machine_of src r) R → EndsRightly src r → (xs : List T) (b : Option S) → Completed (comma_list src r) (sequence xs b)
+listed_viable : {S A T : Type 0} (src : List ℕ) (r : Reader S A T) (R : List Lexeme → T → Type 0) → IsParser (machine_of src r) R → EndsRightly src r → (xs : List T) (b : Option S) → Completed (comma_list src r) (sequence xs b)
 listed_viable src r R d i xs None = record { more = []; last = sequence xs None; tree = xs; goes = refl; ends = refl }
 listed_viable src r R d i xs (Some s) =
     let c = d.viable s in
@@ -356,13 +356,13 @@ listed_item_answers {S = S} t xs (ended x) o h = subst (λ o. AnswersRightly t (
 listed_item_answers t xs refused o h = ap (λ o. items_with_last xs o) h
 listed_item_answers t xs too_large o h = h
 
-listed_answers : {S T : Type 0} {m : Machine Lexeme S T} {R : List Lexeme → T → Type 0} → Door m R → (xs : List T) (b : Option S) (t : Lexeme) → AnswersRightly t (listed_step m xs b t) (sequence_end m.finish xs b)
+listed_answers : {S T : Type 0} {m : Machine Lexeme S T} {R : List Lexeme → T → Type 0} → IsParser m R → (xs : List T) (b : Option S) (t : Lexeme) → AnswersRightly t (listed_step m xs b t) (sequence_end m.finish xs b)
 listed_answers {m = m} d xs None t = begin_answers t xs (m.step m.start t) (m.finish m.start) (d.answers m.start t)
 listed_answers {m = m} d xs (Some s) t = listed_item_answers t xs (m.step s t) (m.finish s) (d.answers s t)
 
-pub listed_door : {S A T : Type 0} (src : List ℕ) (r : Reader S A (Cell T)) (R : List Lexeme → T → Type 0) → Door (machine_of src r) (AsNode src R) → EndsRightly src r → NotEmpty (machine_of src r) → EndsAt (machine_of src r) (IsKind kind.Comma) →
-    Door (comma_list src r) (ReadsList src R)
-listed_door src r R d i z h = record {
+pub listed_parser : {S A T : Type 0} (src : List ℕ) (r : Reader S A (Cell T)) (R : List Lexeme → T → Type 0) → IsParser (machine_of src r) (AsNode src R) → EndsRightly src r → NotEmpty (machine_of src r) → EndsAt (machine_of src r) (IsKind kind.Comma) →
+    IsParser (comma_list src r) (ReadsList src R)
+listed_parser src r R d i z h = record {
   complete = λ ts xs w. listed_complete src r R d i z h w;
   sound = λ ts s xs f e. list_sound d xs (kept (comma_list src r) (λ ts s. ListRead src (machine_of src r) R ts s) (wants_item nothing) (λ ts s t h. list_keeps src r R d i ts s t h) ts s f) e;
   viable = λ s. listed_viable src r (AsNode src R) d i s.done s.begun;

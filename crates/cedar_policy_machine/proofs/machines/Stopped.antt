@@ -9,14 +9,14 @@ use Rattle.cedar_syntax.specs.declared.err.faults.ParseError.TheVariants.{ToCST}
 use Rattle.cedar_syntax.specs.declared.err.to_cst.RawFault.{RawFault}
 use Rattle.cedar_syntax.specs.declared.err.to_cst.RawFault.TheVariants as fault
 use Rattle.cedar_syntax.specs.trees.Trees.{Cell}
-use Rattle.cedar_grammar.specs.declared.reading.expected.Narrowing.TheVariants as narrowing
+use Rattle.cedar_grammar.specs.declared.reading.expected.ClosersOnly.TheVariants as narrowing
 use Rattle.cedar_grammar.specs.declared.reading.mark.Mark.{Mark}
 use Rattle.cedar_grammar.specs.declared.reading.mark.Mark.TheVariants as mark
 use Rattle.cedar_grammar.specs.declared.reading.recovery.RecoveryWay.{RecoveryWay}
 use Rattle.cedar_grammar.specs.declared.reading.recovery.RecoveryWay.TheVariants as way
 use Rattle.cedar_grammar.specs.faults.MendedFaults.{fault_of, Unallowed, IsLarge, HasStopped, IsListed}
 use Rattle.cedar_grammar.specs.grammar.Grammar.{Rule, IsNodeOf}
-use Rattle.cedar_grammar.specs.machines.Door.{Machine, Answer, next, ended, refused, too_large}
+use Rattle.cedar_grammar.specs.machines.Machine.{Machine, Answer, next, ended, refused, too_large}
 use Rattle.cedar_grammar.specs.machines.Marks.{mark_of}
 use Rattle.cedar_grammar.specs.machines.Mending.{bad_fault, recovers_of}
 use Rattle.cedar_grammar.specs.machines.Recovery.{Recovers, Recovery, RunFaults, reading, skipping, stopped, skip_step, judgment, recovery_step, recovery_of_all, run_faults, told_reading, told_end, told_all}

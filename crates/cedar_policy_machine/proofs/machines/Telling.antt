@@ -6,7 +6,7 @@ use Rattle.cedar_lexer.specs.declared.token.TokenKind.{TokenKind}
 use Rattle.cedar_syntax.specs.declared.err.faults.Failure.{Failure}
 use Rattle.cedar_syntax.specs.declared.err.faults.Failure.TheVariants.{Memory, Errors}
 use Rattle.cedar_syntax.specs.declared.err.faults.ParseError.{ParseError}
-use Rattle.cedar_grammar.specs.declared.reading.expected.Narrowing.TheVariants as narrowing
+use Rattle.cedar_grammar.specs.declared.reading.expected.ClosersOnly.TheVariants as narrowing
 use Rattle.cedar_grammar.specs.faults.Expected.{IsExpected}
 use Rattle.cedar_grammar.specs.faults.FirstFault.{end_at, tokens_end, unexpected_fault, early_at}
 use Rattle.cedar_syntax.specs.faults.ParseErrors.{faults_of}
@@ -16,7 +16,7 @@ use Rattle.cedar_grammar.specs.faults.MendedFaults.{fault_of, Unallowed, a_token
 use Rattle.cedar_grammar.specs.declared.reading.extent.Extent.{Extent}
 use Rattle.cedar_grammar.specs.grammar.Place.{joint_extent, extent_of, extent}
 use Rattle.cedar_grammar.specs.grammar.Sentences.{kinds}
-use Rattle.cedar_grammar.specs.machines.Door.{Machine, Answer, next, ended, refused, too_large, Comes, is_some, Reader, machine_of, allowed_by}
+use Rattle.cedar_grammar.specs.machines.Machine.{Machine, Answer, next, ended, refused, too_large, Comes, is_some, Reader, machine_of, allowed_by}
 use Rattle.cedar_grammar.specs.machines.Judged.{may_take, wanted_kinds, ReadsBy}
 use Rattle.cedar_grammar.specs.machines.Marks.{mark_of}
 use Rattle.cedar_grammar.specs.machines.Mending.{refused_fault, bad_fault, judgment_by, recovery_step_by, recovery_of_all_by, met_faults, AreAllFaults, IsTold}

@@ -12,7 +12,7 @@ use Rattle.cedar_policy_machine.specs.declared.annotation.AnnotationAct.{Annotat
 use Rattle.cedar_policy_machine.specs.declared.annotation.AnnotationAct.TheVariants as act
 use Rattle.cedar_syntax.specs.tokens.Tokens.{any_of}
 use Rattle.cedar_syntax.specs.trees.Trees.{Cell, annotation_of}
-use Rattle.cedar_grammar.specs.machines.Door.{Machine, Reader, machine_of, option_image}
+use Rattle.cedar_grammar.specs.machines.Machine.{Machine, Reader, machine_of, option_image}
 use Rattle.cedar_grammar.specs.machines.SingleTokens.{token_node, string_node, if_any}
 
 -- the identifier that a token is, at its bytes

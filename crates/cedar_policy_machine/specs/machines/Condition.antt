@@ -13,7 +13,7 @@ use Rattle.cedar_policy_machine.specs.declared.condition.ConditionPart.TheVarian
 use Rattle.cedar_policy_machine.specs.declared.condition.ConditionAct.{ConditionAct}
 use Rattle.cedar_policy_machine.specs.declared.condition.ConditionAct.TheVariants as act
 use Rattle.cedar_syntax.specs.trees.Trees.{Cell, cond_of}
-use Rattle.cedar_grammar.specs.machines.Door.{Machine, Reader, machine_of, option_image}
+use Rattle.cedar_grammar.specs.machines.Machine.{Machine, Reader, machine_of, option_image}
 use Rattle.cedar_policy_machine.specs.machines.Annotation.{any_node}
 use Rattle.cedar_grammar.specs.machines.SingleTokens.{if_any}
 

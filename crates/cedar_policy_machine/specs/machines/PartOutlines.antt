@@ -14,7 +14,7 @@ use Rattle.cedar_policy_machine.specs.declared.condition.ConditionPart.{Conditio
 use Rattle.cedar_policy_machine.specs.declared.condition.ConditionPart.TheVariants as inner
 use Rattle.cedar_policy_machine.specs.declared.condition.ConditionAct.{ConditionAct}
 use Rattle.cedar_policy_machine.specs.declared.condition.ConditionAct.TheVariants as condition
-use Rattle.cedar_grammar.specs.machines.Door.{Outline, is_some, ends_with}
+use Rattle.cedar_grammar.specs.machines.Machine.{Outline, is_some, ends_with}
 use Rattle.cedar_policy_machine.specs.machines.Annotation.{AnnotationShape, no_annotation, behind_at, has_key, wants_value, has_value, whole_annotation, annotation_plan, annotation_ends}
 use Rattle.cedar_policy_machine.specs.machines.Scope.{PartPlans, element_plan}
 use Rattle.cedar_policy_machine.specs.machines.Condition.{condition_plan, condition_ends}

@@ -6,28 +6,28 @@ use Rattle.cedar_syntax.specs.declared.cst.Policies.{Policies}
 use Rattle.cedar_syntax.specs.declared.cst.Policy.{Policy}
 use Rattle.cedar_syntax.specs.declared.loc.Loc.{Loc}
 use Rattle.cedar_grammar.specs.declared.reading.extent.Extent.{Extent}
-use Rattle.cedar_policy_machine.specs.declared.sequence.Spanned.{Spanned}
+use Rattle.cedar_policy_machine.specs.declared.sequence.SpannedState.{SpannedState}
 use Rattle.cedar_grammar.specs.grammar.Place.{joint_extent, extent_of, loc_at, node_at, placed}
 use Rattle.cedar_syntax.specs.trees.Trees.{Cell, policies_of}
-use Rattle.cedar_grammar.specs.machines.Door.{Machine, Reader, machine_of, option_image}
+use Rattle.cedar_grammar.specs.machines.Machine.{Machine, Reader, machine_of, option_image}
 
 -- the tree that the relation gives, as a node at the place of the tokens
 pub data AsNode {T : Type 0} (src : List ℕ) (R : List Lexeme → T → Type 0) : List Lexeme → Cell T →
     Type 0 where
   as_node : {ts : List Lexeme} {x : T} → R ts x → AsNode src R ts (placed src ts x)
 
-abbrev pub spanned_state : {S : Type 0} → Option Extent → S → Spanned S
+abbrev pub spanned_state : {S : Type 0} → Option Extent → S → SpannedState S
 spanned_state e s = record { extent = e; state = s }
 
 -- the same, and one token more
-abbrev pub spanned_by : {S : Type 0} → Option Extent → Lexeme → S → Spanned S
+abbrev pub spanned_by : {S : Type 0} → Option Extent → Lexeme → S → SpannedState S
 spanned_by e t s = spanned_state (joint_extent e (Some (extent_of t))) s
 
 abbrev pub node_if : {T : Type 0} → List ℕ → Option Extent → Option T → Option (Cell T)
 node_if src e None = None
 node_if src e (Some x) = Some (node_at src e x)
 
-abbrev pub placing_reader : {S A T : Type 0} → Reader S A T → Reader (Spanned S) A (Cell T)
+abbrev pub placing_reader : {S A T : Type 0} → Reader S A T → Reader (SpannedState S) A (Cell T)
 placing_reader r = record {
   start = spanned_state None r.start;
   plan = λ s k. r.plan s.state k;
@@ -37,7 +37,7 @@ placing_reader r = record {
 }
 
 abbrev pub placing : {S A T : Type 0} → List ℕ → Reader S A T →
-    Machine Lexeme (Spanned S) (Cell T)
+    Machine Lexeme (SpannedState S) (Cell T)
 placing src r = machine_of src (placing_reader r)
 
 -- the state is held in another, which `out` takes it out of and `into` puts it into

@@ -20,11 +20,11 @@ use Rattle.cedar_policy_machine.specs.declared.policy.Section.{Section}
 use Rattle.cedar_policy_machine.specs.declared.policy.Section.TheVariants as section
 use Rattle.cedar_grammar.specs.declared.reading.recovery.RecoveryWay.{RecoveryWay}
 use Rattle.cedar_grammar.specs.declared.reading.recovery.RecoveryWay.TheVariants as way
-use Rattle.cedar_policy_machine.specs.declared.sequence.Spanned.{Spanned}
+use Rattle.cedar_policy_machine.specs.declared.sequence.SpannedState.{SpannedState}
 use Rattle.cedar_policy_machine.specs.declared.sequence.Sequence.{Sequence}
 use Rattle.cedar_policy_machine.specs.declared.sequence.SequenceAct.{SequenceAct}
 use Rattle.cedar_syntax.specs.trees.Trees.{Cell}
-use Rattle.cedar_grammar.specs.machines.Door.{Machine, Reader, machine_of, Outline}
+use Rattle.cedar_grammar.specs.machines.Machine.{Machine, Reader, machine_of, Outline}
 use Rattle.cedar_policy_machine.specs.machines.Placing.{spanned_state, placing_reader}
 use Rattle.cedar_policy_machine.specs.machines.Sequences.{sequence, many_reader, list_reader}
 use Rattle.cedar_policy_machine.specs.machines.Annotation.{annotation_reader, AnnotationShape, annotation_shape}
@@ -37,22 +37,23 @@ use Rattle.cedar_policy_machine.specs.machines.PolicyShapes.{PolicyShape, policy
 use Rattle.cedar_grammar.specs.machines.Recovery.{Recovers}
 
 abbrev pub AnnotationsState : Type 0
-AnnotationsState = Sequence (Spanned AnnotationState) (Cell Annotation)
+AnnotationsState = Sequence (SpannedState AnnotationState) (Cell Annotation)
 
 abbrev pub ScopeState : Type 0 → Type 0 → Type 0 → Type 0
-ScopeState N S E = Sequence (Spanned (ElementState N S E)) (Cell VariableDef)
+ScopeState N S E = Sequence (SpannedState (ElementState N S E)) (Cell VariableDef)
 
 abbrev pub ConditionsState : Type 0 → Type 0
-ConditionsState E = Sequence (Spanned (ConditionState E)) (Cell Cond)
+ConditionsState E = Sequence (SpannedState (ConditionState E)) (Cell Cond)
 
 abbrev pub OnePolicy : Type 0 → Type 0 → Type 0 → Type 0
 OnePolicy N S E =
-    PolicyOf (Spanned AnnotationState) (Spanned (ElementState N S E)) (Spanned (ConditionState E))
+    PolicyOf (SpannedState AnnotationState) (SpannedState (ElementState N S E))
+    (SpannedState (ConditionState E))
 
 -- one policy, and policies
 
 abbrev pub SpannedPolicy : Type 0 → Type 0 → Type 0 → Type 0
-SpannedPolicy N S E = Spanned (OnePolicy N S E)
+SpannedPolicy N S E = SpannedState (OnePolicy N S E)
 
 abbrev pub PoliciesState : Type 0 → Type 0 → Type 0 → Type 0
 PoliciesState N S E = Sequence (SpannedPolicy N S E) (Cell Policy)
@@ -65,7 +66,8 @@ OneAct A B C =
     (SequenceAct (ConditionAct C))
 
 abbrev pub sections : {N S E A B C : Type 0} → PartReaders N S E A B C →
-    Sections (Spanned AnnotationState) (Spanned (ElementState N S E)) (Spanned (ConditionState E))
+    Sections (SpannedState AnnotationState) (SpannedState (ElementState N S E))
+    (SpannedState (ConditionState E))
     (SequenceAct AnnotationAct) (SequenceAct (ElementAct A B C)) (SequenceAct (ConditionAct C))
 sections m = record {
   annotations = many_reader (placing_reader annotation_reader);
@@ -134,7 +136,8 @@ condition_way part.Opened = way.ToBrace
 condition_way (part.Body s) = way.ToBrace
 condition_way (part.Closed x) = way.ToEnd
 
-abbrev pub begun_condition_way : {E : Type 0} → Option (Spanned (ConditionState E)) → RecoveryWay
+abbrev pub begun_condition_way : {E : Type 0} → Option (SpannedState (ConditionState E))
+    → RecoveryWay
 begun_condition_way None = way.ToEnd
 begun_condition_way (Some s) = condition_way s.state.part
 
@@ -166,7 +169,7 @@ abbrev pub closed_condition : {E : Type 0} → ConditionState E → ConditionSta
 closed_condition s = condition_state s.word (closed_part s.part)
 
 abbrev pub condition_closing : {E : Type 0} → List (Cell Cond)
-    → Option (Spanned (ConditionState E)) → ConditionsState E
+    → Option (SpannedState (ConditionState E)) → ConditionsState E
 condition_closing zs None = sequence zs None
 condition_closing zs (Some s) =
     sequence zs (Some (spanned_state s.extent (closed_condition s.state)))
@@ -228,10 +231,10 @@ policies_recover tell large = record {
 
 -- policies as a whole text are left as policies are
 
-abbrev pub text_closing : {N S E : Type 0} → Spanned (PoliciesState N S E)
-    → Spanned (PoliciesState N S E)
+abbrev pub text_closing : {N S E : Type 0} → SpannedState (PoliciesState N S E)
+    → SpannedState (PoliciesState N S E)
 text_closing s = spanned_state s.extent (policies_closing s.state.done s.state.begun)
 
-abbrev pub text_ending : {N S E : Type 0} → Spanned (PoliciesState N S E)
-    → Spanned (PoliciesState N S E)
+abbrev pub text_ending : {N S E : Type 0} → SpannedState (PoliciesState N S E)
+    → SpannedState (PoliciesState N S E)
 text_ending s = spanned_state s.extent (policies_ending s.state.done)

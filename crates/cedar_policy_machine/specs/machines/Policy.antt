@@ -17,7 +17,7 @@ use Rattle.cedar_policy_machine.specs.declared.policy.PolicyAct.TheVariants as a
 use Rattle.cedar_policy_machine.specs.declared.sequence.Sequence.{Sequence}
 use Rattle.cedar_syntax.specs.tokens.Tokens.{any_of}
 use Rattle.cedar_syntax.specs.trees.Trees.{Cell, policy_of}
-use Rattle.cedar_grammar.specs.machines.Door.{Machine, Reader, machine_of, option_image, is_some}
+use Rattle.cedar_grammar.specs.machines.Machine.{Machine, Reader, machine_of, option_image, is_some}
 use Rattle.cedar_policy_machine.specs.machines.Annotation.{any_node}
 use Rattle.cedar_policy_machine.specs.machines.Sequences.{sequence}
 use Rattle.cedar_grammar.specs.machines.SingleTokens.{if_any}

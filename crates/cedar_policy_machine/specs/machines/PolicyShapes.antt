@@ -11,7 +11,7 @@ use Rattle.cedar_policy_machine.specs.declared.policy.PolicyAct.{PolicyAct}
 use Rattle.cedar_policy_machine.specs.declared.policy.PolicyAct.TheVariants as act
 use Rattle.cedar_policy_machine.specs.declared.sequence.Sequence.{Sequence}
 use Rattle.cedar_syntax.specs.trees.Trees.{Cell}
-use Rattle.cedar_grammar.specs.machines.Door.{Outline, is_some}
+use Rattle.cedar_grammar.specs.machines.Machine.{Outline, is_some}
 use Rattle.cedar_policy_machine.specs.machines.Policy.{PolicyOf, annotations_plan, open_plan, scope_plan, conditions_plan}
 
 pub data PolicyShape (A V C : Type 0) : Type 0 where

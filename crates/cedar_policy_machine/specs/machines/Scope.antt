@@ -17,7 +17,7 @@ use Rattle.cedar_policy_machine.specs.declared.scope.ElementPart.TheVariants as 
 use Rattle.cedar_policy_machine.specs.declared.scope.ElementAct.{ElementAct}
 use Rattle.cedar_policy_machine.specs.declared.scope.ElementAct.TheVariants as act
 use Rattle.cedar_syntax.specs.trees.Trees.{Cell, variable_def_of}
-use Rattle.cedar_grammar.specs.machines.Door.{Machine, Reader, machine_of, option_image}
+use Rattle.cedar_grammar.specs.machines.Machine.{Machine, Reader, machine_of, option_image}
 use Rattle.cedar_grammar.specs.machines.Marks.{relation_of}
 use Rattle.cedar_policy_machine.specs.machines.Annotation.{any_node}
 use Rattle.cedar_grammar.specs.machines.SingleTokens.{if_any}

@@ -1,14 +1,14 @@
 -- What of the states of placed trees and of sequences decides which kinds may come next.
 use Rattle.std.specs.Prelude.{Option, Some, None}
 use Rattle.cedar_lexer.specs.declared.token.TokenKind.{TokenKind}
-use Rattle.cedar_policy_machine.specs.declared.sequence.Spanned.{Spanned}
+use Rattle.cedar_policy_machine.specs.declared.sequence.SpannedState.{SpannedState}
 use Rattle.cedar_policy_machine.specs.declared.sequence.Sequence.{Sequence}
 use Rattle.cedar_policy_machine.specs.declared.sequence.SequenceAct.{SequenceAct}
 use Rattle.cedar_policy_machine.specs.declared.sequence.SequenceAct.TheVariants as act
-use Rattle.cedar_grammar.specs.machines.Door.{Outline, option_image, is_some}
+use Rattle.cedar_grammar.specs.machines.Machine.{Outline, option_image, is_some}
 use Rattle.cedar_policy_machine.specs.machines.Sequences.{many_plan, list_plan}
 
-abbrev pub spanned_shape : {S U : Type 0} → (S → U) → Spanned S → U
+abbrev pub spanned_shape : {S U : Type 0} → (S → U) → SpannedState S → U
 spanned_shape f s = f s.state
 
 -- the shape of the item that is begun, if there is one

@@ -7,7 +7,7 @@ use Rattle.cedar_lexer.specs.declared.token.TokenKind.TheVariants as kind
 use Rattle.cedar_policy_machine.specs.declared.sequence.Sequence.{Sequence}
 use Rattle.cedar_policy_machine.specs.declared.sequence.SequenceAct.{SequenceAct}
 use Rattle.cedar_policy_machine.specs.declared.sequence.SequenceAct.TheVariants as act
-use Rattle.cedar_grammar.specs.machines.Door.{Machine, Reader, machine_of, option_image}
+use Rattle.cedar_grammar.specs.machines.Machine.{Machine, Reader, machine_of, option_image}
 
 abbrev pub sequence : {S T : Type 0} → List T → Option S → Sequence S T
 sequence xs b = record { done = xs; begun = b }

@@ -13,7 +13,7 @@ use Rattle.cedar_grammar.specs.grammar.Grammar.{Rule, IsNodeOf}
 use Rattle.cedar_grammar.specs.grammar.Place.{placed_or_start}
 use Rattle.cedar_grammar.specs.grammar.Sentences.{kinds, Starts}
 use Rattle.cedar_syntax.specs.trees.Trees.{Cell}
-use Rattle.cedar_grammar.specs.machines.Door.{Answer, next, ended, refused, too_large, Machine, answer_state, steps, AnswersRightly, Door, Shapes}
+use Rattle.cedar_grammar.specs.machines.Machine.{Answer, next, ended, refused, too_large, Machine, answer_state, steps, AnswersRightly, IsParser, Shapes}
 use Rattle.cedar_grammar.proofs.machines.Laws.{none_some, steps-none, kinds-append, comes}
 use Rattle.cedar_text.specs.GoesOn.{GoesOnInText}
 use Rattle.cedar_lexer.proofs.Joints.{laid_bytes, laid_end, laid_stands, laid_stays}
@@ -57,7 +57,7 @@ one_fits m t ts r refused o v more e = absurd (none_some (steps-none m ts) e)
 one_fits m t ts r too_large o v more e = absurd (none_some (steps-none m ts) e)
 
 -- numbers that are taken fit
-taken_fit : {S T : Type 0} {m : Machine Lexeme S T} {R : List Lexeme → T → Type 0} → Door m R → (ts : List Lexeme) (s r : S) → steps m (Some s) ts ≡ Some r → NumbersFit ts
+taken_fit : {S T : Type 0} {m : Machine Lexeme S T} {R : List Lexeme → T → Type 0} → IsParser m R → (ts : List Lexeme) (s r : S) → steps m (Some s) ts ≡ Some r → NumbersFit ts
 taken_fit d [] s r e = tt
 taken_fit {m = m} d (t ∷ ts) s r e = one_fits m t ts r (m.step s t) (m.finish s) (d.answers s t) (λ s e. taken_fit d ts s r e) e
 
@@ -68,7 +68,7 @@ both_fit (t ∷ ts) us f g = (f.0, both_fit ts us f.1 g)
 starts_node : {T : Type 0} (R : Rule T) (src : List ℕ) (ts : List Lexeme) → Starts (R src) ts → Starts (IsNodeOf R src) ts
 starts_node R src ts h = (h.0, (placed_or_start src (ts ++ h.0) h.1.0, record { tree = h.1.0; reads = h.1.1; is = refl }))
 
-pub goes_on : {S T U V : Type 0} {R : Rule T} (m : List ℕ → Machine Lexeme S (Cell T)) (n : Machine TokenKind U V) (f : S → U) (g : Cell T → V) → ((src : List ℕ) → Door (m src) (IsNodeOf R src)) →
+pub goes_on : {S T U V : Type 0} {R : Rule T} (m : List ℕ → Machine Lexeme S (Cell T)) (n : Machine TokenKind U V) (f : S → U) (g : Cell T → V) → ((src : List ℕ) → IsParser (m src) (IsNodeOf R src)) →
     ((src : List ℕ) → Shapes (m src) n f g) → GoesOnInText R
 goes_on {R = R} m n f g d i text ts place ks u l st h =
     let us = tokens_from (place + 1) ks in

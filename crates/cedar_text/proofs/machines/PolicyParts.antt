@@ -4,10 +4,10 @@ use Rattle.cedar_syntax.specs.declared.err.faults.ParseError.{ParseError}
 use Rattle.cedar_grammar.specs.grammar.Grammar.{IsNodeOf}
 use Rattle.cedar_grammar.specs.grammar.LoosePolicies.{ReadsPolicies, ReadsPolicy}
 use Rattle.cedar_grammar.specs.faults.MendedFaults.{NothingBefore, PoliciesBefore}
-use Rattle.cedar_grammar.specs.machines.Door.{outline_machine}
+use Rattle.cedar_grammar.specs.machines.Machine.{outline_machine}
 use Rattle.cedar_grammar.specs.machines.Judged.{ReadsBy}
 use Rattle.cedar_grammar.specs.machines.Recovery.{Recovers}
-use Rattle.cedar_text.specs.declared.text_to_cst.policy_entries.WholePoliciesState.{WholePoliciesState}
+use Rattle.cedar_text.specs.declared.text_to_cst.whole_texts.WholePoliciesState.{WholePoliciesState}
 use Rattle.cedar_policy_machine.specs.machines.Policies.{one_policy_outline, one_policy_shape, all_policies_outline, all_policies_shape}
 use Rattle.cedar_text.specs.machines.PolicyParts.{policy_parts, policy_part_outlines, WholePolicyState, inner_state, whole_state, whole_policy_reader, whole_policies_reader}
 use Rattle.cedar_expression_machine.specs.machines.WholeExpressions.{state_shape}
@@ -15,11 +15,11 @@ use Rattle.cedar_expression_machine.specs.machines.WordShapes.{path_shape}
 use Rattle.cedar_policy_machine.proofs.machines.Mapped.{IsWrapped}
 use Rattle.cedar_policy_machine.proofs.machines.MendedClauses.{Mends}
 use Rattle.cedar_policy_machine.proofs.machines.Policies.{Grounds}
-use Rattle.cedar_policy_machine.proofs.machines.PolicyEntries.{whole_recovers, whole_mends, policies_read, one_recovering, one_mends, policy_is_read}
-use Rattle.cedar_text.proofs.machines.WholeParts.{part_doors, body_outside, parts_outlined}
+use Rattle.cedar_policy_machine.proofs.machines.PolicyFaults.{whole_recovers, whole_mends, policies_read, one_recovering, one_mends, policy_is_read}
+use Rattle.cedar_text.proofs.machines.WholeParts.{part_parsers, body_outside, parts_outlined}
 
 grounds : (src : List ℕ) → Grounds src policy_parts
-grounds src = record { parts = part_doors src; behind_body = body_outside src }
+grounds src = record { parts = part_parsers src; behind_body = body_outside src }
 
 text_wrapped : IsWrapped inner_state whole_state
 text_wrapped = record { there = λ s. refl; back = λ h. refl }

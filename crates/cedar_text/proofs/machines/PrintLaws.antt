@@ -14,7 +14,7 @@ use Rattle.cedar_syntax.specs.trees.UnlocatedTrees.{unlocated_expr, unlocated_id
 use Rattle.cedar_syntax.specs.trees.Unplaced.{expr_tree, primary_tree, name_tree, ref_tree, ident_tree, policy_tree, policies_tree}
 use Rattle.cedar_grammar.proofs.again.Law as again
 use Rattle.cedar_grammar.proofs.machines.Told.{follows, one_tree}
-use Rattle.cedar_expression_machine.proofs.machines.Entries.{names_read, refs_read, idents_read}
+use Rattle.cedar_expression_machine.proofs.machines.NamesRead.{names_read, refs_read, idents_read}
 use Rattle.cedar_text.proofs.machines.PolicyParts.{all_policies_read, one_policy_read}
 use Rattle.cedar_expression_machine.proofs.machines.WholeExpressions.{expressions_read, primaries_read}
 

@@ -9,7 +9,7 @@ use Rattle.cedar_grammar.specs.grammar.Place.{placed_or_start}
 use Rattle.cedar_grammar.specs.grammar.Sentences.{kinds, HasTree}
 use Rattle.cedar_syntax.specs.tokens.Tokens.{fits}
 use Rattle.cedar_syntax.specs.trees.Trees.{Cell}
-use Rattle.cedar_grammar.specs.machines.Door.{Answer, next, ended, refused, too_large, Machine, answer_state, steps, Comes, AnswersRightly, Door, is_some, IsShape, Shapes}
+use Rattle.cedar_grammar.specs.machines.Machine.{Answer, next, ended, refused, too_large, Machine, answer_state, steps, Comes, AnswersRightly, IsParser, is_some, IsShape, Shapes}
 use Rattle.cedar_grammar.proofs.machines.Laws.{some_is, none_some, false_true, steps-none, steps_shaped, ends_alike}
 use Rattle.cedar_text.specs.StandsInText.{StandsInText}
 use Rattle.cedar_text.proofs.KindTexts.{NumbersFit, text_of, text_utf8, tokens_from, text_laid, kinds_are, all_fit}
@@ -31,7 +31,7 @@ one_step m n f g s t ts u refused c o h w v fit more e = absurd (none_some (step
 one_step m n f g s t ts u too_large c o h w v fit more e = absurd (false_true v.1 (fit v.0))
 
 -- tokens whose kinds the shapes take, and whose numbers fit, are taken
-comes_as : {S T U V : Type 0} {m : Machine Lexeme S T} {n : Machine TokenKind U V} {R : List Lexeme → T → Type 0} (f : S → U) (g : T → V) → Door m R → Shapes m n f g → (ts : List Lexeme) (s : S) (u : U) → NumbersFit ts →
+comes_as : {S T U V : Type 0} {m : Machine Lexeme S T} {n : Machine TokenKind U V} {R : List Lexeme → T → Type 0} (f : S → U) (g : T → V) → IsParser m R → Shapes m n f g → (ts : List Lexeme) (s : S) (u : U) → NumbersFit ts →
     steps n (Some (f s)) (kinds ts) ≡ Some u → ComesAs m f s ts u
 comes_as f g d i [] s u fit e = record { last = s; goes = refl; alike = some_is e }
 comes_as {m = m} {n = n} f g d i (t ∷ ts) s u fit e =
@@ -43,7 +43,7 @@ pub record Ends {U V : Type 0} (n : Machine TokenKind U V) (ks : List TokenKind)
   pub goes : Comes n ks last
   pub ends : is_some (n.finish last) ≡ true
 
-pub shapes_end : {S T U V : Type 0} {m : Machine Lexeme S T} {n : Machine TokenKind U V} {R : List Lexeme → T → Type 0} (f : S → U) (g : T → V) → Door m R → Shapes m n f g → (ts : List Lexeme) (x : T) → R ts x → Ends n (kinds ts)
+pub shapes_end : {S T U V : Type 0} {m : Machine Lexeme S T} {n : Machine TokenKind U V} {R : List Lexeme → T → Type 0} (f : S → U) (g : T → V) → IsParser m R → Shapes m n f g → (ts : List Lexeme) (x : T) → R ts x → Ends n (kinds ts)
 shapes_end {m = m} {n = n} f g d i ts x h =
     let r = d.complete ts x h in
     record {
@@ -52,18 +52,18 @@ shapes_end {m = m} {n = n} f g d i ts x h =
       ends = ends_alike f g i r.last ∙ ap (λ o. is_some o) r.ends;
     }
 
-tree_at : {S T : Type 0} {m : Machine Lexeme S T} {R : List Lexeme → T → Type 0} → Door m R → (ts : List Lexeme) (s : S) (o : Option T) → Comes m ts s → m.finish s ≡ o → is_some o ≡ true → HasTree R ts
+tree_at : {S T : Type 0} {m : Machine Lexeme S T} {R : List Lexeme → T → Type 0} → IsParser m R → (ts : List Lexeme) (s : S) (o : Option T) → Comes m ts s → m.finish s ≡ o → is_some o ≡ true → HasTree R ts
 tree_at d ts s (Some x) c h e = (x, d.sound ts s x c h)
 tree_at d ts s None c h e = absurd (cc)
 
-pub has_tree : {S T U V : Type 0} {m : Machine Lexeme S T} {n : Machine TokenKind U V} {R : List Lexeme → T → Type 0} (f : S → U) (g : T → V) → Door m R → Shapes m n f g → (ts : List Lexeme) → NumbersFit ts → Ends n (kinds ts) → HasTree R ts
+pub has_tree : {S T U V : Type 0} {m : Machine Lexeme S T} {n : Machine TokenKind U V} {R : List Lexeme → T → Type 0} (f : S → U) (g : T → V) → IsParser m R → Shapes m n f g → (ts : List Lexeme) → NumbersFit ts → Ends n (kinds ts) → HasTree R ts
 has_tree {m = m} {n = n} f g d i ts fit h =
     let c = comes_as f g d i ts m.start h.last fit (ap (λ u. steps n (Some u) (kinds ts)) i.starts ∙ h.goes) in
     tree_at d ts c.last (m.finish c.last) c.goes refl (sym (ends_alike f g i c.last) ∙ ap (λ u. is_some (n.finish u)) c.alike ∙ h.ends)
 
 -- each sentence of a rule stands in a text, where the rule's machines have the same shapes for
 -- each source
-pub stands : {S T U V : Type 0} {R : Rule T} (m : List ℕ → Machine Lexeme S (Cell T)) (n : Machine TokenKind U V) (f : S → U) (g : Cell T → V) → ((src : List ℕ) → Door (m src) (IsNodeOf R src)) →
+pub stands : {S T U V : Type 0} {R : Rule T} (m : List ℕ → Machine Lexeme S (Cell T)) (n : Machine TokenKind U V) (f : S → U) (g : Cell T → V) → ((src : List ℕ) → IsParser (m src) (IsNodeOf R src)) →
     ((src : List ℕ) → Shapes (m src) n f g) → StandsInText R
 stands {R = R} m n f g d i src ks h =
     let text = text_of ks in

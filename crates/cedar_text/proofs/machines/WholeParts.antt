@@ -10,17 +10,17 @@ use Rattle.cedar_syntax.specs.declared.cst.Name.{Name}
 use Rattle.cedar_expression_machine.specs.declared.expression.state.Act.TheVariants as act
 use Rattle.cedar_expression_machine.specs.declared.expression.state.OperandPlace.{OperandPlace}
 use Rattle.cedar_expression_machine.specs.declared.expression.state.OperandPlace.TheVariants as place
-use Rattle.cedar_expression_machine.specs.declared.expression.state.Wanted.{Wanted}
-use Rattle.cedar_expression_machine.specs.declared.expression.state.Wanted.TheVariants as form
+use Rattle.cedar_expression_machine.specs.declared.expression.state.StartSymbol.{StartSymbol}
+use Rattle.cedar_expression_machine.specs.declared.expression.state.StartSymbol.TheVariants as form
 use Rattle.cedar_grammar.specs.grammar.Grammar.{IsNodeOf, Rule}
 use Rattle.cedar_grammar.specs.grammar.LooseWords.{ReadsName}
 use Rattle.cedar_grammar.specs.grammar.LooseExpressions.{ReadsRelOp, less, less_eq, greater_eq, greater, not_eq, equal, within, single_eq, ReadsExpr, ReadsAdd}
 use Rattle.cedar_syntax.specs.trees.Trees.{Cell}
-use Rattle.cedar_grammar.specs.machines.Door.{refused, Door, IsOutside, is_some, option_image, ends_with}
+use Rattle.cedar_grammar.specs.machines.Machine.{refused, IsParser, IsOutside, is_some, option_image, ends_with}
 use Rattle.cedar_policy_machine.specs.machines.Following.{IsParting, comma, close_paren, FollowsSum, operator, parting, FollowsName, is_word, as_sum}
 use Rattle.cedar_expression_machine.specs.machines.Closing.{node_of}
-use Rattle.cedar_expression_machine.specs.machines.ExpressionPlans.{behind_plan, settle_plan, or_else, ended_words_plan, if_ends, words_can_end, ends, mode_plan}
-use Rattle.cedar_expression_machine.specs.machines.ExpressionShapes.{LeftShape, free, comparing, sided_once, typed, FrameShape, ModeShape}
+use Rattle.cedar_expression_machine.specs.machines.ExpressionPlans.{behind_plan, reduce_plan, or_else, ended_words_plan, if_ends, words_can_end, ends, mode_plan}
+use Rattle.cedar_expression_machine.specs.machines.ExpressionShapes.{RelationShape, free, comparing, sided_once, typed, FrameShape, ModeShape}
 use Rattle.cedar_expression_machine.specs.machines.ExpressionShapes as shaped
 use Rattle.cedar_expression_machine.specs.machines.NamedShapes.{named_outline, is_if_alone}
 use Rattle.cedar_policy_machine.specs.machines.Placing.{AsNode, as_node}
@@ -34,14 +34,14 @@ use Rattle.cedar_grammar.proofs.WordPlaces.{start_is, name_path, path_some}
 use Rattle.cedar_grammar.proofs.machines.Laws.{some_is}
 use Rattle.cedar_grammar.proofs.machines.Readers.{leaves_none}
 use Rattle.cedar_expression_machine.proofs.expressions.sound.Begun.{Reading, reads}
-use Rattle.cedar_expression_machine.proofs.machines.Keeping.{Kept, door_as}
-use Rattle.cedar_expression_machine.proofs.machines.Names.{names_door}
+use Rattle.cedar_expression_machine.proofs.machines.Keeping.{Kept, parser_as}
+use Rattle.cedar_expression_machine.proofs.machines.Names.{names_parser}
 use Rattle.cedar_policy_machine.proofs.machines.PartOutlines.{PartsOutlined}
 use Rattle.cedar_grammar.proofs.machines.Rightly.{ends_by, ends_at_kind}
-use Rattle.cedar_policy_machine.proofs.machines.Scope.{PartDoors}
-use Rattle.cedar_expression_machine.proofs.machines.WholeExpressions.{whole_expressions_door, whole_expressions_outlined, sum_images_door, whole_sums_outlined}
+use Rattle.cedar_policy_machine.proofs.machines.Scope.{PartParsers}
+use Rattle.cedar_expression_machine.proofs.machines.WholeExpressions.{whole_expressions_parser, whole_expressions_outlined, sum_images_parser, whole_sums_outlined}
 use Rattle.cedar_expression_machine.proofs.machines.WordShapes.{names_outlined}
-use Rattle.cedar_expression_machine.proofs.machines.WordsDoor.{unplanned_shape, unplanned_name}
+use Rattle.cedar_expression_machine.proofs.machines.WordsParser.{unplanned_shape, unplanned_name}
 
 -- ---- trees as nodes
 
@@ -54,11 +54,11 @@ as_whole src _ _ s (as_node {ts = ts} {x = x} r) = record { tree = x; reads = r;
 name_some : (src : List ℕ) (ts : List Lexeme) (x : Name) → ReadsName src ts x → Some_of ts
 name_some src ts x r = path_some (name_path r)
 
-names_as_nodes : (src : List ℕ) → Door (names src) (AsNode src (ReadsName src))
-names_as_nodes src = door_as (λ ts y h. as_whole {R = ReadsName} src ts y (name_some src) h) (λ ts y h. node_as {R = ReadsName} src ts y (name_some src ts) h) (names_door src)
+names_as_nodes : (src : List ℕ) → IsParser (names src) (AsNode src (ReadsName src))
+names_as_nodes src = parser_as (λ ts y h. as_whole {R = ReadsName} src ts y (name_some src) h) (λ ts y h. node_as {R = ReadsName} src ts y (name_some src ts) h) (names_parser src)
 
-expressions_as_nodes : (src : List ℕ) → Door (whole_expressions src) (AsNode src (ReadsExpr src))
-expressions_as_nodes src = door_as (λ ts y h. as_whole {R = ReadsExpr} src ts y (λ ts x r. expr_some r) h) (λ ts y h. node_as {R = ReadsExpr} src ts y (λ x r. expr_some r) h) (whole_expressions_door src)
+expressions_as_nodes : (src : List ℕ) → IsParser (whole_expressions src) (AsNode src (ReadsExpr src))
+expressions_as_nodes src = parser_as (λ ts y h. as_whole {R = ReadsExpr} src ts y (λ ts x r. expr_some r) h) (λ ts y h. node_as {R = ReadsExpr} src ts y (λ x r. expr_some r) h) (whole_expressions_parser src)
 
 abbrev SumImage : List ℕ → List Lexeme → Cell Add → Type 0
 SumImage src ts y = Kept (Reading (ReadsAdd src)) (λ x. Some (node_of src x)) ts y
@@ -72,36 +72,36 @@ sum_node src ts y k = go k.reads k.is
     go : {x : _} → Reading (ReadsAdd src) ts x → Some (node_of src x) ≡ Some y → AsNode src (ReadsAdd src) ts y
     go (reads r) e = subst (λ y. AsNode src (ReadsAdd src) ts y) (some_is e) (as_node r)
 
-sums_as_nodes : (src : List ℕ) → Door (whole_sums src) (AsNode src (ReadsAdd src))
-sums_as_nodes src = door_as (λ ts y h. sum_image src ts y h) (λ ts y k. sum_node src ts y k) (sum_images_door src)
+sums_as_nodes : (src : List ℕ) → IsParser (whole_sums src) (AsNode src (ReadsAdd src))
+sums_as_nodes src = parser_as (λ ts y h. sum_image src ts y h) (λ ts y k. sum_node src ts y k) (sum_images_parser src)
 
 -- ---- what ends a part
 
 -- no operator is planned with such a kind behind an operand alone
-abbrev Behind : Wanted → TokenKind → Type 0
-Behind w k = (l : LeftShape) (b : Bool) → behind_plan w [] l b k ≡ None
+abbrev Behind : StartSymbol → TokenKind → Type 0
+Behind w k = (l : RelationShape) (b : Bool) → behind_plan w [] l b k ≡ None
 
 abbrev NoColons : TokenKind → Type 0
 NoColons k = k ≡ kind.ColonColon → ⊥
 
 -- behind words that have ended
-words_stay : (w : Wanted) (k : TokenKind) → Behind w k → (l : LeftShape) (p : OperandPlace) (b : Bool) → if_ends p b ≡ true → ended_words_plan w [] l p (Some b) k ≡ None
-words_stay w k h l p false e = ap (λ o. settle_plan o) (h l false)
-words_stay w k h l place.Has true e = ap (λ o. settle_plan o) (h l true)
+words_stay : (w : StartSymbol) (k : TokenKind) → Behind w k → (l : RelationShape) (p : OperandPlace) (b : Bool) → if_ends p b ≡ true → ended_words_plan w [] l p (Some b) k ≡ None
+words_stay w k h l p false e = ap (λ o. reduce_plan o) (h l false)
+words_stay w k h l place.Has true e = ap (λ o. reduce_plan o) (h l true)
 words_stay w k h l place.Expr true e = absurd (cc)
 words_stay w k h l place.Item true e = absurd (cc)
 words_stay w k h l place.Key true e = absurd (cc)
 words_stay w k h l place.Operand true e = absurd (cc)
 words_stay w k h l place.Primary true e = absurd (cc)
 
-named_stay : (w : Wanted) (k : TokenKind) → Behind w k → NoColons k → (l : LeftShape) (p : OperandPlace) (s : WordsShape) (o : Option WordsKind) → named_outline.outline.finish s ≡ o → words_can_end named_outline p o ≡ true →
+named_stay : (w : StartSymbol) (k : TokenKind) → Behind w k → NoColons k → (l : RelationShape) (p : OperandPlace) (s : WordsShape) (o : Option WordsKind) → named_outline.outline.finish s ≡ o → words_can_end named_outline p o ≡ true →
     mode_plan w named_outline [] l (shaped.worded p s) k ≡ None
 named_stay w k h n l p s None f e = absurd (cc)
 named_stay w k h n l p s (Some x) f e =
     ap (λ o. or_else (option_image (λ a. act.Words a) o) (ended_words_plan w [] l p (option_image is_if_alone (named_outline.outline.finish s)) k)) (unplanned_shape s k n (ap (λ o. is_some o) f))
     ∙ ap (λ o. ended_words_plan w [] l p (option_image is_if_alone o) k) f ∙ words_stay w k h l p (is_if_alone x) e
 
-mode_stays : (w : Wanted) (k : TokenKind) → Behind w k → NoColons k → (l : LeftShape) (m : ModeShape WordsShape) → ends named_outline [] m ≡ true → mode_plan w named_outline [] l m k ≡ None
+mode_stays : (w : StartSymbol) (k : TokenKind) → Behind w k → NoColons k → (l : RelationShape) (m : ModeShape WordsShape) → ends named_outline [] m ≡ true → mode_plan w named_outline [] l m k ≡ None
 mode_stays w k h n l (shaped.wants p q) e = absurd (cc)
 mode_stays w k h n l (shaped.worded p s) e = named_stay w k h n l p s (named_outline.outline.finish s) refl e
 mode_stays w k h n l (shaped.dotted b) e = absurd (cc)
@@ -111,11 +111,11 @@ ended_true : (b : Bool) → is_some (ends_with b) ≡ true → b ≡ true
 ended_true true e = refl
 ended_true false e = absurd (cc)
 
-stack_stays : (w : Wanted) (k : TokenKind) → Behind w k → NoColons k → (st : List FrameShape) (l : LeftShape) (m : ModeShape WordsShape) → ends named_outline st m ≡ true → mode_plan w named_outline st l m k ≡ None
+stack_stays : (w : StartSymbol) (k : TokenKind) → Behind w k → NoColons k → (st : List FrameShape) (l : RelationShape) (m : ModeShape WordsShape) → ends named_outline st m ≡ true → mode_plan w named_outline st l m k ≡ None
 stack_stays w k h n [] l m e = mode_stays w k h n l m e
 stack_stays w k h n (f ∷ st) l m e = absurd (cc)
 
-whole_stays : (w : Wanted) (k : TokenKind) → Behind w k → NoColons k → (u : StateShape) → is_some ((whole_outline w).finish u) ≡ true → (whole_outline w).plan u k ≡ None
+whole_stays : (w : StartSymbol) (k : TokenKind) → Behind w k → NoColons k → (u : StateShape) → is_some ((whole_outline w).finish u) ≡ true → (whole_outline w).plan u k ≡ None
 whole_stays w k h n u e = stack_stays w k h n u.stack u.left_side u.mode (ended_true (ends named_outline u.stack u.mode) e)
 
 -- ---- which kinds do
@@ -162,7 +162,7 @@ operator_behind within l false = refl
 operator_behind single_eq l true = refl
 operator_behind single_eq l false = refl
 
-parting_behind : (w : Wanted) {k : TokenKind} → IsParting k → Behind w k
+parting_behind : (w : StartSymbol) {k : TokenKind} → IsParting k → Behind w k
 parting_behind w comma l b = refl
 parting_behind w close_paren l b = refl
 
@@ -172,8 +172,8 @@ sum_behind (parting p) = parting_behind form.Sum p
 
 -- ---- the parts of a policy
 
-pub part_doors : (src : List ℕ) → PartDoors src policy_parts
-part_doors src = record {
+pub part_parsers : (src : List ℕ) → PartParsers src policy_parts
+part_parsers src = record {
   name = names_as_nodes src;
   sum = sums_as_nodes src;
   expression = expressions_as_nodes src;

@@ -6,14 +6,14 @@ use Rattle.cedar_syntax.specs.declared.cst.Policy.{Policy}
 use Rattle.cedar_syntax.specs.declared.cst.Policies.{Policies}
 use Rattle.cedar_expression_machine.specs.declared.expression.state.Act.{Act}
 use Rattle.cedar_expression_machine.specs.declared.expression.state.State.{State}
-use Rattle.cedar_expression_machine.specs.declared.expression.state.Wanted.TheVariants as form
-use Rattle.cedar_text.specs.declared.text_to_cst.policy_entries.WholePoliciesState.{WholePoliciesState}
+use Rattle.cedar_expression_machine.specs.declared.expression.state.StartSymbol.TheVariants as form
+use Rattle.cedar_text.specs.declared.text_to_cst.whole_texts.WholePoliciesState.{WholePoliciesState}
 use Rattle.cedar_policy_machine.specs.declared.sequence.SequenceAct.{SequenceAct}
-use Rattle.cedar_policy_machine.specs.declared.sequence.Spanned.{Spanned}
+use Rattle.cedar_policy_machine.specs.declared.sequence.SpannedState.{SpannedState}
 use Rattle.cedar_expression_machine.specs.declared.words.state.PathAct.{PathAct}
 use Rattle.cedar_expression_machine.specs.declared.words.state.PathState.{PathState}
 use Rattle.cedar_syntax.specs.trees.Trees.{Cell}
-use Rattle.cedar_grammar.specs.machines.Door.{Machine, Reader, machine_of}
+use Rattle.cedar_grammar.specs.machines.Machine.{Machine, Reader, machine_of}
 use Rattle.cedar_policy_machine.specs.machines.Placing.{policies_node, placing_reader, mapped_reader}
 use Rattle.cedar_policy_machine.specs.machines.PartOutlines.{PartOutlines}
 use Rattle.cedar_policy_machine.specs.machines.Policies.{SpannedPolicy, PoliciesState, OneAct, one_policy_reader, all_policies_reader}
@@ -48,7 +48,7 @@ whole_policy src = machine_of src whole_policy_reader
 -- and policies
 
 abbrev pub TextState : Type 0
-TextState = Spanned (PoliciesState PathState State State)
+TextState = SpannedState (PoliciesState PathState State State)
 
 abbrev pub inner_state : WholePoliciesState → TextState
 inner_state s = s.text

@@ -29,16 +29,16 @@ ghost use Rattle.cedar_text.specs.GoesOn.{GoesOnInText};
 ghost use Rattle.cedar_text.specs.StandsInText.{StandsInText};
 ghost use Rattle.cedar_text.specs.TreeDepth.{NestsAsTold};
 
-use cedar_grammar::reading::expected::Narrowing;
+use cedar_grammar::reading::expected::ClosersOnly;
 
 /// Tokens have at most one entity literal. They have one, or a first fault and then just one,
 /// never both. And each sentence stands in a text: the tokens of some text are of its kinds, and
 /// have one. A text's tokens go on with each sentence that they begin, behind the same bytes.
 pub fn entity_literals()
     ensures one_tree { HasOneTree ReadsRef }
-    ensures tree_or_fault { HasTreeOrFault ReadsRef Narrowing.Never }
-    ensures one_fault { HasOneFault ReadsRef Narrowing.Never }
-    ensures not_both { HasNotBoth ReadsRef Narrowing.Never }
+    ensures tree_or_fault { HasTreeOrFault ReadsRef ClosersOnly.Never }
+    ensures one_fault { HasOneFault ReadsRef ClosersOnly.Never }
+    ensures not_both { HasNotBoth ReadsRef ClosersOnly.Never }
     ensures stands_in_text { StandsInText ReadsRef }
     ensures goes_on_in_text { GoesOnInText ReadsRef }
 {}
@@ -46,9 +46,9 @@ pub fn entity_literals()
 /// The same of names.
 pub fn names()
     ensures one_tree { HasOneTree ReadsName }
-    ensures tree_or_fault { HasTreeOrFault ReadsName Narrowing.Never }
-    ensures one_fault { HasOneFault ReadsName Narrowing.Never }
-    ensures not_both { HasNotBoth ReadsName Narrowing.Never }
+    ensures tree_or_fault { HasTreeOrFault ReadsName ClosersOnly.Never }
+    ensures one_fault { HasOneFault ReadsName ClosersOnly.Never }
+    ensures not_both { HasNotBoth ReadsName ClosersOnly.Never }
     ensures stands_in_text { StandsInText ReadsName }
     ensures goes_on_in_text { GoesOnInText ReadsName }
 {}
@@ -56,9 +56,9 @@ pub fn names()
 /// The same of single identifiers.
 pub fn identifiers()
     ensures one_tree { HasOneTree ReadsIdent }
-    ensures tree_or_fault { HasTreeOrFault ReadsIdent Narrowing.Never }
-    ensures one_fault { HasOneFault ReadsIdent Narrowing.Never }
-    ensures not_both { HasNotBoth ReadsIdent Narrowing.Never }
+    ensures tree_or_fault { HasTreeOrFault ReadsIdent ClosersOnly.Never }
+    ensures one_fault { HasOneFault ReadsIdent ClosersOnly.Never }
+    ensures not_both { HasNotBoth ReadsIdent ClosersOnly.Never }
     ensures stands_in_text { StandsInText ReadsIdent }
     ensures goes_on_in_text { GoesOnInText ReadsIdent }
 {}
@@ -66,9 +66,9 @@ pub fn identifiers()
 /// The same of expressions.
 pub fn expressions()
     ensures one_tree { HasOneTree ReadsExpr }
-    ensures tree_or_fault { HasTreeOrFault ReadsExpr Narrowing.TokensAndEnd }
-    ensures one_fault { HasOneFault ReadsExpr Narrowing.TokensAndEnd }
-    ensures not_both { HasNotBoth ReadsExpr Narrowing.TokensAndEnd }
+    ensures tree_or_fault { HasTreeOrFault ReadsExpr ClosersOnly.TokensAndEnd }
+    ensures one_fault { HasOneFault ReadsExpr ClosersOnly.TokensAndEnd }
+    ensures not_both { HasNotBoth ReadsExpr ClosersOnly.TokensAndEnd }
     ensures stands_in_text { StandsInText ReadsExpr }
     ensures goes_on_in_text { GoesOnInText ReadsExpr }
 {}
@@ -76,9 +76,9 @@ pub fn expressions()
 /// The same of primaries.
 pub fn primaries()
     ensures one_tree { HasOneTree ReadsPrimary }
-    ensures tree_or_fault { HasTreeOrFault ReadsPrimary Narrowing.TokensAndEnd }
-    ensures one_fault { HasOneFault ReadsPrimary Narrowing.TokensAndEnd }
-    ensures not_both { HasNotBoth ReadsPrimary Narrowing.TokensAndEnd }
+    ensures tree_or_fault { HasTreeOrFault ReadsPrimary ClosersOnly.TokensAndEnd }
+    ensures one_fault { HasOneFault ReadsPrimary ClosersOnly.TokensAndEnd }
+    ensures not_both { HasNotBoth ReadsPrimary ClosersOnly.TokensAndEnd }
     ensures stands_in_text { StandsInText ReadsPrimary }
     ensures goes_on_in_text { GoesOnInText ReadsPrimary }
 {}
@@ -86,9 +86,9 @@ pub fn primaries()
 /// The same of policies. And mending comes to an end: tokens have a list of faults, and just one.
 pub fn policies()
     ensures one_tree { HasOneTree ReadsPolicies }
-    ensures tree_or_fault { HasTreeOrFault ReadsPolicies Narrowing.Tokens }
-    ensures one_fault { HasOneFault ReadsPolicies Narrowing.Tokens }
-    ensures not_both { HasNotBoth ReadsPolicies Narrowing.Tokens }
+    ensures tree_or_fault { HasTreeOrFault ReadsPolicies ClosersOnly.Tokens }
+    ensures one_fault { HasOneFault ReadsPolicies ClosersOnly.Tokens }
+    ensures not_both { HasNotBoth ReadsPolicies ClosersOnly.Tokens }
     ensures stands_in_text { StandsInText ReadsPolicies }
     ensures goes_on_in_text { GoesOnInText ReadsPolicies }
     ensures fault_list { HasFaultList ReadsPolicies PoliciesBefore }
@@ -98,9 +98,9 @@ pub fn policies()
 /// The same of single policies.
 pub fn single_policies()
     ensures one_tree { HasOneTree ReadsPolicy }
-    ensures tree_or_fault { HasTreeOrFault ReadsPolicy Narrowing.Tokens }
-    ensures one_fault { HasOneFault ReadsPolicy Narrowing.Tokens }
-    ensures not_both { HasNotBoth ReadsPolicy Narrowing.Tokens }
+    ensures tree_or_fault { HasTreeOrFault ReadsPolicy ClosersOnly.Tokens }
+    ensures one_fault { HasOneFault ReadsPolicy ClosersOnly.Tokens }
+    ensures not_both { HasNotBoth ReadsPolicy ClosersOnly.Tokens }
     ensures stands_in_text { StandsInText ReadsPolicy }
     ensures goes_on_in_text { GoesOnInText ReadsPolicy }
     ensures fault_list { HasFaultList ReadsPolicy NothingBefore }

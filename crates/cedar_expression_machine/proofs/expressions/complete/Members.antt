@@ -15,58 +15,58 @@ use Rattle.cedar_grammar.specs.declared.reading.class.Sign.{Sign}
 use Rattle.cedar_grammar.specs.declared.reading.class.Sign.TheVariants as sign
 use Rattle.cedar_grammar.specs.declared.reading.class.AccessStart.{AccessStart}
 use Rattle.cedar_grammar.specs.declared.reading.class.AccessStart.TheVariants as opens
-use Rattle.cedar_expression_machine.specs.declared.expression.state.Levels.{Levels}
+use Rattle.cedar_expression_machine.specs.declared.expression.state.PendingOperators.{PendingOperators}
 use Rattle.cedar_expression_machine.specs.declared.expression.state.Signs.{Signs}
 use Rattle.cedar_expression_machine.specs.declared.expression.state.Operand.{Operand}
 use Rattle.cedar_expression_machine.specs.declared.expression.state.Frame.{Frame}
 use Rattle.cedar_expression_machine.specs.declared.expression.state.OperandPlace.{OperandPlace}
 use Rattle.cedar_expression_machine.specs.declared.expression.state.OperandPlace.TheVariants as place
-use Rattle.cedar_expression_machine.specs.declared.expression.state.Mode.{Mode}
-use Rattle.cedar_expression_machine.specs.declared.expression.state.Mode.TheVariants as mode
-use Rattle.cedar_expression_machine.specs.declared.expression.state.Reach.{Reach}
-use Rattle.cedar_expression_machine.specs.declared.expression.state.Reach.TheVariants as reach
+use Rattle.cedar_expression_machine.specs.declared.expression.state.OperandMode.{OperandMode}
+use Rattle.cedar_expression_machine.specs.declared.expression.state.OperandMode.TheVariants as mode
+use Rattle.cedar_expression_machine.specs.declared.expression.state.FollowSet.{FollowSet}
+use Rattle.cedar_expression_machine.specs.declared.expression.state.FollowSet.TheVariants as follow_set
 use Rattle.cedar_grammar.specs.declared.reading.extent.Extent.{Extent}
 use Rattle.cedar_grammar.specs.grammar.Place.{joint_extent, extent, node_at, placed, extent_of}
 use Rattle.cedar_syntax.specs.tokens.Tokens.{Spot, one, any_of}
 use Rattle.cedar_syntax.specs.trees.Trees.{Cell, unary_of, member_of, bangs_of, dashes_of}
 use Rattle.cedar_grammar.specs.grammar.LooseWords.{ReadsAny, any}
 use Rattle.cedar_grammar.specs.grammar.LooseExpressions.{ReadsSigns, one_sign, more_signs}
-use Rattle.cedar_expression_machine.specs.machines.Closing.{ranged_tree, unary_at, signs_of, no_signs, operand_with, with_access}
+use Rattle.cedar_expression_machine.specs.machines.Closing.{spanned_tree, unary_at, signs_of, no_signs, operand_with, with_access}
 use Rattle.cedar_expression_machine.specs.machines.ExpressionStates.{state, wants, has_operand, around}
 use Rattle.cedar_expression_machine.specs.machines.ExpressionPlans.{edge, may_sign, sign_may_stand}
 use Rattle.cedar_grammar.specs.machines.Classes.{with_sign}
 use Rattle.cedar_expression_machine.specs.machines.Wanting.{after_signs}
 use Rattle.cedar_expression_machine.specs.machines.Having.{access_beginning, field_reading}
-use Rattle.cedar_grammar.specs.declared.reading.class.Operator.TheVariants as operator
+use Rattle.cedar_grammar.specs.declared.reading.class.FollowClass.TheVariants as operator
 use Rattle.cedar_syntax.specs.declared.cst.NegOp.TheVariants as neg
 use Rattle.cedar_expression_machine.specs.declared.expression.state.Act.TheVariants as act
-use Rattle.cedar_expression_machine.specs.declared.expression.state.Begin.TheVariants as begin
+use Rattle.cedar_expression_machine.specs.declared.expression.state.StartAct.TheVariants as begin
 use Rattle.cedar_syntax.specs.tokens.Signs.{sign_limit}
-use Rattle.cedar_grammar.specs.machines.Door.{is_some, option_image}
+use Rattle.cedar_grammar.specs.machines.Machine.{is_some, option_image}
 use Rattle.cedar_expression_machine.specs.machines.ExpressionShapes.{op_sign}
 use Rattle.cedar_expression_machine.specs.machines.Expressions.{want_act, dot_act}
 use Rattle.cedar_grammar.proofs.machines.SingleTokens.{same_any}
 use Rattle.cedar_expression_machine.proofs.expressions.Stepping.{Names, planned, had}
-use Rattle.cedar_expression_machine.proofs.expressions.complete.Runs.{reach_at, token, join-assoc, join-none, extent-append, at, bang_more, dash_more, Setting, run, two, StandsAt, stands, met, Accesses, if_accessed, sum_accessed, all_accessed, is_alone}
+use Rattle.cedar_expression_machine.proofs.expressions.complete.Runs.{follow_set_at, token, join-assoc, join-none, extent-append, at, bang_more, dash_more, Setting, run, two, StandsAt, stands, met, Accesses, if_accessed, sum_accessed, all_accessed, is_alone}
 use Rattle.cedar_expression_machine.proofs.expressions.complete.Words.{closed, PrimaryAt}
 
 -- an operand without accesses, and some accesses behind it
-pub record AccessesAt {src : List ℕ} (c : Setting src) (st : List Frame) (lv : Levels) (md : Mode) (sg : Signs) (x : Cell Primary) (e : Option Extent) (b : Bool) (ts : List Lexeme) (xs : List (Cell MemAccess)) : Type 0 where
-  pub after : Mode
+pub record AccessesAt {src : List ℕ} (c : Setting src) (st : List Frame) (lv : PendingOperators) (md : OperandMode) (sg : Signs) (x : Cell Primary) (e : Option Extent) (b : Bool) (ts : List Lexeme) (xs : List (Cell MemAccess)) : Type 0 where
+  pub after : OperandMode
   pub at_it : StandsAt c st lv after (operand_with sg x xs (joint_extent e (extent ts)) b)
   pub goes : run c (Some (state st lv md)) ts ≡ Some (state st lv after)
 
-pub no_accesses : {src : List ℕ} (c : Setting src) (st : List Frame) (lv : Levels) (md : Mode) (sg : Signs) (x : Cell Primary) (e : Option Extent) (b : Bool) → StandsAt c st lv md (operand_with sg x [] e b) →
+pub no_accesses : {src : List ℕ} (c : Setting src) (st : List Frame) (lv : PendingOperators) (md : OperandMode) (sg : Signs) (x : Cell Primary) (e : Option Extent) (b : Bool) → StandsAt c st lv md (operand_with sg x [] e b) →
     AccessesAt c st lv md sg x e b [] []
 no_accesses c st lv md sg x e b h = record { after = md; at_it = subst (λ q. StandsAt c st lv md (operand_with sg x [] q b)) (sym (join-none e)) h; goes = refl }
 
 -- one access, behind any operand that it may stand behind
 abbrev pub AccessRuns : {src : List ℕ} → Setting src → List Lexeme → MemAccess → Type 0
-AccessRuns {src = src} c ts y = (st : List Frame) (lv : Levels) (md : Mode) (m : Operand) → StandsAt c st lv md m → Accesses (reach_at c.wanted st m) →
+AccessRuns {src = src} c ts y = (st : List Frame) (lv : PendingOperators) (md : OperandMode) (m : Operand) → StandsAt c st lv md m → Accesses (follow_set_at c.symbol st m) →
     run c (Some (state st lv md)) ts ≡ Some (has_operand st lv (with_access src m (closed ts y)))
 
-pub more_accesses : {src : List ℕ} (c : Setting src) (st : List Frame) (lv : Levels) (md : Mode) (sg : Signs) (x : Cell Primary) (e : Option Extent) (b : Bool) (ts us : List Lexeme) (xs : List (Cell MemAccess)) (y : MemAccess) →
-    Accesses (cond b reach.If (edge c.wanted st)) → AccessesAt c st lv md sg x e b ts xs → AccessRuns c us y → AccessesAt c st lv md sg x e b (ts ++ us) (xs ++ placed src us y ∷ [])
+pub more_accesses : {src : List ℕ} (c : Setting src) (st : List Frame) (lv : PendingOperators) (md : OperandMode) (sg : Signs) (x : Cell Primary) (e : Option Extent) (b : Bool) (ts us : List Lexeme) (xs : List (Cell MemAccess)) (y : MemAccess) →
+    Accesses (cond b follow_set.If (edge c.symbol st)) → AccessesAt c st lv md sg x e b ts xs → AccessRuns c us y → AccessesAt c st lv md sg x e b (ts ++ us) (xs ++ placed src us y ∷ [])
 more_accesses {src = src} c st lv md sg x e b ts us xs y a h g =
     let m : Operand = operand_with sg x (xs ++ placed src us y ∷ []) (joint_extent e (extent (ts ++ us))) b in
     record {
@@ -76,16 +76,16 @@ more_accesses {src = src} c st lv md sg x e b ts us xs y a h g =
           ∙ ap (λ q. Some (has_operand st lv (operand_with sg x (xs ++ placed src us y ∷ []) q b))) (join-assoc e (extent ts) (extent us) ∙ ap (λ q. joint_extent e q) (sym (extent-append ts us)));
     }
 
-pub begins_access : (src : List ℕ) (st : List Frame) (lv : Levels) (m : Operand) (a : AccessStart) (e : Extent) {r : Reach} → Accesses r → had src st lv m r (operator.Access a) e ≡ Some (access_beginning st lv m a e)
+pub begins_access : (src : List ℕ) (st : List Frame) (lv : PendingOperators) (m : Operand) (a : AccessStart) (e : Extent) {r : FollowSet} → Accesses r → had src st lv m r (operator.Access a) e ≡ Some (access_beginning st lv m a e)
 begins_access src st lv m a e if_accessed = refl
 begins_access src st lv m a e sum_accessed = refl
 begins_access src st lv m a e all_accessed = refl
 
-field_by : (src : List ℕ) (st : List Frame) (lv : Levels) (m : Operand) (d : Extent) (t : Lexeme) (o : Option Ident) → is_some o ≡ true → planned (option_image (λ i. act.Field) o) (λ a. dot_act src st lv m d a t) ≡ field_reading src st lv m d (any_of t.kind t.text) (extent_of t)
+field_by : (src : List ℕ) (st : List Frame) (lv : PendingOperators) (m : Operand) (d : Extent) (t : Lexeme) (o : Option Ident) → is_some o ≡ true → planned (option_image (λ i. act.Field) o) (λ a. dot_act src st lv m d a t) ≡ field_reading src st lv m d (any_of t.kind t.text) (extent_of t)
 field_by src st lv m d t (Some i) e = refl
 field_by src st lv m d t None e = absurd (cc)
 
-field_step : (src : List ℕ) (st : List Frame) (lv : Levels) (m : Operand) (d : Extent) (t : Lexeme) (i : Ident) → any_of t.kind t.text ≡ Some i →
+field_step : (src : List ℕ) (st : List Frame) (lv : PendingOperators) (m : Operand) (d : Extent) (t : Lexeme) (i : Ident) → any_of t.kind t.text ≡ Some i →
     planned (option_image (λ i. act.Field) (any_of t.kind [])) (λ a. dot_act src st lv m d a t) ≡ field_reading src st lv m d (Some i) (extent_of t)
 field_step src st lv m d t i e = field_by src st lv m d t (any_of t.kind []) (same_any t.kind t.text ∙ ap (λ o. is_some o) e) ∙ ap (λ o. field_reading src st lv m d o (extent_of t)) e
 
@@ -104,20 +104,20 @@ around_is ts j k l m = inside (extent ts) ∙ sym (extent-append (one j l ++ ts)
 
 -- a member: a primary and its accesses
 
-pub record MemberAt {src : List ℕ} (c : Setting src) (st : List Frame) (lv : Levels) (pl : OperandPlace) (sg : Signs) (ts : List Lexeme) (x : Member) : Type 0 where
-  pub md : Mode
+pub record MemberAt {src : List ℕ} (c : Setting src) (st : List Frame) (lv : PendingOperators) (pl : OperandPlace) (sg : Signs) (ts : List Lexeme) (x : Member) : Type 0 where
+  pub md : OperandMode
   pub last : Operand
-  pub is : unary_at src last ≡ ranged_tree (joint_extent sg.extent (extent ts)) (unary_of sg.op (placed src ts x))
+  pub is : unary_at src last ≡ spanned_tree (joint_extent sg.extent (extent ts)) (unary_of sg.op (placed src ts x))
   pub free : last.is_if ≡ false
   pub at_it : StandsAt c st lv md last
   pub goes : run c (Some (state st lv (mode.Want pl sg))) ts ≡ Some (state st lv md)
 
-pub members : {src : List ℕ} (c : Setting src) (st : List Frame) (lv : Levels) (pl : OperandPlace) (sg : Signs) (ts us : List Lexeme) (x : Primary) (xs : List (Cell MemAccess)) (h : PrimaryAt c st lv pl sg ts x) →
+pub members : {src : List ℕ} (c : Setting src) (st : List Frame) (lv : PendingOperators) (pl : OperandPlace) (sg : Signs) (ts us : List Lexeme) (x : Primary) (xs : List (Cell MemAccess)) (h : PrimaryAt c st lv pl sg ts x) →
     AccessesAt c st lv h.md sg (placed src ts x) (extent ts) false us xs → MemberAt c st lv pl sg (ts ++ us) (member_of (placed src ts x) xs)
 members {src = src} c st lv pl sg ts us x xs h g = record {
   md = g.after;
   last = operand_with sg (placed src ts x) xs (joint_extent (extent ts) (extent us)) false;
-  is = ap (λ q. ranged_tree (joint_extent sg.extent q) (unary_of sg.op (node_at src q (member_of (placed src ts x) xs)))) (sym (extent-append ts us));
+  is = ap (λ q. spanned_tree (joint_extent sg.extent q) (unary_of sg.op (node_at src q (member_of (placed src ts x) xs)))) (sym (extent-append ts us));
   free = refl;
   at_it = g.at_it;
   goes = two c (Some (state st lv (mode.Want pl sg))) _ _ ts us h.goes g.goes;
@@ -125,7 +125,7 @@ members {src = src} c st lv pl sg ts us x xs h g = record {
 
 -- signs
 
-sign_by : (src : List ℕ) (names : Names) (st : List Frame) (lv : Levels) (sg : Signs) (s : Sign) (t : Lexeme) (pl : OperandPlace) (b : Bool) → b ≡ true →
+sign_by : (src : List ℕ) (names : Names) (st : List Frame) (lv : PendingOperators) (sg : Signs) (s : Sign) (t : Lexeme) (pl : OperandPlace) (b : Bool) → b ≡ true →
     planned (option_image (λ b. act.Begin b) (cond b (Some (begin.Sign s)) None)) (λ a. want_act src names st lv pl sg a t) ≡ after_signs st lv sg.extent (with_sign sg.op s) (extent_of t)
 sign_by src names st lv sg s t pl true e = refl
 sign_by src names st lv sg s t pl false e = absurd (cc)
@@ -138,7 +138,7 @@ sign_stands place.Has q s e f = f
 sign_stands place.Operand q s e f = f
 sign_stands place.Primary q s e f = absurd (cc)
 
-sign_taken : (src : List ℕ) (names : Names) (st : List Frame) (lv : Levels) (sg : Signs) (s : Sign) (t : Lexeme) (pl : OperandPlace) → is_alone pl ≡ false → may_sign (op_sign sg.op) s ≡ true →
+sign_taken : (src : List ℕ) (names : Names) (st : List Frame) (lv : PendingOperators) (sg : Signs) (s : Sign) (t : Lexeme) (pl : OperandPlace) → is_alone pl ≡ false → may_sign (op_sign sg.op) s ≡ true →
     planned (option_image (λ b. act.Begin b) (cond (sign_may_stand pl (op_sign sg.op) s) (Some (begin.Sign s)) None)) (λ a. want_act src names st lv pl sg a t) ≡ after_signs st lv sg.extent (with_sign sg.op s) (extent_of t)
 sign_taken src names st lv sg s t pl e f = sign_by src names st lv sg s t pl (sign_may_stand pl (op_sign sg.op) s) (sign_stands pl (op_sign sg.op) s e f)
 
@@ -156,21 +156,21 @@ dashes_may n = go (nat_le n sign_limit)
     go true = refl
     go false = refl
 
-abbrev pub SignsAt : {src : List ℕ} → Setting src → List Frame → Levels → OperandPlace → List Lexeme → NegOp → Type 0
+abbrev pub SignsAt : {src : List ℕ} → Setting src → List Frame → PendingOperators → OperandPlace → List Lexeme → NegOp → Type 0
 SignsAt c st lv pl ts o = run c (Some (state st lv (wants pl))) ts ≡ Some (state st lv (mode.Want place.Operand (signs_of (Some o) (extent ts))))
 
-after_sign : (st : List Frame) (lv : Levels) (ts : List Lexeme) (k : TokenKind) (p : Spot) (q : Option NegOp) (o : NegOp) → q ≡ Some o →
+after_sign : (st : List Frame) (lv : PendingOperators) (ts : List Lexeme) (k : TokenKind) (p : Spot) (q : Option NegOp) (o : NegOp) → q ≡ Some o →
     (after_signs st lv (extent ts) q (at p)) ≡ Some (state st lv (mode.Want place.Operand (signs_of (Some o) (extent (ts ++ one k p)))))
 after_sign st lv ts k p q o e =
     ap (λ w. (after_signs st lv (extent ts) w (at p))) e ∙ ap (λ w. Some (state st lv (mode.Want place.Operand (signs_of (Some o) w)))) (sym (extent-append ts (one k p)))
 
-pub bangs_run : {src : List ℕ} (c : Setting src) {ts : List Lexeme} {n : ℕ} → ReadsSigns kind.Bang ts n → (st : List Frame) (lv : Levels) (pl : OperandPlace) → is_alone pl ≡ false → SignsAt c st lv pl ts (bangs_of n)
+pub bangs_run : {src : List ℕ} (c : Setting src) {ts : List Lexeme} {n : ℕ} → ReadsSigns kind.Bang ts n → (st : List Frame) (lv : PendingOperators) (pl : OperandPlace) → is_alone pl ≡ false → SignsAt c st lv pl ts (bangs_of n)
 bangs_run {src = src} c (one_sign p) st lv pl e = sign_taken src c.names st lv no_signs sign.Bang (token kind.Bang p) pl e refl
 bangs_run {src = src} c (more_signs {ts = ts} {n = n} p r) st lv pl e =
     two c (Some (state st lv (wants pl))) _ _ ts (one kind.Bang p) (bangs_run c r st lv pl e)
     (sign_taken src c.names st lv (signs_of (Some (bangs_of n)) (extent ts)) sign.Bang (token kind.Bang p) place.Operand refl (bangs_may n) ∙ after_sign st lv ts kind.Bang p _ (bangs_of (n + 1)) (bang_more n))
 
-pub dashes_run : {src : List ℕ} (c : Setting src) {ts : List Lexeme} {n : ℕ} → ReadsSigns kind.Minus ts n → (st : List Frame) (lv : Levels) (pl : OperandPlace) → is_alone pl ≡ false → SignsAt c st lv pl ts (dashes_of n)
+pub dashes_run : {src : List ℕ} (c : Setting src) {ts : List Lexeme} {n : ℕ} → ReadsSigns kind.Minus ts n → (st : List Frame) (lv : PendingOperators) (pl : OperandPlace) → is_alone pl ≡ false → SignsAt c st lv pl ts (dashes_of n)
 dashes_run {src = src} c (one_sign p) st lv pl e = sign_taken src c.names st lv no_signs sign.Dash (token kind.Minus p) pl e refl
 dashes_run {src = src} c (more_signs {ts = ts} {n = n} p r) st lv pl e =
     two c (Some (state st lv (wants pl))) _ _ ts (one kind.Minus p) (dashes_run c r st lv pl e)
@@ -178,23 +178,23 @@ dashes_run {src = src} c (more_signs {ts = ts} {n = n} p r) st lv pl e =
 
 -- an operand with its signs
 
-pub record UnaryAt {src : List ℕ} (c : Setting src) (st : List Frame) (lv : Levels) (pl : OperandPlace) (ts : List Lexeme) (x : Unary) : Type 0 where
-  pub md : Mode
+pub record UnaryAt {src : List ℕ} (c : Setting src) (st : List Frame) (lv : PendingOperators) (pl : OperandPlace) (ts : List Lexeme) (x : Unary) : Type 0 where
+  pub md : OperandMode
   pub last : Operand
   pub is : unary_at src last ≡ closed ts x
   pub free : last.is_if ≡ false
   pub at_it : StandsAt c st lv md last
   pub goes : run c (Some (state st lv (wants pl))) ts ≡ Some (state st lv md)
 
-pub plains : {src : List ℕ} (c : Setting src) (st : List Frame) (lv : Levels) (pl : OperandPlace) (ts : List Lexeme) (x : Member) → MemberAt c st lv pl no_signs ts x → UnaryAt c st lv pl ts (unary_of None (placed src ts x))
+pub plains : {src : List ℕ} (c : Setting src) (st : List Frame) (lv : PendingOperators) (pl : OperandPlace) (ts : List Lexeme) (x : Member) → MemberAt c st lv pl no_signs ts x → UnaryAt c st lv pl ts (unary_of None (placed src ts x))
 plains c st lv pl ts x h = record { md = h.md; last = h.last; is = h.is; free = h.free; at_it = h.at_it; goes = h.goes }
 
-pub signeds : {src : List ℕ} (c : Setting src) (st : List Frame) (lv : Levels) (pl : OperandPlace) (ts us : List Lexeme) (o : NegOp) (x : Member) → SignsAt c st lv pl ts o → MemberAt c st lv place.Operand (signs_of (Some o) (extent ts)) us x →
+pub signeds : {src : List ℕ} (c : Setting src) (st : List Frame) (lv : PendingOperators) (pl : OperandPlace) (ts us : List Lexeme) (o : NegOp) (x : Member) → SignsAt c st lv pl ts o → MemberAt c st lv place.Operand (signs_of (Some o) (extent ts)) us x →
     UnaryAt c st lv pl (ts ++ us) (unary_of (Some o) (placed src us x))
 signeds {src = src} c st lv pl ts us o x e h = record {
   md = h.md;
   last = h.last;
-  is = h.is ∙ ap (λ q. ranged_tree q (unary_of (Some o) (placed src us x))) (sym (extent-append ts us));
+  is = h.is ∙ ap (λ q. spanned_tree q (unary_of (Some o) (placed src us x))) (sym (extent-append ts us));
   free = h.free;
   at_it = h.at_it;
   goes = two c (Some (state st lv (wants pl))) _ _ ts us e h.goes;

@@ -18,39 +18,39 @@ use Rattle.cedar_syntax.specs.declared.cst.RecInit.{RecInit}
 use Rattle.cedar_expression_machine.specs.machines.Named.{NameOrEntity}
 use Rattle.cedar_expression_machine.specs.declared.words.state.WordsState.{WordsState}
 use Rattle.cedar_expression_machine.specs.declared.words.state.WordsAct.{WordsAct}
-use Rattle.cedar_expression_machine.specs.declared.expression.state.Ranged.{Ranged}
+use Rattle.cedar_expression_machine.specs.declared.expression.state.Spanned.{Spanned}
 use Rattle.cedar_expression_machine.specs.declared.expression.state.Chain.{Chain}
 use Rattle.cedar_expression_machine.specs.declared.expression.state.PendingChain.{PendingChain}
 use Rattle.cedar_expression_machine.specs.declared.expression.state.Branch.{Branch}
-use Rattle.cedar_expression_machine.specs.declared.expression.state.Left.{Left}
-use Rattle.cedar_expression_machine.specs.declared.expression.state.Left.TheVariants as left
-use Rattle.cedar_expression_machine.specs.declared.expression.state.Levels.{Levels}
+use Rattle.cedar_expression_machine.specs.declared.expression.state.PendingRelation.{PendingRelation}
+use Rattle.cedar_expression_machine.specs.declared.expression.state.PendingRelation.TheVariants as left
+use Rattle.cedar_expression_machine.specs.declared.expression.state.PendingOperators.{PendingOperators}
 use Rattle.cedar_expression_machine.specs.declared.expression.state.Signs.{Signs}
 use Rattle.cedar_expression_machine.specs.declared.expression.state.Operand.{Operand}
 use Rattle.cedar_expression_machine.specs.declared.expression.state.Frame.{Frame}
 use Rattle.cedar_expression_machine.specs.declared.expression.state.Frame.TheVariants as frame
 use Rattle.cedar_expression_machine.specs.declared.expression.state.OperandPlace.{OperandPlace}
 use Rattle.cedar_expression_machine.specs.declared.expression.state.OperandPlace.TheVariants as place
-use Rattle.cedar_expression_machine.specs.declared.expression.state.Mode.TheVariants as mode
+use Rattle.cedar_expression_machine.specs.declared.expression.state.OperandMode.TheVariants as mode
 use Rattle.cedar_expression_machine.specs.declared.expression.state.State.{State}
-use Rattle.cedar_expression_machine.specs.declared.expression.state.Wanted.{Wanted}
-use Rattle.cedar_expression_machine.specs.declared.expression.state.Reach.{Reach}
-use Rattle.cedar_expression_machine.specs.declared.expression.state.Reach.TheVariants as reach
+use Rattle.cedar_expression_machine.specs.declared.expression.state.StartSymbol.{StartSymbol}
+use Rattle.cedar_expression_machine.specs.declared.expression.state.FollowSet.{FollowSet}
+use Rattle.cedar_expression_machine.specs.declared.expression.state.FollowSet.TheVariants as follow_set
 use Rattle.cedar_grammar.specs.grammar.Place.{extent, placed}
 use Rattle.cedar_syntax.specs.tokens.Tokens.{Spot, one}
 use Rattle.cedar_syntax.specs.trees.Trees.{Cell, member_of, bangs_of, dashes_of}
 use Rattle.cedar_grammar.specs.grammar.LooseExpressions.{ReadsRelOp, ReadsAddOp, ReadsMultOp, ReadsSigns, if_name, lone_expr, ReadsExpr, ReadsAnds, ReadsRelations, ReadsAdds, ReadsAdd, ReadsMults, ReadsUnaries, ReadsAccesses, ReadsPrimary, ReadsExprItems, ReadsInitItems}
 pub use Rattle.cedar_grammar.proofs.machines.Extents.{at}
-use Rattle.cedar_expression_machine.specs.machines.Closing.{ranged_tree, Plain, onward, pending, levels_of, fresh, signs_of, no_signs, operand_with, operand_of}
-use Rattle.cedar_grammar.specs.machines.Door.{Reader, machine_of, Comes}
+use Rattle.cedar_expression_machine.specs.machines.Closing.{spanned_tree, Plain, onward, pending, levels_of, fresh, signs_of, no_signs, operand_with, operand_of}
+use Rattle.cedar_grammar.specs.machines.Machine.{Reader, machine_of, Comes}
 use Rattle.cedar_expression_machine.specs.machines.ExpressionStates.{state}
-use Rattle.cedar_expression_machine.specs.machines.ExpressionPlans.{alone_reach, edge}
+use Rattle.cedar_expression_machine.specs.machines.ExpressionPlans.{start_follow_set, edge}
 use Rattle.cedar_expression_machine.specs.machines.Wanting.{set_with, record_with}
 use Rattle.cedar_expression_machine.specs.machines.Having.{before}
 
 -- a tree and the extent of its tokens
-abbrev pub closed : {T : Type 0} → List Lexeme → T → Ranged T
-closed ts x = ranged_tree (extent ts) x
+abbrev pub closed : {T : Type 0} → List Lexeme → T → Spanned T
+closed ts x = spanned_tree (extent ts) x
 
 -- a chain that reads some tokens
 abbrev pub chain : {T I : Type 0} → List Lexeme → Cell T → List I → Chain T I
@@ -58,7 +58,7 @@ chain ts x xs = record { initial = x; extended = xs; extent = extent ts }
 
 -- a tree, or a chain, that these tokens are
 
-pub data Reading {T : Type 0} (R : List Lexeme → T → Type 0) : List Lexeme → Ranged T → Type 0 where
+pub data Reading {T : Type 0} (R : List Lexeme → T → Type 0) : List Lexeme → Spanned T → Type 0 where
   reads : {ts : List Lexeme} {x : T} → R ts x → Reading R ts (closed ts x)
 
 pub data Chained {T I : Type 0} (R : List Lexeme → Cell T → List I → Type 0) : List Lexeme → Chain T I → Type 0 where
@@ -76,15 +76,15 @@ pub data BegunAdd (src : List ℕ) : List Lexeme → Option (PendingChain Mult A
   begun_add : {ts : List Lexeme} {k : TokenKind} {o : AddOp} {x : Cell Mult} {xs : List (AddOp × Cell Mult)} (p : Spot) → ReadsMults src ts x xs → ReadsAddOp k o →
       BegunAdd src (ts ++ one k p) (Some (pending (chain ts x xs) o (at p)))
 
-pub data BegunLeft (src : List ℕ) : List Lexeme → Option Left → Type 0 where
-  no_left : BegunLeft src [] None
+pub data BegunRelation (src : List ℕ) : List Lexeme → Option PendingRelation → Type 0 where
+  no_left : BegunRelation src [] None
   comparing : {ts : List Lexeme} {k : TokenKind} {o : RelOp} {x : Cell Add} {xs : List (RelOp × Cell Add)} (p : Spot) → ReadsAdds src ts x xs → ReadsRelOp k o →
-      BegunLeft src (ts ++ one k p) (Some (left.Common (pending (chain ts x xs) o (at p))))
-  having_field : {ts : List Lexeme} {x : Add} (p : Spot) → ReadsAdd src ts x → BegunLeft src (ts ++ one kind.Has p) (Some (left.Has (before src (closed ts x) (at p))))
-  being_like : {ts : List Lexeme} {x : Add} (p : Spot) → ReadsAdd src ts x → BegunLeft src (ts ++ one kind.Like p) (Some (left.Like (before src (closed ts x) (at p))))
-  being : {ts : List Lexeme} {x : Add} (p : Spot) → ReadsAdd src ts x → BegunLeft src (ts ++ one kind.Is p) (Some (left.Is (before src (closed ts x) (at p))))
+      BegunRelation src (ts ++ one k p) (Some (left.Common (pending (chain ts x xs) o (at p))))
+  having_field : {ts : List Lexeme} {x : Add} (p : Spot) → ReadsAdd src ts x → BegunRelation src (ts ++ one kind.Has p) (Some (left.Has (before src (closed ts x) (at p))))
+  being_like : {ts : List Lexeme} {x : Add} (p : Spot) → ReadsAdd src ts x → BegunRelation src (ts ++ one kind.Like p) (Some (left.Like (before src (closed ts x) (at p))))
+  being : {ts : List Lexeme} {x : Add} (p : Spot) → ReadsAdd src ts x → BegunRelation src (ts ++ one kind.Is p) (Some (left.Is (before src (closed ts x) (at p))))
   being_in : {ts us : List Lexeme} {x y : Add} (p q : Spot) → ReadsAdd src ts x → ReadsAdd src us y →
-      BegunLeft src (ts ++ one kind.Is p ++ us ++ one kind.In q) (Some (left.IsIn (placed src ts x) (placed src us y) (extent (ts ++ one kind.Is p ++ us ++ one kind.In q))))
+      BegunRelation src (ts ++ one kind.Is p ++ us ++ one kind.In q) (Some (left.IsIn (placed src ts x) (placed src us y) (extent (ts ++ one kind.Is p ++ us ++ one kind.In q))))
 
 pub data BegunAnd (src : List ℕ) : List Lexeme → Option (Plain Relation) → Type 0 where
   no_and : BegunAnd src [] None
@@ -105,17 +105,17 @@ pub data BegunBranches (src : List ℕ) : List Lexeme → List Branch → Type 0
       BegunBranches src (ts ++ (one kind.If l ++ us ++ one kind.Then m ++ vs ++ one kind.Else n)) (branch_made src us vs l m n c x ∷ bs)
 
 -- a sum alone
-pub data BegunSum (src : List ℕ) : List Lexeme → Levels → Type 0 where
+pub data BegunSum (src : List ℕ) : List Lexeme → PendingOperators → Type 0 where
   in_sum : {ps qs : List Lexeme} {s : Option (PendingChain Mult AddOp)} {m : Option (PendingChain Unary MultOp)} → BegunAdd src ps s → BegunMult src qs m →
       BegunSum src (ps ++ qs) (levels_of [] None None None s m)
 
-pub data BegunLevels (src : List ℕ) : List Lexeme → Levels → Type 0 where
-  levels : {ts us vs ws ps qs : List Lexeme} {bs : List Branch} {o : Option (Plain And)} {a : Option (Plain Relation)} {r : Option Left} {s : Option (PendingChain Mult AddOp)} {m : Option (PendingChain Unary MultOp)} →
-      BegunBranches src ts bs → BegunOr src us o → BegunAnd src vs a → BegunLeft src ws r → BegunAdd src ps s → BegunMult src qs m →
+pub data BegunLevels (src : List ℕ) : List Lexeme → PendingOperators → Type 0 where
+  levels : {ts us vs ws ps qs : List Lexeme} {bs : List Branch} {o : Option (Plain And)} {a : Option (Plain Relation)} {r : Option PendingRelation} {s : Option (PendingChain Mult AddOp)} {m : Option (PendingChain Unary MultOp)} →
+      BegunBranches src ts bs → BegunOr src us o → BegunAnd src vs a → BegunRelation src ws r → BegunAdd src ps s → BegunMult src qs m →
       BegunLevels src (ts ++ (us ++ (vs ++ (ws ++ (ps ++ qs))))) (levels_of bs o a r s m)
 
 -- straight behind `has`
-pub data BegunHas (src : List ℕ) : List Lexeme → Levels → Type 0 where
+pub data BegunHas (src : List ℕ) : List Lexeme → PendingOperators → Type 0 where
   has_begun : {ts us vs ws : List Lexeme} {bs : List Branch} {o : Option (Plain And)} {a : Option (Plain Relation)} {x : Add} (p : Spot) →
       BegunBranches src ts bs → BegunOr src us o → BegunAnd src vs a → ReadsAdd src ws x →
       BegunHas src (ts ++ (us ++ (vs ++ (ws ++ one kind.Has p)))) (levels_of bs o a (Some (left.Has (before src (closed ws x) (at p)))) None None)
@@ -135,23 +135,23 @@ pub data BegunIf (src : List ℕ) : List Lexeme → Operand → Type 0 where
       BegunIf src (one kind.If q ++ vs) (operand_with no_signs (placed src (one kind.If q) (if_name src q)) xs (extent (one kind.If q ++ vs)) true)
 
 -- what stands before an operand that goes on as far as this, its signs with it
-pub data Opens (src : List ℕ) : Reach → List Lexeme → Levels → Signs → Type 0 where
-  opens_whole : {ts us : List Lexeme} {lv : Levels} {sg : Signs} → BegunLevels src ts lv → BegunSigns us sg → Opens src reach.Whole (ts ++ us) lv sg
-  opens_sum : {ts us : List Lexeme} {lv : Levels} {sg : Signs} → BegunSum src ts lv → BegunSigns us sg → Opens src reach.Sum (ts ++ us) lv sg
+pub data Opens (src : List ℕ) : FollowSet → List Lexeme → PendingOperators → Signs → Type 0 where
+  opens_whole : {ts us : List Lexeme} {lv : PendingOperators} {sg : Signs} → BegunLevels src ts lv → BegunSigns us sg → Opens src follow_set.Whole (ts ++ us) lv sg
+  opens_sum : {ts us : List Lexeme} {lv : PendingOperators} {sg : Signs} → BegunSum src ts lv → BegunSigns us sg → Opens src follow_set.Sum (ts ++ us) lv sg
 
-pub data Leads (src : List ℕ) : Reach → List Lexeme → Levels → Signs → Type 0 where
-  leads : {r : Reach} {ts : List Lexeme} {lv : Levels} {sg : Signs} → Opens src r ts lv sg → Leads src r ts lv sg
-  leads_primary : Leads src reach.Primary [] (fresh []) no_signs
+pub data Leads (src : List ℕ) : FollowSet → List Lexeme → PendingOperators → Signs → Type 0 where
+  leads : {r : FollowSet} {ts : List Lexeme} {lv : PendingOperators} {sg : Signs} → Opens src r ts lv sg → Leads src r ts lv sg
+  leads_primary : Leads src follow_set.Primary [] (fresh []) no_signs
 
 -- levels and an operand behind them that may go on
-pub data Longer (src : List ℕ) : Reach → List Lexeme → Levels → Operand → Type 0 where
-  whole_longer : {ts us : List Lexeme} {lv : Levels} {m : Operand} → BegunLevels src ts lv → BegunOperand src us m → Longer src reach.Whole (ts ++ us) lv m
-  sum_longer : {ts us : List Lexeme} {lv : Levels} {m : Operand} → BegunSum src ts lv → BegunOperand src us m → Longer src reach.Sum (ts ++ us) lv m
-  if_longer : {ts us : List Lexeme} {lv : Levels} {m : Operand} → BegunHas src ts lv → BegunIf src us m → Longer src reach.Whole (ts ++ us) lv m
+pub data Longer (src : List ℕ) : FollowSet → List Lexeme → PendingOperators → Operand → Type 0 where
+  whole_longer : {ts us : List Lexeme} {lv : PendingOperators} {m : Operand} → BegunLevels src ts lv → BegunOperand src us m → Longer src follow_set.Whole (ts ++ us) lv m
+  sum_longer : {ts us : List Lexeme} {lv : PendingOperators} {m : Operand} → BegunSum src ts lv → BegunOperand src us m → Longer src follow_set.Sum (ts ++ us) lv m
+  if_longer : {ts us : List Lexeme} {lv : PendingOperators} {m : Operand} → BegunHas src ts lv → BegunIf src us m → Longer src follow_set.Whole (ts ++ us) lv m
 
-pub data Holds (src : List ℕ) : Reach → List Lexeme → Levels → Operand → Type 0 where
-  holds : {r : Reach} {ts : List Lexeme} {lv : Levels} {m : Operand} → Longer src r ts lv m → Holds src r ts lv m
-  holds_primary : {ts : List Lexeme} {x : Primary} → ReadsPrimary src ts x → Holds src reach.Primary ts (fresh []) (operand_of src no_signs (closed ts x))
+pub data Holds (src : List ℕ) : FollowSet → List Lexeme → PendingOperators → Operand → Type 0 where
+  holds : {r : FollowSet} {ts : List Lexeme} {lv : PendingOperators} {m : Operand} → Longer src r ts lv m → Holds src r ts lv m
+  holds_primary : {ts : List Lexeme} {x : Primary} → ReadsPrimary src ts x → Holds src follow_set.Primary ts (fresh []) (operand_of src no_signs (closed ts x))
 
 -- items, each with its comma
 pub data BegunExprs (src : List ℕ) : List Lexeme → List (Cell Expr) → Type 0 where
@@ -170,41 +170,41 @@ pub data BegunKey (src : List ℕ) : List Lexeme → Cell Expr → Type 0 where
   expr_key : {ts : List Lexeme} {x : Expr} (p : Spot) → ReadsExpr src ts x → BegunKey src (ts ++ one kind.Colon p) (placed src ts x)
   lone_if_key : (p q : Spot) → BegunKey src (one kind.If p ++ one kind.Colon q) (if_alone_key src p)
 
-pub data BegunStack (src : List ℕ) (w : Wanted) : List Lexeme → List Frame → Type 0 where
+pub data BegunStack (src : List ℕ) (w : StartSymbol) : List Lexeme → List Frame → Type 0 where
   bottom : BegunStack src w [] []
-  in_paren : {ts us : List Lexeme} {st : List Frame} {lv : Levels} {sg : Signs} (l : Spot) → BegunStack src w ts st → Leads src (edge w st) us lv sg →
+  in_paren : {ts us : List Lexeme} {st : List Frame} {lv : PendingOperators} {sg : Signs} (l : Spot) → BegunStack src w ts st → Leads src (edge w st) us lv sg →
       BegunStack src w (ts ++ (us ++ one kind.OpenParen l)) (frame.Paren record { outer = lv; signs = sg; opened = at l } ∷ st)
-  in_set : {ts us vs : List Lexeme} {st : List Frame} {lv : Levels} {sg : Signs} {xs : List (Cell Expr)} (l : Spot) → BegunStack src w ts st → Leads src (edge w st) us lv sg → BegunExprs src vs xs →
+  in_set : {ts us vs : List Lexeme} {st : List Frame} {lv : PendingOperators} {sg : Signs} {xs : List (Cell Expr)} (l : Spot) → BegunStack src w ts st → Leads src (edge w st) us lv sg → BegunExprs src vs xs →
       BegunStack src w (ts ++ (us ++ (one kind.OpenBracket l ++ vs))) (frame.Set (set_with lv sg (at l) xs) ∷ st)
-  in_call : {ts us vs : List Lexeme} {st : List Frame} {lv : Levels} {m : Operand} {xs : List (Cell Expr)} (l : Spot) → BegunStack src w ts st → Longer src (edge w st) us lv m → BegunExprs src vs xs →
+  in_call : {ts us vs : List Lexeme} {st : List Frame} {lv : PendingOperators} {m : Operand} {xs : List (Cell Expr)} (l : Spot) → BegunStack src w ts st → Longer src (edge w st) us lv m → BegunExprs src vs xs →
       BegunStack src w (ts ++ (us ++ (one kind.OpenParen l ++ vs))) (frame.Call record { outer = lv; operand = m; opened = at l; items = xs } ∷ st)
-  in_index : {ts us : List Lexeme} {st : List Frame} {lv : Levels} {m : Operand} (l : Spot) → BegunStack src w ts st → Longer src (edge w st) us lv m →
+  in_index : {ts us : List Lexeme} {st : List Frame} {lv : PendingOperators} {m : Operand} (l : Spot) → BegunStack src w ts st → Longer src (edge w st) us lv m →
       BegunStack src w (ts ++ (us ++ one kind.OpenBracket l)) (frame.Index record { outer = lv; operand = m; opened = at l } ∷ st)
-  in_key : {ts us vs : List Lexeme} {st : List Frame} {lv : Levels} {sg : Signs} {xs : List (Cell RecInit)} (l : Spot) → BegunStack src w ts st → Leads src (edge w st) us lv sg → BegunInits src vs xs →
+  in_key : {ts us vs : List Lexeme} {st : List Frame} {lv : PendingOperators} {sg : Signs} {xs : List (Cell RecInit)} (l : Spot) → BegunStack src w ts st → Leads src (edge w st) us lv sg → BegunInits src vs xs →
       BegunStack src w (ts ++ (us ++ (one kind.OpenBrace l ++ vs))) (frame.Record (record_with lv sg (at l) xs None) ∷ st)
-  in_value : {ts us vs ws : List Lexeme} {st : List Frame} {lv : Levels} {sg : Signs} {xs : List (Cell RecInit)} {x : Cell Expr} (l : Spot) → BegunStack src w ts st → Leads src (edge w st) us lv sg → BegunInits src vs xs →
+  in_value : {ts us vs ws : List Lexeme} {st : List Frame} {lv : PendingOperators} {sg : Signs} {xs : List (Cell RecInit)} {x : Cell Expr} (l : Spot) → BegunStack src w ts st → Leads src (edge w st) us lv sg → BegunInits src vs xs →
       BegunKey src ws x →
       BegunStack src w (ts ++ (us ++ (one kind.OpenBrace l ++ (vs ++ ws)))) (frame.Record (record_with lv sg (at l) xs (Some record { node = x; extent = extent ws })) ∷ st)
-  in_guard : {ts us : List Lexeme} {st : List Frame} {bs : List Branch} (l : Spot) → edge w st ≡ reach.Whole → BegunStack src w ts st → BegunBranches src us bs →
+  in_guard : {ts us : List Lexeme} {st : List Frame} {bs : List Branch} (l : Spot) → edge w st ≡ follow_set.Whole → BegunStack src w ts st → BegunBranches src us bs →
       BegunStack src w (ts ++ (us ++ one kind.If l)) (frame.Guard record { branches = bs; opened = Some (at l) } ∷ st)
-  in_then : {ts us vs : List Lexeme} {st : List Frame} {bs : List Branch} {c : Expr} (l m : Spot) → edge w st ≡ reach.Whole → BegunStack src w ts st → BegunBranches src us bs → ReadsExpr src vs c →
+  in_then : {ts us vs : List Lexeme} {st : List Frame} {bs : List Branch} {c : Expr} (l m : Spot) → edge w st ≡ follow_set.Whole → BegunStack src w ts st → BegunBranches src us bs → ReadsExpr src vs c →
       BegunStack src w (ts ++ (us ++ (one kind.If l ++ vs ++ one kind.Then m))) (frame.Then record { branches = bs; guard = placed src vs c; extent = extent (one kind.If l ++ vs ++ one kind.Then m) } ∷ st)
 
 -- what stands before an operand that is wanted here
-pub data Wants (src : List ℕ) (w : Wanted) : List Lexeme → List Frame → Levels → OperandPlace → Signs → Type 0 where
-  at_expr : {us : List Lexeme} {st : List Frame} {bs : List Branch} → edge w st ≡ reach.Whole → BegunBranches src us bs → Wants src w us st (fresh bs) place.Expr no_signs
+pub data Wants (src : List ℕ) (w : StartSymbol) : List Lexeme → List Frame → PendingOperators → OperandPlace → Signs → Type 0 where
+  at_expr : {us : List Lexeme} {st : List Frame} {bs : List Branch} → edge w st ≡ follow_set.Whole → BegunBranches src us bs → Wants src w us st (fresh bs) place.Expr no_signs
   at_item : {f : Frame} {st : List Frame} → Wants src w [] (f ∷ st) (fresh []) place.Item no_signs
   at_key : {f : Frame} {st : List Frame} → Wants src w [] (f ∷ st) (fresh []) place.Key no_signs
-  at_has : {us : List Lexeme} {st : List Frame} {lv : Levels} → edge w st ≡ reach.Whole → BegunHas src us lv → Wants src w us st lv place.Has no_signs
-  at_operand : {us : List Lexeme} {st : List Frame} {lv : Levels} {sg : Signs} → Opens src (edge w st) us lv sg → Wants src w us st lv place.Operand sg
-  at_primary : alone_reach w ≡ reach.Primary → Wants src w [] [] (fresh []) place.Primary no_signs
+  at_has : {us : List Lexeme} {st : List Frame} {lv : PendingOperators} → edge w st ≡ follow_set.Whole → BegunHas src us lv → Wants src w us st lv place.Has no_signs
+  at_operand : {us : List Lexeme} {st : List Frame} {lv : PendingOperators} {sg : Signs} → Opens src (edge w st) us lv sg → Wants src w us st lv place.Operand sg
+  at_primary : start_follow_set w ≡ follow_set.Primary → Wants src w [] [] (fresh []) place.Primary no_signs
 
-pub data Begun (src : List ℕ) (names : Reader WordsState WordsAct NameOrEntity) (w : Wanted) : List Lexeme → State → Type 0 where
-  is_wanting : {ts us : List Lexeme} {st : List Frame} {lv : Levels} {p : OperandPlace} {sg : Signs} → BegunStack src w ts st → Wants src w us st lv p sg →
+pub data Begun (src : List ℕ) (names : Reader WordsState WordsAct NameOrEntity) (w : StartSymbol) : List Lexeme → State → Type 0 where
+  is_wanting : {ts us : List Lexeme} {st : List Frame} {lv : PendingOperators} {p : OperandPlace} {sg : Signs} → BegunStack src w ts st → Wants src w us st lv p sg →
       Begun src names w (ts ++ us) (state st lv (mode.Want p sg))
-  is_worded : {ts us : List Lexeme} (vs : List Lexeme) {st : List Frame} {lv : Levels} {p : OperandPlace} {sg : Signs} {s : WordsState} → BegunStack src w ts st → Wants src w us st lv p sg → Comes (machine_of src names) vs s →
+  is_worded : {ts us : List Lexeme} (vs : List Lexeme) {st : List Frame} {lv : PendingOperators} {p : OperandPlace} {sg : Signs} {s : WordsState} → BegunStack src w ts st → Wants src w us st lv p sg → Comes (machine_of src names) vs s →
       Begun src names w (ts ++ (us ++ vs)) (state st lv (mode.Word p sg s))
-  is_dotted : {ts us : List Lexeme} {st : List Frame} {lv : Levels} {m : Operand} (d : Spot) → BegunStack src w ts st → Longer src (edge w st) us lv m →
+  is_dotted : {ts us : List Lexeme} {st : List Frame} {lv : PendingOperators} {m : Operand} (d : Spot) → BegunStack src w ts st → Longer src (edge w st) us lv m →
       Begun src names w (ts ++ (us ++ one kind.Dot d)) (state st lv (mode.Have m (Some (at d))))
-  is_had : {ts us : List Lexeme} {st : List Frame} {lv : Levels} {m : Operand} → BegunStack src w ts st → Holds src (edge w st) us lv m →
+  is_had : {ts us : List Lexeme} {st : List Frame} {lv : PendingOperators} {m : Operand} → BegunStack src w ts st → Holds src (edge w st) us lv m →
       Begun src names w (ts ++ us) (state st lv (mode.Have m None))

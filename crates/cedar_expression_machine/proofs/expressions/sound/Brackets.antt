@@ -14,8 +14,8 @@ use Rattle.cedar_grammar.specs.declared.reading.class.Closing.TheVariants as clo
 use Rattle.cedar_expression_machine.specs.machines.Named.{NameOrEntity}
 use Rattle.cedar_expression_machine.specs.declared.words.state.WordsState.{WordsState}
 use Rattle.cedar_expression_machine.specs.declared.words.state.WordsAct.{WordsAct}
-use Rattle.cedar_expression_machine.specs.declared.expression.state.Ranged.{Ranged}
-use Rattle.cedar_expression_machine.specs.declared.expression.state.Levels.{Levels}
+use Rattle.cedar_expression_machine.specs.declared.expression.state.Spanned.{Spanned}
+use Rattle.cedar_expression_machine.specs.declared.expression.state.PendingOperators.{PendingOperators}
 use Rattle.cedar_expression_machine.specs.declared.expression.state.Signs.{Signs}
 use Rattle.cedar_expression_machine.specs.declared.expression.state.Operand.{Operand}
 use Rattle.cedar_expression_machine.specs.declared.expression.state.Frame.{Frame}
@@ -23,16 +23,16 @@ use Rattle.cedar_expression_machine.specs.declared.expression.state.Frame.TheVar
 use Rattle.cedar_expression_machine.specs.declared.expression.state.OperandPlace.{OperandPlace}
 use Rattle.cedar_expression_machine.specs.declared.expression.state.OperandPlace.TheVariants as place
 use Rattle.cedar_expression_machine.specs.declared.expression.state.State.{State}
-use Rattle.cedar_expression_machine.specs.declared.expression.state.Wanted.{Wanted}
-use Rattle.cedar_expression_machine.specs.declared.expression.state.Reach.{Reach}
-use Rattle.cedar_expression_machine.specs.declared.expression.state.Reach.TheVariants as reach
+use Rattle.cedar_expression_machine.specs.declared.expression.state.StartSymbol.{StartSymbol}
+use Rattle.cedar_expression_machine.specs.declared.expression.state.FollowSet.{FollowSet}
+use Rattle.cedar_expression_machine.specs.declared.expression.state.FollowSet.TheVariants as follow_set
 use Rattle.cedar_grammar.specs.declared.reading.extent.Extent.{Extent}
 use Rattle.cedar_grammar.specs.grammar.Place.{joint_extent, extent, placed, node_at}
 use Rattle.cedar_syntax.specs.tokens.Tokens.{Spot, one}
 use Rattle.cedar_syntax.specs.trees.Trees.{Cell, rec_init_of}
 use Rattle.cedar_grammar.specs.grammar.LooseExpressions.{if_name, ReadsExpr, more_access, ReadsAccess, call, index, ReadsPrimary, paren, set, in_braces, ReadsExprs, no_expr, exprs, exprs_comma, ReadsExprItems, one_expr, more_exprs, ReadsRecInits, no_init, inits, inits_comma, ReadsInitItems, one_init, more_inits, ReadsRecInit, rec_init, if_init}
-use Rattle.cedar_expression_machine.specs.machines.Closing.{ranged_tree, whole, no_signs, operand_with, with_access}
-use Rattle.cedar_grammar.specs.machines.Door.{Reader}
+use Rattle.cedar_expression_machine.specs.machines.Closing.{spanned_tree, whole, no_signs, operand_with, with_access}
+use Rattle.cedar_grammar.specs.machines.Machine.{Reader}
 use Rattle.cedar_expression_machine.specs.machines.ExpressionStates.{opening, has_operand, has_primary, around}
 use Rattle.cedar_expression_machine.specs.machines.ExpressionPlans.{edge, list_may_end}
 use Rattle.cedar_expression_machine.specs.machines.ExpressionShapes.{stack_shape}
@@ -52,18 +52,18 @@ around_extent k j ts l m = extent-append (one k l ++ ts) (one j m) ∙ ends (ext
     ends (Some e) = refl
 
 -- an expression that its last operand ends
-pub holds_whole : {src : List ℕ} {r : Reach} {us : List Lexeme} {lv : Levels} {m : Operand} → Holds src r us lv m → Reading (ReadsExpr src) us (whole src lv m)
+pub holds_whole : {src : List ℕ} {r : FollowSet} {us : List Lexeme} {lv : PendingOperators} {m : Operand} → Holds src r us lv m → Reading (ReadsExpr src) us (whole src lv m)
 holds_whole (holds (whole_longer b c)) = whole_close b c
 holds_whole (holds (sum_longer b c)) = whole_close (sum_levels b) c
 holds_whole (holds (if_longer b c)) = if_close b c
 holds_whole (holds_primary r) = whole_close (fresh_levels no_branch) (begun_alone no_sign r)
 
 -- what is read in brackets is a primary
-primary_ends : {src : List ℕ} {names : Reader WordsState WordsAct NameOrEntity} {w : Wanted} {ts us : List Lexeme} {st : List Frame} {lv : Levels} {sg : Signs} {x : Primary} (vs : List Lexeme) (k j : TokenKind) (l m : Spot) →
+primary_ends : {src : List ℕ} {names : Reader WordsState WordsAct NameOrEntity} {w : StartSymbol} {ts us : List Lexeme} {st : List Frame} {lv : PendingOperators} {sg : Signs} {x : Primary} (vs : List Lexeme) (k j : TokenKind) (l m : Spot) →
     BegunStack src w ts st → Leads src (edge w st) us lv sg → ReadsPrimary src (one k l ++ vs ++ one j m) x →
-    Begun src names w (ts ++ (us ++ (one k l ++ vs ++ one j m))) (has_primary src st lv sg (ranged_tree (around (at l) (at m)) x))
+    Begun src names w (ts ++ (us ++ (one k l ++ vs ++ one j m))) (has_primary src st lv sg (spanned_tree (around (at l) (at m)) x))
 primary_ends {src = src} {names = names} {w = w} {ts = ts} {us = us} {st = st} {lv = lv} {sg = sg} {x = x} vs k j l m a b r =
-    subst (λ q. Begun src names w (ts ++ (us ++ (one k l ++ vs ++ one j m))) (has_primary src st lv sg (ranged_tree q x))) (around_extent k j vs l m) (is_primary_had a b r)
+    subst (λ q. Begun src names w (ts ++ (us ++ (one k l ++ vs ++ one j m))) (has_primary src st lv sg (spanned_tree q x))) (around_extent k j vs l m) (is_primary_had a b r)
 
 -- one access more
 
@@ -77,19 +77,19 @@ if_more : {src : List ℕ} {us vs : List Lexeme} {m : Operand} {x : MemAccess} �
 if_more {src = src} {vs = ws} {x = y} (begun_if {vs = vs} {xs = xs} q a) c =
     subst (λ z. BegunIf src (one kind.If q ++ (vs ++ ws)) (operand_with no_signs (placed src (one kind.If q) (if_name src q)) (xs ++ placed src ws y ∷ []) z true)) (extent-append (one kind.If q ++ vs) ws) (begun_if q (more_access a c))
 
-longer_more : {src : List ℕ} {r : Reach} {us vs : List Lexeme} {lv : Levels} {m : Operand} {x : MemAccess} → Longer src r us lv m → ReadsAccess src vs x → Longer src r (us ++ vs) lv (with_access src m (closed vs x))
+longer_more : {src : List ℕ} {r : FollowSet} {us vs : List Lexeme} {lv : PendingOperators} {m : Operand} {x : MemAccess} → Longer src r us lv m → ReadsAccess src vs x → Longer src r (us ++ vs) lv (with_access src m (closed vs x))
 longer_more {src = src} {vs = vs} {lv = lv} {m = m} {x = x} (whole_longer {ts = ts} {us = us} b c) a =
-    subst (λ q. Longer src reach.Whole q lv (with_access src m (closed vs x))) (sym (append_assoc ts us vs)) (whole_longer b (operand_more c a))
+    subst (λ q. Longer src follow_set.Whole q lv (with_access src m (closed vs x))) (sym (append_assoc ts us vs)) (whole_longer b (operand_more c a))
 longer_more {src = src} {vs = vs} {lv = lv} {m = m} {x = x} (sum_longer {ts = ts} {us = us} b c) a =
-    subst (λ q. Longer src reach.Sum q lv (with_access src m (closed vs x))) (sym (append_assoc ts us vs)) (sum_longer b (operand_more c a))
+    subst (λ q. Longer src follow_set.Sum q lv (with_access src m (closed vs x))) (sym (append_assoc ts us vs)) (sum_longer b (operand_more c a))
 longer_more {src = src} {vs = vs} {lv = lv} {m = m} {x = x} (if_longer {ts = ts} {us = us} b c) a =
-    subst (λ q. Longer src reach.Whole q lv (with_access src m (closed vs x))) (sym (append_assoc ts us vs)) (if_longer b (if_more c a))
+    subst (λ q. Longer src follow_set.Whole q lv (with_access src m (closed vs x))) (sym (append_assoc ts us vs)) (if_longer b (if_more c a))
 
 -- an access has ended
-pub access_ends : {src : List ℕ} {names : Reader WordsState WordsAct NameOrEntity} {w : Wanted} {ts us vs : List Lexeme} {st : List Frame} {lv : Levels} {m : Operand} {x : MemAccess} (e : Option Extent) →
-    extent vs ≡ e → BegunStack src w ts st → Longer src (edge w st) us lv m → ReadsAccess src vs x → Begun src names w (ts ++ (us ++ vs)) (has_operand st lv (with_access src m (ranged_tree e x)))
+pub access_ends : {src : List ℕ} {names : Reader WordsState WordsAct NameOrEntity} {w : StartSymbol} {ts us vs : List Lexeme} {st : List Frame} {lv : PendingOperators} {m : Operand} {x : MemAccess} (e : Option Extent) →
+    extent vs ≡ e → BegunStack src w ts st → Longer src (edge w st) us lv m → ReadsAccess src vs x → Begun src names w (ts ++ (us ++ vs)) (has_operand st lv (with_access src m (spanned_tree e x)))
 access_ends {src = src} {names = names} {w = w} {ts = ts} {us = us} {vs = vs} {st = st} {lv = lv} {m = m} {x = x} e q a b r =
-    subst (λ z. Begun src names w (ts ++ (us ++ vs)) (has_operand st lv (with_access src m (ranged_tree z x)))) q (is_had a (holds (longer_more b r)))
+    subst (λ z. Begun src names w (ts ++ (us ++ vs)) (has_operand st lv (with_access src m (spanned_tree z x)))) q (is_had a (holds (longer_more b r)))
 
 -- items, and one more
 
@@ -118,7 +118,7 @@ key_value (lone_if_key p q) s = if_init p q s
 abbrev pub list_ended : List ℕ → List Frame → OperandPlace → Closing → Extent → Option State
 list_ended src st pl c m = cond (list_may_end (stack_shape st) pl c) (list_ending src st m) None
 
-pub items_begun : {src : List ℕ} {w : Wanted} {ts : List Lexeme} {st : List Frame} (m : Spot) → BegunStack src w ts st → (n : Reader WordsState WordsAct NameOrEntity) →
+pub items_begun : {src : List ℕ} {w : StartSymbol} {ts : List Lexeme} {st : List Frame} (m : Spot) → BegunStack src w ts st → (n : Reader WordsState WordsAct NameOrEntity) →
     After src n w (ts ++ one kind.CloseBracket m) (list_ended src st place.Item closing.Bracket (at m))
 items_begun m (in_set {vs = vs} l a b c) n = moved (simp append_assoc) (primary_ends vs kind.OpenBracket kind.CloseBracket l m a b (set l m (exprs_so_far c)))
 items_begun m bottom n = tt
@@ -130,7 +130,7 @@ items_begun m (in_value l a b c d) n = tt
 items_begun m (in_guard l e a b) n = tt
 items_begun m (in_then l k e a b c) n = tt
 
-pub call_begun : {src : List ℕ} {w : Wanted} {ts : List Lexeme} {st : List Frame} (m : Spot) → BegunStack src w ts st → (n : Reader WordsState WordsAct NameOrEntity) →
+pub call_begun : {src : List ℕ} {w : StartSymbol} {ts : List Lexeme} {st : List Frame} (m : Spot) → BegunStack src w ts st → (n : Reader WordsState WordsAct NameOrEntity) →
     After src n w (ts ++ one kind.CloseParen m) (list_ended src st place.Item closing.Paren (at m))
 call_begun m (in_call {vs = vs} l a b c) n = moved (simp append_assoc) (access_ends {vs = one kind.OpenParen l ++ vs ++ one kind.CloseParen m} _ (around_extent kind.OpenParen kind.CloseParen vs l m) a b (call l m (exprs_so_far c)))
 call_begun m bottom n = tt
@@ -142,7 +142,7 @@ call_begun m (in_value l a b c d) n = tt
 call_begun m (in_guard l e a b) n = tt
 call_begun m (in_then l k e a b c) n = tt
 
-pub keys_begun : {src : List ℕ} {w : Wanted} {ts : List Lexeme} {st : List Frame} (m : Spot) → BegunStack src w ts st → (n : Reader WordsState WordsAct NameOrEntity) →
+pub keys_begun : {src : List ℕ} {w : StartSymbol} {ts : List Lexeme} {st : List Frame} (m : Spot) → BegunStack src w ts st → (n : Reader WordsState WordsAct NameOrEntity) →
     After src n w (ts ++ one kind.CloseBrace m) (list_ended src st place.Key closing.Brace (at m))
 keys_begun m (in_key {vs = vs} l a b c) n = moved (simp append_assoc) (primary_ends vs kind.OpenBrace kind.CloseBrace l m a b (in_braces l m (inits_so_far c)))
 keys_begun m bottom n = tt
@@ -156,7 +156,7 @@ keys_begun m (in_then l k e a b c) n = tt
 
 -- what ends an expression in brackets
 
-pub close_paren_begun : {src : List ℕ} {w : Wanted} {ts us : List Lexeme} {st : List Frame} {x : Ranged Expr} (m : Spot) → BegunStack src w ts st → Reading (ReadsExpr src) us x → (n : Reader WordsState WordsAct NameOrEntity) →
+pub close_paren_begun : {src : List ℕ} {w : StartSymbol} {ts us : List Lexeme} {st : List Frame} {x : Spanned Expr} (m : Spot) → BegunStack src w ts st → Reading (ReadsExpr src) us x → (n : Reader WordsState WordsAct NameOrEntity) →
     After src n w (ts ++ (us ++ one kind.CloseParen m)) (frame_ending src st x closing.Paren (at m))
 close_paren_begun m (in_paren l a b) (reads {ts = us} r) n = moved (simp append_assoc) (primary_ends us kind.OpenParen kind.CloseParen l m a b (paren l m r))
 close_paren_begun m (in_call {vs = vs} l a b c) (reads {ts = us} r) n =
@@ -169,7 +169,7 @@ close_paren_begun m (in_value l a b c d) r n = tt
 close_paren_begun m (in_guard l e a b) r n = tt
 close_paren_begun m (in_then l k e a b c) r n = tt
 
-pub close_bracket_begun : {src : List ℕ} {w : Wanted} {ts us : List Lexeme} {st : List Frame} {x : Ranged Expr} (m : Spot) → BegunStack src w ts st → Reading (ReadsExpr src) us x → (n : Reader WordsState WordsAct NameOrEntity) →
+pub close_bracket_begun : {src : List ℕ} {w : StartSymbol} {ts us : List Lexeme} {st : List Frame} {x : Spanned Expr} (m : Spot) → BegunStack src w ts st → Reading (ReadsExpr src) us x → (n : Reader WordsState WordsAct NameOrEntity) →
     After src n w (ts ++ (us ++ one kind.CloseBracket m)) (frame_ending src st x closing.Bracket (at m))
 close_bracket_begun m (in_set {vs = vs} l a b c) (reads {ts = us} r) n = moved (simp append_assoc) (primary_ends (vs ++ us) kind.OpenBracket kind.CloseBracket l m a b (set l m (exprs (exprs_more c r))))
 close_bracket_begun m (in_index l a b) (reads {ts = us} r) n =
@@ -187,10 +187,10 @@ pair_made : (src : List ℕ) (ws us : List Lexeme) (x : Cell Expr) (y : Expr) (x
     xs ++ node_at src (joint_extent (extent ws) (extent us)) (rec_init_of x (placed src us y)) ∷ [] ≡ xs ++ placed src (ws ++ us) (rec_init_of x (placed src us y)) ∷ []
 pair_made src ws us x y xs = ap (λ q. xs ++ node_at src q (rec_init_of x (placed src us y)) ∷ []) (sym (extent-append ws us))
 
-pub close_brace_begun : {src : List ℕ} {w : Wanted} {ts us : List Lexeme} {st : List Frame} {x : Ranged Expr} (m : Spot) → BegunStack src w ts st → Reading (ReadsExpr src) us x → (n : Reader WordsState WordsAct NameOrEntity) →
+pub close_brace_begun : {src : List ℕ} {w : StartSymbol} {ts us : List Lexeme} {st : List Frame} {x : Spanned Expr} (m : Spot) → BegunStack src w ts st → Reading (ReadsExpr src) us x → (n : Reader WordsState WordsAct NameOrEntity) →
     After src n w (ts ++ (us ++ one kind.CloseBrace m)) (frame_ending src st x closing.Brace (at m))
 close_brace_begun {src = src} {w = w} m (in_value {ts = ts} {us = ps} {vs = vs} {ws = ws} {st = st} {lv = lv} {sg = sg} {xs = xs} {x = x} l a b c d) (reads {ts = us} {x = y} r) n =
-    moved (simp append_assoc) (subst (λ q. Begun src n w (ts ++ (ps ++ (one kind.OpenBrace l ++ (vs ++ (ws ++ us)) ++ one kind.CloseBrace m))) (has_primary src st lv sg (ranged_tree (around (at l) (at m)) (primary.RInits q))))
+    moved (simp append_assoc) (subst (λ q. Begun src n w (ts ++ (ps ++ (one kind.OpenBrace l ++ (vs ++ (ws ++ us)) ++ one kind.CloseBrace m))) (has_primary src st lv sg (spanned_tree (around (at l) (at m)) (primary.RInits q))))
     (sym (pair_made src ws us x y xs)) (primary_ends (vs ++ (ws ++ us)) kind.OpenBrace kind.CloseBrace l m a b (in_braces l m (inits (inits_more c (key_value d r))))))
 close_brace_begun m bottom r n = tt
 close_brace_begun m (in_paren l a b) r n = tt
@@ -201,7 +201,7 @@ close_brace_begun m (in_key l a b c) r n = tt
 close_brace_begun m (in_guard l e a b) r n = tt
 close_brace_begun m (in_then l k e a b c) r n = tt
 
-pub comma_begun : {src : List ℕ} {w : Wanted} {ts us : List Lexeme} {st : List Frame} {x : Ranged Expr} (m : Spot) → BegunStack src w ts st → Reading (ReadsExpr src) us x → (n : Reader WordsState WordsAct NameOrEntity) →
+pub comma_begun : {src : List ℕ} {w : StartSymbol} {ts us : List Lexeme} {st : List Frame} {x : Spanned Expr} (m : Spot) → BegunStack src w ts st → Reading (ReadsExpr src) us x → (n : Reader WordsState WordsAct NameOrEntity) →
     After src n w (ts ++ (us ++ one kind.Comma m)) (frame_ending src st x closing.Comma (at m))
 comma_begun m (in_set l a b c) (reads r) n = moved (simp append_assoc) (opens_item (in_set l a b (exprs_then m (exprs_more c r))))
 comma_begun m (in_call l a b c) (reads r) n = moved (simp append_assoc) (opens_item (in_call l a b (exprs_then m (exprs_more c r))))
@@ -215,7 +215,7 @@ comma_begun m (in_key l a b c) r n = tt
 comma_begun m (in_guard l e a b) r n = tt
 comma_begun m (in_then l k e a b c) r n = tt
 
-pub colon_begun : {src : List ℕ} {w : Wanted} {ts us : List Lexeme} {st : List Frame} {x : Ranged Expr} (m : Spot) → BegunStack src w ts st → Reading (ReadsExpr src) us x → (n : Reader WordsState WordsAct NameOrEntity) →
+pub colon_begun : {src : List ℕ} {w : StartSymbol} {ts us : List Lexeme} {st : List Frame} {x : Spanned Expr} (m : Spot) → BegunStack src w ts st → Reading (ReadsExpr src) us x → (n : Reader WordsState WordsAct NameOrEntity) →
     After src n w (ts ++ (us ++ one kind.Colon m)) (frame_ending src st x closing.Colon (at m))
 colon_begun {src = src} {w = w} m (in_key {ts = ts} {us = ps} {vs = vs} {st = st} {lv = lv} {sg = sg} {xs = xs} l a b c) (reads {ts = us} {x = x} r) n =
     moved (simp append_assoc) (subst (λ q. Begun src n w (ts ++ (ps ++ (one kind.OpenBrace l ++ (vs ++ (us ++ one kind.Colon m))))) (opening (frame.Record (record_with lv sg (at l) xs (Some record { node = placed src us x; extent = q })) ∷ st) [] place.Expr))
@@ -229,7 +229,7 @@ colon_begun m (in_value l a b c d) r n = tt
 colon_begun m (in_guard l e a b) r n = tt
 colon_begun m (in_then l k e a b c) r n = tt
 
-pub then_begun : {src : List ℕ} {w : Wanted} {ts us : List Lexeme} {st : List Frame} {x : Ranged Expr} (m : Spot) → BegunStack src w ts st → Reading (ReadsExpr src) us x → (n : Reader WordsState WordsAct NameOrEntity) →
+pub then_begun : {src : List ℕ} {w : StartSymbol} {ts us : List Lexeme} {st : List Frame} {x : Spanned Expr} (m : Spot) → BegunStack src w ts st → Reading (ReadsExpr src) us x → (n : Reader WordsState WordsAct NameOrEntity) →
     After src n w (ts ++ (us ++ one kind.Then m)) (frame_ending src st x closing.Then (at m))
 then_begun {src = src} {w = w} m (in_guard {ts = ts} {us = ps} {st = st} {bs = bs} l e a b) (reads {ts = us} {x = x} r) n =
     moved (simp append_assoc) (subst (λ q. Begun src n w (ts ++ (ps ++ (one kind.If l ++ us ++ one kind.Then m))) (opening (frame.Then record { branches = bs; guard = placed src us x; extent = q } ∷ st) [] place.Expr))
@@ -243,7 +243,7 @@ then_begun m (in_key l a b c) r n = tt
 then_begun m (in_value l a b c d) r n = tt
 then_begun m (in_then l k e a b c) r n = tt
 
-pub else_begun : {src : List ℕ} {w : Wanted} {ts us : List Lexeme} {st : List Frame} {x : Ranged Expr} (m : Spot) → BegunStack src w ts st → Reading (ReadsExpr src) us x → (n : Reader WordsState WordsAct NameOrEntity) →
+pub else_begun : {src : List ℕ} {w : StartSymbol} {ts us : List Lexeme} {st : List Frame} {x : Spanned Expr} (m : Spot) → BegunStack src w ts st → Reading (ReadsExpr src) us x → (n : Reader WordsState WordsAct NameOrEntity) →
     After src n w (ts ++ (us ++ one kind.Else m)) (frame_ending src st x closing.Else (at m))
 else_begun {src = src} {w = w} j (in_then {ts = ts} {us = ps} {vs = vs} {st = st} {bs = bs} {c = g} l m e a b c) (reads {ts = us} {x = x} r) n =
     moved (simp append_assoc) (subst (λ q. Begun src n w (ts ++ (ps ++ (one kind.If l ++ vs ++ one kind.Then m ++ us ++ one kind.Else j))) (opening st (record { guard = placed src vs g; yes = placed src us x; extent = q } ∷ bs) place.Expr))

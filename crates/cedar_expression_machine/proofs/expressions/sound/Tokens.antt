@@ -7,23 +7,23 @@ use Rattle.cedar_lexer.specs.declared.token.TokenKind.TheVariants as kind
 use Rattle.cedar_syntax.specs.declared.cst.NegOp.{NegOp}
 use Rattle.cedar_grammar.specs.declared.reading.class.Sign.{Sign}
 use Rattle.cedar_grammar.specs.declared.reading.class.Sign.TheVariants as sign
-use Rattle.cedar_grammar.specs.declared.reading.class.Operator.TheVariants as operator
+use Rattle.cedar_grammar.specs.declared.reading.class.FollowClass.TheVariants as operator
 use Rattle.cedar_grammar.specs.declared.reading.class.Closing.TheVariants as closing
 use Rattle.cedar_grammar.specs.declared.reading.class.AccessStart.{AccessStart}
 use Rattle.cedar_grammar.specs.declared.reading.class.AccessStart.TheVariants as opens
 use Rattle.cedar_expression_machine.specs.machines.Named.{NameOrEntity}
 use Rattle.cedar_expression_machine.specs.declared.words.state.WordsState.{WordsState}
 use Rattle.cedar_expression_machine.specs.declared.words.state.WordsAct.{WordsAct}
-use Rattle.cedar_expression_machine.specs.declared.expression.state.Begin.TheVariants as begin
-use Rattle.cedar_expression_machine.specs.declared.expression.state.Levels.{Levels}
+use Rattle.cedar_expression_machine.specs.declared.expression.state.StartAct.TheVariants as begin
+use Rattle.cedar_expression_machine.specs.declared.expression.state.PendingOperators.{PendingOperators}
 use Rattle.cedar_expression_machine.specs.declared.expression.state.Signs.{Signs}
 use Rattle.cedar_expression_machine.specs.declared.expression.state.Operand.{Operand}
 use Rattle.cedar_expression_machine.specs.declared.expression.state.Frame.{Frame}
 use Rattle.cedar_expression_machine.specs.declared.expression.state.OperandPlace.{OperandPlace}
 use Rattle.cedar_expression_machine.specs.declared.expression.state.State.{State}
-use Rattle.cedar_expression_machine.specs.declared.expression.state.Wanted.{Wanted}
-use Rattle.cedar_expression_machine.specs.declared.expression.state.Reach.{Reach}
-use Rattle.cedar_expression_machine.specs.declared.expression.state.Reach.TheVariants as reach
+use Rattle.cedar_expression_machine.specs.declared.expression.state.StartSymbol.{StartSymbol}
+use Rattle.cedar_expression_machine.specs.declared.expression.state.FollowSet.{FollowSet}
+use Rattle.cedar_expression_machine.specs.declared.expression.state.FollowSet.TheVariants as follow_set
 use Rattle.cedar_grammar.specs.declared.reading.extent.Extent.{Extent}
 use Rattle.cedar_grammar.specs.grammar.Place.{joint_extent, extent}
 use Rattle.cedar_syntax.specs.tokens.Tokens.{Spot, one, fits}
@@ -31,8 +31,8 @@ use Rattle.cedar_syntax.specs.trees.Trees.{bangs_of, dashes_of}
 use Rattle.cedar_grammar.specs.grammar.LooseExpressions.{less, less_eq, greater_eq, greater, not_eq, equal, within, single_eq, plus, minus, times, divide, modulo, one_sign, more_signs, principal_slot, resource_slot, other_slot, literally, slotted}
 use Rattle.cedar_grammar.specs.grammar.LooseWords.{number, string}
 use Rattle.cedar_expression_machine.specs.machines.Closing.{signs_of}
-use Rattle.cedar_grammar.specs.machines.Door.{Reader, machine_of, Comes, option_image}
-use Rattle.cedar_grammar.specs.machines.Classes.{operator_of, with_sign}
+use Rattle.cedar_grammar.specs.machines.Machine.{Reader, machine_of, Comes, option_image}
+use Rattle.cedar_grammar.specs.machines.Classes.{follow_class, with_sign}
 use Rattle.cedar_expression_machine.specs.machines.ExpressionPlans.{edge, list_may_end, stack_may_end, may_sign, sign_may_stand, operand_plan}
 use Rattle.cedar_expression_machine.specs.machines.ExpressionShapes.{stack_shape, op_sign}
 use Rattle.cedar_expression_machine.specs.machines.Wanting.{after_signs, sign_reading, word_held, first_words, number_reading, begin_act}
@@ -47,34 +47,34 @@ use Rattle.cedar_expression_machine.proofs.expressions.sound.Brackets.{list_ende
 
 -- accesses
 
-back : {src : List ℕ} {r : Reach} {us : List Lexeme} {lv : Levels} {m : Operand} (w : Wanted) (st : List Frame) → edge w st ≡ r → Longer src r us lv m → Longer src (edge w st) us lv m
+back : {src : List ℕ} {r : FollowSet} {us : List Lexeme} {lv : PendingOperators} {m : Operand} (w : StartSymbol) (st : List Frame) → edge w st ≡ r → Longer src r us lv m → Longer src (edge w st) us lv m
 back {src = src} {us = us} {lv = lv} {m = m} w st e h = subst (λ q. Longer src q us lv m) (sym e) h
 
-abbrev AccessGoes : List ℕ → Reader WordsState WordsAct NameOrEntity → Wanted → List Lexeme → List Lexeme → List Frame → Levels → Operand → AccessStart → TokenKind → Spot → Type 0
+abbrev AccessGoes : List ℕ → Reader WordsState WordsAct NameOrEntity → StartSymbol → List Lexeme → List Lexeme → List Frame → PendingOperators → Operand → AccessStart → TokenKind → Spot → Type 0
 AccessGoes src names w ts us st lv m a k p = Begun src names w (ts ++ (us ++ one k p)) (access_beginning st lv m a (at p))
 
-dot_goes : {src : List ℕ} {w : Wanted} {ts us : List Lexeme} {st : List Frame} {lv : Levels} {m : Operand} (p : Spot) → BegunStack src w ts st → Longer src (edge w st) us lv m → (names : Reader WordsState WordsAct NameOrEntity) →
+dot_goes : {src : List ℕ} {w : StartSymbol} {ts us : List Lexeme} {st : List Frame} {lv : PendingOperators} {m : Operand} (p : Spot) → BegunStack src w ts st → Longer src (edge w st) us lv m → (names : Reader WordsState WordsAct NameOrEntity) →
     AccessGoes src names w ts us st lv m opens.Dot kind.Dot p
 dot_goes p a h names = is_dotted p a h
 
-call_goes : {src : List ℕ} {w : Wanted} {ts us : List Lexeme} {st : List Frame} {lv : Levels} {m : Operand} (p : Spot) → BegunStack src w ts st → Longer src (edge w st) us lv m → (names : Reader WordsState WordsAct NameOrEntity) →
+call_goes : {src : List ℕ} {w : StartSymbol} {ts us : List Lexeme} {st : List Frame} {lv : PendingOperators} {m : Operand} (p : Spot) → BegunStack src w ts st → Longer src (edge w st) us lv m → (names : Reader WordsState WordsAct NameOrEntity) →
     AccessGoes src names w ts us st lv m opens.Paren kind.OpenParen p
 call_goes p a h names = opens_item (in_call p a h no_expr_yet)
 
-index_goes : {src : List ℕ} {w : Wanted} {ts us : List Lexeme} {st : List Frame} {lv : Levels} {m : Operand} (p : Spot) → BegunStack src w ts st → Longer src (edge w st) us lv m → (names : Reader WordsState WordsAct NameOrEntity) →
+index_goes : {src : List ℕ} {w : StartSymbol} {ts us : List Lexeme} {st : List Frame} {lv : PendingOperators} {m : Operand} (p : Spot) → BegunStack src w ts st → Longer src (edge w st) us lv m → (names : Reader WordsState WordsAct NameOrEntity) →
     AccessGoes src names w ts us st lv m opens.Bracket kind.OpenBracket p
 index_goes p a h names = opens_in (in_index p a h)
 
-access_had_begun : {src : List ℕ} {us : List Lexeme} {r : Reach} {lv : Levels} {m : Operand} (w : Wanted) (ts : List Lexeme) (st : List Frame) (a : AccessStart) (k : TokenKind) (p : Spot) → edge w st ≡ r → (names : Reader WordsState WordsAct NameOrEntity) →
-    (Longer src (edge w st) us lv m → AccessGoes src names w ts us st lv m a k p) → Holds src r us lv m → After src names w (ts ++ (us ++ one k p)) (had src st lv m (cond m.is_if reach.If r) (operator.Access a) (at p))
+access_had_begun : {src : List ℕ} {us : List Lexeme} {r : FollowSet} {lv : PendingOperators} {m : Operand} (w : StartSymbol) (ts : List Lexeme) (st : List Frame) (a : AccessStart) (k : TokenKind) (p : Spot) → edge w st ≡ r → (names : Reader WordsState WordsAct NameOrEntity) →
+    (Longer src (edge w st) us lv m → AccessGoes src names w ts us st lv m a k p) → Holds src r us lv m → After src names w (ts ++ (us ++ one k p)) (had src st lv m (cond m.is_if follow_set.If r) (operator.Access a) (at p))
 access_had_begun w ts st a k p e names go (holds (whole_longer b (begun_operand x y z))) = go (back w st e (whole_longer b (begun_operand x y z)))
 access_had_begun w ts st a k p e names go (holds (sum_longer b (begun_operand x y z))) = go (back w st e (sum_longer b (begun_operand x y z)))
 access_had_begun w ts st a k p e names go (holds (if_longer b (begun_if q c))) = go (back w st e (if_longer b (begun_if q c)))
 access_had_begun w ts st a k p e names go (holds_primary b) = tt
 
 -- one token more behind an operand
-pub had_begun : {src : List ℕ} {w : Wanted} {ts us : List Lexeme} {st : List Frame} {r : Reach} {lv : Levels} {m : Operand} → edge w st ≡ r → BegunStack src w ts st → Holds src r us lv m →
-    (k : TokenKind) (p : Spot) (names : Reader WordsState WordsAct NameOrEntity) → After src names w (ts ++ (us ++ one k p)) (had src st lv m (cond m.is_if reach.If r) (operator_of k) (at p))
+pub had_begun : {src : List ℕ} {w : StartSymbol} {ts us : List Lexeme} {st : List Frame} {r : FollowSet} {lv : PendingOperators} {m : Operand} → edge w st ≡ r → BegunStack src w ts st → Holds src r us lv m →
+    (k : TokenKind) (p : Spot) (names : Reader WordsState WordsAct NameOrEntity) → After src names w (ts ++ (us ++ one k p)) (had src st lv m (cond m.is_if follow_set.If r) (follow_class k) (at p))
 had_begun {w = w} {ts = ts} {st = st} e a h kind.Dot p names = access_had_begun w ts st opens.Dot kind.Dot p e names (λ l. dot_goes p a l names) h
 had_begun {w = w} {ts = ts} {st = st} e a h kind.OpenParen p names = access_had_begun w ts st opens.Paren kind.OpenParen p e names (λ l. call_goes p a l names) h
 had_begun {w = w} {ts = ts} {st = st} e a h kind.OpenBracket p names = access_had_begun w ts st opens.Bracket kind.OpenBracket p e names (λ l. index_goes p a l names) h
@@ -126,28 +126,28 @@ dash_signs (begun_dashes {ts = ts} {n = n} r) p =
 dash_signs (begun_bangs {ts = ts} {n = n} r) p =
     subst (λ o. IfSome o (λ o. BegunSigns (ts ++ one kind.Minus p) (signs_of (Some o) (joint_extent (extent ts) (Some (at p)))))) (sym (bang_dash n)) tt
 
-after_sign : {src : List ℕ} {w : Wanted} {ts : List Lexeme} {st : List Frame} {lv : Levels} (us vs : List Lexeme) (k : TokenKind) (r : Reach) (p : Spot) (l : Option Extent) (o : Option NegOp) → edge w st ≡ r → BegunStack src w ts st →
+after_sign : {src : List ℕ} {w : StartSymbol} {ts : List Lexeme} {st : List Frame} {lv : PendingOperators} (us vs : List Lexeme) (k : TokenKind) (r : FollowSet) (p : Spot) (l : Option Extent) (o : Option NegOp) → edge w st ≡ r → BegunStack src w ts st →
     ((sg : Signs) → BegunSigns (vs ++ one k p) sg → Opens src r (us ++ (vs ++ one k p)) lv sg) →
     IfSome o (λ o. BegunSigns (vs ++ one k p) (signs_of (Some o) (joint_extent l (Some (at p))))) → (names : Reader WordsState WordsAct NameOrEntity) → After src names w (ts ++ ((us ++ vs) ++ one k p)) (after_signs st lv l o (at p))
 after_sign us vs k r p l None e a f h names = tt
 after_sign {src = src} {lv = lv} us vs k r p l (Some o) e a f h names =
     moved (simp append_assoc) (is_wanting a (at_operand (subst (λ q. Opens src q (us ++ (vs ++ one k p)) lv (signs_of (Some o) (joint_extent l (Some (at p))))) (sym e) (f (signs_of (Some o) (joint_extent l (Some (at p)))) h))))
 
-opens_bang : {src : List ℕ} {w : Wanted} {ts us : List Lexeme} {st : List Frame} {lv : Levels} {r : Reach} {sg : Signs} (p : Spot) → edge w st ≡ r → BegunStack src w ts st → Opens src r us lv sg → (names : Reader WordsState WordsAct NameOrEntity) →
+opens_bang : {src : List ℕ} {w : StartSymbol} {ts us : List Lexeme} {st : List Frame} {lv : PendingOperators} {r : FollowSet} {sg : Signs} (p : Spot) → edge w st ≡ r → BegunStack src w ts st → Opens src r us lv sg → (names : Reader WordsState WordsAct NameOrEntity) →
     After src names w (ts ++ (us ++ one kind.Bang p)) (after_signs st lv sg.extent (with_sign sg.op sign.Bang) (at p))
-opens_bang {sg = sg} p e a (opens_whole {ts = us} {us = vs} b c) names = after_sign us vs kind.Bang reach.Whole p sg.extent (with_sign sg.op sign.Bang) e a (λ sg h. opens_whole b h) (bang_signs c p) names
-opens_bang {sg = sg} p e a (opens_sum {ts = us} {us = vs} b c) names = after_sign us vs kind.Bang reach.Sum p sg.extent (with_sign sg.op sign.Bang) e a (λ sg h. opens_sum b h) (bang_signs c p) names
+opens_bang {sg = sg} p e a (opens_whole {ts = us} {us = vs} b c) names = after_sign us vs kind.Bang follow_set.Whole p sg.extent (with_sign sg.op sign.Bang) e a (λ sg h. opens_whole b h) (bang_signs c p) names
+opens_bang {sg = sg} p e a (opens_sum {ts = us} {us = vs} b c) names = after_sign us vs kind.Bang follow_set.Sum p sg.extent (with_sign sg.op sign.Bang) e a (λ sg h. opens_sum b h) (bang_signs c p) names
 
-opens_dash : {src : List ℕ} {w : Wanted} {ts us : List Lexeme} {st : List Frame} {lv : Levels} {r : Reach} {sg : Signs} (p : Spot) → edge w st ≡ r → BegunStack src w ts st → Opens src r us lv sg → (names : Reader WordsState WordsAct NameOrEntity) →
+opens_dash : {src : List ℕ} {w : StartSymbol} {ts us : List Lexeme} {st : List Frame} {lv : PendingOperators} {r : FollowSet} {sg : Signs} (p : Spot) → edge w st ≡ r → BegunStack src w ts st → Opens src r us lv sg → (names : Reader WordsState WordsAct NameOrEntity) →
     After src names w (ts ++ (us ++ one kind.Minus p)) (after_signs st lv sg.extent (with_sign sg.op sign.Dash) (at p))
-opens_dash {sg = sg} p e a (opens_whole {ts = us} {us = vs} b c) names = after_sign us vs kind.Minus reach.Whole p sg.extent (with_sign sg.op sign.Dash) e a (λ sg h. opens_whole b h) (dash_signs c p) names
-opens_dash {sg = sg} p e a (opens_sum {ts = us} {us = vs} b c) names = after_sign us vs kind.Minus reach.Sum p sg.extent (with_sign sg.op sign.Dash) e a (λ sg h. opens_sum b h) (dash_signs c p) names
+opens_dash {sg = sg} p e a (opens_whole {ts = us} {us = vs} b c) names = after_sign us vs kind.Minus follow_set.Whole p sg.extent (with_sign sg.op sign.Dash) e a (λ sg h. opens_whole b h) (dash_signs c p) names
+opens_dash {sg = sg} p e a (opens_sum {ts = us} {us = vs} b c) names = after_sign us vs kind.Minus follow_set.Sum p sg.extent (with_sign sg.op sign.Dash) e a (λ sg h. opens_sum b h) (dash_signs c p) names
 
 -- where its plan has it
-abbrev sign_read : List Frame → Levels → OperandPlace → Signs → Sign → Extent → Option State
+abbrev sign_read : List Frame → PendingOperators → OperandPlace → Signs → Sign → Extent → Option State
 sign_read st lv pl sg s e = cond (sign_may_stand pl (op_sign sg.op) s) (sign_reading st lv sg s e) None
 
-bang_begun : {src : List ℕ} {w : Wanted} {ts us : List Lexeme} {st : List Frame} {lv : Levels} {pl : OperandPlace} {sg : Signs} (p : Spot) → BegunStack src w ts st → Wants src w us st lv pl sg → (names : Reader WordsState WordsAct NameOrEntity) →
+bang_begun : {src : List ℕ} {w : StartSymbol} {ts us : List Lexeme} {st : List Frame} {lv : PendingOperators} {pl : OperandPlace} {sg : Signs} (p : Spot) → BegunStack src w ts st → Wants src w us st lv pl sg → (names : Reader WordsState WordsAct NameOrEntity) →
     After src names w (ts ++ (us ++ one kind.Bang p)) (sign_read st lv pl sg sign.Bang (at p))
 bang_begun p a (at_expr e b) names = opens_bang p e a (unsigned_whole (fresh_levels b)) names
 bang_begun p a at_item names = opens_bang p refl a (unsigned_whole (fresh_levels no_branch)) names
@@ -156,7 +156,7 @@ bang_begun p a (at_has e b) names = opens_bang p e a (unsigned_whole (has_levels
 bang_begun {src = src} {w = w} {sg = sg} p a (at_operand o) names = guarded src names w _ (may_sign (op_sign sg.op) sign.Bang) _ (opens_bang p refl a o names)
 bang_begun p a (at_primary e) names = tt
 
-dash_begun : {src : List ℕ} {w : Wanted} {ts us : List Lexeme} {st : List Frame} {lv : Levels} {pl : OperandPlace} {sg : Signs} (p : Spot) → BegunStack src w ts st → Wants src w us st lv pl sg → (names : Reader WordsState WordsAct NameOrEntity) →
+dash_begun : {src : List ℕ} {w : StartSymbol} {ts us : List Lexeme} {st : List Frame} {lv : PendingOperators} {pl : OperandPlace} {sg : Signs} (p : Spot) → BegunStack src w ts st → Wants src w us st lv pl sg → (names : Reader WordsState WordsAct NameOrEntity) →
     After src names w (ts ++ (us ++ one kind.Minus p)) (sign_read st lv pl sg sign.Dash (at p))
 dash_begun p a (at_expr e b) names = opens_dash p e a (unsigned_whole (fresh_levels b)) names
 dash_begun p a at_item names = opens_dash p refl a (unsigned_whole (fresh_levels no_branch)) names
@@ -167,7 +167,7 @@ dash_begun p a (at_primary e) names = tt
 
 -- a list that ends before an item
 
-end_paren : {src : List ℕ} {w : Wanted} {ts us : List Lexeme} {st : List Frame} {lv : Levels} {pl : OperandPlace} {sg : Signs} (p : Spot) → BegunStack src w ts st → Wants src w us st lv pl sg → (names : Reader WordsState WordsAct NameOrEntity) →
+end_paren : {src : List ℕ} {w : StartSymbol} {ts us : List Lexeme} {st : List Frame} {lv : PendingOperators} {pl : OperandPlace} {sg : Signs} (p : Spot) → BegunStack src w ts st → Wants src w us st lv pl sg → (names : Reader WordsState WordsAct NameOrEntity) →
     After src names w (ts ++ (us ++ one kind.CloseParen p)) (list_ended src st pl closing.Paren (at p))
 end_paren p a at_item names = call_begun p a names
 end_paren p a (at_expr e b) names = tt
@@ -176,7 +176,7 @@ end_paren p a (at_has e b) names = tt
 end_paren p a (at_operand o) names = tt
 end_paren p a (at_primary e) names = tt
 
-end_bracket : {src : List ℕ} {w : Wanted} {ts us : List Lexeme} {st : List Frame} {lv : Levels} {pl : OperandPlace} {sg : Signs} (p : Spot) → BegunStack src w ts st → Wants src w us st lv pl sg → (names : Reader WordsState WordsAct NameOrEntity) →
+end_bracket : {src : List ℕ} {w : StartSymbol} {ts us : List Lexeme} {st : List Frame} {lv : PendingOperators} {pl : OperandPlace} {sg : Signs} (p : Spot) → BegunStack src w ts st → Wants src w us st lv pl sg → (names : Reader WordsState WordsAct NameOrEntity) →
     After src names w (ts ++ (us ++ one kind.CloseBracket p)) (list_ended src st pl closing.Bracket (at p))
 end_bracket p a at_item names = items_begun p a names
 end_bracket p a (at_expr e b) names = tt
@@ -185,7 +185,7 @@ end_bracket p a (at_has e b) names = tt
 end_bracket p a (at_operand o) names = tt
 end_bracket p a (at_primary e) names = tt
 
-end_brace : {src : List ℕ} {w : Wanted} {ts us : List Lexeme} {st : List Frame} {lv : Levels} {pl : OperandPlace} {sg : Signs} (p : Spot) → BegunStack src w ts st → Wants src w us st lv pl sg → (names : Reader WordsState WordsAct NameOrEntity) →
+end_brace : {src : List ℕ} {w : StartSymbol} {ts us : List Lexeme} {st : List Frame} {lv : PendingOperators} {pl : OperandPlace} {sg : Signs} (p : Spot) → BegunStack src w ts st → Wants src w us st lv pl sg → (names : Reader WordsState WordsAct NameOrEntity) →
     After src names w (ts ++ (us ++ one kind.CloseBrace p)) (list_ended src st pl closing.Brace (at p))
 end_brace p a at_key names = keys_begun p a names
 end_brace p a (at_expr e b) names = tt
@@ -203,20 +203,20 @@ abbrev number_token : Spot → Lexeme
 number_token p = token kind.Number p
 
 -- where it is planned
-if_planned : {A : Type 0} (src : List ℕ) (names : Reader WordsState WordsAct NameOrEntity) (w : Wanted) (ts : List Lexeme) (b : Bool) (a : A) (f : A → Option State) → After src names w ts (cond b (f a) None) → After src names w ts (planned (cond b (Some a) None) f)
+if_planned : {A : Type 0} (src : List ℕ) (names : Reader WordsState WordsAct NameOrEntity) (w : StartSymbol) (ts : List Lexeme) (b : Bool) (a : A) (f : A → Option State) → After src names w ts (cond b (f a) None) → After src names w ts (planned (cond b (Some a) None) f)
 if_planned src names w ts true a f h = h
 if_planned src names w ts false a f h = tt
 
-abbrev pub wanting : List ℕ → Reader WordsState WordsAct NameOrEntity → List Frame → Levels → OperandPlace → Signs → Lexeme → Option State
+abbrev pub wanting : List ℕ → Reader WordsState WordsAct NameOrEntity → List Frame → PendingOperators → OperandPlace → Signs → Lexeme → Option State
 wanting src names st lv pl sg t = planned (operand_plan (stack_shape st) pl (op_sign sg.op) t.kind) (λ b. begin_act src names st lv pl sg b t)
 
 -- the machine of words begins with this token
-begun_word : {src : List ℕ} {w : Wanted} {ts us : List Lexeme} {st : List Frame} {lv : Levels} {pl : OperandPlace} {sg : Signs} (names : Reader WordsState WordsAct NameOrEntity) (vs : List Lexeme) (o : Option WordsState) → ((s : WordsState) → o ≡ Some s → Comes (machine_of src names) vs s) →
+begun_word : {src : List ℕ} {w : StartSymbol} {ts us : List Lexeme} {st : List Frame} {lv : PendingOperators} {pl : OperandPlace} {sg : Signs} (names : Reader WordsState WordsAct NameOrEntity) (vs : List Lexeme) (o : Option WordsState) → ((s : WordsState) → o ≡ Some s → Comes (machine_of src names) vs s) →
     BegunStack src w ts st → Wants src w us st lv pl sg → After src names w (ts ++ (us ++ vs)) (option_image (λ v. word_held st lv pl sg v) o)
 begun_word names vs (Some s) f a b = is_worded vs a b (f s refl)
 begun_word names vs None f a b = tt
 
-number_begun : {src : List ℕ} {w : Wanted} {ts us : List Lexeme} {st : List Frame} {lv : Levels} {pl : OperandPlace} {sg : Signs} (p : Spot) → BegunStack src w ts st → Wants src w us st lv pl sg → (names : Reader WordsState WordsAct NameOrEntity) →
+number_begun : {src : List ℕ} {w : StartSymbol} {ts us : List Lexeme} {st : List Frame} {lv : PendingOperators} {pl : OperandPlace} {sg : Signs} (p : Spot) → BegunStack src w ts st → Wants src w us st lv pl sg → (names : Reader WordsState WordsAct NameOrEntity) →
     After src names w (ts ++ (us ++ one kind.Number p)) (number_reading src st lv sg (fits p.text) (number_token p))
 number_begun {src = src} {w = w} {ts = ts} {us = us} {st = st} {lv = lv} {pl = pl} {sg = sg} p a b names = go (fits p.text) refl
   where
@@ -224,7 +224,7 @@ number_begun {src = src} {w = w} {ts = ts} {us = us} {st = st} {lv = lv} {pl = p
     go true e = is_primary_had a (wants_leads b) (literally (number p e))
     go false e = tt
 
-pub wanted_begun : {src : List ℕ} {w : Wanted} {ts us : List Lexeme} {st : List Frame} {lv : Levels} {pl : OperandPlace} {sg : Signs} → BegunStack src w ts st → Wants src w us st lv pl sg →
+pub wanted_begun : {src : List ℕ} {w : StartSymbol} {ts us : List Lexeme} {st : List Frame} {lv : PendingOperators} {pl : OperandPlace} {sg : Signs} → BegunStack src w ts st → Wants src w us st lv pl sg →
     (names : Reader WordsState WordsAct NameOrEntity) (k : TokenKind) (p : Spot) → ((s : WordsState) → first_words src names (token k p) ≡ Some s → Comes (machine_of src names) (one k p) s) →
     After src names w (ts ++ (us ++ one k p)) (wanting src names st lv pl sg (token k p))
 wanted_begun a b names kind.True p f = begun_word names (one kind.True p) (first_words _ names (token kind.True p)) f a b

@@ -3,7 +3,7 @@ ghost use Rattle.std.specs.Prelude.{◌≡◌, ◌∷◌, Some, OnOk};
 ghost use Rattle.cedar_lexer.specs.Token.{lexeme_of};
 ghost use Rattle.cedar_grammar.specs.declared.reading.class.AccessStart.TheVariants as opens;
 ghost use Rattle.cedar_grammar.specs.declared.reading.class.Closing.TheVariants as closing;
-ghost use Rattle.cedar_grammar.specs.declared.reading.class.Operator.TheVariants as operators;
+ghost use Rattle.cedar_grammar.specs.declared.reading.class.FollowClass.TheVariants as operators;
 ghost use Rattle.cedar_expression_machine.specs.declared.expression.state.Act.TheVariants as acts;
 ghost use Rattle.cedar_expression_machine.specs.machines.Closing.{with_access};
 ghost use Rattle.cedar_expression_machine.specs.declared.expression.state.Frame.TheVariants as frame;
@@ -16,8 +16,10 @@ ghost use Rattle.cedar_expression_machine.specs.machines.WholeExpressions.{IsPla
 
 use crate::expression::brackets::paren::bracket_extent;
 use crate::expression::levels::begin::have;
-use crate::expression::state::{Call, Frame, Index, Mode, Operand, OperandPlace, Ranged, State};
-use crate::ground::Ground;
+use crate::expression::state::{
+    Call, Frame, Index, Operand, OperandMode, OperandPlace, Spanned, State,
+};
+use crate::node_builder::NodeBuilder;
 use cedar_expressions::Items;
 use cedar_grammar::never;
 use cedar_grammar::reading::extent::{Extent, join_extents};
@@ -30,20 +32,24 @@ use std::alloc::{AllocError, Global};
 impl Operand {
     /// One access more.
     #[inline(always)]
-    pub fn push(&mut self, ground: Ground<'_>, access: Ranged<MemAccess>) -> Result<(), AllocError>
-        ensures { OnOk result (self.new ≡ with_access ground.entry.source.now self.old access) }
+    pub fn push(
+        &mut self,
+        builder: NodeBuilder<'_>,
+        access: Spanned<MemAccess>,
+    ) -> Result<(), AllocError>
+        ensures { OnOk result (self.new ≡ with_access builder.entry.source.now self.old access) }
     {
         self.extent = join_extents(self.extent, access.extent);
-        self.member.access.push(ground.node_of(access)?)
+        self.member.access.push(builder.node_of(access)?)
     }
 }
 
 impl Call {
     /// One argument more.
-    pub fn push(&mut self, ground: Ground<'_>, item: Ranged<Expr>) -> Result<(), AllocError>
-        ensures { OnOk result (self.new ≡ call_more ground.entry.source.now self.old item) }
+    pub fn push(&mut self, builder: NodeBuilder<'_>, item: Spanned<Expr>) -> Result<(), AllocError>
+        ensures { OnOk result (self.new ≡ call_more builder.entry.source.now self.old item) }
     {
-        self.items.push(ground.node_of(item)?)
+        self.items.push(builder.node_of(item)?)
     }
 }
 
@@ -55,8 +61,8 @@ impl State {
             ≡ followed src self.old (operators.Access opens.Dot) opened }
     {
         match &mut self.mode {
-            Mode::Have { dot, .. } => *dot = Some(opened),
-            Mode::Want { .. } | Mode::Word { .. } => never!(),
+            OperandMode::Have { dot, .. } => *dot = Some(opened),
+            OperandMode::Want { .. } | OperandMode::Word { .. } => never!(),
         }
     }
 
@@ -96,10 +102,10 @@ impl State {
 
     /// `)` behind the arguments.
     #[inline(never)]
-    pub fn close_call(&mut self, ground: Ground<'_>, end: Extent) -> Result<(), AllocError>
+    pub fn close_call(&mut self, builder: NodeBuilder<'_>, end: Extent) -> Result<(), AllocError>
         requires { (f : _) × (st : _) × (self.old.stack ≡ frame.Call f ∷ st) }
         ensures { OnOk result
-            (Some self.new ≡ list_ending ground.entry.source.now self.old.stack end) }
+            (Some self.new ≡ list_ending builder.entry.source.now self.old.stack end) }
     {
         match self.stack.pop() {
             Some(Frame::Call(frame)) => {
@@ -111,9 +117,9 @@ impl State {
                 } = frame;
                 let tree = MemAccess::Call(items);
                 let extent = bracket_extent(opened, end);
-                operand.push(ground, Ranged { tree, extent })?;
+                operand.push(builder, Spanned { tree, extent })?;
                 self.restore(outer);
-                self.turn(have(operand));
+                self.set_mode(have(operand));
                 Ok(())
             }
             _ => never!(),
@@ -124,15 +130,15 @@ impl State {
     #[inline(never)]
     pub fn close_index(
         &mut self,
-        ground: Ground<'_>,
-        item: Ranged<Expr>,
+        builder: NodeBuilder<'_>,
+        item: Spanned<Expr>,
         end: Extent,
     ) -> Result<(), AllocError>
         requires { (f : _) × (st : _) × (self.old.stack ≡ frame.Index f ∷ st) }
         ensures { OnOk result (Some self.new
-            ≡ frame_ending ground.entry.source.now self.old.stack item closing.Bracket end) }
+            ≡ frame_ending builder.entry.source.now self.old.stack item closing.Bracket end) }
     {
-        let tree = MemAccess::Index(ground.node_of(item)?);
+        let tree = MemAccess::Index(builder.node_of(item)?);
         match self.stack.pop() {
             Some(Frame::Index(frame)) => {
                 let Index {
@@ -141,9 +147,9 @@ impl State {
                     opened,
                 } = frame;
                 let extent = bracket_extent(opened, end);
-                operand.push(ground, Ranged { tree, extent })?;
+                operand.push(builder, Spanned { tree, extent })?;
                 self.restore(outer);
-                self.turn(have(operand));
+                self.set_mode(have(operand));
                 Ok(())
             }
             _ => never!(),
@@ -152,21 +158,25 @@ impl State {
 
     /// An identifier behind `.`: the operand takes it where it stays.
     #[inline(never)]
-    pub fn read_field(&mut self, ground: Ground<'_>, token: &Token<'_>) -> Result<(), AllocError>
+    pub fn read_field(
+        &mut self,
+        builder: NodeBuilder<'_>,
+        token: &Token<'_>,
+    ) -> Result<(), AllocError>
         requires { IsPlanned self.old token.now.kind acts.Field }
-        ensures { OnOk result (Some self.new ≡ expression_act ground.entry.source.now named_reader
+        ensures { OnOk result (Some self.new ≡ expression_act builder.entry.source.now named_reader
             self.old acts.Field (lexeme_of token.now)) }
     {
         match &mut self.mode {
-            Mode::Have { operand, dot } => {
+            OperandMode::Have { operand, dot } => {
                 let extent = join_extents(*dot, Some(token_extent(token)));
-                let field = ident_node(ground.alloc, ground.source, token)?;
+                let field = ident_node(builder.alloc, builder.source, token)?;
                 let tree = MemAccess::Field(field);
-                operand.push(ground, Ranged { tree, extent })?;
+                operand.push(builder, Spanned { tree, extent })?;
                 *dot = None;
                 Ok(())
             }
-            Mode::Want { .. } | Mode::Word { .. } => unreachable!(),
+            OperandMode::Want { .. } | OperandMode::Word { .. } => unreachable!(),
         }
     }
 }

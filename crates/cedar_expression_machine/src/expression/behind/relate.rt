@@ -1,12 +1,14 @@
 //! Closes a relation with its last sum: the left side is taken out of its slot.
 ghost use Rattle.std.specs.Prelude.{◌≡◌, None, Some, IfOk, OnOk, IsSome, IsTrue};
-ghost use Rattle.cedar_expression_machine.specs.declared.expression.state.Left.TheVariants as left;
+ghost use Rattle.cedar_expression_machine.specs.declared.expression.state.PendingRelation.TheVariants as left;
 ghost use Rattle.cedar_expression_machine.specs.machines.Closing.{add_at, made_common, marked_chain, node_of, relation_with_sum};
 ghost use Rattle.cedar_expression_machine.specs.machines.ExpressionModes.{HasNoSum, IsCommon, IsSided, IsWithin};
 
 use crate::expression::levels::alone::{add_with_places, places_of};
-use crate::expression::state::{Chain, Left, Levels, Operand, PendingChain, Ranged};
-use crate::ground::Ground;
+use crate::expression::state::{
+    Chain, Operand, PendingChain, PendingOperators, PendingRelation, Spanned,
+};
+use crate::node_builder::NodeBuilder;
 use cedar_expressions::{Boxed, Items};
 use cedar_grammar::never;
 use cedar_grammar::reading::extent::join_extents;
@@ -17,31 +19,31 @@ use std::alloc::AllocError;
 /// A tree as a node in memory of its own. It is of any type, so that the proof doesn't see what is
 /// dropped.
 fn boxed_node<T: Drop>(
-    ground: Ground<'_>,
-    item: Ranged<T>,
+    builder: NodeBuilder<'_>,
+    item: Spanned<T>,
 ) -> Result<Boxed<Node<Option<T>>>, AllocError>
-    ensures { IfOk result (λ boxed. boxed ≡ node_of ground.entry.source.now item) }
+    ensures { IfOk result (λ boxed. boxed ≡ node_of builder.entry.source.now item) }
 {
-    Boxed::new(ground.alloc, ground.node_of(item)?)
+    Boxed::new(builder.alloc, builder.node_of(item)?)
 }
 
 /// A node and a tree behind it, each in memory of its own, of any types too.
 fn boxes<A: Drop, B: Drop>(
-    ground: Ground<'_>,
+    builder: NodeBuilder<'_>,
     first: Node<Option<A>>,
-    second: Ranged<B>,
+    second: Spanned<B>,
 ) -> Result<(Boxed<Node<Option<A>>>, Boxed<Node<Option<B>>>), AllocError>
-    ensures { IfOk result (λ both. both ≡ (first, node_of ground.entry.source.now second)) }
+    ensures { IfOk result (λ both. both ≡ (first, node_of builder.entry.source.now second)) }
 {
-    let second = boxed_node(ground, second)?;
-    let first = Boxed::new(ground.alloc, first)?;
+    let second = boxed_node(builder, second)?;
+    let first = Boxed::new(builder.alloc, first)?;
     Ok((first, second))
 }
 
-impl Levels {
+impl PendingOperators {
     /// The left side that is begun, taken out.
     #[inline(always)]
-    fn take_left(&mut self) -> Left
+    fn take_left(&mut self) -> PendingRelation
         requires { IsSome self.old.relation }
         ensures left { self.old.relation ≡ Some result }
         ensures after { self.new ≡ record self.old { relation = None } }
@@ -58,27 +60,27 @@ impl Levels {
         ensures { IsTrue result → IsCommon self.now.relation }
     {
         match &self.relation {
-            Some(left) => matches!(left.as_ref(), Left::Common(_)),
+            Some(left) => matches!(left.as_ref(), PendingRelation::Common(_)),
             None => false,
         }
     }
 
     /// Comparisons whose last sum is read, taken out.
     #[inline(always)]
-    pub fn take_common(&mut self) -> Ranged<Relation>
+    pub fn take_common(&mut self) -> Spanned<Relation>
         requires { IsCommon self.old.relation }
         ensures tree { (p : _) → self.old.relation ≡ Some (left.Common p)
             → result ≡ made_common p.chain }
         ensures after { self.new ≡ record self.old { relation = None } }
     {
         match self.take_left() {
-            Left::Common(begun) => {
+            PendingRelation::Common(begun) => {
                 let Chain {
                     initial,
                     extended,
                     extent,
                 } = begun.chain;
-                Ranged {
+                Spanned {
                     tree: Relation::Common { initial, extended },
                     extent,
                 }
@@ -91,17 +93,17 @@ impl Levels {
     #[inline(never)]
     fn close_common(
         &mut self,
-        ground: Ground<'_>,
-        item: Ranged<Add>,
-    ) -> Result<Ranged<Relation>, AllocError>
+        builder: NodeBuilder<'_>,
+        item: Spanned<Add>,
+    ) -> Result<Spanned<Relation>, AllocError>
         requires { IsCommon self.old.relation }
         ensures closed { IfOk result (λ relation. relation
-            ≡ relation_with_sum ground.entry.source.now self.old.relation item) }
+            ≡ relation_with_sum builder.entry.source.now self.old.relation item) }
         ensures after { OnOk result (self.new ≡ record self.old { relation = None }) }
     {
-        let loc = ground.loc_at(item.extent)?;
+        let loc = builder.loc_at(item.extent)?;
         match self.take_left() {
-            Left::Common(begun) => {
+            PendingRelation::Common(begun) => {
                 let PendingChain { chain, op } = begun;
                 let Chain {
                     initial,
@@ -114,7 +116,7 @@ impl Levels {
                 };
                 extended.push((op, node))?;
                 let extent = join_extents(extent, item.extent);
-                Ok(Ranged {
+                Ok(Spanned {
                     tree: Relation::Common { initial, extended },
                     extent,
                 })
@@ -127,32 +129,32 @@ impl Levels {
     #[inline(never)]
     fn close_side(
         &mut self,
-        ground: Ground<'_>,
-        item: Ranged<Add>,
-    ) -> Result<Ranged<Relation>, AllocError>
+        builder: NodeBuilder<'_>,
+        item: Spanned<Add>,
+    ) -> Result<Spanned<Relation>, AllocError>
         requires { IsSided self.old.relation }
         ensures closed { IfOk result (λ relation. relation
-            ≡ relation_with_sum ground.entry.source.now self.old.relation item) }
+            ≡ relation_with_sum builder.entry.source.now self.old.relation item) }
         ensures after { OnOk result (self.new ≡ record self.old { relation = None }) }
     {
         let item_extent = item.extent;
-        let right = boxed_node(ground, item)?;
+        let right = boxed_node(builder, item)?;
         let (tree, before) = match self.take_left() {
-            Left::Has(left) => (
+            PendingRelation::Has(left) => (
                 Relation::Has {
                     target: left.tree,
                     field: right,
                 },
                 left.extent,
             ),
-            Left::Like(left) => (
+            PendingRelation::Like(left) => (
                 Relation::Like {
                     target: left.tree,
                     pattern: right,
                 },
                 left.extent,
             ),
-            Left::Is(left) => (
+            PendingRelation::Is(left) => (
                 Relation::IsIn {
                     target: left.tree,
                     entity_type: right,
@@ -160,9 +162,9 @@ impl Levels {
                 },
                 left.extent,
             ),
-            Left::Common(_) | Left::IsIn { .. } => never!(),
+            PendingRelation::Common(_) | PendingRelation::IsIn { .. } => never!(),
         };
-        Ok(Ranged {
+        Ok(Spanned {
             tree,
             extent: join_extents(before, item_extent),
         })
@@ -172,28 +174,28 @@ impl Levels {
     #[inline(never)]
     fn close_is_in(
         &mut self,
-        ground: Ground<'_>,
-        item: Ranged<Add>,
-    ) -> Result<Ranged<Relation>, AllocError>
+        builder: NodeBuilder<'_>,
+        item: Spanned<Add>,
+    ) -> Result<Spanned<Relation>, AllocError>
         requires { IsWithin self.old.relation }
         ensures closed { IfOk result (λ relation. relation
-            ≡ relation_with_sum ground.entry.source.now self.old.relation item) }
+            ≡ relation_with_sum builder.entry.source.now self.old.relation item) }
         ensures after { OnOk result (self.new ≡ record self.old { relation = None }) }
     {
         match self.take_left() {
-            Left::IsIn {
+            PendingRelation::IsIn {
                 target,
                 entity_type,
                 extent,
             } => {
                 let extent = join_extents(extent, item.extent);
-                let (entity_type, entity) = boxes(ground, entity_type, item)?;
+                let (entity_type, entity) = boxes(builder, entity_type, item)?;
                 let tree = Relation::IsIn {
                     target,
                     entity_type,
                     in_entity: Some(entity),
                 };
-                Ok(Ranged { tree, extent })
+                Ok(Spanned { tree, extent })
             }
             _ => never!(),
         }
@@ -201,18 +203,21 @@ impl Levels {
 
     /// A sum alone as a relation.
     #[inline(never)]
-    fn close_first(ground: Ground<'_>, item: Ranged<Add>) -> Result<Ranged<Relation>, AllocError>
-        ensures { IfOk result (λ relation. relation ≡ relation_with_sum ground.entry.source.now
+    fn close_first(
+        builder: NodeBuilder<'_>,
+        item: Spanned<Add>,
+    ) -> Result<Spanned<Relation>, AllocError>
+        ensures { IfOk result (λ relation. relation ≡ relation_with_sum builder.entry.source.now
             None item) }
     {
-        let loc = ground.loc_at(item.extent)?;
+        let loc = builder.loc_at(item.extent)?;
         let extent = item.extent;
         let initial = Node {
             node: Some(item.tree),
             loc,
         };
-        let extended = Items::new(ground.alloc);
-        Ok(Ranged {
+        let extended = Items::new(builder.alloc);
+        Ok(Spanned {
             tree: Relation::Common { initial, extended },
             extent,
         })
@@ -222,19 +227,20 @@ impl Levels {
     #[inline(always)]
     pub fn relate(
         &mut self,
-        ground: Ground<'_>,
-        item: Ranged<Add>,
-    ) -> Result<Ranged<Relation>, AllocError>
+        builder: NodeBuilder<'_>,
+        item: Spanned<Add>,
+    ) -> Result<Spanned<Relation>, AllocError>
         ensures closed { IfOk result (λ closed. closed
-            ≡ relation_with_sum ground.entry.source.now self.old.relation item) }
+            ≡ relation_with_sum builder.entry.source.now self.old.relation item) }
         ensures after { OnOk result (self.new ≡ record self.old { relation = None }) }
     {
         match &self.relation {
-            None => Levels::close_first(ground, item),
+            None => PendingOperators::close_first(builder, item),
             Some(left) => match left.as_ref() {
-                Left::Common(_) => self.close_common(ground, item),
-                Left::Has(_) | Left::Like(_) | Left::Is(_) => self.close_side(ground, item),
-                Left::IsIn { .. } => self.close_is_in(ground, item),
+                PendingRelation::Common(_) => self.close_common(builder, item),
+                PendingRelation::Has(_) | PendingRelation::Like(_) | PendingRelation::Is(_) =>
+                    self.close_side(builder, item),
+                PendingRelation::IsIn { .. } => self.close_is_in(builder, item),
             },
         }
     }

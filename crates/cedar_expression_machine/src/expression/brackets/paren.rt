@@ -7,8 +7,8 @@ ghost use Rattle.cedar_expression_machine.specs.machines.ExpressionStates.{aroun
 ghost use Rattle.cedar_expression_machine.specs.machines.Having.{frame_ending};
 ghost use Rattle.cedar_expression_machine.specs.machines.Wanting.{paren_opening};
 
-use crate::expression::state::{Frame, OperandPlace, Paren, Ranged, State};
-use crate::ground::Ground;
+use crate::expression::state::{Frame, OperandPlace, Paren, Spanned, State};
+use crate::node_builder::NodeBuilder;
 use cedar_grammar::never;
 use cedar_grammar::reading::extent::{Extent, join_extents};
 use cedar_syntax::cst::{Expr, Primary};
@@ -29,7 +29,7 @@ impl State {
         ensures { OnOk result (self.new ≡ paren_opening self.old.stack self.old.levels
             (mode_signs self.old.mode) opened) }
     {
-        let signs = self.gap().signs;
+        let signs = self.prefix().signs;
         self.want_again(OperandPlace::Expr);
         let outer = self.take_levels(alloc);
         self.stack.push(Frame::Paren(Paren {
@@ -43,15 +43,15 @@ impl State {
     #[inline(never)]
     pub fn close_paren(
         &mut self,
-        ground: Ground<'_>,
-        item: Ranged<Expr>,
+        builder: NodeBuilder<'_>,
+        item: Spanned<Expr>,
         end: Extent,
     ) -> Result<(), AllocError>
         requires { (f : _) × (st : _) × (self.old.stack ≡ frame.Paren f ∷ st) }
         ensures { OnOk result (Some self.new
-            ≡ frame_ending ground.entry.source.now self.old.stack item closing.Paren end) }
+            ≡ frame_ending builder.entry.source.now self.old.stack item closing.Paren end) }
     {
-        let tree = Primary::Expr(ground.node_of(item)?);
+        let tree = Primary::Expr(builder.node_of(item)?);
         match self.stack.pop() {
             Some(Frame::Paren(frame)) => {
                 let Paren {
@@ -61,7 +61,7 @@ impl State {
                 } = frame;
                 let extent = bracket_extent(opened, end);
                 self.restore(outer);
-                self.have_primary(ground, signs, Ranged { tree, extent })
+                self.have_primary(builder, signs, Spanned { tree, extent })
             }
             _ => never!(),
         }

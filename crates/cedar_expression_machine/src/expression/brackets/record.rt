@@ -1,7 +1,7 @@
 //! A record in braces: keys and values.
 ghost use Rattle.std.specs.Prelude.{◌≡◌, [], ◌∷◌, Some, IsSome, OnOk};
 ghost use Rattle.cedar_grammar.specs.declared.reading.class.Closing.TheVariants as closing;
-ghost use Rattle.cedar_grammar.specs.declared.reading.class.Operator.TheVariants as operators;
+ghost use Rattle.cedar_grammar.specs.declared.reading.class.FollowClass.TheVariants as operators;
 ghost use Rattle.cedar_expression_machine.specs.declared.expression.state.Frame.TheVariants as frame;
 ghost use Rattle.cedar_expression_machine.specs.declared.expression.state.OperandPlace.TheVariants as place;
 ghost use Rattle.cedar_expression_machine.specs.machines.ExpressionModes.{HasRecord, IsFollowed, WantsOperand, followed, mode_signs};
@@ -10,8 +10,8 @@ ghost use Rattle.cedar_expression_machine.specs.machines.Having.{record_more, va
 ghost use Rattle.cedar_expression_machine.specs.machines.Wanting.{list_ending, record_opening};
 
 use crate::expression::brackets::paren::bracket_extent;
-use crate::expression::state::{Frame, Key, OperandPlace, Ranged, Record, State};
-use crate::ground::Ground;
+use crate::expression::state::{Frame, Key, OperandPlace, Record, Spanned, State};
+use crate::node_builder::NodeBuilder;
 use cedar_expressions::Items;
 use cedar_grammar::never;
 use cedar_grammar::reading::extent::{Extent, join_extents};
@@ -22,16 +22,16 @@ use std::alloc::{AllocError, Global};
 
 impl Record {
     /// The value of the pair that is begun: one pair more.
-    pub fn push(&mut self, ground: Ground<'_>, item: Ranged<Expr>) -> Result<(), AllocError>
+    pub fn push(&mut self, builder: NodeBuilder<'_>, item: Spanned<Expr>) -> Result<(), AllocError>
         requires { IsSome self.old.key }
         ensures { (k : _) → self.old.key ≡ Some k
-            → OnOk result (self.new ≡ record_more ground.entry.source.now self.old k item) }
+            → OnOk result (self.new ≡ record_more builder.entry.source.now self.old k item) }
     {
         match self.key.take() {
             Some(Key { node, extent }) => {
                 let extent = join_extents(extent, item.extent);
-                let pair = RecInit(node, ground.node_of(item)?);
-                self.items.push(ground.node_at(extent, pair)?)
+                let pair = RecInit(node, builder.node_of(item)?);
+                self.items.push(builder.node_at(extent, pair)?)
             }
             None => never!(),
         }
@@ -46,7 +46,7 @@ impl State {
         ensures { OnOk result (self.new ≡ record_opening self.old.stack self.old.levels
             (mode_signs self.old.mode) opened) }
     {
-        let signs = self.gap().signs;
+        let signs = self.prefix().signs;
         self.want_again(OperandPlace::Key);
         let outer = self.take_levels(alloc);
         let items = Items::new(alloc);
@@ -61,10 +61,10 @@ impl State {
 
     /// `}` behind the pairs.
     #[inline(never)]
-    pub fn close_record(&mut self, ground: Ground<'_>, end: Extent) -> Result<(), AllocError>
+    pub fn close_record(&mut self, builder: NodeBuilder<'_>, end: Extent) -> Result<(), AllocError>
         requires { HasRecord self.old.stack }
         ensures { OnOk result
-            (Some self.new ≡ list_ending ground.entry.source.now self.old.stack end) }
+            (Some self.new ≡ list_ending builder.entry.source.now self.old.stack end) }
     {
         match self.stack.pop() {
             Some(Frame::Record(frame)) => {
@@ -78,14 +78,14 @@ impl State {
                 let tree = Primary::RInits(items);
                 let extent = bracket_extent(opened, end);
                 self.restore(outer);
-                self.have_primary(ground, signs, Ranged { tree, extent })
+                self.have_primary(builder, signs, Spanned { tree, extent })
             }
             _ => never!(),
         }
     }
 
     /// A key and its colon are put into the record: the value begins.
-    pub fn begin_value(&mut self, key: Ranged<Node<Option<Expr>>>, colon: Extent)
+    pub fn begin_value(&mut self, key: Spanned<Node<Option<Expr>>>, colon: Extent)
         requires record { HasRecord self.old.stack }
         requires begun { self.old ≡ opening self.old.stack [] place.Expr }
         ensures { (f : _) (st : _) → self.old.stack ≡ frame.Record f ∷ st
@@ -106,31 +106,31 @@ impl State {
 
     /// `:` behind a key.
     #[inline(never)]
-    pub fn end_key(&mut self, ground: Ground<'_>, colon: Extent) -> Result<(), AllocError>
+    pub fn end_key(&mut self, builder: NodeBuilder<'_>, colon: Extent) -> Result<(), AllocError>
         requires { IsFollowed self.old (operators.Ends closing.Colon) }
-        ensures { OnOk result (Some self.new ≡ followed ground.entry.source.now self.old
+        ensures { OnOk result (Some self.new ≡ followed builder.entry.source.now self.old
             (operators.Ends closing.Colon) colon) }
     {
-        let item = self.close(ground, OperandPlace::Expr)?;
+        let item = self.close(builder, OperandPlace::Expr)?;
         let extent = item.extent;
-        let tree = ground.node_of(item)?;
-        self.begin_value(Ranged { tree, extent }, colon);
+        let tree = builder.node_of(item)?;
+        self.begin_value(Spanned { tree, extent }, colon);
         Ok(())
     }
 
     /// `}` behind a value.
     #[inline(never)]
-    pub fn end_value(&mut self, ground: Ground<'_>, end: Extent) -> Result<(), AllocError>
+    pub fn end_value(&mut self, builder: NodeBuilder<'_>, end: Extent) -> Result<(), AllocError>
         requires { IsFollowed self.old (operators.Ends closing.Brace) }
-        ensures { OnOk result (Some self.new ≡ followed ground.entry.source.now self.old
+        ensures { OnOk result (Some self.new ≡ followed builder.entry.source.now self.old
             (operators.Ends closing.Brace) end) }
     {
-        let item = self.close(ground, OperandPlace::Operand)?;
+        let item = self.close(builder, OperandPlace::Operand)?;
         match self.stack.top_mut() {
             Some(frame) => match frame {
                 Frame::Record(record) => {
-                    record.push(ground, item)?;
-                    self.close_record(ground, end)
+                    record.push(builder, item)?;
+                    self.close_record(builder, end)
                 }
                 _ => never!(),
             },

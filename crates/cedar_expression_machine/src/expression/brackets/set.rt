@@ -6,8 +6,8 @@ ghost use Rattle.cedar_expression_machine.specs.machines.Having.{set_more};
 ghost use Rattle.cedar_expression_machine.specs.machines.Wanting.{list_ending, set_opening};
 
 use crate::expression::brackets::paren::bracket_extent;
-use crate::expression::state::{Frame, OperandPlace, Ranged, Set, State};
-use crate::ground::Ground;
+use crate::expression::state::{Frame, OperandPlace, Set, Spanned, State};
+use crate::node_builder::NodeBuilder;
 use cedar_expressions::Items;
 use cedar_grammar::never;
 use cedar_grammar::reading::extent::Extent;
@@ -16,10 +16,10 @@ use std::alloc::{AllocError, Global};
 
 impl Set {
     /// One element more.
-    pub fn push(&mut self, ground: Ground<'_>, item: Ranged<Expr>) -> Result<(), AllocError>
-        ensures { OnOk result (self.new ≡ set_more ground.entry.source.now self.old item) }
+    pub fn push(&mut self, builder: NodeBuilder<'_>, item: Spanned<Expr>) -> Result<(), AllocError>
+        ensures { OnOk result (self.new ≡ set_more builder.entry.source.now self.old item) }
     {
-        self.items.push(ground.node_of(item)?)
+        self.items.push(builder.node_of(item)?)
     }
 }
 
@@ -31,7 +31,7 @@ impl State {
         ensures { OnOk result (self.new ≡ set_opening self.old.stack self.old.levels
             (mode_signs self.old.mode) opened) }
     {
-        let signs = self.gap().signs;
+        let signs = self.prefix().signs;
         self.want_again(OperandPlace::Item);
         let outer = self.take_levels(alloc);
         let items = Items::new(alloc);
@@ -45,10 +45,10 @@ impl State {
 
     /// `]` behind the elements.
     #[inline(never)]
-    pub fn close_set(&mut self, ground: Ground<'_>, end: Extent) -> Result<(), AllocError>
+    pub fn close_set(&mut self, builder: NodeBuilder<'_>, end: Extent) -> Result<(), AllocError>
         requires { (f : _) × (st : _) × (self.old.stack ≡ frame.Set f ∷ st) }
         ensures { OnOk result
-            (Some self.new ≡ list_ending ground.entry.source.now self.old.stack end) }
+            (Some self.new ≡ list_ending builder.entry.source.now self.old.stack end) }
     {
         match self.stack.pop() {
             Some(Frame::Set(frame)) => {
@@ -61,7 +61,7 @@ impl State {
                 let tree = Primary::EList(items);
                 let extent = bracket_extent(opened, end);
                 self.restore(outer);
-                self.have_primary(ground, signs, Ranged { tree, extent })
+                self.have_primary(builder, signs, Spanned { tree, extent })
             }
             _ => never!(),
         }

@@ -7,9 +7,9 @@ ghost use Rattle.cedar_expression_machine.specs.machines.Closing.{fresh, mult_at
 ghost use Rattle.cedar_grammar.specs.grammar.Place.{joint_extent};
 ghost use Rattle.cedar_expression_machine.specs.machines.AlonePlaces.{places_of, upper_places};
 
-use crate::expression::state::{Operand, Ranged};
-use crate::ground::Ground;
-use cedar_expressions::{Boxed, Items};
+use crate::expression::state::{Operand, Spanned};
+use crate::node_builder::NodeBuilder;
+use cedar_expressions::Items;
 use cedar_grammar::reading::extent::{Extent, join_extents};
 use cedar_syntax::cst::{Add, And, Expr, ExprData, ExprImpl, Mult, Or, Relation, Unary};
 use cedar_syntax::loc::Loc;
@@ -105,13 +105,13 @@ pub struct Places {
 
 /// Where they stand.
 #[inline(always)]
-pub fn places_of(ground: Ground<'_>, operand: &Operand) -> Result<Places, AllocError>
-    ensures { IfOk result (λ places. places ≡ places_of ground.entry.source.now operand.now) }
+pub fn places_of(builder: NodeBuilder<'_>, operand: &Operand) -> Result<Places, AllocError>
+    ensures { IfOk result (λ places. places ≡ places_of builder.entry.source.now operand.now) }
 {
     let extent = join_extents(operand.signs.extent, operand.extent);
-    let of_member = ground.loc_at(operand.extent)?;
-    let of_unary = ground.loc_at(extent)?;
-    let of_mult = ground.loc_at(extent)?;
+    let of_member = builder.loc_at(operand.extent)?;
+    let of_unary = builder.loc_at(extent)?;
+    let of_mult = builder.loc_at(extent)?;
     Ok(Places {
         of_member,
         of_unary,
@@ -148,37 +148,40 @@ pub fn add_with_places(alloc: Global, operand: Operand, places: Places) -> Add
 
 /// The sum that is this operand alone.
 #[inline(never)]
-pub fn alone_add(ground: Ground<'_>, operand: Operand) -> Result<Ranged<Add>, AllocError>
-    ensures { IfOk result (λ sum. sum ≡ add_at ground.entry.source.now (fresh []) operand) }
+pub fn alone_add(builder: NodeBuilder<'_>, operand: Operand) -> Result<Spanned<Add>, AllocError>
+    ensures { IfOk result (λ sum. sum ≡ add_at builder.entry.source.now (fresh []) operand) }
 {
     let extent = join_extents(operand.signs.extent, operand.extent);
-    let of_member = ground.loc_at(operand.extent)?;
-    let of_unary = ground.loc_at(extent)?;
-    let of_mult = ground.loc_at(extent)?;
+    let of_member = builder.loc_at(operand.extent)?;
+    let of_unary = builder.loc_at(extent)?;
+    let of_mult = builder.loc_at(extent)?;
     let unary = unary_of(operand, of_member);
-    let mult = mult_of(ground.alloc, unary, of_unary);
-    Ok(Ranged {
-        tree: add_of(ground.alloc, mult, of_mult),
+    let mult = mult_of(builder.alloc, unary, of_unary);
+    Ok(Spanned {
+        tree: add_of(builder.alloc, mult, of_mult),
         extent,
     })
 }
 
 /// The relation that is this operand alone.
 #[inline(never)]
-pub fn alone_relation(ground: Ground<'_>, operand: Operand) -> Result<Ranged<Relation>, AllocError>
+pub fn alone_relation(
+    builder: NodeBuilder<'_>,
+    operand: Operand,
+) -> Result<Spanned<Relation>, AllocError>
     ensures { IfOk result (λ relation. relation
-        ≡ relation_at ground.entry.source.now (fresh []) operand) }
+        ≡ relation_at builder.entry.source.now (fresh []) operand) }
 {
     let extent = join_extents(operand.signs.extent, operand.extent);
-    let of_member = ground.loc_at(operand.extent)?;
-    let of_unary = ground.loc_at(extent)?;
-    let of_mult = ground.loc_at(extent)?;
-    let of_add = ground.loc_at(extent)?;
+    let of_member = builder.loc_at(operand.extent)?;
+    let of_unary = builder.loc_at(extent)?;
+    let of_mult = builder.loc_at(extent)?;
+    let of_add = builder.loc_at(extent)?;
     let unary = unary_of(operand, of_member);
-    let mult = mult_of(ground.alloc, unary, of_unary);
-    let add = add_of(ground.alloc, mult, of_mult);
-    Ok(Ranged {
-        tree: common_of(ground.alloc, add, of_add),
+    let mult = mult_of(builder.alloc, unary, of_unary);
+    let add = add_of(builder.alloc, mult, of_mult);
+    Ok(Spanned {
+        tree: common_of(builder.alloc, add, of_add),
         extent,
     })
 }
@@ -194,13 +197,16 @@ pub struct UpperPlaces {
 
 /// Where they stand.
 #[inline(always)]
-pub fn upper_places(ground: Ground<'_>, extent: Option<Extent>) -> Result<UpperPlaces, AllocError>
-    ensures { IfOk result (λ places. places ≡ upper_places ground.entry.source.now extent) }
+pub fn upper_places(
+    builder: NodeBuilder<'_>,
+    extent: Option<Extent>,
+) -> Result<UpperPlaces, AllocError>
+    ensures { IfOk result (λ places. places ≡ upper_places builder.entry.source.now extent) }
 {
-    let of_add = ground.loc_at(extent)?;
-    let of_relation = ground.loc_at(extent)?;
-    let of_and = ground.loc_at(extent)?;
-    let of_or = ground.loc_at(extent)?;
+    let of_add = builder.loc_at(extent)?;
+    let of_relation = builder.loc_at(extent)?;
+    let of_and = builder.loc_at(extent)?;
+    let of_or = builder.loc_at(extent)?;
     Ok(UpperPlaces {
         of_add,
         of_relation,
@@ -216,6 +222,7 @@ pub fn expr_alone(
     operand: Operand,
     places: Places,
     upper: UpperPlaces,
+    is_deep: bool,
 ) -> Result<Expr, AllocError>
     ensures { (src : _) → places ≡ places_of src operand
         → upper ≡ upper_places src (joint_extent operand.signs.extent operand.extent)
@@ -226,19 +233,23 @@ pub fn expr_alone(
     let and = and_of(alloc, relation, upper.of_relation);
     let node = Some(or_of(alloc, and, upper.of_and));
     let loc = upper.of_or;
-    let expr = Boxed::new(alloc, ExprData::Or(Node { node, loc }))?;
-    Ok(Expr::Expr(ExprImpl { expr }))
+    let expr = ExprImpl::nested(alloc, ExprData::Or(Node { node, loc }), is_deep)?;
+    Ok(Expr::Expr(expr))
 }
 
 /// The expression that is this operand alone.
 #[inline(never)]
-pub fn alone_expr(ground: Ground<'_>, operand: Operand) -> Result<Ranged<Expr>, AllocError>
-    ensures { IfOk result (λ expr. expr ≡ made_expr ground.entry.source.now
-        (or_at ground.entry.source.now (fresh []) operand)) }
+pub fn alone_expr(
+    builder: NodeBuilder<'_>,
+    operand: Operand,
+    is_deep: bool,
+) -> Result<Spanned<Expr>, AllocError>
+    ensures { IfOk result (λ expr. expr ≡ made_expr builder.entry.source.now
+        (or_at builder.entry.source.now (fresh []) operand)) }
 {
     let extent = join_extents(operand.signs.extent, operand.extent);
-    let places = places_of(ground, &operand)?;
-    let upper = upper_places(ground, extent)?;
-    let tree = expr_alone(ground.alloc, operand, places, upper)?;
-    Ok(Ranged { tree, extent })
+    let places = places_of(builder, &operand)?;
+    let upper = upper_places(builder, extent)?;
+    let tree = expr_alone(builder.alloc, operand, places, upper, is_deep)?;
+    Ok(Spanned { tree, extent })
 }

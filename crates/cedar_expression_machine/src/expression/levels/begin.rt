@@ -1,14 +1,15 @@
 //! What a state becomes where something begins.
 ghost use Rattle.std.specs.Prelude.{◌≡◌, [], None, IfOk, OnOk};
-ghost use Rattle.cedar_expression_machine.specs.declared.expression.state.Mode.TheVariants as mode;
+ghost use Rattle.cedar_expression_machine.specs.declared.expression.state.OperandMode.TheVariants as mode;
 ghost use Rattle.cedar_expression_machine.specs.machines.Closing.{fresh, no_signs, operand_of};
 ghost use Rattle.cedar_expression_machine.specs.machines.ExpressionModes.{HasOperand, WantsOperand};
 ghost use Rattle.cedar_expression_machine.specs.machines.ExpressionStates.{state, wants, has_primary};
 
 use crate::expression::state::{
-    Branch, Gap, Levels, Mode, Operand, OperandPlace, Ranged, Signs, State,
+    Branch, Operand, OperandMode, OperandPlace, OperandPrefix, PendingOperators, Signs, Spanned,
+    State,
 };
-use crate::ground::Ground;
+use crate::node_builder::NodeBuilder;
 use cedar_expressions::Items;
 use cedar_grammar::never;
 use cedar_grammar::reading::put::put;
@@ -19,10 +20,10 @@ use std::alloc::{AllocError, Global};
 use std::mem;
 
 /// Nothing but these `if`s is begun.
-pub fn fresh_levels(branches: Stack<Branch>) -> Levels
+pub fn fresh_levels(branches: Stack<Branch>) -> PendingOperators
     ensures { result ≡ fresh branches }
 {
-    Levels {
+    PendingOperators {
         branches,
         or: None,
         and: None,
@@ -43,10 +44,10 @@ pub fn no_signs() -> Signs
 }
 
 /// An operand is wanted, and nothing stands before it.
-pub fn want_at(place: OperandPlace) -> Mode
+pub fn want_at(place: OperandPlace) -> OperandMode
     ensures { result ≡ wants place }
 {
-    Mode::Want {
+    OperandMode::Want {
         place,
         signs: no_signs(),
     }
@@ -55,18 +56,18 @@ pub fn want_at(place: OperandPlace) -> Mode
 /// An operand that has no accesses yet.
 #[inline(always)]
 pub fn operand_of(
-    ground: Ground<'_>,
+    builder: NodeBuilder<'_>,
     signs: Signs,
-    item: Ranged<Primary>,
+    item: Spanned<Primary>,
 ) -> Result<Operand, AllocError>
-    ensures { IfOk result (λ operand. operand ≡ operand_of ground.entry.source.now signs item) }
+    ensures { IfOk result (λ operand. operand ≡ operand_of builder.entry.source.now signs item) }
 {
     let extent = item.extent;
     Ok(Operand {
         signs,
         member: Member {
-            item: ground.node_of(item)?,
-            access: Items::new(ground.alloc),
+            item: builder.node_of(item)?,
+            access: Items::new(builder.alloc),
         },
         extent,
         is_if: false,
@@ -74,13 +75,13 @@ pub fn operand_of(
 }
 
 /// Behind this operand.
-pub fn have(operand: Operand) -> Mode
+pub fn have(operand: Operand) -> OperandMode
     ensures { result ≡ mode.Have operand None }
 {
-    Mode::Have { operand, dot: None }
+    OperandMode::Have { operand, dot: None }
 }
 
-impl Mode {
+impl OperandMode {
     /// The operand that has ended is taken out, and behind what stands there one is wanted at this
     /// place.
     #[inline(always)]
@@ -90,8 +91,8 @@ impl Mode {
         ensures after { self.new ≡ wants place }
     {
         match mem::replace(self, want_at(place)) {
-            Mode::Have { operand, dot: _ } => operand,
-            Mode::Want { .. } | Mode::Word { .. } => never!(),
+            OperandMode::Have { operand, dot: _ } => operand,
+            OperandMode::Want { .. } | OperandMode::Word { .. } => never!(),
         }
     }
 }
@@ -114,23 +115,23 @@ impl State {
         ensures { self.now.mode ≡ mode.Have result.now None }
     {
         match &self.mode {
-            Mode::Have { operand, dot: _ } => operand,
-            Mode::Want { .. } | Mode::Word { .. } => never!(),
+            OperandMode::Have { operand, dot: _ } => operand,
+            OperandMode::Want { .. } | OperandMode::Word { .. } => never!(),
         }
     }
 
     /// Where an operand is wanted, and the signs before it.
     #[inline(always)]
-    pub fn gap(&self) -> Gap
+    pub fn prefix(&self) -> OperandPrefix
         requires { WantsOperand self.now.mode }
         ensures { self.now.mode ≡ mode.Want result.place result.signs }
     {
         match &self.mode {
-            Mode::Want { place, signs } => Gap {
+            OperandMode::Want { place, signs } => OperandPrefix {
                 place: *place,
                 signs: *signs,
             },
-            Mode::Word { .. } | Mode::Have { .. } => never!(),
+            OperandMode::Word { .. } | OperandMode::Have { .. } => never!(),
         }
     }
 
@@ -141,11 +142,11 @@ impl State {
         ensures { self.new ≡ state self.old.stack self.old.levels (wants next) }
     {
         match &mut self.mode {
-            Mode::Want { place, signs } => {
+            OperandMode::Want { place, signs } => {
                 *place = next;
                 *signs = no_signs();
             }
-            Mode::Word { .. } | Mode::Have { .. } => never!(),
+            OperandMode::Word { .. } | OperandMode::Have { .. } => never!(),
         }
     }
 
@@ -154,7 +155,7 @@ impl State {
     /// `false` and `if` hold none. So nothing is let go, and the compiler copies nothing out of
     /// the state to do so.
     #[inline(always)]
-    pub fn turn(&mut self, next: Mode)
+    pub fn set_mode(&mut self, next: OperandMode)
         ensures { self.new ≡ state self.old.stack self.old.levels next }
     {
         mem::forget(mem::replace(&mut self.mode, next));
@@ -162,7 +163,7 @@ impl State {
 
     /// The levels that are begun are taken out: nothing is begun inside of the bracket that opens.
     #[inline(always)]
-    pub fn take_levels(&mut self, alloc: Global) -> Levels
+    pub fn take_levels(&mut self, alloc: Global) -> PendingOperators
         ensures levels { result ≡ self.old.levels }
         ensures after { self.new ≡ state self.old.stack (fresh []) self.old.mode }
     {
@@ -172,7 +173,7 @@ impl State {
     /// The levels around a bracket that has ended. Of those inside none is begun any more, but the
     /// list of their `if`s may have memory.
     #[inline(always)]
-    pub fn restore(&mut self, outer: Levels)
+    pub fn restore(&mut self, outer: PendingOperators)
         ensures { self.new ≡ state self.old.stack outer self.old.mode }
     {
         put(&mut self.levels, outer);
@@ -182,14 +183,14 @@ impl State {
     #[inline(always)]
     pub fn have_primary(
         &mut self,
-        ground: Ground<'_>,
+        builder: NodeBuilder<'_>,
         signs: Signs,
-        item: Ranged<Primary>,
+        item: Spanned<Primary>,
     ) -> Result<(), AllocError>
         ensures { OnOk result (self.new
-            ≡ has_primary ground.entry.source.now self.old.stack self.old.levels signs item) }
+            ≡ has_primary builder.entry.source.now self.old.stack self.old.levels signs item) }
     {
-        let loc = ground.loc_at(item.extent)?;
+        let loc = builder.loc_at(item.extent)?;
         let operand = Operand {
             signs,
             extent: item.extent,
@@ -198,11 +199,11 @@ impl State {
                     node: Some(item.tree),
                     loc,
                 },
-                access: Items::new(ground.alloc),
+                access: Items::new(builder.alloc),
             },
             is_if: false,
         };
-        self.turn(have(operand));
+        self.set_mode(have(operand));
         Ok(())
     }
 }

@@ -2,8 +2,8 @@
 ghost use Rattle.std.specs.Prelude.{◌≡◌, Some, None, IfOk, OnOk};
 ghost use Rattle.cedar_expression_machine.specs.machines.Closing.{begun_at, marked_chain, onward, pending, pending_with, plain_chain, plain_with};
 
-use crate::expression::state::{Chain, OperatorAt, PendingChain, Ranged};
-use crate::ground::Ground;
+use crate::expression::state::{Chain, OperatorAt, PendingChain, Spanned};
+use crate::node_builder::NodeBuilder;
 use cedar_expressions::{Boxed, Items};
 use cedar_grammar::reading::extent::{Extent, join_extents};
 use cedar_syntax::loc::Loc;
@@ -13,7 +13,7 @@ use std::alloc::{AllocError, Global};
 impl<T: Drop, I: Drop> Chain<T, I> {
     /// One operand alone, at this place.
     #[inline(always)]
-    fn begin(alloc: Global, item: Ranged<T>, loc: Option<Loc>) -> Chain<T, I>
+    fn begin(alloc: Global, item: Spanned<T>, loc: Option<Loc>) -> Chain<T, I>
         ensures { result ≡ begun_at item loc }
     {
         Chain {
@@ -30,11 +30,11 @@ impl<T: Drop, I: Drop> Chain<T, I> {
 impl<T: Drop, O: Drop + Copy> PendingChain<T, O> {
     /// One more operand.
     #[inline(always)]
-    fn link(&mut self, ground: Ground<'_>, item: Ranged<T>) -> Result<(), AllocError>
-        ensures chain { OnOk result (self.new.chain ≡ marked_chain ground.entry.source.now
+    fn link(&mut self, builder: NodeBuilder<'_>, item: Spanned<T>) -> Result<(), AllocError>
+        ensures chain { OnOk result (self.new.chain ≡ marked_chain builder.entry.source.now
             (Some self.old) item) }
     {
-        let loc = ground.loc_at(item.extent)?;
+        let loc = builder.loc_at(item.extent)?;
         self.chain.extent = join_extents(self.chain.extent, item.extent);
         let node = Node {
             node: Some(item.tree),
@@ -47,15 +47,15 @@ impl<T: Drop, O: Drop + Copy> PendingChain<T, O> {
     #[inline(always)]
     pub fn push(
         &mut self,
-        ground: Ground<'_>,
-        item: Ranged<T>,
+        builder: NodeBuilder<'_>,
+        item: Spanned<T>,
         mark: OperatorAt<O>,
     ) -> Result<(), AllocError>
         ensures { OnOk result
-            (self.new ≡ pending (marked_chain ground.entry.source.now
+            (self.new ≡ pending (marked_chain builder.entry.source.now
             (Some self.old) item) mark.op mark.extent) }
     {
-        self.link(ground, item)?;
+        self.link(builder, item)?;
         self.chain.extent = join_extents(self.chain.extent, Some(mark.extent));
         self.op = mark.op;
         Ok(())
@@ -66,7 +66,7 @@ impl<T: Drop, O: Drop + Copy> PendingChain<T, O> {
 #[inline(always)]
 pub fn begin_pending<T: Drop, O: Drop + Copy>(
     alloc: Global,
-    item: Ranged<T>,
+    item: Spanned<T>,
     loc: Option<Loc>,
     mark: OperatorAt<O>,
 ) -> PendingChain<T, O>
@@ -88,21 +88,21 @@ pub fn begin_pending<T: Drop, O: Drop + Copy>(
 /// One more operand and the operator behind it, at a level that may not be begun.
 #[inline(always)]
 pub fn push_pending<T: Drop, O: Drop + Copy>(
-    ground: Ground<'_>,
+    builder: NodeBuilder<'_>,
     slot: &mut Option<Boxed<PendingChain<T, O>>>,
-    item: Ranged<T>,
+    item: Spanned<T>,
     mark: OperatorAt<O>,
 ) -> Result<(), AllocError>
     ensures { OnOk result
         (slot.new ≡ Some (pending
-        (marked_chain ground.entry.source.now slot.old item) mark.op mark.extent)) }
+        (marked_chain builder.entry.source.now slot.old item) mark.op mark.extent)) }
 {
     match slot {
-        Some(level) => level.as_mut().push(ground, item, mark),
+        Some(level) => level.as_mut().push(builder, item, mark),
         None => {
-            let loc = ground.loc_at(item.extent)?;
-            let begun = begin_pending(ground.alloc, item, loc, mark);
-            *slot = Some(Boxed::new(ground.alloc, begun)?);
+            let loc = builder.loc_at(item.extent)?;
+            let begun = begin_pending(builder.alloc, item, loc, mark);
+            *slot = Some(Boxed::new(builder.alloc, begun)?);
             Ok(())
         }
     }
@@ -111,22 +111,22 @@ pub fn push_pending<T: Drop, O: Drop + Copy>(
 /// The level's chain with its last operand.
 #[inline(always)]
 pub fn close_pending<T: Drop, O: Drop + Copy>(
-    ground: Ground<'_>,
+    builder: NodeBuilder<'_>,
     begun: &mut Option<Boxed<PendingChain<T, O>>>,
-    item: Ranged<T>,
+    item: Spanned<T>,
 ) -> Result<Chain<T, (O, Node<Option<T>>)>, AllocError>
-    ensures chain { IfOk result (λ chain. chain ≡ marked_chain ground.entry.source.now begun.old
+    ensures chain { IfOk result (λ chain. chain ≡ marked_chain builder.entry.source.now begun.old
         item) }
     ensures after { OnOk result (begun.new ≡ None) }
 {
     match begun.take() {
         Some(mut level) => {
-            level.as_mut().link(ground, item)?;
+            level.as_mut().link(builder, item)?;
             Ok(level.into_inner().chain)
         }
         None => {
-            let loc = ground.loc_at(item.extent)?;
-            Ok(Chain::begin(ground.alloc, item, loc))
+            let loc = builder.loc_at(item.extent)?;
+            Ok(Chain::begin(builder.alloc, item, loc))
         }
     }
 }

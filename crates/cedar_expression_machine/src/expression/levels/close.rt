@@ -3,14 +3,15 @@
 ghost use Rattle.std.specs.Prelude.{◌≡◌, [], None, IfOk, OnOk, IsTrue};
 ghost use Rattle.cedar_grammar.specs.grammar.Place.{joint_extent};
 ghost use Rattle.cedar_syntax.specs.trees.Trees.{if_of};
-ghost use Rattle.cedar_expression_machine.specs.machines.Closing.{add_at, fresh, levels_of, made_and, made_expr, made_or, mult_at, node_of, plain_chain, ranged_tree, relation_at, unary_at, with_branches};
+ghost use Rattle.cedar_expression_machine.specs.machines.Closing.{add_at, fresh, levels_of, made_and, made_expr, made_or, mult_at, node_of, plain_chain, spanned_tree, relation_at, unary_at, with_branches};
 ghost use Rattle.cedar_expression_machine.specs.machines.ExpressionModes.{HasNoRelation, HasNoSum};
 
+use crate::expression::depth::branches_are_deep;
 use crate::expression::levels::alone::{alone_add, alone_relation};
 use crate::expression::levels::chain::close_pending;
-use crate::expression::state::{Branch, Chain, Levels, Operand, Ranged};
-use crate::ground::Ground;
-use cedar_expressions::{Boxed, Items};
+use crate::expression::state::{Branch, Chain, Operand, PendingOperators, Spanned};
+use crate::node_builder::NodeBuilder;
+use cedar_expressions::Items;
 use cedar_grammar::reading::extent::join_extents;
 use cedar_grammar::reading::stack::Stack;
 use cedar_syntax::cst::{Add, And, Expr, ExprData, ExprImpl, Mult, Or, Relation, Unary};
@@ -19,8 +20,8 @@ use std::alloc::AllocError;
 
 /// The operand with its signs and accesses.
 #[inline(always)]
-pub fn close_unary(ground: Ground<'_>, operand: Operand) -> Result<Ranged<Unary>, AllocError>
-    ensures { IfOk result (λ unary. unary ≡ unary_at ground.entry.source.now operand) }
+pub fn close_unary(builder: NodeBuilder<'_>, operand: Operand) -> Result<Spanned<Unary>, AllocError>
+    ensures { IfOk result (λ unary. unary ≡ unary_at builder.entry.source.now operand) }
 {
     let Operand {
         signs,
@@ -28,8 +29,8 @@ pub fn close_unary(ground: Ground<'_>, operand: Operand) -> Result<Ranged<Unary>
         extent,
         is_if: _,
     } = operand;
-    let item = ground.node_at(extent, member)?;
-    Ok(Ranged {
+    let item = builder.node_at(extent, member)?;
+    Ok(Spanned {
         tree: Unary { op: signs.op, item },
         extent: join_extents(signs.extent, extent),
     })
@@ -39,57 +40,59 @@ pub fn close_unary(ground: Ground<'_>, operand: Operand) -> Result<Ranged<Unary>
 /// but the memory for it.
 #[inline(never)]
 pub fn expr_of_relation(
-    ground: Ground<'_>,
-    item: Ranged<Relation>,
-) -> Result<Ranged<Expr>, AllocError>
-    ensures { IfOk result (λ expr. expr ≡ made_expr ground.entry.source.now
-        (made_or (plain_chain ground.entry.source.now None
-        (made_and (plain_chain ground.entry.source.now None item))))) }
+    builder: NodeBuilder<'_>,
+    item: Spanned<Relation>,
+    is_deep: bool,
+) -> Result<Spanned<Expr>, AllocError>
+    ensures { IfOk result (λ expr. expr ≡ made_expr builder.entry.source.now
+        (made_or (plain_chain builder.entry.source.now None
+        (made_and (plain_chain builder.entry.source.now None item))))) }
 {
     let extent = item.extent;
-    let of_relation = ground.loc_at(extent)?;
-    let of_and = ground.loc_at(extent)?;
-    let loc = ground.loc_at(extent)?;
+    let of_relation = builder.loc_at(extent)?;
+    let of_and = builder.loc_at(extent)?;
+    let loc = builder.loc_at(extent)?;
     let and = And {
         initial: Node {
             node: Some(item.tree),
             loc: of_relation,
         },
-        extended: Items::new(ground.alloc),
+        extended: Items::new(builder.alloc),
     };
     let or = Or {
         initial: Node {
             node: Some(and),
             loc: of_and,
         },
-        extended: Items::new(ground.alloc),
+        extended: Items::new(builder.alloc),
     };
     let data = ExprData::Or(Node {
         node: Some(or),
         loc,
     });
-    let expr = Boxed::new(ground.alloc, data)?;
-    Ok(Ranged {
-        tree: Expr::Expr(ExprImpl { expr }),
+    let expr = ExprImpl::nested(builder.alloc, data, is_deep)?;
+    Ok(Spanned {
+        tree: Expr::Expr(expr),
         extent,
     })
 }
 
 /// A conditional whose last part this is.
 fn close_branch(
-    ground: Ground<'_>,
+    builder: NodeBuilder<'_>,
     branch: Branch,
-    item: Ranged<Expr>,
-) -> Result<Ranged<Expr>, AllocError>
-    ensures { IfOk result (λ expr. expr ≡ ranged_tree (joint_extent branch.extent item.extent)
-        (if_of branch.guard branch.yes (node_of ground.entry.source.now item))) }
+    item: Spanned<Expr>,
+    is_deep: bool,
+) -> Result<Spanned<Expr>, AllocError>
+    ensures { IfOk result (λ expr. expr ≡ spanned_tree (joint_extent branch.extent item.extent)
+        (if_of branch.guard branch.yes (node_of builder.entry.source.now item))) }
 {
     let Branch { guard, yes, extent } = branch;
     let extent = join_extents(extent, item.extent);
-    let last = ground.node_of(item)?;
-    let expr = Boxed::new(ground.alloc, ExprData::If(guard, yes, last))?;
-    Ok(Ranged {
-        tree: Expr::Expr(ExprImpl { expr }),
+    let last = builder.node_of(item)?;
+    let expr = ExprImpl::nested(builder.alloc, ExprData::If(guard, yes, last), is_deep)?;
+    Ok(Spanned {
+        tree: Expr::Expr(expr),
         extent,
     })
 }
@@ -97,22 +100,24 @@ fn close_branch(
 /// The outermost `if` of those that end with the expression. None is begun any more.
 #[inline(never)]
 pub fn close_branches(
-    ground: Ground<'_>,
+    builder: NodeBuilder<'_>,
     branches: &mut Stack<Branch>,
-    item: Ranged<Expr>,
-) -> Result<Ranged<Expr>, AllocError>
+    item: Spanned<Expr>,
+    is_deep: bool,
+) -> Result<Spanned<Expr>, AllocError>
     ensures closed { IfOk result
-        (λ expr. expr ≡ with_branches ground.entry.source.now branches.old item) }
+        (λ expr. expr ≡ with_branches builder.entry.source.now branches.old item) }
     ensures after { OnOk result (branches.new ≡ []) }
 {
+    let is_deep = is_deep || branches_are_deep(branches);
     let mut item = item;
     while let Some(branch) = branches.pop() {
-        item = close_branch(ground, branch, item)?;
+        item = close_branch(builder, branch, item, is_deep)?;
     }
     Ok(item)
 }
 
-impl Levels {
+impl PendingOperators {
     /// Whether no level of a sum is begun.
     #[inline(always)]
     pub fn has_no_sum(&self) -> bool
@@ -149,20 +154,20 @@ impl Levels {
     #[inline(always)]
     pub fn close_mult(
         &mut self,
-        ground: Ground<'_>,
+        builder: NodeBuilder<'_>,
         operand: Operand,
-    ) -> Result<Ranged<Mult>, AllocError>
+    ) -> Result<Spanned<Mult>, AllocError>
         ensures closed { IfOk result (λ closed. closed
-            ≡ mult_at ground.entry.source.now self.old operand) }
+            ≡ mult_at builder.entry.source.now self.old operand) }
         ensures after { OnOk result (self.new ≡ record self.old { mult = None }) }
     {
-        let unary = close_unary(ground, operand)?;
+        let unary = close_unary(builder, operand)?;
         let Chain {
             initial,
             extended,
             extent,
-        } = close_pending(ground, &mut self.mult, unary)?;
-        Ok(Ranged {
+        } = close_pending(builder, &mut self.mult, unary)?;
+        Ok(Spanned {
             tree: Mult { initial, extended },
             extent,
         })
@@ -172,33 +177,37 @@ impl Levels {
     #[inline(always)]
     pub fn close_add(
         &mut self,
-        ground: Ground<'_>,
+        builder: NodeBuilder<'_>,
         operand: Operand,
-    ) -> Result<Ranged<Add>, AllocError>
+    ) -> Result<Spanned<Add>, AllocError>
         ensures closed { IfOk result (λ closed. closed
-            ≡ add_at ground.entry.source.now self.old operand) }
+            ≡ add_at builder.entry.source.now self.old operand) }
         ensures after { OnOk result (self.new ≡ record self.old { add = None; mult = None }) }
     {
         if self.has_no_sum() {
-            return alone_add(ground, operand);
+            return alone_add(builder, operand);
         }
-        self.close_sum(ground, operand)
+        self.close_sum(builder, operand)
     }
 
     /// The same, where a product or a sum is begun.
     #[inline(never)]
-    fn close_sum(&mut self, ground: Ground<'_>, operand: Operand) -> Result<Ranged<Add>, AllocError>
+    fn close_sum(
+        &mut self,
+        builder: NodeBuilder<'_>,
+        operand: Operand,
+    ) -> Result<Spanned<Add>, AllocError>
         ensures closed { IfOk result (λ closed. closed
-            ≡ add_at ground.entry.source.now self.old operand) }
+            ≡ add_at builder.entry.source.now self.old operand) }
         ensures after { OnOk result (self.new ≡ record self.old { add = None; mult = None }) }
     {
-        let mult = self.close_mult(ground, operand)?;
+        let mult = self.close_mult(builder, operand)?;
         let Chain {
             initial,
             extended,
             extent,
-        } = close_pending(ground, &mut self.add, mult)?;
-        Ok(Ranged {
+        } = close_pending(builder, &mut self.add, mult)?;
+        Ok(Spanned {
             tree: Add { initial, extended },
             extent,
         })
@@ -208,33 +217,33 @@ impl Levels {
     #[inline(never)]
     pub fn close_sided(
         &mut self,
-        ground: Ground<'_>,
+        builder: NodeBuilder<'_>,
         operand: Operand,
-    ) -> Result<Ranged<Relation>, AllocError>
+    ) -> Result<Spanned<Relation>, AllocError>
         ensures closed { IfOk result (λ closed. closed
-            ≡ relation_at ground.entry.source.now self.old operand) }
+            ≡ relation_at builder.entry.source.now self.old operand) }
         ensures after { OnOk result
             (self.new ≡ levels_of self.old.branches self.old.or self.old.and None None None) }
     {
-        let add = self.close_add(ground, operand)?;
-        self.relate(ground, add)
+        let add = self.close_add(builder, operand)?;
+        self.relate(builder, add)
     }
 
     /// The relation that ends with the operand.
     #[inline(always)]
     pub fn close_relation(
         &mut self,
-        ground: Ground<'_>,
+        builder: NodeBuilder<'_>,
         operand: Operand,
-    ) -> Result<Ranged<Relation>, AllocError>
+    ) -> Result<Spanned<Relation>, AllocError>
         ensures closed { IfOk result (λ closed. closed
-            ≡ relation_at ground.entry.source.now self.old operand) }
+            ≡ relation_at builder.entry.source.now self.old operand) }
         ensures after { OnOk result
             (self.new ≡ levels_of self.old.branches self.old.or self.old.and None None None) }
     {
         if self.has_no_relation() {
-            return alone_relation(ground, operand);
+            return alone_relation(builder, operand);
         }
-        self.close_sided(ground, operand)
+        self.close_sided(builder, operand)
     }
 }

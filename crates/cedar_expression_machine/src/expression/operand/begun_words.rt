@@ -2,16 +2,16 @@
 ghost use Rattle.std.specs.Prelude.{◌≡◌, [], Some, IsTrue, IfOk};
 ghost use Rattle.cedar_lexer.specs.Token.{lexeme_of};
 ghost use Rattle.cedar_syntax.specs.tokens.Tokens.{any_of};
-ghost use Rattle.cedar_grammar.specs.machines.Door.{is_some, option_image};
-ghost use Rattle.cedar_expression_machine.specs.machines.Expressions.{alone_of};
+ghost use Rattle.cedar_grammar.specs.machines.Machine.{is_some, option_image};
+ghost use Rattle.cedar_expression_machine.specs.machines.Expressions.{single_word};
 ghost use Rattle.cedar_expression_machine.specs.machines.Named.{named_reader};
 ghost use Rattle.cedar_expression_machine.specs.machines.NamedShapes.{is_condition, named_outline};
 ghost use Rattle.cedar_expression_machine.specs.machines.Wanting.{first_words};
 ghost use Rattle.cedar_expression_machine.specs.machines.Words.{word_node, path_extent};
 ghost use Rattle.cedar_expression_machine.specs.machines.WordShapes.{path_kind, words_shape};
 
-use crate::expression::state::Alone;
-use crate::ground::Ground;
+use crate::expression::state::SingleWord;
+use crate::node_builder::NodeBuilder;
 use crate::words::nodes::word_of;
 use crate::words::path::first_word;
 use crate::words::state::{Path, PathState, WordsState};
@@ -22,17 +22,17 @@ use std::alloc::AllocError;
 
 /// What a path alone is.
 #[inline(always)]
-pub fn alone_of(path: &Path) -> Alone
-    ensures { (src : _) → result ≡ alone_of path.now.before (word_node src path.now.last) }
+pub fn single_word(path: &Path) -> SingleWord
+    ensures { (src : _) → result ≡ single_word path.now.before (word_node src path.now.last) }
 {
     if !path.before.is_empty() {
-        return Alone::Name;
+        return SingleWord::Name;
     }
     match &path.last.ident {
-        Ident::True => Alone::True,
-        Ident::False => Alone::False,
-        Ident::If => Alone::If,
-        _ => Alone::Name,
+        Ident::True => SingleWord::True,
+        Ident::False => SingleWord::False,
+        Ident::If => SingleWord::If,
+        _ => SingleWord::Name,
     }
 }
 
@@ -49,13 +49,13 @@ pub fn path_extent(path: &Path) -> Extent
 
 /// The first of them.
 #[inline(always)]
-pub fn first(ground: Ground<'_>, token: &Token<'_>) -> Result<WordsState, AllocError>
+pub fn first(builder: NodeBuilder<'_>, token: &Token<'_>) -> Result<WordsState, AllocError>
     requires { IsTrue (is_some (any_of token.now.kind [])) }
     ensures { IfOk result (λ words. Some words
-        ≡ first_words ground.entry.source.now named_reader (lexeme_of token.now)) }
+        ≡ first_words builder.entry.source.now named_reader (lexeme_of token.now)) }
 {
-    let word = word_of(ground.alloc, token)?;
-    Ok(WordsState::Path(PathState::Have(first_word(ground.alloc, word))))
+    let word = word_of(builder.alloc, token)?;
+    Ok(WordsState::Path(PathState::Have(first_word(builder.alloc, word))))
 }
 
 /// Whether a path is the word `if` alone.

@@ -3,7 +3,7 @@ ghost use Rattle.std.specs.Prelude.{◌≡◌, Some};
 ghost use Rattle.cedar_expression_machine.specs.machines.ExpressionModes.{MaySign, mode_signs};
 ghost use Rattle.cedar_expression_machine.specs.machines.Wanting.{sign_reading};
 
-use crate::expression::state::{Mode, OperandPlace, State};
+use crate::expression::state::{OperandMode, OperandPlace, State};
 use cedar_grammar::never;
 use cedar_grammar::reading::class::{Sign, add_sign};
 use cedar_grammar::reading::extent::{Extent, join_extents};
@@ -16,12 +16,12 @@ impl State {
             (mode_signs self.old.mode) sign extent }
     {
         match &mut self.mode {
-            Mode::Want { place, signs } => {
+            OperandMode::Want { place, signs } => {
                 *place = OperandPlace::Operand;
                 signs.op = add_sign(signs.op, sign);
                 signs.extent = join_extents(signs.extent, Some(extent));
             }
-            Mode::Word { .. } | Mode::Have { .. } => never!(),
+            OperandMode::Word { .. } | OperandMode::Have { .. } => never!(),
         }
     }
 }

@@ -2,8 +2,8 @@
 ghost use Rattle.std.specs.Prelude.{◌≡◌, IfOk};
 ghost use Rattle.cedar_expression_machine.specs.machines.Wanting.{slot_of_token, slot_at};
 
-use crate::expression::state::Ranged;
-use crate::ground::Ground;
+use crate::expression::state::Spanned;
+use crate::node_builder::NodeBuilder;
 use cedar_expressions::Text;
 use cedar_grammar::reading::class::SlotToken;
 use cedar_grammar::reading::extent::Extent;
@@ -23,15 +23,15 @@ fn slot_of(alloc: Global, slot: SlotToken, text: &str) -> Result<Slot, AllocErro
 
 /// A slot as an operand.
 pub fn slot_at(
-    ground: Ground<'_>,
+    builder: NodeBuilder<'_>,
     extent: Option<Extent>,
     slot: SlotToken,
     text: &str,
-) -> Result<Ranged<Primary>, AllocError>
-    ensures { IfOk result (λ item. item ≡ slot_at ground.entry.source.now extent
+) -> Result<Spanned<Primary>, AllocError>
+    ensures { IfOk result (λ item. item ≡ slot_at builder.entry.source.now extent
         (slot_of_token slot text.now)) }
 {
-    let tree = slot_of(ground.alloc, slot, text)?;
-    let tree = Primary::Slot(ground.node_at(extent, tree)?);
-    Ok(Ranged { tree, extent })
+    let tree = slot_of(builder.alloc, slot, text)?;
+    let tree = Primary::Slot(builder.node_at(extent, tree)?);
+    Ok(Spanned { tree, extent })
 }

@@ -5,7 +5,7 @@ ghost use Rattle.cedar_grammar.specs.grammar.Place.{extent_of};
 ghost use Rattle.cedar_grammar.specs.grammar.WrittenTokens.{IsWritten};
 ghost use Rattle.cedar_grammar.specs.machines.Judged.{done_as};
 ghost use Rattle.cedar_expression_machine.specs.declared.expression.state.Act.TheVariants as acts;
-ghost use Rattle.cedar_expression_machine.specs.declared.expression.state.Begin.TheVariants as begins;
+ghost use Rattle.cedar_expression_machine.specs.declared.expression.state.StartAct.TheVariants as begins;
 ghost use Rattle.cedar_expression_machine.specs.machines.ExpressionModes.{IsBegun, WantsOperand, mode_signs};
 ghost use Rattle.cedar_expression_machine.specs.machines.ExpressionStates.{has_primary};
 ghost use Rattle.cedar_expression_machine.specs.machines.Expressions.{expression_act};
@@ -14,8 +14,8 @@ ghost use Rattle.cedar_expression_machine.specs.machines.Wanting.{slot_at, slot_
 
 use crate::expression::operand::begun_words;
 use crate::expression::operand::slot::slot_at;
-use crate::expression::state::{Begin, Gap, Mode, Ranged, State};
-use crate::ground::Ground;
+use crate::expression::state::{OperandMode, OperandPrefix, Spanned, StartAct, State};
+use crate::node_builder::NodeBuilder;
 use cedar_grammar::reading::class::SlotToken;
 use cedar_grammar::reading::literal::as_number;
 use cedar_grammar::reading::place::token_extent;
@@ -28,41 +28,45 @@ use std::alloc::AllocError;
 impl State {
     /// The first of some words.
     #[inline(never)]
-    fn begin_words(&mut self, ground: Ground<'_>, token: &Token<'_>) -> Result<(), AllocError>
+    fn begin_words(&mut self, builder: NodeBuilder<'_>, token: &Token<'_>) -> Result<(), AllocError>
         requires { IsBegun self.old token.now.kind begins.Word }
-        ensures { OnOk result (Some self.new ≡ expression_act ground.entry.source.now named_reader
+        ensures { OnOk result (Some self.new ≡ expression_act builder.entry.source.now named_reader
             self.old (acts.Begin begins.Word) (lexeme_of token.now)) }
     {
-        let Gap { place, signs } = self.gap();
-        let words = begun_words::first(ground, token)?;
-        let mode = Mode::Word {
+        let OperandPrefix { place, signs } = self.prefix();
+        let words = begun_words::first(builder, token)?;
+        let mode = OperandMode::Word {
             place,
             signs,
             words,
         };
-        self.turn(mode);
+        self.set_mode(mode);
         Ok(())
     }
 
     /// A number.
     #[inline(never)]
-    fn read_number(&mut self, ground: Ground<'_>, token: &Token<'_>) -> Result<bool, AllocError>
+    fn read_number(
+        &mut self,
+        builder: NodeBuilder<'_>,
+        token: &Token<'_>,
+    ) -> Result<bool, AllocError>
         requires written { IsWritten (lexeme_of token.now) }
         requires is_begun { IsBegun self.old token.now.kind begins.Number }
         ensures { IfOk result (λ fits. done_as fits self.new
-            ≡ expression_act ground.entry.source.now named_reader self.old
+            ≡ expression_act builder.entry.source.now named_reader self.old
             (acts.Begin begins.Number) (lexeme_of token.now)) }
     {
-        let signs = self.gap().signs;
+        let signs = self.prefix().signs;
         match as_number(token.text) {
             Some(number) => {
                 let extent = Some(token_extent(token));
-                let loc = ground.loc_at(extent)?;
+                let loc = builder.loc_at(extent)?;
                 let tree = Primary::Literal(Node {
                     node: Some(Literal::Num(number)),
                     loc,
                 });
-                self.have_primary(ground, signs, Ranged { tree, extent })?;
+                self.have_primary(builder, signs, Spanned { tree, extent })?;
                 Ok(true)
             }
             None => Ok(false),
@@ -71,65 +75,65 @@ impl State {
 
     /// A string.
     #[inline(never)]
-    fn read_string(&mut self, ground: Ground<'_>, token: &Token<'_>) -> Result<(), AllocError>
+    fn read_string(&mut self, builder: NodeBuilder<'_>, token: &Token<'_>) -> Result<(), AllocError>
         requires written { IsWritten (lexeme_of token.now) }
         requires is_begun { IsBegun self.old token.now.kind begins.String }
-        ensures { OnOk result (Some self.new ≡ expression_act ground.entry.source.now named_reader
+        ensures { OnOk result (Some self.new ≡ expression_act builder.entry.source.now named_reader
             self.old (acts.Begin begins.String) (lexeme_of token.now)) }
     {
-        let signs = self.gap().signs;
+        let signs = self.prefix().signs;
         let extent = Some(token_extent(token));
-        let string = string_node(ground.alloc, ground.source, token)?;
-        let loc = ground.loc_at(extent)?;
+        let string = string_node(builder.alloc, builder.source, token)?;
+        let loc = builder.loc_at(extent)?;
         let tree = Primary::Literal(Node {
             node: Some(Literal::Str(string)),
             loc,
         });
-        self.have_primary(ground, signs, Ranged { tree, extent })
+        self.have_primary(builder, signs, Spanned { tree, extent })
     }
 
     /// A slot.
     #[inline(never)]
     fn read_slot(
         &mut self,
-        ground: Ground<'_>,
+        builder: NodeBuilder<'_>,
         slot: SlotToken,
         token: &Token<'_>,
     ) -> Result<(), AllocError>
         requires { WantsOperand self.old.mode }
         ensures { OnOk result (self.new
-            ≡ has_primary ground.entry.source.now self.old.stack self.old.levels
-            (mode_signs self.old.mode) (slot_at ground.entry.source.now
+            ≡ has_primary builder.entry.source.now self.old.stack self.old.levels
+            (mode_signs self.old.mode) (slot_at builder.entry.source.now
             (Some (extent_of (lexeme_of token.now))) (slot_of_token slot token.now.text.now))) }
     {
-        let signs = self.gap().signs;
-        let item = slot_at(ground, Some(token_extent(token)), slot, token.text)?;
-        self.have_primary(ground, signs, item)
+        let signs = self.prefix().signs;
+        let item = slot_at(builder, Some(token_extent(token)), slot, token.text)?;
+        self.have_primary(builder, signs, item)
     }
 
     /// A token where an operand is wanted.
     pub fn begin(
         &mut self,
-        ground: Ground<'_>,
-        begin: Begin,
+        builder: NodeBuilder<'_>,
+        begin: StartAct,
         token: &Token<'_>,
     ) -> Result<bool, AllocError>
         requires written { IsWritten (lexeme_of token.now) }
         requires is_begun { IsBegun self.old token.now.kind begin }
         ensures { IfOk result (λ fits. done_as fits self.new
-            ≡ expression_act ground.entry.source.now named_reader self.old (acts.Begin begin)
+            ≡ expression_act builder.entry.source.now named_reader self.old (acts.Begin begin)
             (lexeme_of token.now)) }
     {
         match begin {
-            Begin::Word => self.begin_words(ground, token)?,
-            Begin::Number => return self.read_number(ground, token),
-            Begin::String => self.read_string(ground, token)?,
-            Begin::Slot(slot) => self.read_slot(ground, slot, token)?,
-            Begin::Sign(sign) => self.read_sign(sign, token_extent(token)),
-            Begin::Paren => self.open_paren(ground.alloc, token_extent(token))?,
-            Begin::Bracket => self.open_set(ground.alloc, token_extent(token))?,
-            Begin::Brace => self.open_record(ground.alloc, token_extent(token))?,
-            Begin::Ends(_) => self.end_list(ground, token_extent(token))?,
+            StartAct::Word => self.begin_words(builder, token)?,
+            StartAct::Number => return self.read_number(builder, token),
+            StartAct::String => self.read_string(builder, token)?,
+            StartAct::Slot(slot) => self.read_slot(builder, slot, token)?,
+            StartAct::Sign(sign) => self.read_sign(sign, token_extent(token)),
+            StartAct::Paren => self.open_paren(builder.alloc, token_extent(token))?,
+            StartAct::Bracket => self.open_set(builder.alloc, token_extent(token))?,
+            StartAct::Brace => self.open_record(builder.alloc, token_extent(token))?,
+            StartAct::Ends(_) => self.end_list(builder, token_extent(token))?,
         }
         Ok(true)
     }

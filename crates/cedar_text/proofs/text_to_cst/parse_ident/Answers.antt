@@ -1,7 +1,7 @@
 use Rattle.cedar_grammar.specs.grammar.LooseWords.{ReadsIdent}
 use Rattle.cedar_syntax.specs.trees.UnlocatedTrees.{unlocated_ident}
 use Rattle.cedar_syntax.specs.trees.Unplaced.{ident_tree}
-use Rattle.cedar_expression_machine.proofs.machines.Entries.{idents_read}
+use Rattle.cedar_expression_machine.proofs.machines.NamesRead.{idents_read}
 use Rattle.cedar_grammar.proofs.machines.Told.{follows, found_clause, only_clause, refused_clause, places_clause}
 use Rattle.cedar_grammar.proofs.WordPlaces.{ident_places_lie}
 use Rattle.cedar_text.proofs.machines.PrintLaws.{printed_clause, identifiers_printed}

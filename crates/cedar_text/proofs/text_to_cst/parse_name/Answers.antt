@@ -1,7 +1,7 @@
 use Rattle.cedar_grammar.specs.grammar.LooseWords.{ReadsName}
 use Rattle.cedar_syntax.specs.trees.Unlocated.{unlocated_name}
 use Rattle.cedar_syntax.specs.trees.Unplaced.{name_tree}
-use Rattle.cedar_expression_machine.proofs.machines.Entries.{names_read}
+use Rattle.cedar_expression_machine.proofs.machines.NamesRead.{names_read}
 use Rattle.cedar_grammar.proofs.machines.Told.{follows, found_clause, only_clause, refused_clause, places_clause}
 use Rattle.cedar_grammar.proofs.WordPlaces.{name_places_lie}
 use Rattle.cedar_text.proofs.machines.PrintLaws.{printed_clause, names_printed}

@@ -1,7 +1,7 @@
 use Rattle.cedar_grammar.specs.grammar.LooseWords.{ReadsRef}
 use Rattle.cedar_syntax.specs.trees.Unlocated.{unlocated_ref}
 use Rattle.cedar_syntax.specs.trees.Unplaced.{ref_tree}
-use Rattle.cedar_expression_machine.proofs.machines.Entries.{refs_read}
+use Rattle.cedar_expression_machine.proofs.machines.NamesRead.{refs_read}
 use Rattle.cedar_grammar.proofs.machines.Told.{follows, found_clause, only_clause, refused_clause, places_clause}
 use Rattle.cedar_grammar.proofs.WordPlaces.{ref_places_lie}
 use Rattle.cedar_text.proofs.machines.PrintLaws.{printed_clause, entity_literals_printed}

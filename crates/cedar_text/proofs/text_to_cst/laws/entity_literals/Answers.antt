@@ -1,9 +1,9 @@
-use Rattle.cedar_grammar.specs.machines.Door.{no_tree}
+use Rattle.cedar_grammar.specs.machines.Machine.{no_tree}
 use Rattle.cedar_expression_machine.specs.machines.WordShapes.{ref_shapes, words_shape}
 use Rattle.cedar_expression_machine.specs.machines.Words.{refs}
-use Rattle.cedar_expression_machine.proofs.machines.Entries.{refs_read}
+use Rattle.cedar_expression_machine.proofs.machines.NamesRead.{refs_read}
 use Rattle.cedar_grammar.proofs.machines.Told.{follows, one_tree, tree_or_fault, one_fault, not_both_of}
-use Rattle.cedar_expression_machine.proofs.machines.Names.{refs_door}
+use Rattle.cedar_expression_machine.proofs.machines.Names.{refs_parser}
 use Rattle.cedar_text.proofs.machines.GoesOn.{goes_on}
 use Rattle.cedar_text.proofs.machines.StandsInText.{stands}
 use Rattle.cedar_expression_machine.proofs.machines.WordShapes.{refs_shaped}
@@ -22,7 +22,7 @@ pub returns-clause-not_both : goal.returns-clause-not_both
 returns-clause-not_both c = λ src ts raw t h. not_both_of (follows (refs_read src)) _ ts raw t h
 
 pub returns-clause-stands_in_text : goal.returns-clause-stands_in_text
-returns-clause-stands_in_text c = stands (λ src. refs src) ref_shapes words_shape no_tree refs_door refs_shaped
+returns-clause-stands_in_text c = stands (λ src. refs src) ref_shapes words_shape no_tree refs_parser refs_shaped
 
 pub returns-clause-goes_on_in_text : goal.returns-clause-goes_on_in_text
-returns-clause-goes_on_in_text c = goes_on (λ src. refs src) ref_shapes words_shape no_tree refs_door refs_shaped
+returns-clause-goes_on_in_text c = goes_on (λ src. refs src) ref_shapes words_shape no_tree refs_parser refs_shaped

@@ -1,9 +1,9 @@
-use Rattle.cedar_grammar.specs.machines.Door.{no_tree}
+use Rattle.cedar_grammar.specs.machines.Machine.{no_tree}
 use Rattle.cedar_expression_machine.specs.machines.WordShapes.{name_shapes, path_shape}
 use Rattle.cedar_expression_machine.specs.machines.Words as words
-use Rattle.cedar_expression_machine.proofs.machines.Entries.{names_read}
+use Rattle.cedar_expression_machine.proofs.machines.NamesRead.{names_read}
 use Rattle.cedar_grammar.proofs.machines.Told.{follows, one_tree, tree_or_fault, one_fault, not_both_of}
-use Rattle.cedar_expression_machine.proofs.machines.Names.{names_door}
+use Rattle.cedar_expression_machine.proofs.machines.Names.{names_parser}
 use Rattle.cedar_text.proofs.machines.GoesOn.{goes_on}
 use Rattle.cedar_text.proofs.machines.StandsInText.{stands}
 use Rattle.cedar_expression_machine.proofs.machines.WordShapes.{names_shaped}
@@ -22,7 +22,7 @@ pub returns-clause-not_both : goal.returns-clause-not_both
 returns-clause-not_both c = λ src ts raw t h. not_both_of (follows (names_read src)) _ ts raw t h
 
 pub returns-clause-stands_in_text : goal.returns-clause-stands_in_text
-returns-clause-stands_in_text c = stands (λ src. words.names src) name_shapes path_shape no_tree names_door names_shaped
+returns-clause-stands_in_text c = stands (λ src. words.names src) name_shapes path_shape no_tree names_parser names_shaped
 
 pub returns-clause-goes_on_in_text : goal.returns-clause-goes_on_in_text
-returns-clause-goes_on_in_text c = goes_on (λ src. words.names src) name_shapes path_shape no_tree names_door names_shaped
+returns-clause-goes_on_in_text c = goes_on (λ src. words.names src) name_shapes path_shape no_tree names_parser names_shaped

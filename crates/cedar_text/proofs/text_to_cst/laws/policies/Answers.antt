@@ -1,5 +1,5 @@
 use Rattle.cedar_grammar.specs.faults.MendedFaults.{PoliciesBefore}
-use Rattle.cedar_grammar.specs.machines.Door.{outline_machine, no_tree}
+use Rattle.cedar_grammar.specs.machines.Machine.{outline_machine, no_tree}
 use Rattle.cedar_policy_machine.specs.machines.Policies.{all_policies_outline, all_policies_shape}
 use Rattle.cedar_text.specs.machines.PolicyParts.{policy_part_outlines, whole_policies}
 use Rattle.cedar_expression_machine.specs.machines.WholeExpressions.{state_shape}
@@ -30,7 +30,7 @@ pub returns-clause-one_list : goal.returns-clause-one_list
 returns-clause-one_list c = λ src ts xs ys x y h g. one_fault_list PoliciesBefore (policies_mend src) ts xs ys x y h g
 
 pub returns-clause-stands_in_text : goal.returns-clause-stands_in_text
-returns-clause-stands_in_text c = stands (λ src. whole_policies src) (outline_machine (all_policies_outline policy_part_outlines)) (λ s. all_policies_shape path_shape state_shape state_shape s.text.state) no_tree (λ src. (policies_mend src).mended.door) (λ src. (policies_mend src).mended.shaped)
+returns-clause-stands_in_text c = stands (λ src. whole_policies src) (outline_machine (all_policies_outline policy_part_outlines)) (λ s. all_policies_shape path_shape state_shape state_shape s.text.state) no_tree (λ src. (policies_mend src).mended.parser) (λ src. (policies_mend src).mended.shaped)
 
 pub returns-clause-goes_on_in_text : goal.returns-clause-goes_on_in_text
-returns-clause-goes_on_in_text c = goes_on (λ src. whole_policies src) (outline_machine (all_policies_outline policy_part_outlines)) (λ s. all_policies_shape path_shape state_shape state_shape s.text.state) no_tree (λ src. (policies_mend src).mended.door) (λ src. (policies_mend src).mended.shaped)
+returns-clause-goes_on_in_text c = goes_on (λ src. whole_policies src) (outline_machine (all_policies_outline policy_part_outlines)) (λ s. all_policies_shape path_shape state_shape state_shape s.text.state) no_tree (λ src. (policies_mend src).mended.parser) (λ src. (policies_mend src).mended.shaped)

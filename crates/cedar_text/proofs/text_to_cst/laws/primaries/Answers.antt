@@ -1,7 +1,7 @@
-use Rattle.cedar_grammar.specs.machines.Door.{outline_machine, no_tree}
-use Rattle.cedar_expression_machine.specs.declared.expression.state.Wanted.TheVariants as form
+use Rattle.cedar_grammar.specs.machines.Machine.{outline_machine, no_tree}
+use Rattle.cedar_expression_machine.specs.declared.expression.state.StartSymbol.TheVariants as form
 use Rattle.cedar_expression_machine.specs.machines.WholeExpressions.{state_shape, whole_outline, whole_primaries}
-use Rattle.cedar_expression_machine.proofs.machines.WholeExpressions.{primaries_read, whole_primaries_door, whole_primaries_shaped}
+use Rattle.cedar_expression_machine.proofs.machines.WholeExpressions.{primaries_read, whole_primaries_parser, whole_primaries_shaped}
 use Rattle.cedar_grammar.proofs.machines.Told.{follows, one_tree, tree_or_fault, one_fault, not_both_of}
 use Rattle.cedar_text.proofs.machines.GoesOn.{goes_on}
 use Rattle.cedar_text.proofs.machines.StandsInText.{stands}
@@ -20,7 +20,7 @@ pub returns-clause-not_both : goal.returns-clause-not_both
 returns-clause-not_both c = λ src ts raw t h. not_both_of (follows (primaries_read src)) _ ts raw t h
 
 pub returns-clause-stands_in_text : goal.returns-clause-stands_in_text
-returns-clause-stands_in_text c = stands (λ src. whole_primaries src) (outline_machine (whole_outline form.Primary)) (λ s. state_shape s) no_tree whole_primaries_door whole_primaries_shaped
+returns-clause-stands_in_text c = stands (λ src. whole_primaries src) (outline_machine (whole_outline form.Primary)) (λ s. state_shape s) no_tree whole_primaries_parser whole_primaries_shaped
 
 pub returns-clause-goes_on_in_text : goal.returns-clause-goes_on_in_text
-returns-clause-goes_on_in_text c = goes_on (λ src. whole_primaries src) (outline_machine (whole_outline form.Primary)) (λ s. state_shape s) no_tree whole_primaries_door whole_primaries_shaped
+returns-clause-goes_on_in_text c = goes_on (λ src. whole_primaries src) (outline_machine (whole_outline form.Primary)) (λ s. state_shape s) no_tree whole_primaries_parser whole_primaries_shaped

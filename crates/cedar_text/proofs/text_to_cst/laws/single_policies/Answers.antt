@@ -1,5 +1,5 @@
 use Rattle.cedar_grammar.specs.faults.MendedFaults.{NothingBefore}
-use Rattle.cedar_grammar.specs.machines.Door.{outline_machine, no_tree}
+use Rattle.cedar_grammar.specs.machines.Machine.{outline_machine, no_tree}
 use Rattle.cedar_policy_machine.specs.machines.Policies.{one_policy_outline, one_policy_shape}
 use Rattle.cedar_text.specs.machines.PolicyParts.{policy_part_outlines, whole_policy}
 use Rattle.cedar_expression_machine.specs.machines.WholeExpressions.{state_shape}
@@ -30,7 +30,7 @@ pub returns-clause-one_list : goal.returns-clause-one_list
 returns-clause-one_list c = λ src ts xs ys x y h g. one_fault_list NothingBefore (policy_mends src) ts xs ys x y h g
 
 pub returns-clause-stands_in_text : goal.returns-clause-stands_in_text
-returns-clause-stands_in_text c = stands (λ src. whole_policy src) (outline_machine (one_policy_outline policy_part_outlines)) (λ s. one_policy_shape path_shape state_shape state_shape s) no_tree (λ src. (policy_mends src).mended.door) (λ src. (policy_mends src).mended.shaped)
+returns-clause-stands_in_text c = stands (λ src. whole_policy src) (outline_machine (one_policy_outline policy_part_outlines)) (λ s. one_policy_shape path_shape state_shape state_shape s) no_tree (λ src. (policy_mends src).mended.parser) (λ src. (policy_mends src).mended.shaped)
 
 pub returns-clause-goes_on_in_text : goal.returns-clause-goes_on_in_text
-returns-clause-goes_on_in_text c = goes_on (λ src. whole_policy src) (outline_machine (one_policy_outline policy_part_outlines)) (λ s. one_policy_shape path_shape state_shape state_shape s) no_tree (λ src. (policy_mends src).mended.door) (λ src. (policy_mends src).mended.shaped)
+returns-clause-goes_on_in_text c = goes_on (λ src. whole_policy src) (outline_machine (one_policy_outline policy_part_outlines)) (λ s. one_policy_shape path_shape state_shape state_shape s) no_tree (λ src. (policy_mends src).mended.parser) (λ src. (policy_mends src).mended.shaped)

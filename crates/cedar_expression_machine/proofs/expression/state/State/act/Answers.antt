@@ -4,7 +4,7 @@ use Rattle.cedar_grammar.specs.machines.Judged.{done_as}
 use Rattle.cedar_expression_machine.specs.declared.expression.state.Act.{Act}
 use Rattle.cedar_expression_machine.specs.machines.WholeExpressions.{IsPlanned}
 use Rattle.cedar_expression_machine.proofs.expressions.Acted.{follows_words, guard_acted, guard_begins, if_ok}
-use Rattle.cedar_expression_machine.proofs.expressions.PlannedActs.{is_begun, is_followed, words_guard, words_settle}
+use Rattle.cedar_expression_machine.proofs.expressions.PlannedActs.{is_begun, is_followed, words_guard, words_reduce}
 use Rattle.cedar_expression_machine.proofs.expression.state.State.act.Goals as goal
 
 pub begin-requires-clause-is_begun : goal.begin-requires-clause-is_begun
@@ -13,18 +13,18 @@ begin-requires-clause-is_begun c =
     let k = c.args.token.now.kind in
     is_begun s k c.in-Begin.begin (subst (λ (a : Act). IsPlanned s k a) c.in-Begin.is c.requires.is_planned)
 
-pub settle-requires : goal.settle-requires
-settle-requires c =
+pub reduce-requires : goal.reduce-requires
+reduce-requires c =
     let s = c.args.self.now in
     let k = c.args.token.now.kind in
-    (words_settle s k c.in-Settle.operator (subst (λ (a : Act). IsPlanned s k a) c.in-Settle.is c.requires.is_planned)).0
+    (words_reduce s k c.in-Reduce.operator (subst (λ (a : Act). IsPlanned s k a) c.in-Reduce.is c.requires.is_planned)).0
 
 pub follow-requires : goal.follow-requires
 follow-requires c =
     let s = c.args.self.now in
     let k = c.args.token.now.kind in
-    let i = words_settle s k c.in-Settle.operator (subst (λ (a : Act). IsPlanned s k a) c.in-Settle.is c.requires.is_planned) in
-    follows_words c.args.ground.source.now s c.settle.new.self i.0 c.in_ok-settle-in-Settle.ensures c.in-Settle.operator i.1
+    let i = words_reduce s k c.in-Reduce.operator (subst (λ (a : Act). IsPlanned s k a) c.in-Reduce.is c.requires.is_planned) in
+    follows_words c.args.builder.source.now s c.reduce.new.self i.0 c.in_ok-reduce-in-Reduce.ensures c.in-Reduce.operator i.1
 
 pub begin-requires-in-Guard-clause-is_begun : goal.begin-requires-in-Guard-clause-is_begun
 begin-requires-in-Guard-clause-is_begun c =
@@ -46,6 +46,6 @@ returns-in_ok-open_guard-in-Guard c =
     let q = c.begin-in-Guard.new.self in
     let i = words_guard s k c.in-Guard.begin (subst (λ (a : Act). IsPlanned s k a) c.in-Guard.is c.requires.is_planned) in
     if_ok c.begin-in-Guard.result
-    (λ fits h. guard_acted c.args.ground.source.now s c.open_guard.new.self c.args.act c.in-Guard.begin (lexeme_of c.args.token.now)
+    (λ fits h. guard_acted c.args.builder.source.now s c.open_guard.new.self c.args.act c.in-Guard.begin (lexeme_of c.args.token.now)
     (done_as fits q) i.0 c.in-Guard.is c.in_ok-open_guard-in-Guard.ensures h)
     c.begin-in-Guard.ensures

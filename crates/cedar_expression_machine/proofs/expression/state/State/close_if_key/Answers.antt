@@ -14,7 +14,7 @@ begin_value-requires-clause-record c = (is_key c.args.self.now c.args.token.now.
 
 pub returns : goal.returns
 returns c =
-    let src = c.args.ground.source.now in
+    let src = c.args.builder.source.now in
     let s = c.args.self.now in
     let i = is_key s c.args.token.now.kind c.requires in
     let h = i.1 in

@@ -16,7 +16,7 @@ returns c =
     let s = c.args.self.now in
     let i = is_field s c.args.token.now.kind c.requires in
     let d : c.in-Have.dot ≡ Some i.1 = cc in
-    field_read c.args.ground.source.now s.stack s.levels s.mode c.in-Have.operand c.push.new.self i.1 c.in-Have.dot c.join_extents-extent.result (lexeme_of c.args.token.now) i.2 c.in_ok-field-in-Have.field
+    field_read c.args.builder.source.now s.stack s.levels s.mode c.in-Have.operand c.push.new.self i.1 c.in-Have.dot c.join_extents-extent.result (lexeme_of c.args.token.now) i.2 c.in_ok-field-in-Have.field
     c.in-Have.is d i.4
     (c.join_extents-extent.ensures ∙ ap (λ (x : Extent). joint_extent c.in-Have.dot (Some x)) c.token_extent.ensures)
     c.in_ok-field-in-Have.ensures c.in_ok-push-in-Have.ensures

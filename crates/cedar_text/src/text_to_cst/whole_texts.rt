@@ -1,21 +1,21 @@
 //! One policy and policies as whole texts.
-use cedar_expression_machine::expression::entries::{ExprState, SumState};
+use cedar_expression_machine::expression::start_symbols::{ExprState, SumState};
 use cedar_expression_machine::words::state::PathState;
 use cedar_expressions::{Items, Source};
-use cedar_grammar::reading::driver::Entry;
+use cedar_grammar::reading::driver::PushParser;
 use cedar_grammar::reading::extent::Extent;
 use cedar_grammar::reading::place::node_at;
 use cedar_grammar::reading::recovery::{Recovering, RecoveryWay};
 use cedar_lexer::token::{Token, TokenKind};
 use cedar_policy_machine::policies::{PolicySequence, SpannedSequence};
 use cedar_policy_machine::policy::Begun;
-use cedar_policy_machine::sequence::Spanned;
+use cedar_policy_machine::sequence::SpannedState;
 use cedar_syntax::cst::{Policies, Policy};
 use cedar_syntax::node::Node;
 use std::alloc::{AllocError, Global};
 
 /// One policy that is read as a whole text.
-pub type WholePolicyState = Spanned<Begun<PathState, SumState, ExprState>>;
+pub type WholePolicyState = SpannedState<Begun<PathState, SumState, ExprState>>;
 
 /// Policies that are.
 type Many = PolicySequence<PathState, SumState, ExprState>;
@@ -29,28 +29,28 @@ pub struct WholePoliciesState {
     text: SpannedSequence<PathState, SumState, ExprState>,
 }
 
-impl Entry<Node<Option<Policies>>> for WholePoliciesState {
+impl PushParser<Node<Option<Policies>>> for WholePoliciesState {
     ghost use Rattle.cedar_text.specs.machines.PolicyParts.{whole_policies_reader};
 
-    type Act = <Many as Entry<PolicyNodes>>::Act;
+    type Act = <Many as PushParser<PolicyNodes>>::Act;
 
     ghost reader = { whole_policies_reader };
 
     fn start(alloc: Global) -> WholePoliciesState {
         WholePoliciesState {
-            text: Spanned {
+            text: SpannedState {
                 extent: None,
                 state: Many::start(alloc),
             },
         }
     }
 
-    fn first(kind: TokenKind) -> Option<<Many as Entry<PolicyNodes>>::Act> {
+    fn first(kind: TokenKind) -> Option<<Many as PushParser<PolicyNodes>>::Act> {
         Many::first(kind)
     }
 
     #[inline(always)]
-    fn plan(&self, kind: TokenKind) -> Option<<Many as Entry<PolicyNodes>>::Act> {
+    fn plan(&self, kind: TokenKind) -> Option<<Many as PushParser<PolicyNodes>>::Act> {
         self.text.plan(kind)
     }
 
@@ -63,7 +63,7 @@ impl Entry<Node<Option<Policies>>> for WholePoliciesState {
         &mut self,
         alloc: Global,
         source: &Source,
-        act: <Many as Entry<PolicyNodes>>::Act,
+        act: <Many as PushParser<PolicyNodes>>::Act,
         token: &Token<'_>,
     ) -> Result<bool, AllocError> {
         self.text.act(alloc, source, act, token)

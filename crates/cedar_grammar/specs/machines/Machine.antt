@@ -138,8 +138,10 @@ outline_machine n = record {
   finish = n.finish;
 }
 
--- the door: all that a machine above may use
-pub record Door {S T : Type 0} (m : Machine Lexeme S T)
+-- The machine is the rule's parser: it comes to a tree by just the tokens that the rule reads as
+-- that tree, each of its states can still come to one, and it takes no number that doesn't fit. A
+-- machine above uses no more of it.
+pub record IsParser {S T : Type 0} (m : Machine Lexeme S T)
     (R : List Lexeme → T → Type 0) : Type 0 where
   pub complete : (ts : List Lexeme) (x : T) → R ts x → RunsTo m ts x
   pub sound : (ts : List Lexeme) (s : S) (x : T) → Comes m ts s → m.finish s ≡ Some x → R ts x

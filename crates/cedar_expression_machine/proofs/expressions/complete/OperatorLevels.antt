@@ -12,66 +12,66 @@ use Rattle.cedar_syntax.specs.declared.cst.Mult.{Mult}
 use Rattle.cedar_syntax.specs.declared.cst.Unary.{Unary}
 use Rattle.cedar_expression_machine.specs.declared.expression.state.PendingChain.{PendingChain}
 use Rattle.cedar_expression_machine.specs.declared.expression.state.Branch.{Branch}
-use Rattle.cedar_expression_machine.specs.declared.expression.state.Left.{Left}
+use Rattle.cedar_expression_machine.specs.declared.expression.state.PendingRelation.{PendingRelation}
 use Rattle.cedar_expression_machine.specs.declared.expression.state.Then.{Then}
-use Rattle.cedar_expression_machine.specs.declared.expression.state.Levels.{Levels}
+use Rattle.cedar_expression_machine.specs.declared.expression.state.PendingOperators.{PendingOperators}
 use Rattle.cedar_expression_machine.specs.declared.expression.state.Operand.{Operand}
 use Rattle.cedar_expression_machine.specs.declared.expression.state.Frame.{Frame}
 use Rattle.cedar_expression_machine.specs.declared.expression.state.Frame.TheVariants as frame
 use Rattle.cedar_expression_machine.specs.declared.expression.state.OperandPlace.{OperandPlace}
 use Rattle.cedar_expression_machine.specs.declared.expression.state.OperandPlace.TheVariants as place
-use Rattle.cedar_expression_machine.specs.declared.expression.state.Mode.{Mode}
-use Rattle.cedar_expression_machine.specs.declared.expression.state.Reach.{Reach}
+use Rattle.cedar_expression_machine.specs.declared.expression.state.OperandMode.{OperandMode}
+use Rattle.cedar_expression_machine.specs.declared.expression.state.FollowSet.{FollowSet}
 use Rattle.cedar_grammar.specs.declared.reading.extent.Extent.{Extent}
 use Rattle.cedar_grammar.specs.grammar.Place.{joint_extent, extent, placed}
 use Rattle.cedar_syntax.specs.tokens.Tokens.{Spot, one}
 use Rattle.cedar_syntax.specs.trees.Trees.{Cell, expr_of, if_of, or_of, and_of}
-use Rattle.cedar_expression_machine.specs.machines.Closing.{ranged_tree, Plain, plain_chain, onward, unary_at, made_mult, made_add, made_and, made_or, made_expr, marked_chain, relation_with_sum, with_branches, whole, levels_of, fresh}
+use Rattle.cedar_expression_machine.specs.machines.Closing.{spanned_tree, Plain, plain_chain, onward, unary_at, made_mult, made_add, made_and, made_or, made_expr, marked_chain, relation_with_sum, with_branches, whole, levels_of, fresh}
 use Rattle.cedar_expression_machine.specs.machines.ExpressionStates.{state, opening}
 use Rattle.cedar_expression_machine.specs.machines.Having.{conjunction_beginning, disjunction_beginning, branch_of, frame_ending}
 use Rattle.cedar_grammar.specs.declared.reading.class.Closing.TheVariants as closing
-use Rattle.cedar_grammar.specs.declared.reading.class.Operator.TheVariants as operator
+use Rattle.cedar_grammar.specs.declared.reading.class.FollowClass.TheVariants as operator
 use Rattle.cedar_expression_machine.proofs.expressions.Stepping.{had}
-use Rattle.cedar_expression_machine.proofs.expressions.complete.Runs.{reach_at, extent-append, at, Setting, run, two, three, StandsAt, met, Joins, an_if, all_joins, is_first}
+use Rattle.cedar_expression_machine.proofs.expressions.complete.Runs.{follow_set_at, extent-append, at, Setting, run, two, three, StandsAt, met, Joins, an_if, all_joins, is_first}
 use Rattle.cedar_expression_machine.proofs.expressions.complete.Words.{closed}
 use Rattle.cedar_expression_machine.proofs.expressions.complete.If.{if_runs, guard_frame, guard_runs}
 use Rattle.cedar_expression_machine.proofs.expressions.complete.Sums.{chain, linked_more, begin_at, Goes}
 use Rattle.cedar_expression_machine.proofs.expressions.complete.Relations.{RelationAt}
 
-abbrev pub at_and : Levels → Option (Plain Relation) → Option Left → Option (PendingChain Mult AddOp) → Option (PendingChain Unary MultOp) → Levels
+abbrev pub at_and : PendingOperators → Option (Plain Relation) → Option PendingRelation → Option (PendingChain Mult AddOp) → Option (PendingChain Unary MultOp) → PendingOperators
 at_and lv a r s m = levels_of lv.branches lv.or a r s m
 
-abbrev pub at_or : Levels → Option (Plain And) → Option (Plain Relation) → Option Left → Option (PendingChain Mult AddOp) → Option (PendingChain Unary MultOp) → Levels
+abbrev pub at_or : PendingOperators → Option (Plain And) → Option (Plain Relation) → Option PendingRelation → Option (PendingChain Mult AddOp) → Option (PendingChain Unary MultOp) → PendingOperators
 at_or lv o a r s m = levels_of lv.branches o a r s m
 
-pub record AndAt {src : List ℕ} (c : Setting src) (st : List Frame) (lv : Levels) (pl : OperandPlace) (ts : List Lexeme) (P : Plain Relation → Type 0) : Type 0 where
+pub record AndAt {src : List ℕ} (c : Setting src) (st : List Frame) (lv : PendingOperators) (pl : OperandPlace) (ts : List Lexeme) (P : Plain Relation → Type 0) : Type 0 where
   pub a : Option (Plain Relation)
-  pub r : Option Left
+  pub r : Option PendingRelation
   pub s : Option (PendingChain Mult AddOp)
   pub m : Option (PendingChain Unary MultOp)
-  pub md : Mode
+  pub md : OperandMode
   pub last : Operand
   pub is : P (plain_chain src a (relation_with_sum src r (made_add (marked_chain src s (made_mult (marked_chain src m (unary_at src last)))))))
-  pub joins : Joins (reach_at c.wanted st last)
+  pub joins : Joins (follow_set_at c.symbol st last)
   pub at_it : StandsAt c st (at_and lv a r s m) md last
   pub goes : Goes c st (at_and lv None None None None) pl ts (at_and lv a r s m) md
 
-pub record OrAt {src : List ℕ} (c : Setting src) (st : List Frame) (lv : Levels) (pl : OperandPlace) (ts : List Lexeme) (P : Plain And → Type 0) : Type 0 where
+pub record OrAt {src : List ℕ} (c : Setting src) (st : List Frame) (lv : PendingOperators) (pl : OperandPlace) (ts : List Lexeme) (P : Plain And → Type 0) : Type 0 where
   pub o : Option (Plain And)
   pub a : Option (Plain Relation)
-  pub r : Option Left
+  pub r : Option PendingRelation
   pub s : Option (PendingChain Mult AddOp)
   pub m : Option (PendingChain Unary MultOp)
-  pub md : Mode
+  pub md : OperandMode
   pub last : Operand
   pub is : P (plain_chain src o (made_and (plain_chain src a (relation_with_sum src r (made_add (marked_chain src s (made_mult (marked_chain src m (unary_at src last)))))))))
-  pub joins : Joins (reach_at c.wanted st last)
+  pub joins : Joins (follow_set_at c.symbol st last)
   pub at_it : StandsAt c st (at_or lv o a r s m) md last
   pub goes : Goes c st (at_or lv None None None None None) pl ts (at_or lv o a r s m) md
 
 pub record ExprAt {src : List ℕ} (c : Setting src) (st : List Frame) (bs : List Branch) (pl : OperandPlace) (ts : List Lexeme) (x : Expr) : Type 0 where
-  pub levels : Levels
-  pub md : Mode
+  pub levels : PendingOperators
+  pub md : OperandMode
   pub last : Operand
   pub is : whole src levels last ≡ with_branches src bs (closed ts x)
   pub at_it : StandsAt c st levels md last
@@ -79,16 +79,16 @@ pub record ExprAt {src : List ℕ} (c : Setting src) (st : List Frame) (bs : Lis
 
 -- `&&`
 
-conjoins : (src : List ℕ) (st : List Frame) (lv : Levels) (u : Operand) (e : Extent) {r : Reach} → Joins r → had src st lv u r operator.And e ≡ Some (conjunction_beginning src st lv u e)
+conjoins : (src : List ℕ) (st : List Frame) (lv : PendingOperators) (u : Operand) (e : Extent) {r : FollowSet} → Joins r → had src st lv u r operator.And e ≡ Some (conjunction_beginning src st lv u e)
 conjoins src st lv u e an_if = refl
 conjoins src st lv u e all_joins = refl
 
-pub one_relations : {src : List ℕ} (c : Setting src) (st : List Frame) (lv : Levels) (pl : OperandPlace) (ts : List Lexeme) (x : Relation) →
+pub one_relations : {src : List ℕ} (c : Setting src) (st : List Frame) (lv : PendingOperators) (pl : OperandPlace) (ts : List Lexeme) (x : Relation) →
     RelationAt c st (at_and lv None None None None) pl ts x → AndAt c st lv pl ts (λ q. q ≡ chain ts (placed src ts x) [])
 one_relations {src = src} c st lv pl ts x h = record { a = None; r = h.r; s = h.s; m = h.m; md = h.md; last = h.last; is = ap (λ y. plain_chain src None y) h.is; joins = h.joins; at_it = h.at_it; goes = h.goes }
 
-pub more_relations : {src : List ℕ} (c : Setting src) (st : List Frame) (lv : Levels) (pl : OperandPlace) (ts us : List Lexeme) (p : Spot) (x : Cell Relation) (y : Relation) (xs : List (Cell Relation)) →
-    AndAt c st lv pl ts (λ q. q ≡ chain ts x xs) → ((w : Levels) → RelationAt c st w place.Operand us y) →
+pub more_relations : {src : List ℕ} (c : Setting src) (st : List Frame) (lv : PendingOperators) (pl : OperandPlace) (ts us : List Lexeme) (p : Spot) (x : Cell Relation) (y : Relation) (xs : List (Cell Relation)) →
+    AndAt c st lv pl ts (λ q. q ≡ chain ts x xs) → ((w : PendingOperators) → RelationAt c st w place.Operand us y) →
     AndAt c st lv pl (ts ++ one kind.AndAnd p ++ us) (λ q. q ≡ chain (ts ++ one kind.AndAnd p ++ us) x (xs ++ placed src us y ∷ []))
 more_relations {src = src} c st lv pl ts us p x y xs h g =
     let begun : Option (Plain Relation) = Some (onward (chain ts x xs) (at p)) in
@@ -111,16 +111,16 @@ more_relations {src = src} c st lv pl ts us p x y xs h g =
 
 -- `||`
 
-disjoins : (src : List ℕ) (st : List Frame) (lv : Levels) (u : Operand) (e : Extent) {r : Reach} → Joins r → had src st lv u r operator.Or e ≡ Some (disjunction_beginning src st lv u e)
+disjoins : (src : List ℕ) (st : List Frame) (lv : PendingOperators) (u : Operand) (e : Extent) {r : FollowSet} → Joins r → had src st lv u r operator.Or e ≡ Some (disjunction_beginning src st lv u e)
 disjoins src st lv u e an_if = refl
 disjoins src st lv u e all_joins = refl
 
-pub one_ands : {src : List ℕ} (c : Setting src) (st : List Frame) (lv : Levels) (pl : OperandPlace) (ts : List Lexeme) (x : And) →
+pub one_ands : {src : List ℕ} (c : Setting src) (st : List Frame) (lv : PendingOperators) (pl : OperandPlace) (ts : List Lexeme) (x : And) →
     AndAt c st (at_or lv None None None None None) pl ts (λ q. made_and q ≡ closed ts x) → OrAt c st lv pl ts (λ q. q ≡ chain ts (placed src ts x) [])
 one_ands {src = src} c st lv pl ts x h = record { o = None; a = h.a; r = h.r; s = h.s; m = h.m; md = h.md; last = h.last; is = ap (λ y. plain_chain src None y) h.is; joins = h.joins; at_it = h.at_it; goes = h.goes }
 
-pub more_ands : {src : List ℕ} (c : Setting src) (st : List Frame) (lv : Levels) (pl : OperandPlace) (ts us : List Lexeme) (p : Spot) (x : Cell And) (y : And) (xs : List (Cell And)) →
-    OrAt c st lv pl ts (λ q. q ≡ chain ts x xs) → ((w : Levels) → AndAt c st w place.Operand us (λ q. made_and q ≡ closed us y)) →
+pub more_ands : {src : List ℕ} (c : Setting src) (st : List Frame) (lv : PendingOperators) (pl : OperandPlace) (ts us : List Lexeme) (p : Spot) (x : Cell And) (y : And) (xs : List (Cell And)) →
+    OrAt c st lv pl ts (λ q. q ≡ chain ts x xs) → ((w : PendingOperators) → AndAt c st w place.Operand us (λ q. made_and q ≡ closed us y)) →
     OrAt c st lv pl (ts ++ one kind.OrOr p ++ us) (λ q. q ≡ chain (ts ++ one kind.OrOr p ++ us) x (xs ++ placed src us y ∷ []))
 more_ands {src = src} c st lv pl ts us p x y xs h g =
     let begun : Option (Plain And) = Some (onward (chain ts x xs) (at p)) in
@@ -183,7 +183,7 @@ if_exprs {src = src} c st bs pl ts us vs l m n x y z e g h k =
       levels = w.levels;
       md = w.md;
       last = w.last;
-      is = w.is ∙ ap (λ q. with_branches src bs (ranged_tree q (if_of (placed src ts x) (placed src us y) (placed src vs z)))) (if_extent ts us vs l m n);
+      is = w.is ∙ ap (λ q. with_branches src bs (spanned_tree q (if_of (placed src ts x) (placed src us y) (placed src vs z)))) (if_extent ts us vs l m n);
       at_it = w.at_it;
       goes = three c (Some (opening st bs pl)) _ (Some (opening st (b ∷ bs) place.Expr)) _ (one kind.If l ++ ts ++ one kind.Then m ++ us) (one kind.Else n) vs
           (three c (Some (opening st bs pl)) _ (Some (opening in_then [] place.Expr)) _ (one kind.If l ++ ts) (one kind.Then m) us (guard_at c st bs pl ts l x e i)
@@ -193,10 +193,10 @@ if_exprs {src = src} c st bs pl ts us vs l m n x y z e g h k =
 
 -- the tree of a chain
 
-pub and_made : {src : List ℕ} (c : Setting src) (st : List Frame) (lv : Levels) (pl : OperandPlace) (ts : List Lexeme) (x : Cell Relation) (xs : List (Cell Relation)) →
+pub and_made : {src : List ℕ} (c : Setting src) (st : List Frame) (lv : PendingOperators) (pl : OperandPlace) (ts : List Lexeme) (x : Cell Relation) (xs : List (Cell Relation)) →
     AndAt c st lv pl ts (λ q. q ≡ chain ts x xs) → AndAt c st lv pl ts (λ q. made_and q ≡ closed ts (and_of x xs))
 and_made c st lv pl ts x xs h = record { a = h.a; r = h.r; s = h.s; m = h.m; md = h.md; last = h.last; is = ap (λ q. made_and q) h.is; joins = h.joins; at_it = h.at_it; goes = h.goes }
 
-pub or_made : {src : List ℕ} (c : Setting src) (st : List Frame) (lv : Levels) (pl : OperandPlace) (ts : List Lexeme) (x : Cell And) (xs : List (Cell And)) →
+pub or_made : {src : List ℕ} (c : Setting src) (st : List Frame) (lv : PendingOperators) (pl : OperandPlace) (ts : List Lexeme) (x : Cell And) (xs : List (Cell And)) →
     OrAt c st lv pl ts (λ q. q ≡ chain ts x xs) → OrAt c st lv pl ts (λ q. made_or q ≡ closed ts (or_of x xs))
 or_made c st lv pl ts x xs h = record { o = h.o; a = h.a; r = h.r; s = h.s; m = h.m; md = h.md; last = h.last; is = ap (λ q. made_or q) h.is; joins = h.joins; at_it = h.at_it; goes = h.goes }

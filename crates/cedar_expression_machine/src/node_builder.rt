@@ -1,9 +1,9 @@
-//! What nodes are made with.
+//! Makes nodes.
 ghost use Rattle.std.specs.Prelude.{◌≡◌, IfOk};
 ghost use Rattle.cedar_grammar.specs.grammar.Place.{loc_at, node_at};
 ghost use Rattle.cedar_expression_machine.specs.machines.Closing.{node_of};
 
-use crate::expression::state::Ranged;
+use crate::expression::state::Spanned;
 use cedar_expressions::Source;
 use cedar_grammar::reading::extent::Extent;
 use cedar_grammar::reading::place;
@@ -11,14 +11,14 @@ use cedar_syntax::loc::Loc;
 use cedar_syntax::node::Node;
 use std::alloc::{AllocError, Global};
 
-/// Where memory comes from, and the source that each place carries.
+/// Makes nodes: where memory comes from, and the source that each place carries.
 #[derive(Drop, Clone, Copy)]
-pub struct Ground<'a> {
+pub struct NodeBuilder<'a> {
     pub alloc: Global,
     pub source: &'a Source,
 }
 
-impl Ground<'_> {
+impl NodeBuilder<'_> {
     /// The place of these bytes of the source.
     #[inline(always)]
     pub fn loc_at(self, extent: Option<Extent>) -> Result<Option<Loc>, AllocError>
@@ -41,10 +41,10 @@ impl Ground<'_> {
 
     /// A tree as a node, at its bytes.
     #[inline(always)]
-    pub fn node_of<T: Drop>(self, item: Ranged<T>) -> Result<Node<Option<T>>, AllocError>
+    pub fn node_of<T: Drop>(self, item: Spanned<T>) -> Result<Node<Option<T>>, AllocError>
         ensures { IfOk result (λ node. node ≡ node_of self.entry.source.now item) }
     {
-        let Ranged { tree, extent } = item;
+        let Spanned { tree, extent } = item;
         self.node_at(extent, tree)
     }
 }

@@ -8,11 +8,11 @@ ghost use Rattle.cedar_grammar.specs.machines.Judged.{done_as};
 ghost use Rattle.cedar_expression_machine.specs.declared.expression.state.Act.TheVariants as acts;
 ghost use Rattle.cedar_expression_machine.specs.declared.expression.state.Frame.TheVariants as frame;
 ghost use Rattle.cedar_expression_machine.specs.declared.expression.state.OperandPlace.TheVariants as place;
-ghost use Rattle.cedar_expression_machine.specs.machines.Closing.{if_key, if_operand, if_primary, ranged_tree};
-ghost use Rattle.cedar_expression_machine.specs.declared.expression.state.Mode.TheVariants as mode;
+ghost use Rattle.cedar_expression_machine.specs.machines.Closing.{if_key, if_operand, if_primary, spanned_tree};
+ghost use Rattle.cedar_expression_machine.specs.declared.expression.state.OperandMode.TheVariants as mode;
 ghost use Rattle.cedar_expression_machine.specs.declared.words.state.PathState.TheVariants as paths;
 ghost use Rattle.cedar_expression_machine.specs.declared.words.state.WordsState.TheVariants as begun;
-ghost use Rattle.cedar_expression_machine.specs.machines.ExpressionModes.{HasEndedWords, HasEntity, HasPath, mode_signs, settled, words_extent};
+ghost use Rattle.cedar_expression_machine.specs.machines.ExpressionModes.{HasEndedWords, HasEntity, HasPath, mode_signs, reduced, words_extent};
 ghost use Rattle.cedar_expression_machine.specs.machines.ExpressionStates.{has_operand, has_primary, opening};
 ghost use Rattle.cedar_expression_machine.specs.machines.Expressions.{expression_act, name_at};
 ghost use Rattle.cedar_expression_machine.specs.machines.Named.{named_reader};
@@ -22,11 +22,11 @@ ghost use Rattle.cedar_expression_machine.specs.machines.Words.{path_extent, wor
 
 use crate::expression::levels::alone::alone_expr;
 use crate::expression::levels::begin::{fresh_levels, have, no_signs, operand_of, want_at};
-use crate::expression::operand::begun_words::{alone_of, path_extent};
+use crate::expression::operand::begun_words::{path_extent, single_word};
 use crate::expression::state::{
-    Alone, Frame, Guard, Mode, Operand, OperandPlace, Ranged, Signs, State,
+    Frame, Guard, Operand, OperandMode, OperandPlace, Signs, SingleWord, Spanned, State,
 };
-use crate::ground::Ground;
+use crate::node_builder::NodeBuilder;
 use crate::words::state::{Entity, Path, PathState, WordsAct, WordsState};
 use cedar_expressions::Items;
 use cedar_grammar::never;
@@ -41,36 +41,39 @@ use std::alloc::{AllocError, Global};
 use std::mem;
 
 /// An entity as an operand.
-pub fn ref_at(entity: Entity) -> Ranged<Primary>
-    ensures { result ≡ ranged_tree (Some entity.extent) (primary.Ref entity.node) }
+pub fn ref_at(entity: Entity) -> Spanned<Primary>
+    ensures { result ≡ spanned_tree (Some entity.extent) (primary.Ref entity.node) }
 {
     let Entity { node, extent } = entity;
-    Ranged {
+    Spanned {
         tree: Primary::Ref(node),
         extent: Some(extent),
     }
 }
 
 /// The word `if` alone as a name.
-fn if_primary(ground: Ground<'_>, extent: Option<Extent>) -> Result<Ranged<Primary>, AllocError>
-    ensures { IfOk result (λ item. item ≡ if_primary ground.entry.source.now extent) }
+fn if_primary(
+    builder: NodeBuilder<'_>,
+    extent: Option<Extent>,
+) -> Result<Spanned<Primary>, AllocError>
+    ensures { IfOk result (λ item. item ≡ if_primary builder.entry.source.now extent) }
 {
-    let name = ground.node_at(extent, Ident::If)?;
-    let path = Items::new(ground.alloc);
-    let tree = Primary::Name(ground.node_at(extent, Name { path, name })?);
-    Ok(Ranged { tree, extent })
+    let name = builder.node_at(extent, Ident::If)?;
+    let path = Items::new(builder.alloc);
+    let tree = Primary::Name(builder.node_at(extent, Name { path, name })?);
+    Ok(Spanned { tree, extent })
 }
 
 /// The word `if` right of `has`.
-pub fn if_operand(ground: Ground<'_>, extent: Option<Extent>) -> Result<Operand, AllocError>
-    ensures { IfOk result (λ operand. operand ≡ if_operand ground.entry.source.now extent) }
+pub fn if_operand(builder: NodeBuilder<'_>, extent: Option<Extent>) -> Result<Operand, AllocError>
+    ensures { IfOk result (λ operand. operand ≡ if_operand builder.entry.source.now extent) }
 {
-    let item = if_primary(ground, extent)?;
+    let item = if_primary(builder, extent)?;
     Ok(Operand {
         signs: no_signs(),
         member: Member {
-            item: ground.node_of(item)?,
-            access: Items::new(ground.alloc),
+            item: builder.node_of(item)?,
+            access: Items::new(builder.alloc),
         },
         extent,
         is_if: true,
@@ -78,30 +81,36 @@ pub fn if_operand(ground: Ground<'_>, extent: Option<Extent>) -> Result<Operand,
 }
 
 /// The word `if` as a key.
-fn if_key(ground: Ground<'_>, extent: Option<Extent>) -> Result<Node<Option<Expr>>, AllocError>
-    ensures { IfOk result (λ key. key ≡ if_key ground.entry.source.now extent) }
+fn if_key(
+    builder: NodeBuilder<'_>,
+    extent: Option<Extent>,
+) -> Result<Node<Option<Expr>>, AllocError>
+    ensures { IfOk result (λ key. key ≡ if_key builder.entry.source.now extent) }
 {
-    let item = if_primary(ground, extent)?;
-    let operand = operand_of(ground, no_signs(), item)?;
-    ground.node_of(alone_expr(ground, operand)?)
+    let item = if_primary(builder, extent)?;
+    let operand = operand_of(builder, no_signs(), item)?;
+    builder.node_of(alone_expr(builder, operand, false)?)
 }
 
 impl State {
     /// Words go on.
     pub fn read_words(
         &mut self,
-        ground: Ground<'_>,
+        builder: NodeBuilder<'_>,
         act: WordsAct,
         token: &Token<'_>,
     ) -> Result<bool, AllocError>
         requires written { IsWritten (lexeme_of token.now) }
         requires is_planned { IsPlanned self.old token.now.kind (acts.Words act) }
         ensures { IfOk result (λ fits. done_as fits self.new ≡ expression_act
-            ground.entry.source.now named_reader self.old (acts.Words act) (lexeme_of token.now)) }
+            builder.entry.source.now named_reader self.old (acts.Words act)
+            (lexeme_of token.now)) }
     {
         match &mut self.mode {
-            Mode::Word { words, .. } => { words.act_words(ground.alloc, ground.source, act, token) }
-            Mode::Want { .. } | Mode::Have { .. } => unreachable!(),
+            OperandMode::Word { words, .. } => {
+                words.act_words(builder.alloc, builder.source, act, token)
+            }
+            OperandMode::Want { .. } | OperandMode::Have { .. } => unreachable!(),
         }
     }
 
@@ -112,55 +121,55 @@ impl State {
         ensures { result ≡ mode_signs self.now.mode }
     {
         match &self.mode {
-            Mode::Word { signs, .. } => *signs,
-            Mode::Want { .. } | Mode::Have { .. } => never!(),
+            OperandMode::Word { signs, .. } => *signs,
+            OperandMode::Want { .. } | OperandMode::Have { .. } => never!(),
         }
     }
 
     /// `true` or `false`, which hold nothing.
     #[inline(always)]
-    fn settle_bool(&mut self, ground: Ground<'_>, literal: Literal) -> Result<(), AllocError>
+    fn reduce_bool(&mut self, builder: NodeBuilder<'_>, literal: Literal) -> Result<(), AllocError>
         requires { HasEndedWords self.old.mode }
-        ensures { OnOk result (self.new ≡ has_primary ground.entry.source.now self.old.stack
+        ensures { OnOk result (self.new ≡ has_primary builder.entry.source.now self.old.stack
             self.old.levels (mode_signs self.old.mode)
-            (literal_at ground.entry.source.now (words_extent self.old.mode) literal)) }
+            (literal_at builder.entry.source.now (words_extent self.old.mode) literal)) }
     {
         let signs = self.word_signs();
         let extent = self.words_extent();
-        let loc = ground.loc_at(extent)?;
+        let loc = builder.loc_at(extent)?;
         let tree = Primary::Literal(Node {
             node: Some(literal),
             loc,
         });
-        self.have_primary(ground, signs, Ranged { tree, extent })
+        self.have_primary(builder, signs, Spanned { tree, extent })
     }
 
     /// The word `if` right of `has`.
     #[inline(never)]
-    fn settle_if(&mut self, ground: Ground<'_>) -> Result<(), AllocError>
+    fn reduce_if(&mut self, builder: NodeBuilder<'_>) -> Result<(), AllocError>
         ensures { OnOk result (self.new ≡ has_operand self.old.stack self.old.levels
-            (if_operand ground.entry.source.now (words_extent self.old.mode))) }
+            (if_operand builder.entry.source.now (words_extent self.old.mode))) }
     {
-        let operand = if_operand(ground, self.words_extent())?;
-        self.turn(have(operand));
+        let operand = if_operand(builder, self.words_extent())?;
+        self.set_mode(have(operand));
         Ok(())
     }
 
     /// A name: the path is taken out.
     #[inline(never)]
-    fn settle_name(&mut self, ground: Ground<'_>) -> Result<(), AllocError>
+    fn reduce_name(&mut self, builder: NodeBuilder<'_>) -> Result<(), AllocError>
         requires { HasPath self.old.mode }
         ensures { (p : _) (sg : _) (x : _) → self.old.mode ≡ mode.Word p sg
             (begun.Path (paths.Have x)) → OnOk result (self.new ≡ has_primary
-            ground.entry.source.now self.old.stack self.old.levels sg
-            (name_at ground.entry.source.now (ranged_tree (Some (path_extent x))
-            (name_of x.before (word_node ground.entry.source.now x.last))))) }
+            builder.entry.source.now self.old.stack self.old.levels sg
+            (name_at builder.entry.source.now (spanned_tree (Some (path_extent x))
+            (name_of x.before (word_node builder.entry.source.now x.last))))) }
     {
         let signs = self.word_signs();
         let path = self.take_path();
         let extent = Some(path_extent(&path));
-        let of_last = ground.loc_at(Some(path.last.extent))?;
-        let loc = ground.loc_at(extent)?;
+        let of_last = builder.loc_at(Some(path.last.extent))?;
+        let loc = builder.loc_at(extent)?;
         let name = Name {
             path: path.before,
             name: Node {
@@ -172,7 +181,7 @@ impl State {
             node: Some(name),
             loc,
         });
-        self.have_primary(ground, signs, Ranged { tree, extent })
+        self.have_primary(builder, signs, Spanned { tree, extent })
     }
 
     /// The path that has ended, taken out.
@@ -185,55 +194,55 @@ impl State {
         ensures levels { self.new.levels ≡ self.old.levels }
     {
         match &mut self.mode {
-            Mode::Word { words, .. } => {
+            OperandMode::Word { words, .. } => {
                 match mem::replace(words, WordsState::Path(PathState::Start)) {
                     WordsState::Path(PathState::Have(path)) => path,
                     _ => never!(),
                 }
             }
-            Mode::Want { .. } | Mode::Have { .. } => never!(),
+            OperandMode::Want { .. } | OperandMode::Have { .. } => never!(),
         }
     }
 
     /// An entity, which is taken out.
     #[inline(never)]
-    fn settle_ref(&mut self, ground: Ground<'_>) -> Result<(), AllocError>
+    fn reduce_ref(&mut self, builder: NodeBuilder<'_>) -> Result<(), AllocError>
         requires { HasEntity self.old.mode }
-        ensures { OnOk result (Some self.new ≡ settled ground.entry.source.now self.old) }
+        ensures { OnOk result (Some self.new ≡ reduced builder.entry.source.now self.old) }
     {
         match &mut self.mode {
-            Mode::Word { signs, words, .. } => {
+            OperandMode::Word { signs, words, .. } => {
                 let signs = *signs;
                 match mem::replace(words, WordsState::Path(PathState::Start)) {
                     WordsState::Entity(entity) => {
-                        self.have_primary(ground, signs, ref_at(entity))
+                        self.have_primary(builder, signs, ref_at(entity))
                     }
                     _ => never!(),
                 }
             }
-            Mode::Want { .. } | Mode::Have { .. } => never!(),
+            OperandMode::Want { .. } | OperandMode::Have { .. } => never!(),
         }
     }
 
     /// Words that have ended become the operand that they are.
     #[inline(never)]
-    pub fn settle(&mut self, ground: Ground<'_>) -> Result<(), AllocError>
+    pub fn reduce(&mut self, builder: NodeBuilder<'_>) -> Result<(), AllocError>
         requires { HasEndedWords self.old.mode }
-        ensures { OnOk result (Some self.new ≡ settled ground.entry.source.now self.old) }
+        ensures { OnOk result (Some self.new ≡ reduced builder.entry.source.now self.old) }
     {
         match &self.mode {
-            Mode::Word { words, .. } => match words {
-                WordsState::Path(PathState::Have(path)) => match alone_of(path) {
-                    Alone::True => self.settle_bool(ground, Literal::True),
-                    Alone::False => self.settle_bool(ground, Literal::False),
-                    Alone::If => self.settle_if(ground),
-                    Alone::Name => self.settle_name(ground),
+            OperandMode::Word { words, .. } => match words {
+                WordsState::Path(PathState::Have(path)) => match single_word(path) {
+                    SingleWord::True => self.reduce_bool(builder, Literal::True),
+                    SingleWord::False => self.reduce_bool(builder, Literal::False),
+                    SingleWord::If => self.reduce_if(builder),
+                    SingleWord::Name => self.reduce_name(builder),
                 },
-                WordsState::Entity(_) => self.settle_ref(ground),
+                WordsState::Entity(_) => self.reduce_ref(builder),
                 WordsState::Path(PathState::Start | PathState::Behind(_)) | WordsState::Inits(_) =>
                     never!(),
             },
-            Mode::Want { .. } | Mode::Have { .. } => never!(),
+            OperandMode::Want { .. } | OperandMode::Have { .. } => never!(),
         }
     }
 
@@ -259,7 +268,7 @@ impl State {
         ensures { result ≡ words_extent self.now.mode }
     {
         match &self.mode {
-            Mode::Word {
+            OperandMode::Word {
                 words: WordsState::Path(PathState::Have(path)),
                 ..
             } => { Some(path_extent(path)) }
@@ -269,16 +278,20 @@ impl State {
 
     /// `if` and a colon where a key is wanted.
     #[inline(never)]
-    pub fn close_if_key(&mut self, ground: Ground<'_>, token: &Token<'_>) -> Result<(), AllocError>
+    pub fn close_if_key(
+        &mut self,
+        builder: NodeBuilder<'_>,
+        token: &Token<'_>,
+    ) -> Result<(), AllocError>
         requires { IsPlanned self.old token.now.kind acts.Key }
-        ensures { OnOk result (Some self.new ≡ expression_act ground.entry.source.now named_reader
+        ensures { OnOk result (Some self.new ≡ expression_act builder.entry.source.now named_reader
             self.old acts.Key (lexeme_of token.now)) }
     {
         let extent = self.words_extent();
-        let tree = if_key(ground, extent)?;
-        put(&mut self.levels, fresh_levels(Stack::new(ground.alloc)));
+        let tree = if_key(builder, extent)?;
+        put(&mut self.levels, fresh_levels(Stack::new(builder.alloc)));
         put(&mut self.mode, want_at(OperandPlace::Expr));
-        self.begin_value(Ranged { tree, extent }, token_extent(token));
+        self.begin_value(Spanned { tree, extent }, token_extent(token));
         Ok(())
     }
 }

@@ -1,4 +1,4 @@
--- The doors of the machines of paths and of entity literals.
+-- The machines of paths and of entity literals are parsers.
 use Rattle.std.proofs.Common.{◌≡◌, ℕ, List, [], ◌∷◌, Some, None, true, refl, sym, ◌∙◌, ap}
 use Rattle.cedar_lexer.specs.declared.token.TokenKind.{TokenKind}
 use Rattle.cedar_lexer.specs.declared.token.TokenKind.TheVariants as kind
@@ -17,7 +17,7 @@ use Rattle.cedar_expression_machine.specs.declared.words.state.WordsAct.TheVaria
 use Rattle.cedar_expression_machine.specs.declared.words.state.Words.{Words}
 use Rattle.cedar_expression_machine.specs.declared.words.state.Words.TheVariants as words
 use Rattle.cedar_syntax.specs.tokens.Tokens.{any_of}
-use Rattle.cedar_grammar.specs.machines.Door.{Completed, Door, IsOutside, is_some}
+use Rattle.cedar_grammar.specs.machines.Machine.{Completed, IsParser, IsOutside, is_some}
 use Rattle.cedar_expression_machine.specs.machines.Words.{word_of, one_word_path, with_word, paths, inits_at, words_end, words_reader, words_machine}
 use Rattle.cedar_expression_machine.specs.machines.WordsRead.{ReadsWholePath, ReadsWords}
 use Rattle.cedar_expression_machine.specs.machines.WordShapes as shaped
@@ -53,10 +53,10 @@ words_completed src (state.Path (path.Behind q)) =
 words_completed src (state.Inits s) = inits_completed src s.begun s.place
 words_completed src (state.Entity e) = record { more = []; last = state.Entity e; tree = words.Entity e; goes = refl; ends = refl }
 
--- ---- doors
+-- ---- parsers
 
-pub words_door : (src : List ℕ) → Door (words_machine src) (ReadsWords src)
-words_door src = record {
+pub words_parser : (src : List ℕ) → IsParser (words_machine src) (ReadsWords src)
+words_parser src = record {
   complete = λ ts x r. complete src ts x r;
   sound = λ ts s x f e. sound src ts s x f e;
   viable = λ s. words_completed src s;
@@ -68,8 +68,8 @@ path_completed src path.Start = record { more = some_token kind.Identifier ∷ [
 path_completed src (path.Have q) = record { more = []; last = path.Have q; tree = q; goes = refl; ends = refl }
 path_completed src (path.Behind q) = record { more = some_token kind.Identifier ∷ []; last = path.Have (with_word src q nameless); tree = with_word src q nameless; goes = refl; ends = refl }
 
-pub paths_door : (src : List ℕ) → Door (paths src) (ReadsWholePath src)
-paths_door src = record {
+pub paths_parser : (src : List ℕ) → IsParser (paths src) (ReadsWholePath src)
+paths_parser src = record {
   complete = λ ts x r. path_complete src ts x r;
   sound = λ ts s x f e. path_sound src ts s x f e;
   viable = λ s. path_completed src s;

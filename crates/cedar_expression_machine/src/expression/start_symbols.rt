@@ -3,10 +3,10 @@ ghost use Rattle.cedar_expression_machine.specs.declared.expression.state.State.
 ghost use Rattle.cedar_expression_machine.specs.contracts.expression.state.State as states;
 
 use crate::expression::plan::{plan_first, plan_first_unsigned};
-use crate::expression::state::{Act, State, Wanted};
-use crate::ground::Ground;
+use crate::expression::state::{Act, StartSymbol, State};
+use crate::node_builder::NodeBuilder;
 use cedar_expressions::Source;
-use cedar_grammar::reading::driver::Entry;
+use cedar_grammar::reading::driver::PushParser;
 use cedar_lexer::token::{Token, TokenKind};
 use cedar_syntax::cst::{Add, Expr, Primary};
 use cedar_syntax::node::Node;
@@ -55,7 +55,7 @@ impl Model for SumState {
     ghost view = { λ whole. whole.state };
 }
 
-impl Entry<Node<Option<Primary>>> for PrimaryState {
+impl PushParser<Node<Option<Primary>>> for PrimaryState {
     ghost use Rattle.cedar_expression_machine.specs.machines.WholeExpressions.{whole_primary_reader};
 
     type Act = Act;
@@ -64,7 +64,7 @@ impl Entry<Node<Option<Primary>>> for PrimaryState {
 
     fn start(alloc: Global) -> PrimaryState {
         PrimaryState {
-            state: State::start(alloc, Wanted::Primary),
+            state: State::start(alloc, StartSymbol::Primary),
         }
     }
 
@@ -73,7 +73,7 @@ impl Entry<Node<Option<Primary>>> for PrimaryState {
     }
 
     fn plan(&self, kind: TokenKind) -> Option<Act> {
-        self.state.plan(Wanted::Primary, kind)
+        self.state.plan(StartSymbol::Primary, kind)
     }
 
     fn ends(&self) -> bool {
@@ -87,7 +87,7 @@ impl Entry<Node<Option<Primary>>> for PrimaryState {
         act: Act,
         token: &Token<'_>,
     ) -> Result<bool, AllocError> {
-        self.state.act(Ground { alloc, source }, act, token)
+        self.state.act(NodeBuilder { alloc, source }, act, token)
     }
 
     fn finish(
@@ -95,11 +95,11 @@ impl Entry<Node<Option<Primary>>> for PrimaryState {
         alloc: Global,
         source: &Source,
     ) -> Result<Node<Option<Primary>>, AllocError> {
-        self.state.finish_primary(Ground { alloc, source })
+        self.state.finish_primary(NodeBuilder { alloc, source })
     }
 }
 
-impl Entry<Node<Option<Expr>>> for ExprState {
+impl PushParser<Node<Option<Expr>>> for ExprState {
     ghost use Rattle.cedar_expression_machine.specs.machines.WholeExpressions.{whole_expression_reader};
 
     type Act = Act;
@@ -108,7 +108,7 @@ impl Entry<Node<Option<Expr>>> for ExprState {
 
     fn start(alloc: Global) -> ExprState {
         ExprState {
-            state: State::start(alloc, Wanted::Expr),
+            state: State::start(alloc, StartSymbol::Expr),
         }
     }
 
@@ -117,7 +117,7 @@ impl Entry<Node<Option<Expr>>> for ExprState {
     }
 
     fn plan(&self, kind: TokenKind) -> Option<Act> {
-        self.state.plan(Wanted::Expr, kind)
+        self.state.plan(StartSymbol::Expr, kind)
     }
 
     fn ends(&self) -> bool {
@@ -131,15 +131,15 @@ impl Entry<Node<Option<Expr>>> for ExprState {
         act: Act,
         token: &Token<'_>,
     ) -> Result<bool, AllocError> {
-        self.state.act(Ground { alloc, source }, act, token)
+        self.state.act(NodeBuilder { alloc, source }, act, token)
     }
 
     fn finish(&mut self, alloc: Global, source: &Source) -> Result<Node<Option<Expr>>, AllocError> {
-        self.state.finish_expr(Ground { alloc, source })
+        self.state.finish_expr(NodeBuilder { alloc, source })
     }
 }
 
-impl Entry<Node<Option<Add>>> for SumState {
+impl PushParser<Node<Option<Add>>> for SumState {
     ghost use Rattle.cedar_expression_machine.specs.machines.WholeExpressions.{whole_sum_reader};
 
     type Act = Act;
@@ -148,7 +148,7 @@ impl Entry<Node<Option<Add>>> for SumState {
 
     fn start(alloc: Global) -> SumState {
         SumState {
-            state: State::start(alloc, Wanted::Sum),
+            state: State::start(alloc, StartSymbol::Sum),
         }
     }
 
@@ -157,7 +157,7 @@ impl Entry<Node<Option<Add>>> for SumState {
     }
 
     fn plan(&self, kind: TokenKind) -> Option<Act> {
-        self.state.plan(Wanted::Sum, kind)
+        self.state.plan(StartSymbol::Sum, kind)
     }
 
     fn ends(&self) -> bool {
@@ -171,10 +171,10 @@ impl Entry<Node<Option<Add>>> for SumState {
         act: Act,
         token: &Token<'_>,
     ) -> Result<bool, AllocError> {
-        self.state.act(Ground { alloc, source }, act, token)
+        self.state.act(NodeBuilder { alloc, source }, act, token)
     }
 
     fn finish(&mut self, alloc: Global, source: &Source) -> Result<Node<Option<Add>>, AllocError> {
-        self.state.finish_sum(Ground { alloc, source })
+        self.state.finish_sum(NodeBuilder { alloc, source })
     }
 }
