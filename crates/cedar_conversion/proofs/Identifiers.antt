@@ -7,8 +7,8 @@ use Rattle.cedar_conversion.specs.outcome.Outcome.{Outcome, both, next, item_mor
 use Rattle.cedar_conversion.proofs.Gathered.{last, shifted}
 use Rattle.cedar_conversion.proofs.Loops.{take_next}
 
-abbrev pub items_of : {A : Type 0} → Vec A Global → List A
-items_of v = v.items
+abbrev pub listed_nodes : {A : Type 0} → Vec A Global → List A
+listed_nodes v = v.items
 
 pub all_snoc : {X Y : Type 0} (f : X → Outcome Y) (xs : List X) (x : X) → all_of f (xs ++ x ∷ []) ≡ item_more (all_of f xs) (f x)
 all_snoc f [] x = last (f x)

@@ -8,6 +8,7 @@ pub mod Identifiers
 pub mod Inverted
 pub mod LoneParts
 pub mod Loops
+pub mod Nested
 pub mod Nodes
 pub mod Outcomes
 pub mod Parts
@@ -16,3 +17,6 @@ pub mod Quoted
 pub mod RightSides
 pub mod Signed
 pub mod StringLiterals
+pub mod Taken
+pub mod Walked
+pub mod Weights

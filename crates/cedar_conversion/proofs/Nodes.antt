@@ -4,8 +4,6 @@ use Rattle.cedar_syntax.specs.declared.loc.Loc.{Loc}
 use Rattle.cedar_syntax.specs.declared.node.Node.{Node}
 use Rattle.cedar_syntax.specs.declared.cst.RelOp.{RelOp}
 use Rattle.cedar_syntax.specs.declared.cst.Expr.{Expr}
-use Rattle.cedar_syntax.specs.declared.cst.Expr.TheVariants as exprs
-use Rattle.cedar_syntax.specs.declared.cst.ExprImpl.{ExprImpl}
 use Rattle.cedar_syntax.specs.declared.cst.ExprData.{ExprData}
 use Rattle.cedar_syntax.specs.declared.cst.ExprData.TheVariants as datas
 use Rattle.cedar_syntax.specs.declared.cst.NegOp.{NegOp}
@@ -32,7 +30,7 @@ use Rattle.cedar_syntax.specs.trees.Forms.{located, parts_of, expr_form, data_fo
 use Rattle.cedar_syntax.specs.trees.Located as f
 use Rattle.cedar_syntax.specs.trees.Located.{Located, Form}
 use Rattle.cedar_syntax.specs.trees.Tree.{disjunction, conjunction, relation, sum, product}
-use Rattle.cedar_syntax.proofs.FormLevels.{expr_out, impl_out, data_or, data_if, or_out, and_out, relation_common, relation_has, relation_like, relation_typed, add_out, mult_out, unary_out, member_out, primary_literal, primary_ref, primary_name, primary_slot, primary_expr, primary_list, primary_inits, access_field, access_call, access_index, init_out}
+use Rattle.cedar_syntax.proofs.FormLevels.{data_or, data_if, or_out, and_out, relation_common, relation_has, relation_like, relation_typed, add_out, mult_out, unary_out, member_out, primary_literal, primary_ref, primary_name, primary_slot, primary_expr, primary_list, primary_inits, access_field, access_call, access_index, init_out}
 use Rattle.cedar_conversion.specs.outcome.Conversion.{outcome, form_outcome, operands, chain_outcome, conditional_outcome, signs_outcome, number_in, lone_literal, literal_outcome, expression_at, tree_place, accesses_outcome, pairs_outcome, with_attributes, beside_type, match_outcome, type_test_outcome, type_within_outcome, set_value_outcome, record_outcome, access_outcome, access_form_outcome, pair_outcome, pair_form_outcome, value_outcome, bodies}
 use Rattle.cedar_conversion.specs.machines.Views.{alike_outcome}
 use Rattle.cedar_conversion.proofs.Parts.{alike_chain}
@@ -59,17 +57,14 @@ filled_with e g n x t h k = rw h (ap (λ u. form_outcome e n.loc u) k)
 
 -- ---- expressions
 
-expr_is : (d : Expr) (i : ExprImpl) → d ≡ exprs.Expr i → expr_form d ≡ data_form i.expr
-expr_is d i h = ap expr_form h ∙ expr_out i ∙ impl_out i
-
-pub or_expr_node : (e : Extensions) (n : Node (Option Expr)) (d : Expr) (i : ExprImpl) (a : Node (Option Or)) → n.node ≡ Some d → d ≡ exprs.Expr i → i.expr ≡ datas.Or a
+pub or_expr_node : (e : Extensions) (n : Node (Option Expr)) (d : Expr) (x : ExprData) (a : Node (Option Or)) → n.node ≡ Some d → expr_form d ≡ data_form x → x ≡ datas.Or a
     → outcome e (located expr_form n) ≡ outcome e (located or_form a)
 unfolding form_outcome
-or_expr_node e n d i a h k l = filled_with e expr_form n d _ h (expr_is d i k ∙ ap data_form l ∙ data_or a)
+or_expr_node e n d x a h k l = filled_with e expr_form n d _ h (k ∙ ap data_form l ∙ data_or a)
 
-pub data_node : (e : Extensions) (n : Node (Option Expr)) (d : Expr) (i : ExprImpl) (x : ExprData) → n.node ≡ Some d → d ≡ exprs.Expr i → x ≡ i.expr
+pub data_node : (e : Extensions) (n : Node (Option Expr)) (d : Expr) (x : ExprData) → n.node ≡ Some d → expr_form d ≡ data_form x
     → outcome e (located expr_form n) ≡ form_outcome e n.loc (data_form x)
-data_node e n d i x h k l = filled_with e expr_form n d _ h (expr_is d i k ∙ ap data_form (sym l))
+data_node e n d x h k = filled_with e expr_form n d _ h k
 
 pub if_data : (e : Extensions) (place : Option Loc) (x : ExprData) (a b c : Node (Option Expr)) → x ≡ datas.If a b c
     → form_outcome e place (data_form x) ≡ next (both (both (next (outcome e (located expr_form a)) as_expression) (next (outcome e (located expr_form b)) as_expression)) (next (outcome e (located expr_form c)) as_expression)) (conditional_outcome place)

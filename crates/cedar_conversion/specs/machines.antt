@@ -1,3 +1,5 @@
 pub mod Applied
+pub mod Nested
 pub mod PlainTexts
+pub mod Taking
 pub mod Views

@@ -17,6 +17,7 @@ ghost use Rattle.cedar_conversion.specs.machines.Views.{alike_view, rest_view, r
 ghost use Rattle.cedar_syntax.specs.faults.Joined.{TellsBoth};
 
 pub mod failure;
+pub(crate) mod fault_deque;
 pub mod faults;
 pub mod lists;
 pub mod places;

@@ -4,6 +4,9 @@
 pub mod answer;
 pub mod convert;
 pub mod leaves;
+mod levels;
+pub mod listing;
+mod nesting;
 pub mod operators;
 pub mod primaries;
 pub mod styles;

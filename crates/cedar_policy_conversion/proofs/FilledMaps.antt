@@ -1,7 +1,7 @@
 -- A map that annotations fill: one more, be it new, known or refused.
 use Rattle.std.proofs.Common.{◌≡◌, ◌⊎◌, inl, inr, ◌<◌, ◌+◌, ◌||◌, ℕ, Bool, true, false, cond, is_some, List, [], ◌∷◌, ◌++◌, append-nil, take, length, get_or, Option, Some, Result, Ok, Err, IsErrAnd, bytes_eq, refl, sym, ap, ◌∙◌, subst}
 use Rattle.std.specs.List.{fold}
-use Rattle.std.specs.BTreeMap.{BTreeMap}
+use Rattle.std.specs.BTreeMap.{BTreeMap, IsOrdered, insert_entry}
 use Rattle.std.specs.FinMap.{FinMap, insert, empty, get, contains_key, get-insert, get-empty}
 use Rattle.std.specs.Cmp.Lexicographic.{nat_list_cmp_total}
 use Rattle.std.proofs.lemmas.Map.Text.{is_eq-slice_cmp}
@@ -11,7 +11,8 @@ use denote.Ref.{Bor}
 use denote.Param.Members.{Shared}
 use Rattle.std.specs.declared.alloc.Global.{Global}
 use Rattle.std.specs.declared.string.String.{String}
-use Rattle.cedar_policy_store.specs.TextMap.{text_order}
+use Rattle.cedar_policy_store.specs.TextMap.{map_in, text_order}
+use Rattle.cedar_policy_store.proofs.MapsByText.{map_in-insert}
 use Rattle.cedar_syntax.specs.faults.ParseErrors.{faults_of, IsMemory}
 use Rattle.cedar_syntax.specs.declared.cst.Annotation.{Annotation}
 use Rattle.cedar_syntax.specs.declared.err.faults.Failure.{Failure}
@@ -27,6 +28,11 @@ use Rattle.cedar_policy_conversion.specs.machines.Filled.{HoldsSoFar, HasKeys, H
 use Rattle.cedar_conversion.specs.machines.Views.{empty_view}
 use Rattle.cedar_conversion.proofs.Inverted.{next_ok, ok_is}
 use Rattle.cedar_conversion.proofs.Loops.{take_next}
+
+-- a map that has one entry more
+pub with_entry : {X : Type 0} (m n : BTreeMap (List ℕ) X) (k : List ℕ) (v : X) → IsOrdered text_order m → IsOrdered text_order n
+    → n.entries ≡ insert_entry text_order m.entries k v → map_in n ≡ insert (map_in m) k v
+with_entry m n k v = map_in-insert m n k v
 
 -- ---- keys
 

@@ -1,10 +1,9 @@
 -- The primary that each node is, of that which its part is.
-use Rattle.std.proofs.Common.{◌≡◌, List, Option, Some, None, Ok, refl, sym, ap, ◌∙◌, Bool, true, false, if◌then◌else◌}
+use Rattle.std.proofs.Common.{◌≡◌, ◌<◌, List, [], append-nil, Option, Some, None, Result, Ok, Err, refl, sym, ap, ◌∙◌, Bool, true, false, if◌then◌else◌}
 use Rattle.cedar_syntax.specs.declared.loc.Loc.{Loc}
 use Rattle.cedar_syntax.specs.declared.node.Node.{Node}
 use Rattle.cedar_syntax.specs.declared.cst.Expr.{Expr}
-use Rattle.cedar_syntax.specs.declared.cst.Expr.TheVariants as exprs
-use Rattle.cedar_syntax.specs.declared.cst.ExprImpl.{ExprImpl}
+use Rattle.cedar_syntax.specs.declared.cst.ExprData.{ExprData}
 use Rattle.cedar_syntax.specs.declared.cst.ExprData.TheVariants as datas
 use Rattle.cedar_syntax.specs.declared.cst.Or.{Or}
 use Rattle.cedar_syntax.specs.declared.cst.And.{And}
@@ -22,13 +21,19 @@ use Rattle.cedar_syntax.specs.declared.cst.Name.{Name}
 use Rattle.cedar_syntax.specs.declared.cst.Slot.{Slot}
 use Rattle.cedar_syntax.specs.declared.cst.Ref.{Ref}
 use Rattle.cedar_syntax.specs.declared.cst.RecInit.{RecInit}
-use Rattle.cedar_syntax.specs.trees.Forms.{F, located, expr_step, data_step, access_step, primary_step, relation_step, add_step, and_step, impl_step, member_step, mult_step, or_step, init_step, unary_step, expr_form, data_form, or_form, and_form, relation_form, add_form, mult_form, unary_form, member_form, primary_form}
+use Rattle.cedar_syntax.specs.trees.Forms.{F, located, expr_step, data_step, access_step, primary_step, relation_step, add_step, and_step, impl_step, linked_step, member_step, mult_step, or_step, init_step, unary_step, expr_form, data_form, or_form, and_form, relation_form, add_form, mult_form, unary_form, member_form, primary_form}
 use Rattle.cedar_syntax.specs.trees.Located as f
 use Rattle.cedar_syntax.specs.trees.Located.{Located, Form}
-use Rattle.cedar_syntax.proofs.FormLevels.{expr_out, impl_out, data_or, data_if, or_out, and_out, add_out, mult_out, unary_out, member_out, primary_literal, primary_ref, primary_name, primary_slot, primary_expr, primary_list, primary_inits}
+use Rattle.cedar_syntax.proofs.FormLevels.{data_or, data_if, or_out, and_out, add_out, mult_out, unary_out, member_out, primary_literal, primary_ref, primary_name, primary_slot, primary_expr, primary_list, primary_inits}
 use Rattle.cedar_conversion.specs.outcome.LonePart.{lone_part, no_sign}
 use Rattle.cedar_conversion.specs.outcome.Outcome.{Outcome, fault_outcome, empty_node, wrong_node}
 use Rattle.cedar_conversion.proofs.LoneParts.{through, to_part}
+use denote.Ref.{Bor}
+use Rattle.cedar_syntax.specs.declared.err.faults.Failure.{Failure}
+use Rattle.cedar_conversion.specs.machines.Nested.{nested}
+use Rattle.cedar_conversion.proofs.Nested as inner
+use Rattle.cedar_conversion.proofs.Weights.{all_weight, first_opened}
+use Rattle.cedar_policy_conversion.specs.machines.LonePaths.{ComesToPrimary}
 use Rattle.cedar_policy_conversion.specs.References.{lone, lone_form}
 
 -- ---- nodes
@@ -101,16 +106,18 @@ wrong_form p t e h = refl
 pub wrong_level : {X : Type 0} (g : X → Form) (n : Node (Option X)) (d : X) → n.node ≡ Some d → is_primary (g d) ≡ false → None ≡ lone_part (g d) → lone (located g n) ≡ fault_outcome wrong_node n.loc
 wrong_level g n d e k h = lone_is g n d _ e refl ∙ wrong_form n.loc (g d) k h
 
-expr_is : (d : Expr) (i : ExprImpl) → d ≡ exprs.Expr i → expr_form d ≡ data_form i.expr
-expr_is d i h = ap expr_form h ∙ expr_out i ∙ impl_out i
-
-pub only_expr : (n : Node (Option Expr)) (d : Expr) (i : ExprImpl) (a : Node (Option Or)) → n.node ≡ Some d → d ≡ exprs.Expr i → i.expr ≡ datas.Or a → lone (located expr_form n) ≡ lone (located or_form a)
+pub only_expr : (n : Node (Option Expr)) (d : Expr) (x : ExprData) (a : Node (Option Or)) → n.node ≡ Some d → expr_form d ≡ data_form x → x ≡ datas.Or a → lone (located expr_form n) ≡ lone (located or_form a)
 unfolding lone_form
-only_expr n d i a h k l = lone_is expr_form n d _ h (expr_is d i k ∙ ap data_form l ∙ data_or a)
+only_expr n d x a h k l = lone_is expr_form n d _ h (k ∙ ap data_form l ∙ data_or a)
 
-pub if_expr : (n : Node (Option Expr)) (d : Expr) (i : ExprImpl) (a b c : Node (Option Expr)) → n.node ≡ Some d → d ≡ exprs.Expr i → i.expr ≡ datas.If a b c → lone (located expr_form n) ≡ fault_outcome wrong_node n.loc
+pub if_expr : (n : Node (Option Expr)) (d : Expr) (x : ExprData) (a b c : Node (Option Expr)) → n.node ≡ Some d → expr_form d ≡ data_form x → x ≡ datas.If a b c → lone (located expr_form n) ≡ fault_outcome wrong_node n.loc
 unfolding lone_form
-if_expr n d i a b c h k l = lone_is expr_form n d _ h (expr_is d i k ∙ ap data_form l ∙ data_if a b c)
+if_expr n d x a b c h k l = lone_is expr_form n d _ h (k ∙ ap data_form l ∙ data_if a b c)
+
+-- a node comes to the primary to which its one part comes
+pub comes : (n m : Located) (r : Result (Bor (Node (Option Primary))) Failure) → lone n ≡ lone m → nested n ≡ nested m → ComesToPrimary m r → ComesToPrimary n r
+comes n m (Ok p) h k c = (h ∙ c.0, k ∙ c.1)
+comes n m (Err f) h k c = rw h c
 
 -- no level above is a primary
 pub or_level : (d : Or) → is_primary (or_form d) ≡ false
@@ -131,7 +138,7 @@ unary_level d = ap is_primary (unary_out d)
 pub member_level : (d : Member) → is_primary (member_form d) ≡ false
 member_level d = ap is_primary (member_out d)
 
-step_level : (x : Relation-F F F F F F F F F F F F F F) → is_primary (relation_step x) ≡ false
+step_level : (x : Relation-F F F F F F F F F F F F F F F) → is_primary (relation_step x) ≡ false
 step_level (Relation-F.Common a xs) = refl
 step_level (Relation-F.Has a b) = refl
 step_level (Relation-F.Like a b) = refl
@@ -140,7 +147,7 @@ step_level (Relation-F.IsIn a b (Some c)) = refl
 
 pub relation_level : (d : Relation) → is_primary (relation_form d) ≡ false
 unfolding relation_form
-relation_level d = ap is_primary (fold_out-Relation F F F F F F F F F F F F F expr_step data_step access_step primary_step relation_step add_step and_step impl_step member_step mult_step or_step init_step unary_step d) ∙ step_level _
+relation_level d = ap is_primary (fold_out-Relation F F F F F F F F F F F F F F expr_step data_step access_step primary_step relation_step add_step and_step impl_step linked_step member_step mult_step or_step init_step unary_step d) ∙ step_level _
 
 -- ---- primaries
 
@@ -174,3 +181,10 @@ list_primary n d a h k = itself_lone n d _ h (ap primary_form k ∙ primary_list
 pub inits_primary : (n : Node (Option Primary)) (d : Primary) (a : List (Node (Option RecInit))) → n.node ≡ Some d → d ≡ primaries.RInits a → lone (located primary_form n) ≡ Ok (located primary_form n)
 unfolding lone_form
 inits_primary n d a h k = itself_lone n d _ h (ap primary_form k ∙ primary_inits a) refl
+
+-- less stands in parentheses than there is with them
+pub opened_lighter : (p q : Node (Option Primary)) (a : Node (Option Expr)) → p.node ≡ Some (primaries.Expr a) → nested (located expr_form a) ≡ nested (located primary_form q)
+    → all_weight (nested (located primary_form q)) < all_weight (nested (located primary_form p))
+opened_lighter p q a h k =
+    rw (inner.level primary_form p (primaries.Expr a) h ∙ inner.parens (primaries.Expr a) a refl)
+    (first_opened (located expr_form a) [] (nested (located primary_form q)) (sym k ∙ sym (append-nil (nested (located expr_form a)))))

@@ -5,4 +5,6 @@ pub mod Policies
 pub mod PolicyMeaning
 pub mod References
 pub mod Scope
+pub mod StrictPolicy
+pub mod StrictScope
 pub mod machines

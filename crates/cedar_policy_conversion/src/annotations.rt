@@ -25,6 +25,7 @@ use cedar_syntax::loc::Loc;
 use cedar_syntax::node::Node;
 use std::alloc::{AllocError, Global};
 use std::collections::BTreeMap;
+use std::collections::btree_map::Entry;
 
 /// The text that an annotation's string stands for, if it has one.
 fn text_of(
@@ -90,6 +91,7 @@ fn duplicate(key: &AnyId, loc: &Option<Loc>) -> Result<ToASTError, AllocError>
 }
 
 /// Keeps a value under its key, unless an earlier annotation has it.
+#[tactic(auto, using(crate::proofs::FilledMaps::with_entry))]
 fn keep<T: Drop>(
     alloc: Global,
     map: &mut BTreeMap<AnyId, T>,
@@ -109,11 +111,13 @@ fn keep<T: Drop>(
         ⊎ ((result ≡ all) × (map_in map.new ≡ insert (map_in map.old) pair.0 pair.1)) }
 {
     let (key, value) = pair;
-    if map.contains_key(&key) {
-        return add_fault(alloc, all, duplicate(&key, loc));
+    match map.entry(key)? {
+        Entry::Occupied(known) => add_fault(alloc, all, duplicate(known.key(), loc)),
+        Entry::Vacant(room) => {
+            room.insert(value);
+            all
+        }
     }
-    map.insert(key, value)?;
-    all
 }
 
 /// One annotation more, behind those so far.

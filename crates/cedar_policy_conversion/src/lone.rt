@@ -1,15 +1,19 @@
 //! The primary that an expression is, through operators with one operand and parentheses; any
 //! other form is refused by what it is.
-ghost use Rattle.std.specs.Prelude.{◌≡◌, IfOk};
+ghost use Rattle.std.specs.Prelude.{◌≡◌, ◌≢◌, IfOk, MatchOption, Option, Some};
+ghost use Rattle.cedar_syntax.specs.declared.node.Node.{Node as Held};
+ghost use Rattle.cedar_syntax.specs.declared.cst.Expr.{Expr as Tree};
+ghost use Rattle.cedar_syntax.specs.declared.cst.Primary.TheVariants as primaries;
 ghost use Rattle.cedar_syntax.specs.trees.Forms.{located, expr_form, or_form, and_form, relation_form, add_form, mult_form, unary_form, member_form, primary_form};
 ghost use Rattle.cedar_conversion.specs.outcome.Outcome.{wrong_node};
 ghost use Rattle.cedar_policy_conversion.specs.References.{lone};
+ghost use Rattle.cedar_policy_conversion.specs.machines.LonePaths.{ComesToPrimary};
 ghost use Rattle.cedar_conversion.specs.outcome.Seen.{Gives, kind_of};
 ghost use Rattle.cedar_conversion.specs.machines.Views.{TellsAlone};
 
 use cedar_conversion::answer::failure::Failure;
 use cedar_conversion::answer::special::{empty_node, refusal_with};
-use cedar_conversion::convert::inner_of;
+use cedar_conversion::convert::data_of;
 use cedar_conversion::operators::alone::Alone;
 use cedar_expressions::OwnedText;
 use cedar_syntax::cst;
@@ -94,19 +98,17 @@ fn relation_word(relation: &cst::Relation) -> &'static str {
     }
 }
 
-// ---- the walk
+// ---- the walk down to a primary, which may be another expression in parentheses
 
-#[cycle(lone)]
-#[inline(never)]
-pub(crate) fn lone_expr<'a>(
+fn primary_of<'a>(
     alloc: Global,
     expected: &'static str,
     node: &'a Node<Option<cst::Expr>>,
 ) -> Result<&'a Node<Option<cst::Primary>>, Failure>
-    ensures { Gives (λ p. located primary_form p.now) result (lone (located expr_form node.now)) }
+    ensures { ComesToPrimary (located expr_form node.now) result }
 {
     match &node.node {
-        Some(tree) => match inner_of(tree).expr.as_ref() {
+        Some(tree) => match data_of(tree) {
             cst::ExprData::Or(part) => lone_or(alloc, expected, part),
             cst::ExprData::If(_, _, _) => {
                 Err(form(alloc, expected, "an `if` expression", "", &node.loc))
@@ -116,13 +118,12 @@ pub(crate) fn lone_expr<'a>(
     }
 }
 
-#[cycle(lone)]
 fn lone_or<'a>(
     alloc: Global,
     expected: &'static str,
     node: &'a Node<Option<cst::Or>>,
 ) -> Result<&'a Node<Option<cst::Primary>>, Failure>
-    ensures { Gives (λ p. located primary_form p.now) result (lone (located or_form node.now)) }
+    ensures { ComesToPrimary (located or_form node.now) result }
 {
     match &node.node {
         Some(or) => match or.alone() {
@@ -136,13 +137,12 @@ fn lone_or<'a>(
     }
 }
 
-#[cycle(lone)]
 fn lone_and<'a>(
     alloc: Global,
     expected: &'static str,
     node: &'a Node<Option<cst::And>>,
 ) -> Result<&'a Node<Option<cst::Primary>>, Failure>
-    ensures { Gives (λ p. located primary_form p.now) result (lone (located and_form node.now)) }
+    ensures { ComesToPrimary (located and_form node.now) result }
 {
     match &node.node {
         Some(and) => match and.alone() {
@@ -156,14 +156,12 @@ fn lone_and<'a>(
     }
 }
 
-#[cycle(lone)]
 fn lone_relation<'a>(
     alloc: Global,
     expected: &'static str,
     node: &'a Node<Option<cst::Relation>>,
 ) -> Result<&'a Node<Option<cst::Primary>>, Failure>
-    ensures { Gives (λ p. located primary_form p.now) result
-        (lone (located relation_form node.now)) }
+    ensures { ComesToPrimary (located relation_form node.now) result }
 {
     match &node.node {
         Some(relation) => match relation.alone() {
@@ -174,13 +172,12 @@ fn lone_relation<'a>(
     }
 }
 
-#[cycle(lone)]
 fn lone_add<'a>(
     alloc: Global,
     expected: &'static str,
     node: &'a Node<Option<cst::Add>>,
 ) -> Result<&'a Node<Option<cst::Primary>>, Failure>
-    ensures { Gives (λ p. located primary_form p.now) result (lone (located add_form node.now)) }
+    ensures { ComesToPrimary (located add_form node.now) result }
 {
     match &node.node {
         Some(add) => match add.alone() {
@@ -194,13 +191,12 @@ fn lone_add<'a>(
     }
 }
 
-#[cycle(lone)]
 fn lone_mult<'a>(
     alloc: Global,
     expected: &'static str,
     node: &'a Node<Option<cst::Mult>>,
 ) -> Result<&'a Node<Option<cst::Primary>>, Failure>
-    ensures { Gives (λ p. located primary_form p.now) result (lone (located mult_form node.now)) }
+    ensures { ComesToPrimary (located mult_form node.now) result }
 {
     match &node.node {
         Some(mult) => match mult.alone() {
@@ -211,13 +207,12 @@ fn lone_mult<'a>(
     }
 }
 
-#[cycle(lone)]
 fn lone_unary<'a>(
     alloc: Global,
     expected: &'static str,
     node: &'a Node<Option<cst::Unary>>,
 ) -> Result<&'a Node<Option<cst::Primary>>, Failure>
-    ensures { Gives (λ p. located primary_form p.now) result (lone (located unary_form node.now)) }
+    ensures { ComesToPrimary (located unary_form node.now) result }
 {
     match &node.node {
         Some(unary) => match unary.alone() {
@@ -228,18 +223,16 @@ fn lone_unary<'a>(
     }
 }
 
-#[cycle(lone)]
 fn lone_member<'a>(
     alloc: Global,
     expected: &'static str,
     node: &'a Node<Option<cst::Member>>,
 ) -> Result<&'a Node<Option<cst::Primary>>, Failure>
-    ensures { Gives (λ p. located primary_form p.now) result
-        (lone (located member_form node.now)) }
+    ensures { ComesToPrimary (located member_form node.now) result }
 {
     match &node.node {
         Some(member) => match member.alone() {
-            Some(item) => lone_primary(alloc, expected, item),
+            Some(item) => Ok(item),
             None => {
                 let hint = "names of types are joined by `::`";
                 Err(form(alloc, expected, "a `.` expression", hint, &node.loc))
@@ -249,18 +242,36 @@ fn lone_member<'a>(
     }
 }
 
-/// Parentheses go through; an empty node is refused here.
-#[cycle(lone)]
-fn lone_primary<'a>(
+// ---- the walk through parentheses
+
+/// What stands in parentheses, if a primary is that.
+fn parenthesized(node: &Node<Option<cst::Primary>>) -> Option<&Node<Option<cst::Expr>>>
+    ensures { MatchOption result ((a : Held (Option Tree)) → node.now.node ≢ Some (primaries.Expr a))
+        (λ inner. node.now.node ≡ Some (primaries.Expr inner.now)) }
+{
+    match &node.node {
+        Some(cst::Primary::Expr(inner)) => Some(inner),
+        Some(cst::Primary::Literal(_)) => None,
+        Some(cst::Primary::Ref(_)) => None,
+        Some(cst::Primary::Name(_)) => None,
+        Some(cst::Primary::Slot(_)) => None,
+        Some(cst::Primary::EList(_)) => None,
+        Some(cst::Primary::RInits(_)) => None,
+        None => None,
+    }
+}
+
+/// A primary without parentheses around it; an empty node is refused here.
+fn bare<'a>(
     alloc: Global,
-    expected: &'static str,
     node: &'a Node<Option<cst::Primary>>,
 ) -> Result<&'a Node<Option<cst::Primary>>, Failure>
-    ensures { Gives (λ p. located primary_form p.now) result
+    ensures { ((a : Held (Option Tree)) → node.now.node ≢ Some (primaries.Expr a))
+        → Gives (λ p. located primary_form p.now) result
         (lone (located primary_form node.now)) }
 {
     match &node.node {
-        Some(cst::Primary::Expr(inner)) => lone_expr(alloc, expected, inner),
+        Some(cst::Primary::Expr(_)) => Err(empty_node(alloc, &node.loc)),
         Some(cst::Primary::Literal(_)) => Ok(node),
         Some(cst::Primary::Ref(_)) => Ok(node),
         Some(cst::Primary::Name(_)) => Ok(node),
@@ -269,4 +280,20 @@ fn lone_primary<'a>(
         Some(cst::Primary::RInits(_)) => Ok(node),
         None => Err(empty_node(alloc, &node.loc)),
     }
+}
+
+/// The primary that an expression is, once all parentheses are opened.
+#[inline(never)]
+pub(crate) fn lone_expr<'a>(
+    alloc: Global,
+    expected: &'static str,
+    node: &'a Node<Option<cst::Expr>>,
+) -> Result<&'a Node<Option<cst::Primary>>, Failure>
+    ensures { Gives (λ p. located primary_form p.now) result (lone (located expr_form node.now)) }
+{
+    let mut primary = primary_of(alloc, expected, node)?;
+    while let Some(inner) = parenthesized(primary) {
+        primary = primary_of(alloc, expected, inner)?;
+    }
+    bare(alloc, primary)
 }

@@ -3,11 +3,13 @@
 //! An answer goes up through each level of nesting and keeps a failure's room there, a value's
 //! too. So faults stand in memory of their own here, and `told` gives the failure that the calls
 //! on trees tell. `cedar_syntax::util` joins what is told.
-ghost use Rattle.std.specs.Prelude.{◌≡◌, ◌⊎◌, ◌++◌, IfOk, IfErr};
+ghost use Rattle.std.specs.Prelude.{◌≡◌, ◌⊎◌, ◌++◌, IfOk, IfErr, MatchResult};
+ghost use Rattle.cedar_conversion.specs.outcome.Causes.{faults_in_order};
 ghost use Rattle.cedar_syntax.specs.faults.Joined.{WantsMemory, TellsBoth, TellsAll, TellsFaults};
-ghost use Rattle.cedar_syntax.specs.faults.ParseErrors.{faults_of};
+ghost use Rattle.cedar_syntax.specs.faults.ParseErrors.{faults_of, IsMemory};
 ghost use Rattle.cedar_syntax.specs.declared.err.faults.Failure.TheVariants.{Errors};
 
+use crate::answer::fault_deque::FaultDeque;
 use cedar_expressions::Boxed;
 use cedar_syntax::err::{self, ParseErrors};
 use std::alloc::{AllocError, AllocFailed, Global};
@@ -23,7 +25,7 @@ pub struct Failure {
 #[derive(Drop)]
 pub(crate) enum Cause {
     Memory(AllocError),
-    Errors(Boxed<ParseErrors>),
+    Errors(Boxed<FaultDeque>),
 }
 
 impl Model for Failure {
@@ -45,7 +47,7 @@ impl Failure {
     pub fn of_errors(alloc: Global, faults: ParseErrors) -> Failure
         ensures { TellsFaults result (faults_of faults) }
     {
-        let cause = match Boxed::new(alloc, faults) {
+        let cause = match Boxed::new(alloc, FaultDeque::new(alloc, faults)) {
             Ok(faults) => Cause::Errors(faults),
             Err(error) => Cause::Memory(error),
         };
@@ -89,7 +91,7 @@ impl From<Failure> for err::Failure {
         let Failure { cause } = failure;
         match cause {
             Cause::Memory(error) => err::Failure::Memory(error),
-            Cause::Errors(faults) => err::Failure::Errors(faults.into_inner()),
+            Cause::Errors(faults) => err::Failure::Errors(faults.into_inner().in_order()),
         }
     }
 }
@@ -104,12 +106,12 @@ pub fn told<T: Drop>(answer: Result<T, Failure>) -> Result<T, err::Failure>
     }
 }
 
-/// The faults, then the others.
-fn followed(faults: Boxed<ParseErrors>, more: Boxed<ParseErrors>) -> Failure
-    ensures { TellsAll result (Errors faults) (Errors more) }
+/// These faults, or want of memory.
+fn settled(all: Boxed<FaultDeque>, outcome: Result<(), AllocError>) -> Failure
+    ensures { MatchResult outcome
+        (λ _. result ≡ Errors (faults_in_order all)) (λ _. IsMemory result) }
 {
-    let mut all = faults;
-    match all.as_mut().extend(more.into_inner()) {
+    match outcome {
         Ok(()) => Failure {
             cause: Cause::Errors(all),
         },
@@ -117,9 +119,24 @@ fn followed(faults: Boxed<ParseErrors>, more: Boxed<ParseErrors>) -> Failure
     }
 }
 
+/// The faults, then the others.
+fn followed(faults: Boxed<FaultDeque>, more: Boxed<FaultDeque>) -> Failure
+    ensures { TellsAll result (Errors (faults_in_order faults)) (Errors (faults_in_order more)) }
+{
+    if faults.as_ref().is_shorter(more.as_ref()) {
+        let mut all = more;
+        let outcome = all.as_mut().put_before(faults.into_inner());
+        settled(all, outcome)
+    } else {
+        let mut all = faults;
+        let outcome = all.as_mut().put_behind(more.into_inner());
+        settled(all, outcome)
+    }
+}
+
 /// The faults, then those of the second.
-fn behind(faults: Boxed<ParseErrors>, second: Failure) -> Failure
-    ensures { TellsAll result (Errors faults) second }
+fn behind(faults: Boxed<FaultDeque>, second: Failure) -> Failure
+    ensures { TellsAll result (Errors (faults_in_order faults)) second }
 {
     let Failure { cause } = second;
     match cause {

@@ -255,8 +255,26 @@ pub(crate) fn chain_from<B: ExprBuilderInfallibleBuild, O: Joins + Drop>(
     O::combine::<B>(alloc, loc, first, rest)
 }
 
+/// A first part and those behind one and the same operator, left in `answer`.
+#[inline(never)]
+pub(crate) fn alike_in<B: ExprBuilderInfallibleBuild, O: JoinsAlike>(
+    alloc: Global,
+    loc: &Option<Loc>,
+    first: &mut Converted<B::Expr>,
+    rest: Values<B::Expr>,
+    answer: &mut Converted<B::Expr>,
+)
+    ensures { (x : Outcome Held) (ps : Outcome (List Part))
+        → Gives (plain B.meaning) first.old x → Gives (alike_view O.operator B.meaning) rest ps
+        → Gives (plain B.meaning) answer.new
+        (next (both x ps) (alike_outcome O.level loc.now)) }
+{
+    put(answer, alike_from::<B, O>(alloc, loc, first, rest))
+}
+
 /// A first part and those behind one and the same operator: one part alone is itself.
-pub(crate) fn alike_from<B: ExprBuilderInfallibleBuild, O: JoinsAlike>(
+#[inline(always)]
+fn alike_from<B: ExprBuilderInfallibleBuild, O: JoinsAlike>(
     alloc: Global,
     loc: &Option<Loc>,
     first: &mut Converted<B::Expr>,

@@ -1,11 +1,12 @@
 //! Signs before an operand.
-ghost use Rattle.std.specs.Prelude.{◌≡◌, ◌≤◌, MatchOption, pos, neg_ℤ, Ok};
+ghost use Rattle.std.specs.Prelude.{◌≡◌, ◌≤◌, ◌⊎◌, IfSome, IsSome, MatchOption, pos, neg_ℤ, Ok, true, false};
 ghost use Rattle.cedar_expressions.specs.Value as v;
 ghost use Rattle.cedar_conversion.specs.outcome.Conversion.{application_outcome, dashes_outcome, negative as negative_of, signs_outcome};
 ghost use Rattle.cedar_conversion.specs.outcome.Held.{Held};
 ghost use Rattle.cedar_conversion.specs.outcome.Outcome.{Outcome, fault_outcome, unary_op_limit};
 ghost use Rattle.cedar_conversion.specs.outcome.Seen.{Gives};
 ghost use Rattle.cedar_conversion.specs.strict.Strict.{iteration, largest};
+ghost use Rattle.cedar_conversion.specs.machines.Nested.{is_counted};
 ghost use Rattle.cedar_conversion.specs.machines.Views.{TellsAlone, plain};
 
 use crate::answer::failure::Failure;
@@ -92,8 +93,9 @@ pub(crate) fn without_operand<B: ExprBuilderInfallibleBuild>(
     op: Option<NegOp>,
     bare: Option<u64>,
 ) -> Option<Result<ExprOrSpecial<B::Expr>, Failure>>
-    ensures { MatchOption result (Unit {0}) (λ answer.
+    ensures given { MatchOption result (is_counted op ≡ true) (λ answer.
         (x : Outcome Held) → Gives (plain B.meaning) answer (signs_outcome loc.now op bare x)) }
+    ensures unasked { IfSome result (λ answer. (is_counted op ≡ false) ⊎ IsSome bare) }
 {
     match op {
         None | Some(NegOp::Bang(_)) => None,

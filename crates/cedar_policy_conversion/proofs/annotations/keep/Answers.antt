@@ -1,13 +1,27 @@
-use Rattle.std.proofs.Common.{inr, refl, sym, ◌∙◌}
+-- The map has the key where its entry is occupied, and no key where it is vacant.
+use Rattle.std.proofs.Common.{rules, inr, ◌≡◌, Some, None, Option, true, is_some, refl, sym, ap, ◌∙◌, subst}
 use Rattle.std.proofs.lemmas.Bool.{false≢true}
-use Rattle.cedar_policy_store.proofs.MapsByText.{contains-map_in, map_in-insert}
+use Rattle.std.specs.Prelude.{IsSome}
+use Rattle.std.specs.BTreeMap as tree
+use Rattle.std.specs.BTreeMap.Entry.{MatchEntry, entry_key}
+use Rattle.cedar_policy_store.specs.TextMap.{text_order}
+use Rattle.cedar_policy_store.proofs.MapsByText.{contains-map_in}
+use Rattle.cedar_policy_conversion.proofs.FilledMaps.{with_entry}
 use Rattle.cedar_policy_conversion.proofs.annotations.keep.Goals as goal
 
-pub returns-then-contains_key-clause-new : goal.returns-then-contains_key-clause-new
-returns-then-contains_key-clause-new g c ordered fresh = absurd (false≢true (sym fresh ∙ contains-map_in c.args.map.now c.args.pair.0 ordered ∙ sym c.contains_key.ensures ∙ c.if-contains_key.true))
+some_is : {T : Type 0} (o : Option T) → IsSome o → is_some o ≡ true
+some_is (Some x) h = refl
+some_is None h = cc
 
-pub returns-clause-known : goal.returns-clause-known
-returns-clause-known g c ordered known = absurd (false≢true (sym c.if-contains_key.false ∙ c.contains_key.ensures ∙ sym (contains-map_in c.args.map.now c.args.pair.0 ordered) ∙ known))
+pub returns-in-Occupied-clause-new : goal.returns-in-Occupied-clause-new
+returns-in-Occupied-clause-new g c ordered fresh =
+    let found = subst (λ e. MatchEntry e (tree.ContainsKey text_order c.args.map.now c.args.pair.0 × (tree.get_key text_order c.args.map.now c.args.pair.0 ≡ Some (entry_key e))) (tree.get text_order c.args.map.now c.args.pair.0 ≡ None)) c.in-Occupied.is c.in_ok-known.ensures.found in
+    absurd (false≢true (sym fresh ∙ contains-map_in c.args.map.now c.args.pair.0 ordered ∙ some_is _ found.0))
 
-pub returns-clause-new : goal.returns-clause-new
-returns-clause-new g c ordered fresh = inr (refl, map_in-insert c.args.map.now c.insert.new.self c.args.pair.0 c.args.pair.1 ordered c.in_ok-insert.ensures.ordered c.in_ok-insert.ensures.entries)
+pub returns-in-Vacant-clause-known : goal.returns-in-Vacant-clause-known
+returns-in-Vacant-clause-known g c ordered known =
+    let missed = subst (λ e. MatchEntry e (tree.ContainsKey text_order c.args.map.now c.args.pair.0 × (tree.get_key text_order c.args.map.now c.args.pair.0 ≡ Some (entry_key e))) (tree.get text_order c.args.map.now c.args.pair.0 ≡ None)) c.in-Vacant.is c.in_ok-known.ensures.found in
+    absurd (false≢true (sym (ap is_some missed) ∙ sym (contains-map_in c.args.map.now c.args.pair.0 ordered) ∙ known))
+
+pub returns-in-Vacant-clause-new : goal.returns-in-Vacant-clause-new
+returns-in-Vacant-clause-new g c ordered fresh = inr (refl, search (rules, with_entry))

@@ -1,0 +1,19 @@
+use Rattle.std.proofs.Common.{◌++◌, map, take}
+use Rattle.std.specs.List.{flat_map}
+use Rattle.cedar_syntax.specs.trees.Forms.{located, parts_of, and_form, or_operand}
+use Rattle.cedar_syntax.specs.trees.Tree.{or_or}
+use Rattle.cedar_syntax.specs.declared.cst.Or.{out-Or}
+use Rattle.cedar_conversion.specs.outcome.Conversion.{outcome, operands}
+use Rattle.cedar_conversion.specs.machines.Views.{alike_view, plain}
+use Rattle.cedar_conversion.specs.outcome.Seen.{Gives}
+use Rattle.cedar_conversion.specs.strict.Table.{table_of}
+use Rattle.cedar_conversion.specs.machines.Nested.{nested}
+use Rattle.cedar_conversion.specs.machines.Taking.{Taking}
+use Rattle.cedar_conversion.proofs.levels.or_chain.Given as goal
+
+abbrev pub invariant-loop-part : goal.invariant-loop-part
+invariant-loop-part g l =
+    Taking (g.N.Nests.waits (table_of l.styles)) l.fn.answers.nested
+    (nested (located and_form (out-Or l.fn.or).initial) ++ flat_map (λ n. nested (located and_form n)) (take l.part-index l.part-items)) l.answers.nested
+    (Gives (plain g.B.ExprBuilderInfallibleBuild.meaning) l.first (outcome (table_of l.styles) (located and_form (out-Or l.fn.or).initial))
+    × Gives (alike_view or_or g.B.ExprBuilderInfallibleBuild.meaning) l.rest (operands (table_of l.styles) l.loc (parts_of (map or_operand (take l.part-index l.part-items)))))

@@ -1,0 +1,10 @@
+use Rattle.std.proofs.Common.{◌≡◌, ◌++◌}
+use Rattle.std.specs.List.{flat_map}
+use Rattle.cedar_syntax.specs.trees.Forms.{located, unary_form}
+use Rattle.cedar_conversion.specs.machines.Nested.{nested, lent_nodes}
+use Rattle.cedar_conversion.proofs.listing.in_factors.Given as goal
+
+abbrev pub invariant-loop-part : goal.invariant-loop-part
+invariant-loop-part l =
+    flat_map (λ p. nested (located unary_form p.1)) l.part-iterator.iter.rest.now ++ lent_nodes l.all
+    ≡ flat_map (λ p. nested (located unary_form p.1)) l.initial.parts ++ lent_nodes l.initial.all

@@ -1,0 +1,15 @@
+use Rattle.std.proofs.Common.{sym, ap, ◌∙◌}
+use Rattle.cedar_syntax.specs.trees.Forms.{mult_form, unary_form}
+use Rattle.cedar_conversion.proofs.Nested as inner
+use Rattle.cedar_conversion.proofs.Outcomes.{refuses}
+use Rattle.cedar_policy_conversion.proofs.LonePrimaries as lone
+use Rattle.cedar_policy_conversion.proofs.lone.lone_mult.Goals as goal
+
+pub returns-in-Some-alone : goal.returns-in-Some-alone
+returns-in-Some-alone c = lone.comes _ _ c.lone_unary.result (lone.part_lone mult_form unary_form c.args.node.now _ _ c.in-Some.is (rw c.in-Some-alone.is at c.alone.ensures.part)) (inner.part mult_form unary_form c.args.node.now _ _ c.in-Some.is (rw c.in-Some-alone.is at c.alone.ensures.part)) c.lone_unary.ensures
+
+pub returns-in-None-alone : goal.returns-in-None-alone
+returns-in-None-alone c = refuses c.form.result _ _ _ (lone.wrong_level mult_form c.args.node.now _ c.in-Some.is (lone.mult_level _) (rw c.in-None-alone.is at c.alone.ensures.part)) c.form.ensures
+
+pub returns-in-None : goal.returns-in-None
+returns-in-None c = refuses c.empty_node.result _ _ _ (lone.no_lone mult_form c.args.node.now c.in-None.is) c.empty_node.ensures
