@@ -19,7 +19,7 @@ enum Call {
 }
 
 /// Their names.
-const CALLS: [(&str, Call); 41] = [
+const CALLS: [(&str, Call); 43] = [
     ("parse_expr", Call::Tree(TreeCall::Expr)),
     ("parse_primary", Call::Tree(TreeCall::Primary)),
     ("parse_ref", Call::Tree(TreeCall::Ref)),
@@ -39,6 +39,14 @@ const CALLS: [(&str, Call); 41] = [
     ("same_set", Call::Conversion(ConversionCall::SameSet)),
     ("format_policies", Call::Conversion(ConversionCall::Lines)),
     ("layout_policies", Call::Conversion(ConversionCall::Layout)),
+    (
+        "expr_to_cedar",
+        Call::Conversion(ConversionCall::WrittenExpression),
+    ),
+    (
+        "policyset_to_cedar",
+        Call::Conversion(ConversionCall::WrittenSet),
+    ),
     ("Expr::to_ref", Call::Part(PartCall::ExprToRef)),
     (
         "Expr::to_ref_or_slot",

@@ -2,12 +2,12 @@
 
 use crate::faults::{Told, tell_failure};
 use crate::formatted::{self, formats};
-use crate::laid;
 use crate::policies::set_text;
 use crate::reports::copies;
 use crate::tables::{find, has_word, styles};
 use crate::trees::reads_again;
 use crate::values::value_text;
+use crate::{laid, written};
 use cedar_expressions::Expr;
 use cedar_policy_parser::formatter::format_policies;
 use cedar_policy_parser::{layout_policies, parse_expression, parse_policyset};
@@ -24,6 +24,8 @@ pub(crate) enum ConversionCall {
     SameSet,
     Lines,
     Layout,
+    WrittenExpression,
+    WrittenSet,
     Table,
 }
 
@@ -63,6 +65,8 @@ pub(crate) fn answer(
         ConversionCall::SameSet => same_set(alloc, words, text),
         ConversionCall::Lines => formatted::answer(alloc, words, text),
         ConversionCall::Layout => laid::answer(alloc, words, text),
+        ConversionCall::WrittenExpression => written::answer::<Expr>(alloc, words, text),
+        ConversionCall::WrittenSet => written::answer::<PolicySet>(alloc, words, text),
         ConversionCall::Table => find(alloc, words, text),
     }
 }
@@ -76,8 +80,10 @@ pub(crate) fn refusal(
 ) -> Result<Option<Failure>, AllocError> {
     let styles = styles(alloc, words)?;
     let refusal = match call {
-        ConversionCall::Expression => parse_expression(alloc, text, &styles).err(),
-        ConversionCall::PolicySet | ConversionCall::SameSet => {
+        ConversionCall::Expression | ConversionCall::WrittenExpression => {
+            parse_expression(alloc, text, &styles).err()
+        }
+        ConversionCall::PolicySet | ConversionCall::SameSet | ConversionCall::WrittenSet => {
             parse_policyset(alloc, text, &styles).err()
         }
         ConversionCall::Lines => format_policies(alloc, text, &styles).err(),

@@ -3,14 +3,15 @@
 //! A line behind `>> ` names the call of the cases below it, with words of its own behind the
 //! name. A case is a text, in lines, and behind it, each behind `=> `, the lines that the call has
 //! to give; an empty line ends it. Lines that begin with `#` are for the reader. The beginnings of
-//! the text are tried too, and it is laid out over lines, without a line that says so; behind `>>
-//! whole ` the call alone is tried.
+//! the text are tried too, it is laid out over lines, and what it means is written and read again,
+//! without a line that says so; behind `>> whole ` the call alone is tried.
 
 use crate::beginnings::try_beginnings;
 use crate::calls::answer;
 use crate::escapes::unescape;
 use crate::laid::lays_out;
 use crate::reports::add_line;
+use crate::written::writes;
 use std::alloc::{AllocError, Global};
 use std::fmt;
 
@@ -125,6 +126,7 @@ impl Judge {
         let mut given = answer(alloc, self.call.as_str(), text)?;
         if !self.is_whole {
             lays_out(alloc, &mut given, text)?;
+            writes(alloc, &mut given, self.call.as_str(), text)?;
         }
         if given.as_str() == wanted {
             self.agreeing = self.agreeing.saturating_add(1);

@@ -22,6 +22,7 @@ mod tables;
 mod texts;
 mod trees;
 mod values;
+mod written;
 
 use std::{env, fs, io};
 

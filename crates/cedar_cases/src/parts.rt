@@ -246,7 +246,7 @@ impl Conversion for ToLit {
 /// The member that an expression is, if it is one without operators.
 fn member_of(node: &Node<Option<Expr>>) -> Option<&Node<Option<Member>>> {
     let Expr::Expr(whole) = node.as_inner()?;
-    let ExprData::Or(or) = whole.expr.as_ref() else {
+    let ExprData::Or(or) = whole.as_ref() else {
         return None;
     };
     let and = &or.as_inner()?.initial;

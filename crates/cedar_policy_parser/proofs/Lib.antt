@@ -2,7 +2,7 @@ pub mod meaning
 pub mod tidy
 pub mod standing
 pub mod due
-pub mod blind
+pub mod independent
 pub mod Alike
 pub mod Alone
 pub mod ByHand
@@ -15,3 +15,4 @@ pub mod PolicyRefusals
 pub mod Telling
 pub mod complete
 pub mod sound
+pub mod Written

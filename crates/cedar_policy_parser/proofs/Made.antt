@@ -28,7 +28,8 @@ use Rattle.cedar_syntax.specs.trees.Forms.{located, parts_of, expr_form, or_form
 use Rattle.cedar_syntax.specs.trees.Located as f
 use Rattle.cedar_syntax.specs.trees.Located.{Located, Form, at}
 use Rattle.cedar_syntax.specs.trees.Tree.{disjunction, conjunction, relation, sum, product}
-use Rattle.cedar_syntax.proofs.FormLevels.{expr_out, impl_out, data_or, data_if, or_out, and_out, relation_common, add_out, mult_out, unary_out, member_out, init_out, relation_has, relation_like, relation_is, relation_is_in, access_field, access_call, access_index, primary_literal, primary_ref, primary_name, primary_slot, primary_expr, primary_list, primary_inits}
+use Rattle.cedar_syntax.proofs.FormLevels.{or_out, and_out, relation_common, add_out, mult_out, unary_out, member_out, init_out, relation_has, relation_like, relation_is, relation_is_in, access_field, access_call, access_index, primary_literal, primary_ref, primary_name, primary_slot, primary_expr, primary_list, primary_inits}
+use Rattle.cedar_grammar.proofs.MadeExpressions.{expr_made, if_made}
 use Rattle.cedar_syntax.specs.trees.Trees.{Cell, expr_of, if_of, or_of, and_of, common_of, add_of, mult_of, unary_of, member_of, has_of, like_of, is_of, rec_init_of}
 use Rattle.cedar_conversion.specs.outcome.Conversion.{outcome, form_outcome, operands, value_outcome, chain_outcome, conditional_outcome, signs_outcome, expression_at, tree_place, bodies, set_value_outcome, record_outcome, accesses_outcome, access_outcome, access_form_outcome, pairs_outcome, pair_outcome, pair_form_outcome, with_attributes, match_outcome, beside_type, type_test_outcome, type_within_outcome}
 use Rattle.cedar_conversion.specs.parts.HasSide.{right_side}
@@ -46,12 +47,12 @@ at_form e p t u h = ap (form_outcome e p) h
 
 pub gives_or_alone : (e : Extensions) (p : Option Loc) (x : Cell Or) → outcome e (at p (expr_form (expr_of x))) ≡ outcome e (located or_form x)
 unfolding form_outcome
-gives_or_alone e p x = at_form e p _ _ (expr_out _ ∙ impl_out _ ∙ data_or x)
+gives_or_alone e p x = at_form e p _ _ (expr_made x)
 
 pub gives_if : (e : Extensions) (p : Option Loc) (c x y : Cell Expr)
     → outcome e (at p (expr_form (if_of c x y))) ≡ next (both (both (value_outcome e (located expr_form c)) (value_outcome e (located expr_form x))) (value_outcome e (located expr_form y))) (conditional_outcome p)
 unfolding form_outcome
-gives_if e p c x y = at_form e p _ _ (expr_out _ ∙ impl_out _ ∙ data_if c x y)
+gives_if e p c x y = at_form e p _ _ (if_made c x y)
 
 pub gives_or : (e : Extensions) (p : Option Loc) (x : Cell And) (xs : List (Cell And))
     → outcome e (at p (or_form (or_of x xs))) ≡ chain_outcome disjunction p (parts_of (map or_operand xs)) (outcome e (located and_form x)) (operands e p (parts_of (map or_operand xs)))

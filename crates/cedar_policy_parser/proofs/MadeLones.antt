@@ -21,7 +21,8 @@ use Rattle.cedar_syntax.specs.trees.Forms.{located, parts_of, expr_form, or_form
 use Rattle.cedar_syntax.specs.trees.Located as f
 use Rattle.cedar_syntax.specs.trees.Located.{Form, at}
 use Rattle.cedar_syntax.specs.trees.Tree.{disjunction, conjunction, relation, sum, product}
-use Rattle.cedar_syntax.proofs.FormLevels.{expr_out, impl_out, data_or, data_if, or_out, and_out, relation_common, add_out, mult_out, unary_out, member_out, relation_has, relation_like, relation_is, relation_is_in, primary_expr}
+use Rattle.cedar_syntax.proofs.FormLevels.{or_out, and_out, relation_common, add_out, mult_out, unary_out, member_out, relation_has, relation_like, relation_is, relation_is_in, primary_expr}
+use Rattle.cedar_grammar.proofs.MadeExpressions.{expr_made, if_made}
 use Rattle.cedar_syntax.specs.trees.Trees.{Cell, expr_of, if_of, or_of, and_of, common_of, add_of, mult_of, unary_of, member_of, has_of, like_of, is_of}
 use Rattle.cedar_conversion.specs.parts.HasSide.{no_sign}
 use Rattle.cedar_conversion.specs.outcome.Outcome.{fault_outcome, wrong_node}
@@ -33,11 +34,11 @@ lone_at p t u h = ap (lone_form p) h
 
 pub lone_only : (p : Option Loc) (x : Cell Or) → lone (at p (expr_form (expr_of x))) ≡ lone (located or_form x)
 unfolding lone_form
-lone_only p x = lone_at p _ _ (expr_out _ ∙ impl_out _ ∙ data_or x)
+lone_only p x = lone_at p _ _ (expr_made x)
 
 pub lone_if : (p : Option Loc) (c x y : Cell Expr) → lone (at p (expr_form (if_of c x y))) ≡ fault_outcome wrong_node p
 unfolding lone_form
-lone_if p c x y = lone_at p _ _ (expr_out _ ∙ impl_out _ ∙ data_if c x y)
+lone_if p c x y = lone_at p _ _ (if_made c x y)
 
 pub lone_or : (p : Option Loc) (x : Cell And) (xs : List (Cell And)) → lone (at p (or_form (or_of x xs))) ≡ lone_form p (f.chain disjunction (located and_form x) (parts_of (map or_operand xs)))
 lone_or p x xs = lone_at p _ _ (or_out (or_of x xs) ∙ ap (λ d. f.chain disjunction (located and_form d.initial) (parts_of (map or_operand d.extended))) (out-roll-Or record { initial = x; extended = xs }))

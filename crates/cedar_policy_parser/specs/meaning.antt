@@ -2,6 +2,6 @@ pub mod Formatted
 pub mod LaidOut
 pub mod OldMeaning
 pub mod StandsWhole
-pub mod StrictPolicy
-pub mod StrictScope
+pub use Rattle.cedar_policy_conversion.specs.StrictPolicy
+pub use Rattle.cedar_policy_conversion.specs.StrictScope
 pub mod VariedTexts

@@ -33,6 +33,8 @@ use std::alloc::{AllocError, Global};
 /// them, one space between two, and a line feed behind each policy. Comments are left out, and so
 /// are leading zeros and last commas.
 ///
+///     let lines = format_policies(alloc, text, &ExtStyles::cedar(alloc)?)?;
+///
 /// It answers a text exactly if the tokens that `text` cuts into have a meaning in the strict
 /// grammar of policy sets under this table. The answer's tokens mean the same set, places aside,
 /// and a call on the answer gives the same bytes. Any other text is refused as `parse_policyset`

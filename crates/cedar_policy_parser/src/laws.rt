@@ -10,6 +10,9 @@ ghost use Rattle.cedar_expressions.specs.Keys.{repeats_key};
 ghost use Rattle.cedar_expressions.specs.Path.{is_identifier};
 ghost use Rattle.cedar_expressions.specs.Value.{Value};
 ghost use Rattle.cedar_expressions.specs.WithoutPlaces.{without_places};
+ghost use Rattle.cedar_expressions.specs.Written.{entity_text};
+ghost use Rattle.cedar_expressions.specs.declared.entity.EntityUID.{EntityUID};
+ghost use Rattle.cedar_writer.specs.WrittenPolicies.{IsWritableEntity};
 ghost use Rattle.cedar_syntax.specs.declared.loc.Loc.{Loc};
 ghost use Rattle.cedar_syntax.specs.declared.cst.Expr.{Expr as Tree};
 ghost use Rattle.cedar_syntax.specs.declared.cst.Ident.{Ident};
@@ -48,6 +51,7 @@ ghost use Rattle.cedar_conversion.specs.strict.Strict.{Means, expression};
 ghost use Rattle.cedar_conversion.specs.parts.Strings.{layout};
 
 use cedar_text::text_to_cst::laws::expressions;
+use cedar_writer::laws::entity_texts_stand;
 
 /// What a text's tree is converted to is what its tokens mean.
 pub fn converted_is_meant()
@@ -245,3 +249,13 @@ pub fn identifier_is_any()
     ensures { (text : List ℕ) (tree : Cell Ident) → IsTreeOf ReadsIdent text tree
         → (token : Lexeme) × Cuts text (token ∷ []) × (any_ident tree ≡ Ok token.text) }
 {}
+
+/// What is shown of an entity, and written of it, is read as that entity: the tree of the text,
+/// which `parse_ref` answers, is converted to it by `to_ref`.
+pub fn shown_entities_are_read()
+    ensures { (uid : EntityUID) → IsWritableEntity uid
+        → (tree : Cell Ref) × IsTreeOf ReadsRef (entity_text uid) tree
+        × (entity_outcome tree ≡ Ok uid) }
+{
+    entity_texts_stand();
+}

@@ -4,7 +4,10 @@ ghost use Rattle.cedar_lexer.specs.Token.{Lexeme};
 ghost use Rattle.cedar_lexer.specs.Cut.{Cuts};
 ghost use Rattle.cedar_expressions.specs.Meaning.{expr_meaning};
 ghost use Rattle.cedar_expressions.specs.Value.{Value};
-ghost use Rattle.cedar_policy_store.specs.PlaceFree.{Policies, set_meaning};
+ghost use Rattle.cedar_expressions.specs.WithoutPlaces.{without_places};
+ghost use Rattle.cedar_policy_store.specs.PlaceFree.{Policy, Policies, set_meaning};
+ghost use Rattle.cedar_policy_store.specs.declared.template.Template.{Template};
+ghost use Rattle.cedar_policy_conversion.specs.PolicyMeaning.{no_policies, policy_id, with_policy};
 ghost use Rattle.cedar_syntax.specs.faults.ParseErrors.{IsMemory};
 ghost use Rattle.cedar_grammar.specs.faults.Leftmost.{HasLeftmost, NumbersFit};
 ghost use Rattle.cedar_grammar.specs.grammar.LoosePolicies.{ReadsPolicies};
@@ -16,6 +19,7 @@ ghost use Rattle.cedar_conversion.specs.strict.Strict.{Means, expression};
 ghost use Rattle.cedar_policy_parser.specs.meaning.StrictPolicy.{IsPolicySet};
 ghost use Rattle.cedar_conversion.specs.strict.Table.{table_of};
 ghost use Rattle.cedar_policy_parser.specs.meaning.VariedTexts.{SpacesKeep, ParenthesesKeep};
+ghost use Rattle.cedar_writer.specs.WrittenTexts.{IsTextOf, IsTextOfPolicy, IsTextOfAll, called, numbered};
 
 use crate::policy_laws::one_set;
 use cedar_expressions::{Expr, ExprBuilder};
@@ -28,10 +32,16 @@ use std::alloc::Global;
 
 /// The expression that a text means.
 ///
+///     let styles = ExtStyles::cedar(alloc)?;
+///     let value = parse_expression(alloc, "principal.age >= 18", &styles)?;
+///
 /// It answers a value exactly if the tokens that the text cuts into have a meaning in the strict
 /// grammar under this table, and then that value, the only one. Any other text is refused with one
 /// or more faults, each at its bytes of the text: the one fault of `parse_expr`, or those of
 /// `to_expr`, all that there are. Or it is `Failure::Memory`.
+///
+/// What `expr_to_cedar` wrote under the same table is read as an expression that equals the
+/// written one.
 pub fn parse_expression(alloc: Global, text: &str, styles: &ExtStyles) -> Result<Expr, Failure>
     ensures value { IfOk result (λ e.
         (ts : List Lexeme) × Cuts text.now ts × Means
@@ -39,6 +49,8 @@ pub fn parse_expression(alloc: Global, text: &str, styles: &ExtStyles) -> Result
     ensures only { (ts : List Lexeme) (w : Value) → Cuts text.now ts
         → Means (table_of styles.now) sign_limit expression ts w
         → MatchResult result (λ e. expr_meaning e ≡ w) IsMemory }
+    ensures written { (w : Value) → IsTextOf (table_of styles.now) sign_limit w text.now
+        → MatchResult result (λ e. without_places (expr_meaning e) ≡ without_places w) IsMemory }
     ensures refused { IfErr result (λ failure. RefusesText
         (table_of styles.now) failure text.now) }
 {
@@ -47,6 +59,11 @@ pub fn parse_expression(alloc: Global, text: &str, styles: &ExtStyles) -> Result
 }
 
 /// The policies that a text means.
+///
+///     let set = parse_policyset(alloc, text, &ExtStyles::cedar(alloc)?)?;
+///     for policy in set.static_policies() {
+///         writeln!(out, "{}: {}", policy.id(), policy.as_template().effect())?;
+///     }
 ///
 /// It answers a set exactly if the tokens that the text cuts into have a meaning in the strict
 /// grammar of policy sets under this table, and then that set, the only one, places aside: its
@@ -60,6 +77,10 @@ pub fn parse_expression(alloc: Global, text: &str, styles: &ExtStyles) -> Result
 /// What a text means stays what it means where a white space character, or a comment with its line
 /// end, is put straight before a token of it, and where parentheses are put around the whole
 /// expression of a condition, or around an entity or a slot of a scope.
+///
+/// What `template_to_cedar` or `static_policy_to_cedar` wrote under the same table is read as the
+/// written policy, under the name `policy0`; what `policyset_to_cedar` wrote as the written
+/// policies, under `policy0`, `policy1` and so on.
 pub fn parse_policyset(alloc: Global, text: &str, styles: &ExtStyles) -> Result<PolicySet, Failure>
     ensures value { IfOk result (λ set.
         (ts : List Lexeme) × Cuts text.now ts × IsPolicySet
@@ -67,6 +88,13 @@ pub fn parse_policyset(alloc: Global, text: &str, styles: &ExtStyles) -> Result<
     ensures only { (ts : List Lexeme) (meant : Policies) → Cuts text.now ts
         → IsPolicySet (table_of styles.now) sign_limit ts meant
         → MatchResult result (λ set. set_meaning set ≡ meant) IsMemory }
+    ensures written_policy { (policy : Policy)
+        → IsTextOfPolicy (table_of styles.now) sign_limit policy text.now
+        → MatchResult result (λ set. set_meaning set
+        ≡ with_policy no_policies (called (policy_id 0) policy)) IsMemory }
+    ensures written_policies { (all : List Template)
+        → IsTextOfAll (table_of styles.now) sign_limit all text.now
+        → MatchResult result (λ set. set_meaning set ≡ numbered all) IsMemory }
     ensures refused { IfErr result (λ failure. RefusesSet
         (table_of styles.now) failure text.now) }
     ensures leftmost { (ts : List Lexeme) → Cuts text.now ts → NumbersFit ts

@@ -24,7 +24,7 @@ use Rattle.cedar_policy_parser.specs.faults.Alone as way
 use Rattle.cedar_policy_parser.specs.faults.Alone.{ComesTo}
 use Rattle.cedar_conversion.specs.outcome.Conversion.{tree_place}
 use Rattle.cedar_policy_parser.specs.faults.DueKinds as due
-use Rattle.cedar_policy_parser.specs.faults.DueKinds.{IsDue, IsMisspelled, IsReservedWord}
+use Rattle.cedar_policy_parser.specs.faults.DueKinds.{IsDue, IsMisspelled, IsReservedIdent}
 use Rattle.cedar_conversion.specs.parts.Entities.{entity_outcome, id_text, id_outcome, reference_outcome, slot_id, slot_outcome}
 use Rattle.cedar_conversion.specs.strict.Extensions.{Extensions}
 use Rattle.cedar_conversion.specs.outcome.Held.{Held, expression, variable, bare_name, bare_truth, bare_string}
@@ -94,7 +94,7 @@ filled : {X Y : Type 0} (P : NamedFault → Type 0) (Q : Y → Type 0) (o : Opti
 filled P Q o H p None g h t = absurd h
 filled P Q o H p (Some x) g h t = t x refl h
 
-ident_due : (P : NamedFault → Type 0) (p : Option Loc) (i : Ident) → (IsReservedWord i → P (k.reserved_identifier, p)) → (IsMisspelled i → P (k.invalid_identifier, p)) → Tells P Anything (valid_ident_of p i)
+ident_due : (P : NamedFault → Type 0) (p : Option Loc) (i : Ident) → (IsReservedIdent i → P (k.reserved_identifier, p)) → (IsMisspelled i → P (k.invalid_identifier, p)) → Tells P Anything (valid_ident_of p i)
 ident_due P p words.Principal h g = tt
 ident_due P p words.Action h g = tt
 ident_due P p words.Resource h g = tt

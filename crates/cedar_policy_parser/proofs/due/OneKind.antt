@@ -22,7 +22,7 @@ use Rattle.cedar_syntax.specs.trees.Located.{Located, Form, Parts, at, none, mor
 use Rattle.cedar_syntax.specs.trees.Tree.{Operator}
 use Rattle.cedar_conversion.specs.outcome.Conversion.{outcome, form_outcome}
 use Rattle.cedar_policy_parser.specs.faults.DueKinds as due
-use Rattle.cedar_policy_parser.specs.faults.DueKinds.{BeginsWithTruth, BeginsWithPath, BeginsWithCall, IsReservedWord, IsMisspelled, IsDue, IsDueRight, IsDueMethod, IsDueFunction, IsBehindLink, OnValue, IsDueBehind, IsDueMember, kinds_of_site, IsProduct}
+use Rattle.cedar_policy_parser.specs.faults.DueKinds.{BeginsWithTruth, BeginsWithPath, BeginsWithCall, IsReservedIdent, IsMisspelled, IsDue, IsDueRight, IsDueMethod, IsDueFunction, IsBehindLink, OnValue, IsDueBehind, IsDueMember, kinds_of_site, IsProduct}
 use Rattle.cedar_conversion.specs.strict.Extensions.{Extensions}
 use Rattle.cedar_conversion.specs.outcome.Held.{bare_name}
 use Rattle.cedar_conversion.specs.parts.Leaves.{variable_or_name}
@@ -236,7 +236,7 @@ one_right one j l (due.other a b c) (due.other d g h) = refl
 same_word : {o : Option Ident} {i c : Ident} → o ≡ Some i → o ≡ Some c → i ≡ c
 same_word h g = cc
 
-no_word : (i : Ident) → IsReservedWord i → ¬ (IsMisspelled i)
+no_word : (i : Ident) → IsReservedIdent i → ¬ (IsMisspelled i)
 no_word (words.Ident text) h g = h
 no_word (words.Invalid text) h g = h
 no_word i h g = absurd g

@@ -20,7 +20,7 @@ use Rattle.cedar_conversion.specs.outcome.Seen.{Gives, Refuses}
 use Rattle.cedar_conversion.specs.strict.Extensions.{Extensions}
 use Rattle.cedar_policy_parser.specs.meaning.Formatted.{MeansSet, MeanTheSame, IsInLines, Formats}
 use Rattle.cedar_policy_conversion.specs.Policies.{policies_outcome}
-use Rattle.cedar_policy_parser.proofs.blind.BlindSets.{sets_same}
+use Rattle.cedar_policy_parser.proofs.independent.IndependentSets.{sets_same}
 use Rattle.cedar_conversion.proofs.Loops.{take_next}
 use Rattle.cedar_policy_parser.proofs.ParsedSets.{tree_found, tree_meant}
 

@@ -20,7 +20,7 @@ use Rattle.cedar_grammar.proofs.again.SamePolicies.{policies_same}
 use Rattle.cedar_conversion.specs.strict.Extensions.{Extensions}
 use Rattle.cedar_policy_parser.specs.meaning.StrictPolicy.{IsPolicySet}
 use Rattle.cedar_policy_parser.specs.meaning.VariedTexts.{SpacesKeep, ParenthesesKeep}
-use Rattle.cedar_policy_parser.proofs.blind.BlindSets.{sets_same}
+use Rattle.cedar_policy_parser.proofs.independent.IndependentSets.{sets_same}
 use Rattle.cedar_policy_parser.proofs.meaning.Enclosed.{set_in_parentheses}
 use Rattle.cedar_policy_parser.proofs.meaning.NoSlash.{is_slash, NoneIsSlash, no_slash}
 use Rattle.cedar_policy_parser.proofs.ParsedSets.{OneCut}

@@ -21,7 +21,8 @@ use Rattle.cedar_syntax.specs.declared.cst.RecInit.{RecInit}
 use Rattle.cedar_syntax.specs.trees.Tree.{Operator, disjunction, sum, product}
 use Rattle.cedar_syntax.specs.trees.Located.{Located, Form, only, ite, chain, unary}
 use Rattle.cedar_syntax.specs.trees.Forms.{located, parts_of, expr_form, or_form, and_form, relation_form, add_form, mult_form, unary_form, member_form, access_form, primary_form, init_form, or_operand, and_operand, relation_operand, add_operand, mult_operand, listed_access, listed_expr, listed_init}
-use Rattle.cedar_syntax.proofs.FormLevels.{or_out, and_out, add_out, mult_out, unary_out, member_out, init_out, impl_out, expr_out, data_or, data_if, relation_common, relation_has, relation_like, relation_is, relation_is_in, access_field, access_call, access_index, primary_literal, primary_ref, primary_name, primary_slot, primary_expr, primary_list, primary_inits}
+use Rattle.cedar_syntax.proofs.FormLevels.{or_out, and_out, add_out, mult_out, unary_out, member_out, init_out, relation_common, relation_has, relation_like, relation_is, relation_is_in, access_field, access_call, access_index, primary_literal, primary_ref, primary_name, primary_slot, primary_expr, primary_list, primary_inits}
+use Rattle.cedar_grammar.proofs.MadeExpressions.{expr_made, if_made}
 use Rattle.cedar_grammar.specs.grammar.Place.{placed}
 use Rattle.cedar_syntax.specs.tokens.Tokens.{Spot, one}
 use Rattle.cedar_syntax.specs.trees.Trees.{Cell, expr_of, if_of, or_of, and_of, common_of, add_of, mult_of, unary_of, member_of, rec_init_of, name_of, bangs_of, dashes_of}
@@ -105,10 +106,10 @@ lone_add_holds w src ts x h s l =
     )
 
 pub expr_is : (x : Cell Or) → expr_form (expr_of x) ≡ only (located or_form x)
-expr_is x = expr_out _ ∙ impl_out _ ∙ data_or x
+expr_is x = expr_made x
 
 pub if_is : (c x y : Cell Expr) → expr_form (if_of c x y) ≡ ite (located expr_form c) (located expr_form x) (located expr_form y)
-if_is c x y = expr_out _ ∙ impl_out _ ∙ data_if c x y
+if_is c x y = if_made c x y
 
 lone_expr_holds : (w : Origin) (src : List ℕ) (ts : List Lexeme) (x : Member) → Fits w src ts → Some_of ts → FormTidy w (member_form x) → FormTidy w (expr_form (lone_expr src ts x))
 lone_expr_holds w src ts x h s l =

@@ -47,17 +47,17 @@ use Rattle.cedar_conversion.specs.parts.Strings.{layout, escape_faults}
 -- ---- identifiers
 
 -- `if true false then else in is has like`
-abbrev pub IsReservedWord : Ident → Type 0
-IsReservedWord words.If = Unit {0}
-IsReservedWord words.True = Unit {0}
-IsReservedWord words.False = Unit {0}
-IsReservedWord words.Then = Unit {0}
-IsReservedWord words.Else = Unit {0}
-IsReservedWord words.In = Unit {0}
-IsReservedWord words.Is = Unit {0}
-IsReservedWord words.Has = Unit {0}
-IsReservedWord words.Like = Unit {0}
-IsReservedWord _ = ⊥
+abbrev pub IsReservedIdent : Ident → Type 0
+IsReservedIdent words.If = Unit {0}
+IsReservedIdent words.True = Unit {0}
+IsReservedIdent words.False = Unit {0}
+IsReservedIdent words.Then = Unit {0}
+IsReservedIdent words.Else = Unit {0}
+IsReservedIdent words.In = Unit {0}
+IsReservedIdent words.Is = Unit {0}
+IsReservedIdent words.Has = Unit {0}
+IsReservedIdent words.Like = Unit {0}
+IsReservedIdent _ = ⊥
 
 -- no text is spelled so
 abbrev pub IsMisspelled : Ident → Type 0
@@ -191,7 +191,7 @@ pub data IsDueMember (e : Extensions) (n : Located) (all : Parts) : Kind → Typ
 
 pub data IsDue (e : Extensions) : Kind → Site → Type 0 where
   -- identifiers of names and fields; `__cedar`
-  reserved_word : {n : Node (Option Ident)} {i : Ident} → n.node ≡ Some i → IsReservedWord i
+  reserved_word : {n : Node (Option Ident)} {i : Ident} → n.node ≡ Some i → IsReservedIdent i
       → IsDue e k.reserved_identifier (identifier n)
   misspelled : {n : Node (Option Ident)} {i : Ident} → n.node ≡ Some i → IsMisspelled i
       → IsDue e k.invalid_identifier (identifier n)

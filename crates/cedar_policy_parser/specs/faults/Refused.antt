@@ -4,7 +4,7 @@ use Rattle.cedar_syntax.specs.declared.cst.Expr.{Expr}
 use Rattle.cedar_syntax.specs.declared.cst.Policies.{Policies}
 use Rattle.cedar_syntax.specs.declared.err.faults.Failure.{Failure}
 use Rattle.cedar_syntax.specs.trees.Forms.{located, expr_form}
-use Rattle.cedar_grammar.specs.declared.reading.expected.Narrowing.TheVariants as narrowing
+use Rattle.cedar_grammar.specs.declared.reading.expected.ClosersOnly.TheVariants as narrowing
 use Rattle.cedar_grammar.specs.faults.FirstFault.{IsRefusal}
 use Rattle.cedar_grammar.specs.grammar.Grammar.{IsTreeOf}
 use Rattle.cedar_grammar.specs.grammar.LooseExpressions.{ReadsExpr}

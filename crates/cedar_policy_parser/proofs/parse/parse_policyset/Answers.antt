@@ -2,12 +2,14 @@ use Rattle.std.proofs.Common.{inl}
 use Rattle.cedar_policy_store.specs.PlaceFree.{set_meaning}
 use Rattle.cedar_grammar.specs.faults.Leftmost.{HasLeftmost}
 use Rattle.cedar_grammar.specs.grammar.LoosePolicies.{ReadsPolicies}
+use Rattle.cedar_syntax.specs.faults.ParseErrors.{IsMemory}
 use Rattle.cedar_policy_parser.specs.faults.Refused.{RefusesSet}
 use Rattle.cedar_conversion.specs.strict.Table.{table_of}
 use Rattle.cedar_policy_parser.proofs.Parsed.{err_on, passed_on}
 use Rattle.cedar_policy_parser.proofs.ParsedSets.{tree_found, read_value, read_only, told_tree, has_tree}
 use Rattle.cedar_policy_parser.proofs.meaning.RaisedLimit.{old_set}
 use Rattle.cedar_policy_parser.proofs.meaning.VariedTexts.{spaces_clause, parentheses_clause}
+use Rattle.cedar_policy_parser.proofs.Written.{policy_written, policies_written}
 use Rattle.cedar_policy_parser.proofs.parse.parse_policyset.Goals as goal
 
 pub returns-in_err-tree-clause-only : goal.returns-in_err-tree-clause-only
@@ -53,3 +55,18 @@ returns-clause-parentheses c =
     let e = table_of c.args.styles.now in
     parentheses_clause c.at_most_one_cut.ensures e (c.one_set.ensures e) set_meaning c.args.text.now c.into_policyset.result c.utf8.text
     (read_value e set_meaning c.args.text.now c.in_ok-tree.tree c.into_policyset.result c.in_ok-tree.ensures.found c.into_policyset.ensures)
+
+pub returns-in_err-tree-clause-written_policy : goal.returns-in_err-tree-clause-written_policy
+returns-in_err-tree-clause-written_policy c p h =
+    policy_written (table_of c.args.styles.now) c.args.text.now c.from_residual.result IsMemory set_meaning (returns-in_err-tree-clause-only c) p h
+
+pub returns-clause-written_policy : goal.returns-clause-written_policy
+returns-clause-written_policy c p h = policy_written (table_of c.args.styles.now) c.args.text.now c.into_policyset.result IsMemory set_meaning (returns-clause-only c) p h
+
+pub returns-in_err-tree-clause-written_policies : goal.returns-in_err-tree-clause-written_policies
+returns-in_err-tree-clause-written_policies c all h =
+    policies_written (table_of c.args.styles.now) c.args.text.now c.from_residual.result IsMemory set_meaning (returns-in_err-tree-clause-only c) all h
+
+pub returns-clause-written_policies : goal.returns-clause-written_policies
+returns-clause-written_policies c all h =
+    policies_written (table_of c.args.styles.now) c.args.text.now c.into_policyset.result IsMemory set_meaning (returns-clause-only c) all h

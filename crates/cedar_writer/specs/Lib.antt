@@ -1,0 +1,9 @@
+pub mod Fitness
+pub mod Parts
+pub mod Spacing
+pub mod machines
+pub mod Writable
+pub mod WrittenPolicies
+pub mod WrittenTexts
+pub mod WrittenWords
+pub mod Writing

@@ -1,0 +1,9 @@
+pub mod Calls
+pub mod Lines
+pub mod Outputs
+pub mod Pending
+pub mod Policies
+pub mod Shapes
+pub mod Stepping
+pub mod Todos
+pub mod Turns

@@ -1,0 +1,8 @@
+//! Tests of the writer: operands of each level, deep values, values that no text means; and the
+//! programs of docs/USING.md.
+mod assertions;
+mod deep;
+mod levels;
+mod programs;
+mod refused;
+mod refused_policies;
