@@ -44,6 +44,15 @@ impl From<io::Error> for Stop {
     }
 }
 
+/// Why a text wasn't written. Where no call of the writer failed, the text itself did, and a text
+/// of this program only does so for want of memory: a tree that nests deep is printed by a list.
+fn cause_of(error: io::Error) -> io::Error {
+    match (error.kind(), error.raw_os_error()) {
+        (ErrorKind::Uncategorized, None) => io::Error::from(ErrorKind::OutOfMemory),
+        _ => error,
+    }
+}
+
 /// A reader, and why reading failed, if it did.
 #[derive(Drop)]
 pub struct Input<R> {
@@ -138,7 +147,7 @@ impl<W: Write> Output<W> {
         ensures written { OnOk result (IfSome (D.output text)
             (λ bytes. AreBytesWritten bytes (writing W.contents self.old self.new))) }
     {
-        let answer = self.writer.write_fmt(text);
+        let answer = self.writer.write_fmt(text).map_err(cause_of);
         self.record_answer(answer, WriterState::Written)
     }
 

@@ -1,5 +1,5 @@
 //! Runs of the program.
 mod arguments;
+mod assertions;
 mod failing;
-mod held;
 mod streams;

@@ -5,4 +5,3 @@ mod Stopping
 mod Listing
 mod PolicyShape
 mod Annotating
-mod Deepening

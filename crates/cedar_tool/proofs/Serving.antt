@@ -2,6 +2,7 @@
 use Rattle.std.proofs.Common.{◌≡◌, ◌<◌, ◌+◌, ℕ, List, [], ◌∷◌, ◌++◌, Option, Result, Ok, Err, IfOk, OnOk, map, length, take, get_or, Bor, refl, ap, subst, inl, inr}
 use Rattle.std.proofs.lemmas.List.{map_more}
 use Rattle.std.proofs.KnownBytes.{Appends-trans}
+use Rattle.std.specs.Str.{IsUtf8}
 use Rattle.std.specs.declared.io.Error.{Error}
 use Rattle.cedar_command.specs.Streams.{Writing, AreBytesWritten}
 use Rattle.cedar_layout.specs.declared.options.LayoutOptions.{LayoutOptions}
@@ -17,9 +18,8 @@ use Rattle.cedar_tool.specs.declared.request.Request.{Request}
 use Rattle.cedar_tool.specs.declared.request.Task.{Task}
 use Rattle.cedar_tool.specs.declared.request.Task.TheVariants as task
 use Rattle.cedar_tool.specs.declared.streams.Console.{Console}
-use Rattle.cedar_tool.specs.declared.texts.Unreadable.{Unreadable}
 use Rattle.cedar_tool.specs.Disks.{Files, Has, Lacks}
-use Rattle.cedar_tool.specs.Answers.{Denies, HasPolicies, Judges, IsJudged, IsUnreadable, Serves, IsServed, Tries, IsTried, TriesAll, AreTried, worse}
+use Rattle.cedar_tool.specs.Answers.{Denies, HasPolicies, Judges, IsJudged, Serves, IsServed, Tries, IsTried, TriesAll, AreTried, worse}
 use Rattle.cedar_tool.specs.Layouts.{Compares, Rewrites}
 use Rattle.cedar_tool.specs.Streams.{IsToldOn, IsWant, output_writing, output_writer}
 use Rattle.cedar_tool.proofs.Bytes.{nothing_written}
@@ -39,14 +39,14 @@ judged_by files t format table name text disk after (Ok v) w same j =
     judged files t format table name text disk after v w same j
 judged_by files t format table name text disk after (Err e) w same j = tt
 
--- bytes that aren't given to the parser
-pub unreadable_by : {D O E : Type 0} (files : D → Option Files) (contents : O → Option (List ℕ)) (t : Task) (format : Format) (table : Extensions) (name text : List ℕ) (disk after : D) (old new : Console O E) (why : Unreadable) (r : Result Verdict Error)
-    → after ≡ disk → IsUnreadable text why → IfOk r (λ v. v ≡ Refused) → OnOk r (IsToldOn contents format old new)
+-- bytes that are no text
+pub no_text_by : {D O E : Type 0} (files : D → Option Files) (contents : O → Option (List ℕ)) (t : Task) (format : Format) (table : Extensions) (name text : List ℕ) (disk after : D) (old new : Console O E) (r : Result Verdict Error)
+    → after ≡ disk → ¬ IsUtf8 text → IfOk r (λ v. v ≡ Refused) → OnOk r (IsToldOn contents format old new)
     → IfOk r (λ v. IsServed files t format table name text disk after v (output_writing contents old.output new.output))
-unreadable_by files contents t format table name text disk after old new why (Ok v) same un is told =
+no_text_by files contents t format table name text disk after old new (Ok v) same broken is told =
     let b = told_bytes contents format old new told in
-    rw is (judged files t format table name text disk after Refused (output_writing contents old.output new.output) same (b.0, Judges.unreadable b.0 why un b.1, b.2))
-unreadable_by files contents t format table name text disk after old new why (Err e) same un is told = tt
+    rw is (judged files t format table name text disk after Refused (output_writing contents old.output new.output) same (b.0, Judges.no_text b.0 broken b.1, b.2))
+no_text_by files contents t format table name text disk after old new (Err e) same broken is told = tt
 
 -- ---- a layout
 

@@ -13,7 +13,6 @@ use Rattle.cedar_conversion.specs.strict.Extensions.{Extensions}
 use Rattle.cedar_conversion.specs.strict.Table.{table_of}
 use Rattle.cedar_policy_parser.specs.meaning.Formatted.{MeansSet}
 use Rattle.cedar_policy_parser.specs.meaning.LaidOut.{IsLayoutOf}
-use Rattle.cedar_tool.specs.declared.depth.Depth.TheVariants.{Fits, Stops, TooDeep as Deep}
 use Rattle.cedar_tool.specs.declared.ending.Verdict.{Verdict}
 use Rattle.cedar_tool.specs.declared.ending.Verdict.TheVariants.{Accepted, Refused, Failed}
 use Rattle.cedar_tool.specs.declared.request.Format.{Format}
@@ -21,22 +20,10 @@ use Rattle.cedar_tool.specs.declared.request.Purpose.TheVariants as purpose
 use Rattle.cedar_tool.specs.declared.request.Request.{Request}
 use Rattle.cedar_tool.specs.declared.request.Task.{Task}
 use Rattle.cedar_tool.specs.declared.request.Task.TheVariants.{Check, List as Listing, Format as Formatting}
-use Rattle.cedar_tool.specs.declared.texts.Unreadable.{Unreadable}
-use Rattle.cedar_tool.specs.declared.texts.Unreadable.TheVariants.{NotUtf8, TooDeep}
 use Rattle.cedar_command.specs.Streams.{Writing, AreBytesWritten}
-use Rattle.cedar_tool.specs.Depths.{IsDepth}
 use Rattle.cedar_tool.specs.Disks.{Files, Has, Lacks, Puts}
 use Rattle.cedar_tool.specs.Listed.{listed_data, AreJsonLines}
 use Rattle.cedar_tool.specs.Streams.{MayHold}
-
--- bytes that the parser is given: they are UTF-8, and don't nest too deep for the stack
-abbrev pub IsReadable : List ℕ → Type 0
-IsReadable bytes = IsUtf8 bytes × (IsDepth bytes Fits ⊎ ((place : ℕ) × IsDepth bytes (Stops place)))
-
--- bytes that it isn't given
-abbrev pub IsUnreadable : List ℕ → Unreadable → Type 0
-IsUnreadable bytes NotUtf8 = ¬ IsUtf8 bytes
-IsUnreadable bytes (TooDeep place) = IsDepth bytes (Deep place)
 
 -- a text means policies that call no extension but those of a table
 abbrev pub HasMeaning : Extensions → List ℕ → Type 0
@@ -79,7 +66,7 @@ pub data Judges (task : Task) (format : Format) (table : Extensions) (name text 
       Judges task format table name text out Accepted
   refused : (told : List ℕ) → Denies task table text → MayHold format told →
       Judges task format table name text told Refused
-  unreadable : (told : List ℕ) (why : Unreadable) → IsUnreadable text why → MayHold format told →
+  no_text : (told : List ℕ) → ¬ IsUtf8 text → MayHold format told →
       Judges task format table name text told Refused
 
 -- the same of a writer of standard output, where its bytes are known

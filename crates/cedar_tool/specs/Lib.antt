@@ -1,5 +1,4 @@
 pub mod Answers
-pub mod Depths
 pub mod Disks
 pub mod Ends
 pub mod Layouts

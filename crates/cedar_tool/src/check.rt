@@ -9,12 +9,11 @@ ghost use Rattle.cedar_tool.specs.Streams.{IsToldOn, StopsRun, output_writing};
 ghost use Rattle.cedar_tool.specs.declared.ending.Verdict.TheVariants as verdict;
 ghost use Rattle.cedar_tool.specs.declared.request.Task.TheVariants as task;
 
-use crate::depth::pieces_fit;
 use crate::ending::Verdict;
-use crate::remark::{told, too_deep};
+use crate::remark::told;
 use crate::request::{Format, Request, Task};
 use crate::streams::Console;
-use crate::texts::{Named, Source, Unreadable};
+use crate::texts::{Named, Source};
 use cedar_policy_parser::err::{Failure, ParseErrors};
 use cedar_policy_parser::{ExtStyles, PolicySet, parse_policyset};
 use cedar_report::Report;
@@ -90,46 +89,30 @@ fn report_of<'a>(
     faults: &ParseErrors,
 ) -> Result<Report<'a>, AllocError> {
     match request.task {
-        Task::Check | Task::List if pieces_fit(source.text) => {
+        Task::Check | Task::List => {
             Report::beyond(alloc, source.name, source.text, faults, &request.styles)
         }
-        _ => Report::of(alloc, source.name, source.text, faults),
+        Task::Format(_, _) => Report::of(alloc, source.name, source.text, faults),
     }
 }
 
-/// Tells why bytes aren't given to the parser.
-pub(crate) fn tell_unreadable<O: Write, E: Write>(
+/// Tells of bytes that they aren't UTF-8, if they aren't.
+pub(crate) fn tell_not_utf8<O: Write, E: Write>(
     alloc: Global,
     format: Format,
     named: &Named<'_>,
-    why: Unreadable,
     console: &mut Console<O, E>,
 ) -> io::Result<Verdict>
     ensures verdict { IfOk result (λ v. v ≡ verdict.Refused) }
     ensures told { OnOk result (IsToldOn O.contents format console.old console.new) }
     ensures stops { IfErr result (StopsRun console.new) }
 {
-    match report_unreadable(alloc, named, why)? {
+    match Report::not_utf8(alloc, named.name, named.bytes)? {
         Some(report) => {
             tell(alloc, &report, format, console)?;
             Ok(Verdict::Refused)
         }
         None => Ok(Verdict::Refused),
-    }
-}
-
-/// What is told of bytes that aren't given to the parser; `None` only where there is no reason why.
-fn report_unreadable<'a>(
-    alloc: Global,
-    named: &Named<'a>,
-    why: Unreadable,
-) -> Result<Option<Report<'a>>, AllocError> {
-    match why {
-        Unreadable::NotUtf8 => Report::not_utf8(alloc, named.name, named.bytes),
-        Unreadable::TooDeep(place) => match str::from_utf8(named.bytes) {
-            Ok(text) => Ok(Some(too_deep(alloc, named.name, text, place)?)),
-            Err(_) => Ok(None),
-        },
     }
 }
 

@@ -3,7 +3,6 @@
 
 mod check;
 mod command;
-pub mod depth;
 pub mod disk;
 pub mod ending;
 mod format;

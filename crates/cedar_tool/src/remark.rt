@@ -1,28 +1,9 @@
 //! What the program itself finds in a text, where the parser has no say.
 
-use crate::depth::{BRACKETS, WEIGHT};
 use crate::request::Format;
 use cedar_report::{Extent, Finding, Lines, Report};
 use std::alloc::{AllocError, Global};
 use std::fmt;
-
-/// Why a text isn't parsed that nests too deep from a byte on.
-pub(crate) fn too_deep<'a>(
-    alloc: Global,
-    name: &'a str,
-    text: &'a str,
-    byte: usize,
-) -> Result<Report<'a>, AllocError> {
-    let lines = Lines::of(alloc, text)?;
-    let at = Extent::of(&lines, byte, byte);
-    let message = String::from_str(alloc, "policies nest too deep from here on")?;
-    let help = format!(in alloc;
-        "up to {BRACKETS} brackets may stand within one another, and in place of each {WEIGHT} \
-        accesses in a chain, or conditions of a policy"
-    )?;
-    let finding = finding(alloc, "TooDeep", Some(at), message, help.as_str())?;
-    report(alloc, name, lines, finding)
-}
 
 /// Where a text and what it is laid out as part.
 pub(crate) fn not_laid_out<'a>(

@@ -6,16 +6,17 @@ ghost use Rattle.cedar_tool.specs.Ends.{AreTreated, sources_of};
 ghost use Rattle.cedar_tool.specs.Streams.{IsWant, StopsRun, output_writing};
 ghost use Rattle.cedar_tool.specs.declared.ending.Verdict.TheVariants as verdict;
 
-use crate::check::{check, tell_unreadable};
+use crate::check::{check, tell_not_utf8};
 use crate::disk::Disk;
 use crate::ending::Verdict;
 use crate::format::{Layout, format};
 use crate::list::list;
 use crate::request::{Request, Task};
 use crate::streams::{Console, Input};
-use crate::texts::{Named, Source, text_of};
+use crate::texts::{Named, Source};
 use std::alloc::Global;
 use std::io::{self, ErrorKind, Read, Write};
+use std::str;
 
 /// The name under which standard input is told.
 const INPUT: &str = "<stdin>";
@@ -141,9 +142,9 @@ fn serve_bytes<D: Disk, O: Write, E: Write>(
     ensures stops { IfErr result (StopsRun console.new) }
 {
     let name = named.name;
-    match text_of(named.bytes) {
+    match str::from_utf8(named.bytes) {
         Ok(text) => serve_text(alloc, request, &Source { name, text }, disk, console),
-        Err(why) => tell_unreadable(alloc, request.format, named, why, console),
+        Err(_) => tell_not_utf8(alloc, request.format, named, console),
     }
 }
 

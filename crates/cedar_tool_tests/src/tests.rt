@@ -1,6 +1,5 @@
 //! Runs of `cedar`.
-mod depth;
+mod assertions;
 mod failing;
 mod files;
-mod held;
 mod runs;

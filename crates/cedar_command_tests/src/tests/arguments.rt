@@ -1,5 +1,5 @@
 //! The process's arguments.
-use super::held::{holds, made, refusal};
+use super::assertions::{holds, made, refusal};
 use cedar_command::run::{arguments, refuse_arguments};
 use cedar_command::streams::Output;
 use std::env::{Env, FillError};

@@ -1,7 +1,7 @@
 //! Streams that fail under `policies` and `format`, a stream of errors that fails, and memory that
 //! is refused before a run.
 use super::arguments::USAGE_LINE;
-use super::held::{holds, holds_for};
+use super::assertions::{holds, holds_for};
 use super::streams::{FailingReader, FailingWriter, fails_at_each_write, run_on};
 use cedar_command::run::{refuse, refuse_arguments, run};
 use cedar_command::streams::{Input, Output};

@@ -1,5 +1,5 @@
 //! Runs over readers and writers that fail, and a fault that is printed alone.
-use super::held::{holds, holds_for, made};
+use super::assertions::{holds, holds_for, made};
 use cedar_command::run::{print_fault, run};
 use cedar_command::streams::{Input, Output};
 use cedar_syntax::err::{ParseError, ToASTError, ToASTErrorKind};

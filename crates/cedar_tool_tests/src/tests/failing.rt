@@ -1,5 +1,5 @@
 //! Files and streams that fail.
-use super::held::{holds, holds_for};
+use super::assertions::{holds, holds_for};
 use super::runs::{run_on, run_on_files, shelf_of};
 use std::io::{self, ErrorKind, Read, Write};
 

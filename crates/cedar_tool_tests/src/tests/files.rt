@@ -1,5 +1,5 @@
 //! What becomes of files.
-use super::held::holds;
+use super::assertions::holds;
 use super::runs::{run_on_files, shelf_of};
 
 /// A text as `format` lays it out.

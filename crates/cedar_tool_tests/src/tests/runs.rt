@@ -1,5 +1,5 @@
 //! Runs over files in memory, and streams.
-use super::held::made;
+use super::assertions::made;
 use cedar_tool::disk::Disk;
 use cedar_tool::run::{Texts, run};
 use cedar_tool::streams::{Console, Input, Output};
