@@ -1,9 +1,9 @@
 //! Tests of the conversion and of the door above it: trees that no text gives, parts of trees,
 //! what faults hold, names of policies, deep texts, the README's example.
+mod assertions;
 mod deep;
 mod door;
 mod example;
-mod held;
 mod payloads;
 mod places;
 mod policies;

@@ -1,9 +1,10 @@
 //! Tests of the trees, the places, the faults and the values, made by hand.
+mod assertions;
 mod builder;
 mod copies;
 mod faults;
-mod held;
 mod kinds;
+mod links;
 mod names;
 mod places;
 mod reading;

@@ -1,5 +1,5 @@
 //! Texts that nest deeply.
-use super::held::{made, says};
+use super::assertions::{made, says};
 use super::round_trip::prints;
 use cedar_policy_parser::cst_to_ast::ExtStyles;
 use cedar_policy_parser::parse_expression;

@@ -1,6 +1,6 @@
 //! A program that names one crate: the modules that it passes on, the owners, and Cedar's own
 //! extensions.
-use super::held::{holds, holds_for, made};
+use super::assertions::{holds, holds_for, made};
 use cedar_policy_parser::err::{Failure, ParseErrors};
 use cedar_policy_parser::lexer::{InvalidToken, Lexer, Token, TokenKind};
 use cedar_policy_parser::loc::SourceSpan;

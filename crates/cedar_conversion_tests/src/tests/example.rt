@@ -1,5 +1,5 @@
 //! The README's example of library use.
-use super::held::{holds, holds_for};
+use super::assertions::{holds, holds_for};
 use cedar_policy_parser::err::{Failure, ParseError};
 use cedar_policy_parser::position::Position;
 use cedar_policy_parser::{ExtStyles, parse_policyset};

@@ -1,6 +1,6 @@
 //! What no text shows: where the slot stands that a fault holds, and how often a caller's function
 //! is called.
-use super::held::{holds, made, refusal};
+use super::assertions::{holds, made, refusal};
 use super::policies::{id, no_styles, policy};
 use cedar_expressions::{Place, Slot, SlotId};
 use cedar_policy_parser::cst_to_ast::{AnnotationAst, PolicyAst, PolicyImplAst};

@@ -1,5 +1,5 @@
 //! Places and words, for trees that are made by hand.
-use super::held::made;
+use super::assertions::made;
 use cedar_expressions::Text;
 use cedar_syntax::loc::{Loc, SourceSpan};
 use std::process::Abort;

@@ -1,5 +1,5 @@
 //! The conversion's calls on policies, and the names of a set's policies.
-use super::held::{agrees, holds, made};
+use super::assertions::{agrees, holds, made};
 use super::round_trip::{has_tree, tree_of};
 use cedar_expressions::Place;
 use cedar_policy_parser::cst_to_ast::{ExtStyles, PoliciesAst, PolicyAst};

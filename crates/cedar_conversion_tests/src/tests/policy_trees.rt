@@ -1,5 +1,5 @@
 //! Trees of policies that no text gives, and what hinders their conversion.
-use super::held::{holds, holds_for, made, refusal};
+use super::assertions::{holds, holds_for, made, refusal};
 use super::places::{place, text};
 use super::policies::{id, no_styles, policy};
 use super::round_trip::tree_of;

@@ -1,6 +1,6 @@
 //! The trees of texts. What a tree is printed as is read again by the same call, and is the same
 //! tree, places aside, with the same text: each test that wants a tree of a text has it from here.
-use super::held::{holds_for, made, shows};
+use super::assertions::{holds_for, made, shows};
 use cedar_syntax::cst::{Expr, Ident, Name, Policies, Policy, Primary, Ref};
 use cedar_syntax::err::Failure;
 use cedar_syntax::node::Node;

@@ -1,5 +1,5 @@
 //! Signs that no text gives: none at all, and more than a text may have.
-use super::held::{agrees, holds, made};
+use super::assertions::{agrees, holds, made};
 use super::places::text;
 use super::policies::no_styles;
 use super::texts::built;

@@ -1,5 +1,5 @@
 //! Strings that no text gives, wherever one may stand.
-use super::held::{made, refusal, says};
+use super::assertions::{made, refusal, says};
 use super::places::{place, text};
 use super::policies::{id, no_styles};
 use super::policy_trees::{parts, tells, tree};

@@ -1,6 +1,6 @@
 //! What the trees of texts hold: the places of nodes, the parts of chains, and copies of each
 //! level.
-use super::held::{holds, holds_for, made, shows_alike_and_copies};
+use super::assertions::{holds, holds_for, made, shows_alike_and_copies};
 use super::round_trip::{inside, tree_of};
 use cedar_expressions::{ExprBuilderInfallibleBuild, TryClone};
 use cedar_policy_parser::cst_to_ast::{ExprAst, ExtStyles};
@@ -36,7 +36,7 @@ fn place_of<T>(rt: &impl Abort, node: &Node<Option<T>>) -> SourceSpan {
 /// parentheses.
 fn places(rt: &impl Abort, tree: &Node<Option<Expr>>) -> Option<[SourceSpan; 3]> {
     let Expr::Expr(whole) = inside(rt, tree);
-    let ExprData::Or(or) = whole.expr.as_ref() else {
+    let ExprData::Or(or) = whole.as_ref() else {
         return None;
     };
     let relation = &inside(rt, &inside(rt, or).initial).initial;
@@ -87,7 +87,7 @@ fn compared(rt: &(impl Abort + AllocGlobal), or: &Node<Option<Or>>) -> String {
 /// The same, or the guard and the two parts of an `if`.
 fn parts(rt: &(impl Abort + AllocGlobal), tree: &Node<Option<Expr>>) -> String {
     let Expr::Expr(whole) = inside(rt, tree);
-    match whole.expr.as_ref() {
+    match whole.as_ref() {
         ExprData::Or(or) => compared(rt, or),
         ExprData::If(guard, first, other) => {
             let guard = inside(rt, guard);
@@ -127,7 +127,7 @@ fn held<'a, T: Display + TryClone + Clone + PartialEq + Drop>(
 fn copies_each_level(rt: &(impl Abort + AllocGlobal), whole: &Node<Option<Expr>>) {
     let Expr::Expr(implementation) = held(rt, whole);
     shows_alike_and_copies(rt, implementation);
-    let data = implementation.expr.as_ref();
+    let data = implementation.as_ref();
     shows_alike_and_copies(rt, data);
     let ExprData::Or(or) = data else {
         return holds_for(rt, false, &"not a chain");

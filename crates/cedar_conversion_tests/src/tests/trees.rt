@@ -1,15 +1,15 @@
 //! Trees of expressions that no text gives, and what hinders their conversion.
-use super::held::{made, refusal, says};
+use super::assertions::{made, refusal, says};
 use super::places::text;
 use super::texts::built;
 use cedar_expressions::{ExprBuilder, Var};
 use cedar_policy_parser::cst_to_ast::ExprAst;
+use cedar_syntax::Items;
 use cedar_syntax::cst::{
     Add, And, Expr, ExprData, ExprImpl, Ident, Literal, MemAccess, Member, Mult, Name, NegOp, Or,
     Primary, Relation, Slot, Str, Unary,
 };
 use cedar_syntax::node::Node;
-use cedar_syntax::{Boxed, Items};
 use std::process::Abort;
 
 /// A node without a place.
@@ -66,8 +66,7 @@ pub(super) fn related(rt: &(impl Abort + AllocGlobal), relation: Relation) -> No
         initial: node(and),
         extended: Items::new(rt.alloc()),
     };
-    let expr = made(rt, Boxed::new(rt.alloc(), ExprData::Or(node(or))));
-    node(Expr::Expr(ExprImpl { expr }))
+    node(Expr::Expr(made(rt, ExprImpl::new(rt.alloc(), ExprData::Or(node(or))))))
 }
 
 /// The primary that is this word alone.

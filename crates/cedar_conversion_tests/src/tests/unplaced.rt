@@ -1,5 +1,5 @@
 //! Trees of which a node stands elsewhere than they say, or nowhere.
-use super::held::{holds, holds_for, made, refusal, says};
+use super::assertions::{holds, holds_for, made, refusal, says};
 use super::places::place;
 use super::policies::{id, no_styles};
 use super::policy_trees::{parts, spans, tells_sides, tree};

@@ -1,6 +1,6 @@
 //! Words that no text gives: spellings that are no identifiers, and words that are spelled and so
 //! are none of the words that mean something.
-use super::held::{made, refusal, says};
+use super::assertions::{made, refusal, says};
 use super::places::{place, text};
 use super::policies::{id, no_styles};
 use super::policy_trees::{parts, spans, tells, tree, word};

@@ -1,5 +1,5 @@
 //! The builder: each call is made, and the node that it makes compared.
-use super::held::{copies, copy_of, equal, holds, list_of_two, made, refusal};
+use super::assertions::{copies, copy_of, equal, holds, list_of_two, made, refusal, shows};
 use super::names::{name, text};
 use super::shapes::{Shape, shape_of};
 use cedar_expressions::{
@@ -209,7 +209,7 @@ fn expressions_are_copied(rt: HostRuntime) {
     copies(&rt, made(&rt, record(&rt, "b", "a")));
 }
 
-const PLACE: Place = Place {
+pub(super) const PLACE: Place = Place {
     offset: 3,
     length: 4,
 };
@@ -244,7 +244,7 @@ fn equality_looks_at_no_place(rt: HostRuntime) {
 }
 
 /// A set of `?principal == ?resource`, of which the right one has a place, and `?principal`.
-fn set_of_slots(rt: &(impl Abort + AllocGlobal)) -> Expr {
+pub(super) fn set_of_slots(rt: &(impl Abort + AllocGlobal)) -> Expr {
     let left = made(rt, build(rt).slot(SlotId::Principal));
     let right = made(rt, build_at(rt).slot(SlotId::Resource));
     let equal = made(rt, build(rt).is_eq(left, right));
@@ -274,4 +274,23 @@ fn slots_from_the_left(rt: HostRuntime) {
     let slots = made(&rt, set.slots(rt.alloc()));
     holds(&rt, slots.as_slice() == SLOTS.as_slice());
     drop((set, slots));
+}
+
+/// How each expression in the set is shown, each before those in it.
+const SHOWN: [&str; 5] = [
+    "[..]",
+    "an operation on expressions",
+    "?principal",
+    "?resource",
+    "?principal",
+];
+
+#[test]
+fn expressions_within_from_the_outside(rt: HostRuntime) {
+    let set = set_of_slots(&rt);
+    for (expr, shown) in made(&rt, set.subexpressions(rt.alloc())).zip(SHOWN.iter()) {
+        shows(&rt, expr, shown);
+    }
+    holds(&rt, made(&rt, set.subexpressions(rt.alloc())).count() == 5);
+    drop(set);
 }

@@ -1,6 +1,6 @@
 //! Trees made by hand: a copy of each type equals its source, and its text under `{:#}` is that
 //! under `{}`.
-use super::held::{agrees, made, shows_alike_and_copies};
+use super::assertions::{agrees, made, shows_alike_and_copies};
 use super::names::text;
 use cedar_expressions::{AddOp, TryClone};
 use cedar_syntax::cst::{
@@ -167,10 +167,9 @@ fn products_and_their_parts_are_copied(rt: HostRuntime) {
 #[test]
 fn expressions_are_copied(rt: HostRuntime) {
     copies(&rt, choice(&rt));
-    let expr = made(&rt, Boxed::new(rt.alloc(), choice(&rt)));
-    copies(&rt, ExprImpl { expr });
-    let expr = made(&rt, Boxed::new(rt.alloc(), choice(&rt)));
-    copies(&rt, Expr::Expr(ExprImpl { expr }));
+    copies(&rt, made(&rt, ExprImpl::new(rt.alloc(), choice(&rt))));
+    let expr = made(&rt, ExprImpl::new(rt.alloc(), choice(&rt)));
+    copies(&rt, Expr::Expr(expr));
 }
 
 /// An `if` that holds nothing.
@@ -227,6 +226,6 @@ fn policies_are_copied(rt: HostRuntime) {
 
 /// An expression that holds nothing.
 fn nothing(rt: &(impl Abort + AllocGlobal)) -> Node<Option<Expr>> {
-    let expr = made(rt, Boxed::new(rt.alloc(), ExprData::Or(Node::new(None))));
-    node(Expr::Expr(ExprImpl { expr }))
+    let expr = made(rt, ExprImpl::new(rt.alloc(), ExprData::Or(Node::new(None))));
+    node(Expr::Expr(expr))
 }

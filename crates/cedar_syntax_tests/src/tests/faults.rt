@@ -1,5 +1,5 @@
 //! Faults of escapes, of texts and of trees, alone, in lists and joined.
-use super::held::{agrees, copies, equal, holds, made, refusal, says, says_and_copies};
+use super::assertions::{agrees, copies, equal, holds, made, refusal, says, says_and_copies};
 use super::names::text;
 use super::places::{POLICY, place};
 use cedar_expressions::{Items, Source};

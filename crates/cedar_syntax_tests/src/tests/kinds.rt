@@ -1,7 +1,7 @@
 //! What each kind of fault of a tree says, and the hints.
+use super::assertions::{copies, holds, holds_for, made, refusal, says_and_copies, shows};
 use super::builder::long;
 use super::faults::three_faults;
-use super::held::{copies, holds, holds_for, made, refusal, says_and_copies, shows};
 use super::names::{entity, id, internal_name, name, text};
 use cedar_expressions::{
     AnyId, Boxed, ExpressionConstructionError, Name, ReservedNameError, Slot, SlotId, UnaryOp,
@@ -366,17 +366,17 @@ fn entities_that_are_no_actions_are_told(rt: HostRuntime) {
     says_and_copies(
         &rt,
         no_actions(&rt, 1),
-        "expected an entity uid with type `Action` but got `App::User::\"a\"b\"`",
+        "expected an entity uid with type `Action` but got `App::User::\"a\\\"b\"`",
     );
     says_and_copies(
         &rt,
         no_actions(&rt, 2),
-        "expected entity uids with type `Action` but got `App::User::\"a\"b\"` and `App::User::\"a\"b\"`",
+        "expected entity uids with type `Action` but got `App::User::\"a\\\"b\"` and `App::User::\"a\\\"b\"`",
     );
     says_and_copies(
         &rt,
         no_actions(&rt, 3),
-        "expected entity uids with type `Action` but got `App::User::\"a\"b\"`, `App::User::\"a\"b\"`, and `App::User::\"a\"b\"`",
+        "expected entity uids with type `Action` but got `App::User::\"a\\\"b\"`, `App::User::\"a\\\"b\"`, and `App::User::\"a\\\"b\"`",
     );
 }
 

@@ -1,6 +1,6 @@
 //! Names, entities, words and wrappers: what is refused, how they are written, and that a copy
 //! equals its source.
-use super::held::{
+use super::assertions::{
     agrees, copies, copies_of, holds, is_copied, list_of_two, made, refusal, says, says_and_copies,
     shows,
 };
@@ -85,7 +85,7 @@ pub(super) fn entity(rt: &(impl Abort + AllocGlobal)) -> EntityUID {
 fn entities_are_written_and_copied(rt: HostRuntime) {
     let entity = entity(&rt);
     holds(&rt, entity.eid().as_str() == "a\"b");
-    says_and_copies(&rt, entity, "App::User::\"a\"b\"");
+    says_and_copies(&rt, entity, "App::User::\"a\\\"b\"");
 }
 
 #[test]

@@ -1,5 +1,5 @@
 //! Places and nodes, as a caller meets them.
-use super::held::{copies, holds, holds_for, made, refusal, says};
+use super::assertions::{copies, holds, holds_for, made, refusal, says};
 use super::names::text;
 use cedar_syntax::err::Failure;
 use cedar_syntax::loc::{Loc, SourceSpan};

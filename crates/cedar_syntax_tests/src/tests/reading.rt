@@ -1,13 +1,13 @@
 //! What the parser and the conversion make of tokens and of raw texts.
+use super::assertions::{agrees, holds, made, refusal, says};
 use super::faults::in_text;
-use super::held::{agrees, holds, made, refusal, says};
 use super::names::text;
 use super::places::{POLICY, place};
 use cedar_expressions::{Items, PatternElem, Source, Text};
 use cedar_grammar::reading::driver::{failure, large_number, next_token};
 use cedar_grammar::reading::extent::Extent;
 use cedar_grammar::reading::identifier::as_ident;
-use cedar_grammar::reading::mending::Telling;
+use cedar_grammar::reading::mending::FromRawFault;
 use cedar_grammar::reading::place::{loc_at, node_at};
 use cedar_grammar::reading::stack::Stack;
 use cedar_lexer::lexer::Lexer;
@@ -108,7 +108,7 @@ fn bad_place() -> RawFault {
 #[test]
 fn a_fault_is_told_of_its_text(rt: HostRuntime) {
     let source = source(&rt);
-    let told = made(&rt, ParseError::tell(&source, bad_place()));
+    let told = made(&rt, ParseError::from_raw(&source, bad_place()));
     let wanted = ParseError::from(in_text(&rt, bad_place(), POLICY));
     agrees(&rt, told, wanted, "a fault of the policy");
     drop(source);

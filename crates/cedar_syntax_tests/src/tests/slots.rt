@@ -1,5 +1,5 @@
 //! The slots of trees, and the variables and the slots of templates that they stand for.
-use super::held::{holds, made, refusal, says, shows};
+use super::assertions::{holds, made, refusal, says, shows};
 use super::names::text;
 use cedar_expressions::{SlotId, Var};
 use cedar_syntax::cst::Slot;

@@ -1,16 +1,16 @@
 //! Templates and static policies: their parts, their slots in order, what is refused, and that a
 //! copy equals its source.
-use super::builder::build;
-use super::held::{
+use super::assertions::{
     agrees, copies, copies_of, equal, holds, holds_for, made, refusal, says, says_and_copies, shows,
 };
+use super::builder::build;
 use super::names::text;
 use cedar_expressions::{
     AnyId, Eid, EntityType, EntityUID, Expr, ExprBuilderInfallibleBuild, Id, InternalName, Items,
     Name, NodePlace, Place, Slot, SlotId,
 };
 use cedar_policy_store::{
-    ActionConstraint, Annotation, Annotations, Effect, EntityReference, PolicyID,
+    ActionConstraint, Annotation, Annotations, Effect, EntityReference, NotStatic, PolicyID,
     PrincipalConstraint, PrincipalOrResourceConstraint, ResourceConstraint, StaticPolicy, Template,
     UnexpectedSlotError,
 };
@@ -40,7 +40,7 @@ fn typed(rt: &(impl Abort + AllocGlobal), word: &str) -> EntityType {
 }
 
 /// An entity `a` of a type.
-fn entity(rt: &(impl Abort + AllocGlobal), word: &str) -> EntityUID {
+pub(super) fn entity(rt: &(impl Abort + AllocGlobal), word: &str) -> EntityUID {
     EntityUID::from_components(typed(rt, word), Eid::new(text(rt, "a")))
 }
 
@@ -125,7 +125,7 @@ pub(super) fn policy(rt: &(impl Abort + AllocGlobal), name: &str) -> StaticPolic
 }
 
 /// A condition that is a slot at the offset 30.
-fn slot_in_condition(rt: &(impl Abort + AllocGlobal)) -> Expr {
+pub(super) fn slot_in_condition(rt: &(impl Abort + AllocGlobal)) -> Expr {
     made(
         rt,
         build(rt)
@@ -319,7 +319,8 @@ fn slots_stand_in_order(rt: HostRuntime) {
             holds(&rt, slot.place == at(*offset));
             holds(&rt, (slot.id == SlotId::Resource) == (*offset == 20));
         }
-        holds(&rt, template.first_slot() == slots.first().copied());
+        let first = made(&rt, template.first_slot(rt.alloc()));
+        holds(&rt, first == slots.first().copied());
         drop((template, slots));
     }
 }
@@ -333,13 +334,21 @@ fn a_template_without_slots_is_static(rt: HostRuntime) {
             None
         };
         let template = template(&rt, "t", (*principal, *resource), condition);
-        let first = template.first_slot();
+        let first = made(&rt, template.first_slot(rt.alloc()));
         match StaticPolicy::try_from(template) {
             Ok(policy) => {
                 holds(&rt, offsets.is_empty());
                 drop(policy);
             }
-            Err(UnexpectedSlotError::FoundSlot(slot)) => holds(&rt, first == Some(slot)),
+            Err(refused) => {
+                match refused.reason() {
+                    NotStatic::UnexpectedSlot(UnexpectedSlotError::FoundSlot(slot)) => {
+                        holds(&rt, first == Some(slot));
+                    }
+                    NotStatic::Memory(_) => holds(&rt, false),
+                }
+                drop(refused);
+            }
         }
     }
 }

@@ -1,7 +1,7 @@
 //! Texts that stand in the value and texts that are shared: what is read, copied, and handed on.
-use super::held::{copies, holds, made, says_and_copies, shows};
+use super::assertions::{copies, holds, holds_for, made, says_and_copies, shows};
 use super::names::text;
-use cedar_expressions::{OwnedText, Text};
+use cedar_expressions::{OwnedText, Text, push_escaped};
 use std::process::Abort;
 
 /// None, a short one, the longest that stands in the value and the shortest that is shared, each
@@ -62,4 +62,27 @@ fn strings_are_owned_as_they_are(rt: HostRuntime) {
         holds(&rt, owned.into_string().as_str() == *bytes);
     }
     copies(&rt, made(&rt, OwnedText::from_str(rt.alloc(), "a b")));
+}
+
+/// Texts, and the raw text of a string that means each.
+const ESCAPED: [(&str, &str); 10] = [
+    ("", ""),
+    ("a é \u{1F600}", "a é \u{1F600}"),
+    ("\"", "\\\""),
+    ("\\", "\\\\"),
+    ("'*", "'*"),
+    ("\n\r\t\0", "\\n\\r\\t\\0"),
+    ("\u{1}\u{7f}\u{9f}", "\\u{0001}\\u{007f}\\u{009f}"),
+    ("\u{85}\u{2028}\u{2029}", "\\u{0085}\\u{2028}\\u{2029}"),
+    ("\u{202e}\u{feff}\u{ad}", "\\u{202e}\\u{feff}\\u{00ad}"),
+    ("\"); permit(", "\\\"); permit("),
+];
+
+#[test]
+fn what_a_screen_acts_on_is_escaped(rt: HostRuntime) {
+    for (text, raw) in &ESCAPED {
+        let mut out = string(&rt, "<");
+        made(&rt, push_escaped(&mut out, text));
+        holds_for(&rt, out.as_str().strip_prefix('<') == Some(*raw), raw);
+    }
 }
