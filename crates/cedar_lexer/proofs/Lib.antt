@@ -5,8 +5,10 @@ pub mod Fixed
 pub mod Found
 pub mod Fronts
 pub mod Joints
+pub mod Lines
 pub mod Marks
 pub mod Padded
+pub mod Quotes
 pub mod Runs
 pub mod Skips
 pub mod Spaced

@@ -1,5 +1,6 @@
 //! The lexer: an iterator over the tokens of a text.
-ghost use Rattle.std.specs.Prelude.{◌≡◌, ◌≤◌, ◌<◌, [], length, slice_index, drop, IfSome, IfNone};
+ghost use Rattle.std.specs.Prelude.{◌≡◌, ◌≤◌, ◌<◌, [], length, slice_index, drop, true, false, IfSome, IfNone};
+ghost use Rattle.std.specs.Char.{is_whitespace};
 ghost use Rattle.std.specs.List.{prefix_len};
 ghost use Rattle.std.specs.Str.{IsCharBoundary};
 ghost use Rattle.cedar_lexer.specs.Cut.{is_in_line, IsTokenAt, Layout};
@@ -8,15 +9,18 @@ ghost use Rattle.cedar_lexer.specs.Scan.{IsSkipLen, NoSkip, NoSpelling};
 
 use crate::scan::{byte_at, spelling};
 use crate::token::{InvalidToken, Token};
+use memchr::memchr2;
 use std::marker::Model;
 
+/// How many bytes stand before the end of the line.
 fn line_len(text: &[u8]) -> usize
     ensures len { result ≡ prefix_len is_in_line text.now }
     ensures within { result ≤ length text.now }
 {
-    text.iter()
-        .take_while(|b| !(**b == b'\n' || **b == b'\r'))
-        .count()
+    match memchr2(b'\n', b'\r', text) {
+        Some(len) => len,
+        None => text.len(),
+    }
 }
 
 /// How many bytes the white space has that starts the text, past ASCII.
@@ -48,8 +52,9 @@ fn skip_len(text: &str) -> usize
     }
 }
 
-/// The first place from `from` on at which no skip starts.
-fn skips_end(text: &str, from: usize) -> usize
+/// The first place from `from` on at which no skip starts, whichever skips lie before it.
+#[cold]
+fn any_skips_end(text: &str, from: usize) -> usize
     requires { IsCharBoundary text.now from }
     ensures laid { Layout text.now from [] result }
     ensures onward { from ≤ result }
@@ -64,6 +69,49 @@ fn skips_end(text: &str, from: usize) -> usize
         }
         at += len;
     }
+}
+
+/// Whether the byte alone is a character of white space.
+fn is_blank(byte: u8) -> bool
+    ensures white { result ≡ true → (byte < 128) × (is_whitespace byte ≡ true) }
+    ensures dark { result ≡ false → byte < 128 → is_whitespace byte ≡ false }
+{
+    byte < 128 && char::from(byte).is_whitespace()
+}
+
+/// The first place from `from` on at which no white space of one byte stands.
+fn blanks_end(text: &str, from: usize) -> usize
+    requires { IsCharBoundary text.now from }
+    ensures laid { Layout text.now from [] result }
+    ensures onward { from ≤ result }
+    ensures stops { slice_index text.now result < 128
+        → is_whitespace (slice_index text.now result) ≡ false }
+    ensures boundary { IsCharBoundary text.now result }
+{
+    let bytes = text.as_bytes();
+    let mut at = from;
+    while is_blank(byte_at(bytes, at)) {
+        at += 1;
+    }
+    at
+}
+
+/// The first place from `from` on at which no skip starts. Before most tokens only white space of
+/// one byte stands: so a comment, and white space past ASCII, takes a call of its own, and the
+/// search for a comment's end burdens no other token.
+fn skips_end(text: &str, from: usize) -> usize
+    requires { IsCharBoundary text.now from }
+    ensures laid { Layout text.now from [] result }
+    ensures onward { from ≤ result }
+    ensures stops { NoSkip (drop result text.now) }
+    ensures boundary { IsCharBoundary text.now result }
+{
+    let at = blanks_end(text, from);
+    let first = byte_at(text.as_bytes(), at);
+    if first < 128 && first != b'/' {
+        return at;
+    }
+    any_skips_end(text, at)
 }
 
 /// The token that stands at `start`, if a spelling starts there.

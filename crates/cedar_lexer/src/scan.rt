@@ -118,14 +118,12 @@ fn slot(text: &[u8]) -> Option<Found>
 fn string(text: &[u8]) -> Option<Found>
     ensures { result ≡ spec.string_of (spec.string_len false text.now 1) }
 {
-    let mut escaped = false;
-    for (i, byte) in text.iter().enumerate() {
-        if escaped {
-            escaped = false;
-        } else if *byte == b'"' {
-            return Some((TokenKind::StringLit, i + 2));
-        } else {
-            escaped = *byte == b'\\';
+    let mut at = 0;
+    while let Some(byte) = text.get(at) {
+        match *byte {
+            b'"' => return Some((TokenKind::StringLit, at + 2)),
+            b'\\' => at += 2,
+            _ => at += 1,
         }
     }
     None

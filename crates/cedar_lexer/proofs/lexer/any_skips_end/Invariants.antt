@@ -1,7 +1,7 @@
 -- Skips lie from the start to here, and each step passes one more.
 use Rattle.std.proofs.Common.{◌-◌, length}
 use Rattle.cedar_lexer.proofs.Steps.{Passed}
-use Rattle.cedar_lexer.proofs.lexer.skips_end.Given as goal
+use Rattle.cedar_lexer.proofs.lexer.any_skips_end.Given as goal
 
 abbrev pub invariant-loop-from : goal.invariant-loop-from
 invariant-loop-from l = Passed l.text l.fn.from l.at
