@@ -2,7 +2,7 @@
 
 use crate::reports::{add, copies};
 use crate::values::value_text;
-use cedar_policy_store::{ActionConstraint, Annotations, PolicyID, PolicySet, Template};
+use cedar_policy_store::{Annotations, PolicyID, PolicySet, Template};
 use std::alloc::{AllocError, Global};
 
 /// A line for each policy of a set, by its name.
@@ -44,10 +44,10 @@ pub(crate) fn policy_text(
     policy: &Template,
 ) -> Result<String, AllocError> {
     let annotations = annotations_text(alloc, policy.annotations())?;
-    let action = action_text(alloc, policy.action_constraint())?;
     let condition = condition_text(alloc, policy)?;
     let (id, effect) = (policy.id(), policy.effect());
     let (principal, resource) = (policy.principal_constraint(), policy.resource_constraint());
+    let action = policy.action_constraint();
     let scope = format!(in alloc; "{principal}, {action}, {resource}")?;
     format!(in alloc; "{id} {what}:{annotations} {effect}({scope}){condition}")
 }
@@ -59,22 +59,6 @@ fn annotations_text(alloc: Global, annotations: &Annotations) -> Result<String, 
         let annotation = format!(in alloc; " @{key}(\"{value}\")")?;
         text.push_str(annotation.as_str())?;
     }
-    Ok(text)
-}
-
-/// What is asked of the action, with each entity where there may be several.
-fn action_text(alloc: Global, action: &ActionConstraint) -> Result<String, AllocError> {
-    let ActionConstraint::In(entities) = action else {
-        return format!(in alloc; "{action}");
-    };
-    let mut text = String::from_str(alloc, "action in [")?;
-    let mut comma = "";
-    for entity in entities.as_slice() {
-        let item = format!(in alloc; "{comma}{entity}")?;
-        text.push_str(item.as_str())?;
-        comma = ", ";
-    }
-    text.push(']')?;
     Ok(text)
 }
 

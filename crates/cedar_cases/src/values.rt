@@ -1,9 +1,9 @@
 //! Values of expressions as text: the calls of the builder that make them, as `is_eq(1,
 //! not(principal))`.
 //!
-//! Constants, variables and slots stand as they are written, a string with its own characters
-//! between double quotes; in a pattern `*` is any text, and a backslash stands before a star and
-//! before a backslash.
+//! Constants, variables and slots stand as they are written, a string escaped between double
+//! quotes, a record's key with its own characters; in a pattern `*` is any text, and a backslash
+//! stands before a star and before a backslash.
 
 use cedar_expressions::{
     AddOp, BinaryCall, BinaryOp, Boxed, Expr, ExprKind, Items, ListCall, NaryOp, PatternElem,

@@ -9,4 +9,5 @@ pub mod Opened
 pub mod PartsAt
 pub mod PlacesAside
 pub mod Repeats
+pub mod ShownAt
 pub mod SlotsAt

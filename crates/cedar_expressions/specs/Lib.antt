@@ -9,7 +9,9 @@ pub mod Lending
 pub mod Meaning
 pub mod Parts
 pub mod Path
+pub mod Pieces
 pub mod Placed
+pub mod Shown
 pub mod Slots
 pub mod Value
 pub mod Walks

@@ -1,5 +1,6 @@
 -- How values are written. The original fixes the words of variables and slots, names, truth
--- values, and an entity's text; the rest is this repository's own (docs/DECISIONS.md).
+-- values, and an entity's text; the rest is this repository's own (docs/DECISIONS.md). How whole
+-- expressions are shown stands in `Shown`.
 use Rattle.std.specs.Prelude.{ℕ, List, ◌++◌, if◌then◌else◌, codes}
 use Rattle.std.specs.Fmt.{signed_decimal, decimal}
 use Rattle.std.specs.Char.{encode_utf8}
@@ -21,12 +22,6 @@ use Rattle.cedar_expressions.specs.declared.errors.RecordError.{RecordError}
 use Rattle.cedar_expressions.specs.declared.errors.RecordError.TheVariants.{Memory, Construction}
 use Rattle.cedar_expressions.specs.declared.names.ReservedNameError.{ReservedNameError}
 use Rattle.cedar_expressions.specs.declared.place.Place.{Place}
-use Rattle.cedar_expressions.specs.declared.expr.Expr.{Expr}
-use Rattle.cedar_expressions.specs.declared.expr.ExprKind.{ExprKind}
-use Rattle.cedar_expressions.specs.declared.expr.ExprKind.TheOpen.{ExprKind-F}
-use Rattle.cedar_expressions.specs.declared.expr.ExprKind.TheViews.{out-ExprKind}
-use Rattle.cedar_expressions.specs.declared.expr.ListCall.{ListCall}
-use Rattle.cedar_expressions.specs.declared.expr.ListCall.TheVariants as list
 use Rattle.cedar_expressions.specs.Path.{name_text}
 use Rattle.cedar_expressions.specs.Escapes.{quoted, escaped_text}
 
@@ -59,7 +54,7 @@ entity_text entity = name_text entity.entity_type.name
 abbrev pub literal_text : Literal → List ℕ
 literal_text (literal.Bool b) = if b then codes "true" else codes "false"
 literal_text (literal.Long number) = signed_decimal number
-literal_text (literal.String text) = quoted text
+literal_text (literal.String text) = quoted (escaped_text text)
 literal_text (literal.EntityUID entity) = entity_text entity
 
 -- an element of a pattern: its character, or a star
@@ -70,26 +65,6 @@ element_text element.Wildcard = codes "*"
 abbrev pub place_text : Place → List ℕ
 place_text place = decimal place.length ++ (codes " bytes from "
     ++ (decimal place.offset ++ codes " on"))
-
--- what an expression is: a constant, a variable or a slot as it stands, all else in words
-abbrev pub list_call_text : ListCall → List ℕ
-list_call_text list.Set = codes "[..]"
-list_call_text (list.Extension function) = name_text function ++ codes "(..)"
-
-abbrev pub kind_text : ExprKind-F ExprKind Expr → List ℕ
-kind_text (ExprKind-F.Val constant) = literal_text constant
-kind_text (ExprKind-F.Var variable) = var_text variable
-kind_text (ExprKind-F.Slot id) = slot_text id
-kind_text (ExprKind-F.Ite _) = codes "if .. then .. else .."
-kind_text (ExprKind-F.Unary _ _) = codes "an operation on an expression"
-kind_text (ExprKind-F.Binary _ _) = codes "an operation on expressions"
-kind_text (ExprKind-F.Nary _ _ _) = codes "an operation on expressions"
-kind_text (ExprKind-F.Sum _ _) = codes "an operation on expressions"
-kind_text (ExprKind-F.List call _) = list_call_text call
-kind_text (ExprKind-F.Record _) = codes "{..}"
-
-abbrev pub expr_text : Expr → List ℕ
-expr_text e = kind_text (out-ExprKind e.kind)
 
 -- what refusals say
 abbrev pub duplicate_text : ExpressionConstructionError → List ℕ

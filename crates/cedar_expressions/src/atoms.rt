@@ -1,6 +1,7 @@
 //! Constants, variables, slots' names and the elements of patterns.
 ghost use Rattle.std.specs.Prelude.{◌≡◌};
 
+use crate::escape::EscapedText;
 use crate::{EntityUID, Text, TryClone};
 use std::alloc::AllocError;
 use std::fmt;
@@ -74,6 +75,7 @@ impl TryClone for PatternElem {
     }
 }
 
+/// A constant as it is written in an expression, a string and an entity's identifier with escapes.
 impl fmt::Display for Literal {
     ghost use Rattle.std.proofs.Common.{Some};
     ghost use Rattle.cedar_expressions.specs.Written.{literal_text};
@@ -84,7 +86,7 @@ impl fmt::Display for Literal {
         match self {
             Literal::Bool(truth) => write!(f, "{truth}"),
             Literal::Long(number) => write!(f, "{number}"),
-            Literal::String(text) => write!(f, "\"{text}\""),
+            Literal::String(text) => write!(f, "\"{}\"", EscapedText::new(text.as_str())),
             Literal::EntityUID(entity) => write!(f, "{entity}"),
         }
     }

@@ -10,7 +10,7 @@ ghost use Rattle.cedar_expressions.specs.Slots.{slots_in};
 ghost use Rattle.cedar_expressions.specs.Copies.{slot_copy, copied, kind_copied, HoldsCopies};
 
 use crate::stack::Stack;
-use crate::{AddOp, Boxed, Expr, ExprKind, Items, Literal, SlotEntities, SlotId, Text, TryClone};
+use crate::{Boxed, Expr, ExprKind, Items, Literal, SlotEntities, SlotId, TryClone};
 use std::alloc::{AllocError, Global};
 
 impl Expr {
@@ -130,13 +130,13 @@ fn copy_kind(
         }
         ExprKind::Sum(first, rest) => {
             let copy = copy_one(first.alloc(), copies)?;
-            Ok(ExprKind::Sum(copy, copy_terms(rest, copies)?))
+            Ok(ExprKind::Sum(copy, copy_marked(rest, copies)?))
         }
         ExprKind::List(call, items) => {
             let copy = copy_items(items, copies)?;
             Ok(ExprKind::List(call.try_clone()?, copy))
         }
-        ExprKind::Record(pairs) => Ok(ExprKind::Record(copy_pairs(pairs, copies)?)),
+        ExprKind::Record(pairs) => Ok(ExprKind::Record(copy_marked(pairs, copies)?)),
     }
 }
 
@@ -193,33 +193,19 @@ fn copy_items(items: &Items<Expr>, copies: &mut Stack<Expr>) -> Result<Items<Exp
     Ok(all)
 }
 
-fn copy_terms(
-    terms: &Items<(AddOp, Expr)>,
+/// The copies of expressions that stand behind marks: operators or keys.
+fn copy_marked<M: TryClone + Drop>(
+    items: &Items<(M, Expr)>,
     copies: &mut Stack<Expr>,
-) -> Result<Items<(AddOp, Expr)>, AllocError>
-    requires { length terms.now ≤ length copies.old }
+) -> Result<Items<(M, Expr)>, AllocError>
+    requires { length items.now ≤ length copies.old }
     ensures taken { IfOk result (λ all. copies.old ≡ map (λ t. t.1) all ++ copies.new) }
-    ensures operators { IfOk result (λ all. map (λ t. t.0) all ≡ map (λ t. t.0) terms.now) }
+    ensures marks { IfOk result (λ all. map (λ t. t.0) all ≡ map (λ t. t.0) items.now) }
 {
-    let mut all = Items::new(terms.alloc());
-    for term in terms.as_slice() {
-        all.push((term.0, take_copy(copies)))?;
-    }
-    Ok(all)
-}
-
-fn copy_pairs(
-    pairs: &Items<(Text, Expr)>,
-    copies: &mut Stack<Expr>,
-) -> Result<Items<(Text, Expr)>, AllocError>
-    requires { length pairs.now ≤ length copies.old }
-    ensures taken { IfOk result (λ all. copies.old ≡ map (λ p. p.1) all ++ copies.new) }
-    ensures keys { IfOk result (λ all. map (λ p. p.0) all ≡ map (λ p. p.0) pairs.now) }
-{
-    let mut all = Items::new(pairs.alloc());
-    for pair in pairs.as_slice() {
-        let key = pair.0.try_clone()?;
-        all.push((key, take_copy(copies)))?;
+    let mut all = Items::new(items.alloc());
+    for item in items.as_slice() {
+        let mark = item.0.try_clone()?;
+        all.push((mark, take_copy(copies)))?;
     }
     Ok(all)
 }

@@ -1,7 +1,7 @@
 //! Entities: a type, which is a name, and an id.
 ghost use Rattle.std.specs.Prelude.{◌≡◌};
 
-use crate::escape::EscapedChar;
+use crate::escape::EscapedText;
 use crate::{Name, Text, TryClone};
 use std::alloc::AllocError;
 use std::fmt;
@@ -159,10 +159,7 @@ impl fmt::Display for EntityUID {
     ghost output = { λ entity. Some (entity_text entity) };
 
     fn fmt<W: fmt::Write>(&self, f: &mut fmt::Formatter<W>) -> fmt::Result {
-        write!(f, "{}::\"", self.entity_type)?;
-        for c in self.eid.as_str().chars() {
-            EscapedChar::new(c).fmt(f)?;
-        }
-        f.write_str("\"")
+        let identifier = EscapedText::new(self.eid.as_str());
+        write!(f, "{}::\"{identifier}\"", self.entity_type)
     }
 }

@@ -8,6 +8,7 @@ ghost use Rattle.cedar_expressions.specs.Escapes as spec;
 ghost use Rattle.cedar_expressions.specs.Escapes.{escaped_text, escaped_scalar};
 ghost use Rattle.cedar_expressions.specs.EscapeForms.{StandsAs};
 
+use crate::PatternElem;
 use std::alloc::AllocError;
 use std::fmt;
 
@@ -154,6 +155,86 @@ impl fmt::Display for EscapedChar {
                 f.write_char(hex_digit(code % 16))?;
                 f.write_str("}")
             }
+        }
+    }
+}
+
+/// A text that `Display` shows as it stands between the quotes of a string that means it, as
+/// `push_escaped` writes it.
+#[derive(Clone, Copy)]
+pub struct EscapedText<'a> {
+    text: &'a str,
+}
+
+impl<'a> EscapedText<'a> {
+    /// The text, to be shown so.
+    pub fn new(text: &'a str) -> EscapedText<'a>
+        ensures { result.text.now ≡ text.now }
+    {
+        EscapedText { text }
+    }
+
+    /// The text without escapes.
+    fn as_str(&self) -> &'a str
+        ensures { result.now ≡ self.now.text.now }
+    {
+        self.text
+    }
+}
+
+impl fmt::Display for EscapedText<'_> {
+    ghost use Rattle.std.proofs.Common.{Some};
+    ghost use Rattle.cedar_expressions.specs.Escapes.{escaped_text};
+
+    ghost output = { λ shown. Some (escaped_text shown.text.now) };
+
+    fn fmt<W: fmt::Write>(&self, f: &mut fmt::Formatter<W>) -> fmt::Result {
+        for c in self.as_str().chars() {
+            EscapedChar::new(c).fmt(f)?;
+        }
+        Ok(())
+    }
+}
+
+/// A pattern that is shown as it stands between the quotes of a string.
+#[derive(Clone, Copy)]
+pub(crate) struct EscapedPattern<'a>(pub(crate) &'a [PatternElem]);
+
+impl fmt::Display for EscapedPattern<'_> {
+    ghost use Rattle.std.proofs.Common.{Some};
+    ghost use Rattle.cedar_expressions.specs.Escapes.{escaped_pattern};
+
+    ghost output = { λ shown. Some (escaped_pattern shown.0.now) };
+
+    fn fmt<W: fmt::Write>(&self, f: &mut fmt::Formatter<W>) -> fmt::Result {
+        for elem in self.0 {
+            EscapedElem(elem).fmt(f)?;
+        }
+        Ok(())
+    }
+}
+
+/// A part of a pattern that is shown as it stands between the quotes of a string.
+#[derive(Clone, Copy)]
+struct EscapedElem<'a>(&'a PatternElem);
+
+impl fmt::Display for EscapedElem<'_> {
+    ghost use Rattle.std.proofs.Common.{Some};
+    ghost use Rattle.std.specs.Str.{encode_utf8_all};
+    ghost use Rattle.cedar_expressions.specs.Escapes.{escaped_elem};
+
+    ghost output = { λ shown. Some (encode_utf8_all (escaped_elem shown.0.now)) };
+
+    fn fmt<W: fmt::Write>(&self, f: &mut fmt::Formatter<W>) -> fmt::Result {
+        match self.0 {
+            PatternElem::Char(character) => {
+                if *character == '*' {
+                    f.write_str("\\*")
+                } else {
+                    EscapedChar::new(*character).fmt(f)
+                }
+            }
+            PatternElem::Wildcard => f.write_str("*"),
         }
     }
 }

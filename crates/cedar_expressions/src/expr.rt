@@ -7,7 +7,6 @@ use crate::{
     TryClone, UnaryOp, Var,
 };
 use std::alloc::AllocError;
-use std::fmt;
 
 /// An expression: the tree of the builder calls that made it. Equality looks at no place.
 #[cycle(expr)]
@@ -178,30 +177,6 @@ impl TryClone for ListCall {
         match self {
             ListCall::Set => Ok(ListCall::Set),
             ListCall::Extension(function) => Ok(ListCall::Extension(function.try_clone()?)),
-        }
-    }
-}
-
-/// Constants, variables and slots are written as they stand, all else by what it is.
-impl fmt::Display for Expr {
-    ghost use Rattle.std.proofs.Common.{Some};
-    ghost use Rattle.cedar_expressions.specs.Written.{expr_text};
-
-    ghost output = { λ e. Some (expr_text e) };
-
-    fn fmt<W: fmt::Write>(&self, f: &mut fmt::Formatter<W>) -> fmt::Result {
-        match &self.kind {
-            ExprKind::Val(literal) => literal.fmt(f),
-            ExprKind::Var(var) => var.fmt(f),
-            ExprKind::Slot(slot) => slot.fmt(f),
-            ExprKind::Ite(_) => f.write_str("if .. then .. else .."),
-            ExprKind::Unary(_, _) => f.write_str("an operation on an expression"),
-            ExprKind::Binary(_, _) | ExprKind::Nary(_, _, _) | ExprKind::Sum(_, _) => {
-                f.write_str("an operation on expressions")
-            }
-            ExprKind::List(ListCall::Set, _) => f.write_str("[..]"),
-            ExprKind::List(ListCall::Extension(function), _) => write!(f, "{function}(..)"),
-            ExprKind::Record(_) => f.write_str("{..}"),
         }
     }
 }

@@ -6,5 +6,6 @@ pub mod Listed
 pub mod MapsByText
 pub mod NamedPolicies
 pub mod Numbers
+pub mod PolicyShown
 pub mod Removed
 pub mod ScopeSlots

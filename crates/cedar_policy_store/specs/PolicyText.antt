@@ -1,10 +1,18 @@
--- How policies and their parts are written. All of it but an effect's word, an id's own text and
+-- How policies and their parts are written. A scope and annotations are written as Cedar has them,
+-- an id as its text, a condition as `Shown` has an expression; all else but an effect's word and
 -- what a refusal says is this repository's own (docs/DECISIONS.md).
-use Rattle.std.specs.Prelude.{ℕ, List, ◌++◌, codes, length, Option, None, Some}
+use Rattle.std.specs.Prelude.{ℕ, List, ◌++◌, codes, map, Option, None, Some}
 use Rattle.std.specs.Fmt.{decimal}
-use Rattle.std.specs.FinMap.{FinMap, len}
+use Rattle.std.specs.FinMap.{FinMap, len, entries}
+use Rattle.std.specs.List.{flat_map}
 use Rattle.cedar_expressions.specs.Path.{name_text}
-use Rattle.cedar_expressions.specs.Written.{entity_text, slot_text, expr_text}
+use Rattle.cedar_expressions.specs.Shown.{comma_separated, each_behind_comma, string_text, expr_text}
+use Rattle.cedar_expressions.specs.Written.{entity_text, slot_text, var_text}
+use Rattle.cedar_expressions.specs.declared.atoms.SlotId.{SlotId}
+use Rattle.cedar_expressions.specs.declared.atoms.SlotId.TheVariants as slots
+use Rattle.cedar_expressions.specs.declared.atoms.Var.{Var}
+use Rattle.cedar_expressions.specs.declared.atoms.Var.TheVariants as var
+use Rattle.cedar_expressions.specs.declared.entity.EntityUID.{EntityUID}
 use Rattle.cedar_expressions.specs.declared.expr.Expr.{Expr}
 use Rattle.cedar_policy_store.specs.declared.annotation.Annotation.{Annotation}
 use Rattle.cedar_policy_store.specs.declared.effect.Effect.{Effect}
@@ -33,10 +41,15 @@ abbrev pub effect_text : Effect → List ℕ
 effect_text Permit = codes "permit"
 effect_text Forbid = codes "forbid"
 
-abbrev pub annotations_text : FinMap text_order Annotation → List ℕ
-annotations_text annotations = decimal (len annotations) ++ codes " annotations"
+-- an annotation with its key, as it may be written, and a space behind it
+abbrev pub annotation_text : List ℕ × Annotation → List ℕ
+annotation_text entry =
+    codes "@" ++ (entry.0 ++ (codes "(" ++ (string_text entry.1.value ++ codes ") ")))
 
--- a reference alone doesn't know whose slot it is
+abbrev pub annotations_text : FinMap text_order Annotation → List ℕ
+annotations_text annotations = flat_map annotation_text (entries annotations)
+
+-- a reference alone, and a constraint alone, don't know whose slot it is
 abbrev pub reference_text : EntityReference → List ℕ
 reference_text (EUID entity) = entity_text entity
 reference_text (Slot mark) = codes "?"
@@ -49,19 +62,44 @@ constraint_text (Is entity_type) = codes "is " ++ name_text entity_type.name
 constraint_text (IsIn entity_type reference) =
     codes "is " ++ (name_text entity_type.name ++ (codes " in " ++ reference_text reference))
 
+-- in a scope: the variable, and what is asked of it
+abbrev pub slot_variable : SlotId → Var
+slot_variable slots.Principal = var.Principal
+slot_variable slots.Resource = var.Resource
+
+abbrev pub slotted_text : SlotId → EntityReference → List ℕ
+slotted_text id (EUID entity) = entity_text entity
+slotted_text id (Slot mark) = slot_text id
+
+abbrev pub asked_of_text : SlotId → PrincipalOrResourceConstraint → List ℕ
+asked_of_text id Any = var_text (slot_variable id)
+asked_of_text id (Eq reference) =
+    var_text (slot_variable id) ++ (codes " == " ++ slotted_text id reference)
+asked_of_text id (In reference) =
+    var_text (slot_variable id) ++ (codes " in " ++ slotted_text id reference)
+asked_of_text id (Is entity_type) =
+    var_text (slot_variable id) ++ (codes " is " ++ name_text entity_type.name)
+asked_of_text id (IsIn entity_type reference) =
+    var_text (slot_variable id)
+    ++ (codes " is "
+    ++ (name_text entity_type.name ++ (codes " in " ++ slotted_text id reference)))
+
 abbrev pub principal_text : PrincipalConstraint → List ℕ
-principal_text principal = codes "principal " ++ constraint_text principal.constraint
+principal_text principal = asked_of_text slots.Principal principal.constraint
 
 abbrev pub resource_text : ResourceConstraint → List ℕ
-resource_text resource = codes "resource " ++ constraint_text resource.constraint
+resource_text resource = asked_of_text slots.Resource resource.constraint
+
+abbrev pub more_entities_text : List EntityUID → List ℕ
+more_entities_text entities = each_behind_comma (map entity_text entities)
 
 abbrev pub action_text : ActionConstraint → List ℕ
-action_text action.Any = codes "action any"
+action_text action.Any = codes "action"
 action_text (action.Eq entity) = codes "action == " ++ entity_text entity
 action_text (action.In entities) =
-    codes "action in " ++ (decimal (length entities) ++ codes " entities")
+    codes "action in [" ++ (comma_separated (map entity_text entities) ++ codes "]")
 
--- the name and the effect, then what is asked
+-- the name, the annotations and the effect, then what is asked
 abbrev pub scope_text : Template → List ℕ
 scope_text t =
     principal_text t.principal
@@ -74,7 +112,10 @@ asked_text t (Some condition) = scope_text t ++ (codes " when " ++ expr_text con
 
 abbrev pub template_text : Template → List ℕ
 template_text t =
-    (t.id ++ (codes ": " ++ (effect_text t.effect ++ codes "("))) ++ asked_text t t.condition
+    (t.id
+    ++ (codes ": "
+    ++ (annotations_text t.annotations ++ (effect_text t.effect ++ codes "("))))
+    ++ asked_text t t.condition
 
 abbrev pub set_text : PolicyMaps → List ℕ
 set_text set =

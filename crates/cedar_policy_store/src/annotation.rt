@@ -5,7 +5,7 @@ ghost use Rattle.std.specs.FinMap as map;
 ghost use Rattle.cedar_expressions.specs.Placed.{marked_place};
 ghost use Rattle.cedar_policy_store.specs.TextMap.{map_in};
 
-use cedar_expressions::{AnyId, NodePlace, OwnedText, Place, TryClone};
+use cedar_expressions::{AnyId, EscapedText, NodePlace, OwnedText, Place, TryClone};
 use std::alloc::{AllocError, Global};
 use std::collections::BTreeMap;
 use std::collections::btree_map::Iter;
@@ -188,7 +188,7 @@ impl Clone for Annotations {
     }
 }
 
-/// How many there are.
+/// Each annotation in the keys' order, as it may be written, with a space behind it: `@id("a") `.
 impl fmt::Display for Annotations {
     ghost use Rattle.std.proofs.Common.{Some};
     ghost use Rattle.cedar_policy_store.specs.PolicyText.{annotations_text};
@@ -196,6 +196,9 @@ impl fmt::Display for Annotations {
     ghost output = { λ annotations. Some (annotations_text annotations) };
 
     fn fmt<W: fmt::Write>(&self, f: &mut fmt::Formatter<W>) -> fmt::Result {
-        write!(f, "{} annotations", self.len())
+        for (key, annotation) in self.iter() {
+            write!(f, "@{key}(\"{}\") ", EscapedText::new(annotation.as_str()))?;
+        }
+        Ok(())
     }
 }

@@ -4,6 +4,7 @@ ghost use Rattle.std.specs.List.{list_all};
 ghost use Rattle.cedar_policy_store.specs.Actions.{is_action, but_actions, named_entities};
 ghost use Rattle.cedar_policy_store.specs.TemplateSlots.{reference_slot, constraint_slot};
 
+use crate::scope_text::MoreEntities;
 use cedar_expressions::{EntityType, EntityUID, Items, NodePlace, Slot, SlotId, TryClone};
 use std::alloc::{AllocError, Global};
 use std::fmt;
@@ -343,7 +344,7 @@ impl fmt::Display for EntityReference {
     }
 }
 
-/// What is asked, behind the variable that it is asked of.
+/// What is asked, behind the variable that it is asked of, with `?` for that variable's slot.
 impl fmt::Display for PrincipalOrResourceConstraint {
     ghost use Rattle.std.proofs.Common.{Some};
     ghost use Rattle.cedar_policy_store.specs.PolicyText.{constraint_text};
@@ -363,6 +364,8 @@ impl fmt::Display for PrincipalOrResourceConstraint {
     }
 }
 
+/// As a policy's scope has it: `principal`, `principal == User::"a"`, `principal is T in
+/// ?principal`.
 impl fmt::Display for PrincipalConstraint {
     ghost use Rattle.std.proofs.Common.{Some};
     ghost use Rattle.cedar_policy_store.specs.PolicyText.{principal_text};
@@ -370,10 +373,11 @@ impl fmt::Display for PrincipalConstraint {
     ghost output = { λ principal. Some (principal_text principal) };
 
     fn fmt<W: fmt::Write>(&self, f: &mut fmt::Formatter<W>) -> fmt::Result {
-        write!(f, "principal {}", self.constraint)
+        self.constraint.asked_of(SlotId::Principal).fmt(f)
     }
 }
 
+/// As a policy's scope has it: `resource`, `resource in Album::"a"`, `resource == ?resource`.
 impl fmt::Display for ResourceConstraint {
     ghost use Rattle.std.proofs.Common.{Some};
     ghost use Rattle.cedar_policy_store.specs.PolicyText.{resource_text};
@@ -381,10 +385,11 @@ impl fmt::Display for ResourceConstraint {
     ghost output = { λ resource. Some (resource_text resource) };
 
     fn fmt<W: fmt::Write>(&self, f: &mut fmt::Formatter<W>) -> fmt::Result {
-        write!(f, "resource {}", self.constraint)
+        self.constraint.asked_of(SlotId::Resource).fmt(f)
     }
 }
 
+/// As a policy's scope has it: `action`, `action == Action::"a"`, `action in [Action::"a"]`.
 impl fmt::Display for ActionConstraint {
     ghost use Rattle.std.proofs.Common.{Some};
     ghost use Rattle.cedar_policy_store.specs.PolicyText.{action_text};
@@ -393,9 +398,12 @@ impl fmt::Display for ActionConstraint {
 
     fn fmt<W: fmt::Write>(&self, f: &mut fmt::Formatter<W>) -> fmt::Result {
         match self {
-            ActionConstraint::Any => f.write_str("action any"),
+            ActionConstraint::Any => f.write_str("action"),
             ActionConstraint::Eq(entity) => write!(f, "action == {entity}"),
-            ActionConstraint::In(entities) => write!(f, "action in {} entities", entities.len()),
+            ActionConstraint::In(entities) => match entities.as_slice().split_first() {
+                None => f.write_str("action in []"),
+                Some((first, more)) => write!(f, "action in [{first}{}]", MoreEntities(more)),
+            },
         }
     }
 }

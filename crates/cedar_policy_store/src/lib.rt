@@ -11,6 +11,7 @@ mod link;
 mod listing;
 mod policy_id;
 mod policy_set;
+mod scope_text;
 mod static_policy;
 mod template;
 

@@ -244,6 +244,7 @@ impl Clone for StaticPolicy {
     }
 }
 
+/// As its template.
 impl fmt::Display for StaticPolicy {
     ghost use Rattle.std.proofs.Common.{Some};
     ghost use Rattle.cedar_policy_store.specs.PolicyText.{template_text};

@@ -207,7 +207,11 @@ impl Clone for Template {
     }
 }
 
-/// The name, and the effect with what is asked.
+/// The name, and the whole policy: its annotations, its effect and its scope as they are written,
+/// and behind `when` the condition by its builder calls, as `Display` shows an expression:
+/// `policy0: @id("a") permit(principal == User::"a", action, resource) when get_attr(context,
+/// "mfa")`. But for places nothing is left out. It fails where memory to show the condition is
+/// wanting. (`template_to_cedar` gives Cedar text.)
 impl fmt::Display for Template {
     ghost use Rattle.std.proofs.Common.{Some};
     ghost use Rattle.cedar_policy_store.specs.PolicyText.{template_text};
@@ -215,7 +219,7 @@ impl fmt::Display for Template {
     ghost output = { λ template. Some (template_text template) };
 
     fn fmt<W: fmt::Write>(&self, f: &mut fmt::Formatter<W>) -> fmt::Result {
-        write!(f, "{}: {}(", self.id, self.effect)?;
+        write!(f, "{}: {}{}(", self.id, self.annotations, self.effect)?;
         write!(f, "{}, {}, {})", self.principal, self.action, self.resource)?;
         match &self.condition {
             Some(condition) => write!(f, " when {condition}"),

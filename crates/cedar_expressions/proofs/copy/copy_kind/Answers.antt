@@ -37,13 +37,13 @@ pub returns-in_ok-copy_items-in-Nary-clause-left : goal.returns-in_ok-copy_items
 returns-in_ok-copy_items-in-Nary-clause-left c = λ rest holds.
     (nary_copied c.args.entities.now c.args.kind.now c.in-Nary.op c.in-Nary.first c.in_ok-copy-in-Nary.copy c.in-Nary.rest c.in_ok-copy_items-in-Nary.field-0 c.args.copies.now c.copy_one-in-Nary.new.copies c.copy_items.new.copies rest c.in-Nary.is holds c.in_ok-copy-in-Nary.ensures c.in_ok-copy_items-in-Nary.ensures.taken c.in_ok-copy_items-in-Nary.ensures.number).1
 
-pub returns-in_ok-copy_terms-in-Sum-clause-copy : goal.returns-in_ok-copy_terms-in-Sum-clause-copy
-returns-in_ok-copy_terms-in-Sum-clause-copy c = λ rest holds.
-    (sum_copied c.args.entities.now c.args.kind.now c.in-Sum.first c.in_ok-copy-in-Sum.copy c.in-Sum.rest c.in_ok-copy_terms-in-Sum.field-0 c.args.copies.now c.copy_one-in-Sum.new.copies c.copy_terms.new.copies rest c.in-Sum.is holds c.in_ok-copy-in-Sum.ensures c.in_ok-copy_terms-in-Sum.ensures.taken c.in_ok-copy_terms-in-Sum.ensures.operators).0
+pub returns-in_ok-copy_marked-in-Sum-clause-copy : goal.returns-in_ok-copy_marked-in-Sum-clause-copy
+returns-in_ok-copy_marked-in-Sum-clause-copy c = λ rest holds.
+    (sum_copied c.args.entities.now c.args.kind.now c.in-Sum.first c.in_ok-copy-in-Sum.copy c.in-Sum.rest c.in_ok-copy_marked-in-Sum.field-0 c.args.copies.now c.copy_one-in-Sum.new.copies c.copy_marked.new.copies rest c.in-Sum.is holds c.in_ok-copy-in-Sum.ensures c.in_ok-copy_marked-in-Sum.ensures.taken c.in_ok-copy_marked-in-Sum.ensures.marks).0
 
-pub returns-in_ok-copy_terms-in-Sum-clause-left : goal.returns-in_ok-copy_terms-in-Sum-clause-left
-returns-in_ok-copy_terms-in-Sum-clause-left c = λ rest holds.
-    (sum_copied c.args.entities.now c.args.kind.now c.in-Sum.first c.in_ok-copy-in-Sum.copy c.in-Sum.rest c.in_ok-copy_terms-in-Sum.field-0 c.args.copies.now c.copy_one-in-Sum.new.copies c.copy_terms.new.copies rest c.in-Sum.is holds c.in_ok-copy-in-Sum.ensures c.in_ok-copy_terms-in-Sum.ensures.taken c.in_ok-copy_terms-in-Sum.ensures.operators).1
+pub returns-in_ok-copy_marked-in-Sum-clause-left : goal.returns-in_ok-copy_marked-in-Sum-clause-left
+returns-in_ok-copy_marked-in-Sum-clause-left c = λ rest holds.
+    (sum_copied c.args.entities.now c.args.kind.now c.in-Sum.first c.in_ok-copy-in-Sum.copy c.in-Sum.rest c.in_ok-copy_marked-in-Sum.field-0 c.args.copies.now c.copy_one-in-Sum.new.copies c.copy_marked.new.copies rest c.in-Sum.is holds c.in_ok-copy-in-Sum.ensures c.in_ok-copy_marked-in-Sum.ensures.taken c.in_ok-copy_marked-in-Sum.ensures.marks).1
 
 pub returns-in_ok-try_clone-in-List-clause-copy : goal.returns-in_ok-try_clone-in-List-clause-copy
 returns-in_ok-try_clone-in-List-clause-copy c = λ rest holds.
@@ -54,10 +54,10 @@ pub returns-in_ok-try_clone-in-List-clause-left : goal.returns-in_ok-try_clone-i
 returns-in_ok-try_clone-in-List-clause-left c = λ rest holds.
     (list_copied c.args.entities.now c.args.kind.now c.in-List.call c.in-List.items c.in_ok-copy-in-List.copy c.args.copies.now c.copy_items-in-List.new.copies rest c.in-List.is holds c.in_ok-copy-in-List.ensures.taken c.in_ok-copy-in-List.ensures.number).1
 
-pub returns-in_ok-copy_pairs-in-Record-clause-copy : goal.returns-in_ok-copy_pairs-in-Record-clause-copy
-returns-in_ok-copy_pairs-in-Record-clause-copy c = λ rest holds.
-    (record_copied c.args.entities.now c.args.kind.now c.in-Record.pairs c.in_ok-copy_pairs-in-Record.field-0 c.args.copies.now c.copy_pairs.new.copies rest c.in-Record.is holds c.in_ok-copy_pairs-in-Record.ensures.taken c.in_ok-copy_pairs-in-Record.ensures.keys).0
+pub returns-in_ok-copy_marked-in-Record-clause-copy : goal.returns-in_ok-copy_marked-in-Record-clause-copy
+returns-in_ok-copy_marked-in-Record-clause-copy c = λ rest holds.
+    (record_copied c.args.entities.now c.args.kind.now c.in-Record.pairs c.in_ok-copy_marked-in-Record.field-0 c.args.copies.now c.copy_marked-in-Record.new.copies rest c.in-Record.is holds c.in_ok-copy_marked-in-Record.ensures.taken c.in_ok-copy_marked-in-Record.ensures.marks).0
 
-pub returns-in_ok-copy_pairs-in-Record-clause-left : goal.returns-in_ok-copy_pairs-in-Record-clause-left
-returns-in_ok-copy_pairs-in-Record-clause-left c = λ rest holds.
-    (record_copied c.args.entities.now c.args.kind.now c.in-Record.pairs c.in_ok-copy_pairs-in-Record.field-0 c.args.copies.now c.copy_pairs.new.copies rest c.in-Record.is holds c.in_ok-copy_pairs-in-Record.ensures.taken c.in_ok-copy_pairs-in-Record.ensures.keys).1
+pub returns-in_ok-copy_marked-in-Record-clause-left : goal.returns-in_ok-copy_marked-in-Record-clause-left
+returns-in_ok-copy_marked-in-Record-clause-left c = λ rest holds.
+    (record_copied c.args.entities.now c.args.kind.now c.in-Record.pairs c.in_ok-copy_marked-in-Record.field-0 c.args.copies.now c.copy_marked-in-Record.new.copies rest c.in-Record.is holds c.in_ok-copy_marked-in-Record.ensures.taken c.in_ok-copy_marked-in-Record.ensures.marks).1
