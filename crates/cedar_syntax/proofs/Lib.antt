@@ -7,6 +7,7 @@ pub mod InsideWeights
 pub mod Joining
 pub mod Layouts
 pub mod Levels
+pub mod Newest
 pub mod Printing
 pub mod Texts
 pub mod Unfolding

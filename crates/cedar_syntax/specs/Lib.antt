@@ -5,3 +5,4 @@ pub mod faults
 pub mod tokens
 pub mod places
 pub mod trees
+pub mod Stacks

@@ -3,7 +3,8 @@
 use Rattle.std.specs.Prelude.{ℕ, List, [], ◌++◌, ◌==◌, codes, unwrap_or, slice_get, Option, Some, None, if◌then◌else◌}
 use Rattle.std.specs.Fmt.{decimal}
 use Rattle.cedar_expressions.specs.Path.{name_text}
-use Rattle.cedar_expressions.specs.Written.{expr_text, unary_op_text, var_text, duplicate_text, reserved_text}
+use Rattle.cedar_expressions.specs.Shown.{expr_text}
+use Rattle.cedar_expressions.specs.Written.{unary_op_text, var_text, duplicate_text, reserved_text}
 use Rattle.cedar_syntax.specs.declared.cst.Ident.{Ident}
 use Rattle.cedar_syntax.specs.printing.Printed.{tokens_text, printed, rel_op_texts}
 use Rattle.cedar_syntax.specs.trees.Unplaced.{ident_tree, variable_def_tree}

@@ -43,7 +43,8 @@ expr_in n = node_inside (λ x. x ∷ []) n
 abbrev pub init_inside : RecInit → List Expr
 init_inside i = expr_in i.0 ++ expr_in i.1
 
-abbrev pub in_primary : Primary-F Expr ExprData MemAccess Primary Relation Add And ExprImpl Linked Member Mult Or RecInit Unary → List Expr
+abbrev pub in_primary : Primary-F Expr ExprData MemAccess Primary Relation Add And ExprImpl Linked
+    Member Mult Or RecInit Unary → List Expr
 in_primary (Primary-F.«Primary::Expr» n) = expr_in n
 in_primary (Primary-F.EList ns) = all_inside expr_in ns
 in_primary (Primary-F.RInits ns) = all_inside (node_inside init_inside) ns
@@ -52,7 +53,8 @@ in_primary other = []
 abbrev pub primary_inside : Primary → List Expr
 primary_inside p = in_primary (out-Primary p)
 
-abbrev pub in_access : MemAccess-F Expr ExprData MemAccess Primary Relation Add And ExprImpl Linked Member Mult Or RecInit Unary → List Expr
+abbrev pub in_access : MemAccess-F Expr ExprData MemAccess Primary Relation Add And ExprImpl Linked
+    Member Mult Or RecInit Unary → List Expr
 in_access (MemAccess-F.Field n) = []
 in_access (MemAccess-F.Call ns) = all_inside expr_in ns
 in_access (MemAccess-F.Index n) = expr_in n
@@ -75,7 +77,8 @@ abbrev pub add_inside : Add → List Expr
 add_inside a = node_inside mult_inside (out-Add a).initial
     ++ all_inside (operand_inside mult_inside) (out-Add a).extended
 
-abbrev pub in_relation : Relation-F Expr ExprData MemAccess Primary Relation Add And ExprImpl Linked Member Mult Or RecInit Unary → List Expr
+abbrev pub in_relation : Relation-F Expr ExprData MemAccess Primary Relation Add And ExprImpl
+    Linked Member Mult Or RecInit Unary → List Expr
 in_relation (Relation-F.Common initial extended) =
     node_inside add_inside initial ++ all_inside (operand_inside add_inside) extended
 in_relation (Relation-F.Has target right) =
@@ -97,7 +100,8 @@ abbrev pub or_inside : Or → List Expr
 or_inside o = node_inside and_inside (out-Or o).initial
     ++ all_inside (node_inside and_inside) (out-Or o).extended
 
-abbrev pub in_data : ExprData-F Expr ExprData MemAccess Primary Relation Add And ExprImpl Linked Member Mult Or RecInit Unary → List Expr
+abbrev pub in_data : ExprData-F Expr ExprData MemAccess Primary Relation Add And ExprImpl Linked
+    Member Mult Or RecInit Unary → List Expr
 in_data (ExprData-F.Or n) = node_inside or_inside n
 in_data (ExprData-F.If a b c) = expr_in a ++ (expr_in b ++ expr_in c)
 
@@ -109,7 +113,8 @@ abbrev pub linked_inside : Linked → List Expr
 linked_inside l = data_inside l.content
     ++ option_inside (λ x. x ∷ []) l.next
 
-abbrev pub in_expr : Expr-F Expr ExprData MemAccess Primary Relation Add And ExprImpl Linked Member Mult Or RecInit Unary → List Expr
+abbrev pub in_expr : Expr-F Expr ExprData MemAccess Primary Relation Add And ExprImpl Linked Member
+    Mult Or RecInit Unary → List Expr
 in_expr (Expr-F.«Expr::Expr» i) = linked_inside (out-ExprImpl i).expr
 
 abbrev pub expr_inside : Expr → List Expr

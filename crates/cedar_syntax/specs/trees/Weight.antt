@@ -95,46 +95,74 @@ unary_step u = in_cell u.item
 -- ---- trees
 
 unfoldable pub expr_weight : Expr → ℕ
-expr_weight = fold-Expr ℕ ℕ ℕ ℕ ℕ ℕ ℕ ℕ ℕ ℕ ℕ ℕ ℕ ℕ expr_step data_step access_step primary_step relation_step add_step and_step impl_step linked_step member_step mult_step or_step init_step unary_step
+expr_weight = fold-Expr ℕ ℕ ℕ ℕ ℕ ℕ ℕ ℕ ℕ ℕ ℕ ℕ ℕ ℕ
+    expr_step data_step access_step primary_step relation_step add_step and_step impl_step
+    linked_step member_step mult_step or_step init_step unary_step
 
 unfoldable pub data_weight : ExprData → ℕ
-data_weight = fold-ExprData ℕ ℕ ℕ ℕ ℕ ℕ ℕ ℕ ℕ ℕ ℕ ℕ ℕ ℕ expr_step data_step access_step primary_step relation_step add_step and_step impl_step linked_step member_step mult_step or_step init_step unary_step
+data_weight = fold-ExprData ℕ ℕ ℕ ℕ ℕ ℕ ℕ ℕ ℕ ℕ ℕ ℕ ℕ ℕ
+    expr_step data_step access_step primary_step relation_step add_step and_step impl_step
+    linked_step member_step mult_step or_step init_step unary_step
 
 unfoldable pub access_weight : MemAccess → ℕ
-access_weight = fold-MemAccess ℕ ℕ ℕ ℕ ℕ ℕ ℕ ℕ ℕ ℕ ℕ ℕ ℕ ℕ expr_step data_step access_step primary_step relation_step add_step and_step impl_step linked_step member_step mult_step or_step init_step unary_step
+access_weight = fold-MemAccess ℕ ℕ ℕ ℕ ℕ ℕ ℕ ℕ ℕ ℕ ℕ ℕ ℕ ℕ
+    expr_step data_step access_step primary_step relation_step add_step and_step impl_step
+    linked_step member_step mult_step or_step init_step unary_step
 
 unfoldable pub primary_weight : Primary → ℕ
-primary_weight = fold-Primary ℕ ℕ ℕ ℕ ℕ ℕ ℕ ℕ ℕ ℕ ℕ ℕ ℕ ℕ expr_step data_step access_step primary_step relation_step add_step and_step impl_step linked_step member_step mult_step or_step init_step unary_step
+primary_weight = fold-Primary ℕ ℕ ℕ ℕ ℕ ℕ ℕ ℕ ℕ ℕ ℕ ℕ ℕ ℕ
+    expr_step data_step access_step primary_step relation_step add_step and_step impl_step
+    linked_step member_step mult_step or_step init_step unary_step
 
 unfoldable pub relation_weight : Relation → ℕ
-relation_weight = fold-Relation ℕ ℕ ℕ ℕ ℕ ℕ ℕ ℕ ℕ ℕ ℕ ℕ ℕ ℕ expr_step data_step access_step primary_step relation_step add_step and_step impl_step linked_step member_step mult_step or_step init_step unary_step
+relation_weight = fold-Relation ℕ ℕ ℕ ℕ ℕ ℕ ℕ ℕ ℕ ℕ ℕ ℕ ℕ ℕ
+    expr_step data_step access_step primary_step relation_step add_step and_step impl_step
+    linked_step member_step mult_step or_step init_step unary_step
 
 unfoldable pub add_weight : Add → ℕ
-add_weight = fold-Add ℕ ℕ ℕ ℕ ℕ ℕ ℕ ℕ ℕ ℕ ℕ ℕ ℕ ℕ expr_step data_step access_step primary_step relation_step add_step and_step impl_step linked_step member_step mult_step or_step init_step unary_step
+add_weight = fold-Add ℕ ℕ ℕ ℕ ℕ ℕ ℕ ℕ ℕ ℕ ℕ ℕ ℕ ℕ
+    expr_step data_step access_step primary_step relation_step add_step and_step impl_step
+    linked_step member_step mult_step or_step init_step unary_step
 
 unfoldable pub and_weight : And → ℕ
-and_weight = fold-And ℕ ℕ ℕ ℕ ℕ ℕ ℕ ℕ ℕ ℕ ℕ ℕ ℕ ℕ expr_step data_step access_step primary_step relation_step add_step and_step impl_step linked_step member_step mult_step or_step init_step unary_step
+and_weight = fold-And ℕ ℕ ℕ ℕ ℕ ℕ ℕ ℕ ℕ ℕ ℕ ℕ ℕ ℕ
+    expr_step data_step access_step primary_step relation_step add_step and_step impl_step
+    linked_step member_step mult_step or_step init_step unary_step
 
 unfoldable pub impl_weight : ExprImpl → ℕ
-impl_weight = fold-ExprImpl ℕ ℕ ℕ ℕ ℕ ℕ ℕ ℕ ℕ ℕ ℕ ℕ ℕ ℕ expr_step data_step access_step primary_step relation_step add_step and_step impl_step linked_step member_step mult_step or_step init_step unary_step
+impl_weight = fold-ExprImpl ℕ ℕ ℕ ℕ ℕ ℕ ℕ ℕ ℕ ℕ ℕ ℕ ℕ ℕ
+    expr_step data_step access_step primary_step relation_step add_step and_step impl_step
+    linked_step member_step mult_step or_step init_step unary_step
 
 unfoldable pub linked_weight : Linked → ℕ
-linked_weight = fold-Linked ℕ ℕ ℕ ℕ ℕ ℕ ℕ ℕ ℕ ℕ ℕ ℕ ℕ ℕ expr_step data_step access_step primary_step relation_step add_step and_step impl_step linked_step member_step mult_step or_step init_step unary_step
+linked_weight = fold-Linked ℕ ℕ ℕ ℕ ℕ ℕ ℕ ℕ ℕ ℕ ℕ ℕ ℕ ℕ
+    expr_step data_step access_step primary_step relation_step add_step and_step impl_step
+    linked_step member_step mult_step or_step init_step unary_step
 
 unfoldable pub member_weight : Member → ℕ
-member_weight = fold-Member ℕ ℕ ℕ ℕ ℕ ℕ ℕ ℕ ℕ ℕ ℕ ℕ ℕ ℕ expr_step data_step access_step primary_step relation_step add_step and_step impl_step linked_step member_step mult_step or_step init_step unary_step
+member_weight = fold-Member ℕ ℕ ℕ ℕ ℕ ℕ ℕ ℕ ℕ ℕ ℕ ℕ ℕ ℕ
+    expr_step data_step access_step primary_step relation_step add_step and_step impl_step
+    linked_step member_step mult_step or_step init_step unary_step
 
 unfoldable pub mult_weight : Mult → ℕ
-mult_weight = fold-Mult ℕ ℕ ℕ ℕ ℕ ℕ ℕ ℕ ℕ ℕ ℕ ℕ ℕ ℕ expr_step data_step access_step primary_step relation_step add_step and_step impl_step linked_step member_step mult_step or_step init_step unary_step
+mult_weight = fold-Mult ℕ ℕ ℕ ℕ ℕ ℕ ℕ ℕ ℕ ℕ ℕ ℕ ℕ ℕ
+    expr_step data_step access_step primary_step relation_step add_step and_step impl_step
+    linked_step member_step mult_step or_step init_step unary_step
 
 unfoldable pub or_weight : Or → ℕ
-or_weight = fold-Or ℕ ℕ ℕ ℕ ℕ ℕ ℕ ℕ ℕ ℕ ℕ ℕ ℕ ℕ expr_step data_step access_step primary_step relation_step add_step and_step impl_step linked_step member_step mult_step or_step init_step unary_step
+or_weight = fold-Or ℕ ℕ ℕ ℕ ℕ ℕ ℕ ℕ ℕ ℕ ℕ ℕ ℕ ℕ
+    expr_step data_step access_step primary_step relation_step add_step and_step impl_step
+    linked_step member_step mult_step or_step init_step unary_step
 
 unfoldable pub init_weight : RecInit → ℕ
-init_weight = fold-RecInit ℕ ℕ ℕ ℕ ℕ ℕ ℕ ℕ ℕ ℕ ℕ ℕ ℕ ℕ expr_step data_step access_step primary_step relation_step add_step and_step impl_step linked_step member_step mult_step or_step init_step unary_step
+init_weight = fold-RecInit ℕ ℕ ℕ ℕ ℕ ℕ ℕ ℕ ℕ ℕ ℕ ℕ ℕ ℕ
+    expr_step data_step access_step primary_step relation_step add_step and_step impl_step
+    linked_step member_step mult_step or_step init_step unary_step
 
 unfoldable pub unary_weight : Unary → ℕ
-unary_weight = fold-Unary ℕ ℕ ℕ ℕ ℕ ℕ ℕ ℕ ℕ ℕ ℕ ℕ ℕ ℕ expr_step data_step access_step primary_step relation_step add_step and_step impl_step linked_step member_step mult_step or_step init_step unary_step
+unary_weight = fold-Unary ℕ ℕ ℕ ℕ ℕ ℕ ℕ ℕ ℕ ℕ ℕ ℕ ℕ ℕ
+    expr_step data_step access_step primary_step relation_step add_step and_step impl_step
+    linked_step member_step mult_step or_step init_step unary_step
 
 -- an expression that may be there, with those that wait behind it
 abbrev pub waiting_weight : Option Expr → ℕ

@@ -278,8 +278,8 @@ fn slots_from_the_left(rt: HostRuntime) {
 
 /// How each expression in the set is shown, each before those in it.
 const SHOWN: [&str; 5] = [
-    "[..]",
-    "an operation on expressions",
+    "set(is_eq(?principal, ?resource), ?principal)",
+    "is_eq(?principal, ?resource)",
     "?principal",
     "?resource",
     "?principal",

@@ -9,13 +9,13 @@ use cedar_grammar::reading::extent::Extent;
 use cedar_grammar::reading::identifier::as_ident;
 use cedar_grammar::reading::mending::FromRawFault;
 use cedar_grammar::reading::place::{loc_at, node_at};
-use cedar_grammar::reading::stack::Stack;
 use cedar_lexer::lexer::Lexer;
 use cedar_lexer::token::{Token, TokenKind};
 use cedar_syntax::cst::Ident;
 use cedar_syntax::err::{ParseError, RawFault};
 use cedar_syntax::loc::SourceSpan;
 use cedar_syntax::node::Node;
+use cedar_syntax::stack::Stack;
 use cedar_syntax::unescape::{to_pattern, to_unescaped_string};
 use std::process::Abort;
 

@@ -379,8 +379,8 @@ fn a_template_has_its_parts(rt: HostRuntime) {
         whole.effect() == Effect::Permit && whole.annotations().len() == 1,
     );
     shows(&rt, whole.principal_constraint(), "principal is T");
-    shows(&rt, whole.action_constraint(), "action any");
-    shows(&rt, whole.resource_constraint(), "resource == ?");
+    shows(&rt, whole.action_constraint(), "action");
+    shows(&rt, whole.resource_constraint(), "resource == ?resource");
     agrees(
         &rt,
         whole.non_scope_constraints().is_some(),
@@ -390,7 +390,7 @@ fn a_template_has_its_parts(rt: HostRuntime) {
     says_and_copies(
         &rt,
         whole,
-        "t: permit(principal is T, action any, resource == ?) when ?principal",
+        "t: @a(\"x\") permit(principal is T, action, resource == ?resource) when ?principal",
     );
 }
 
@@ -428,12 +428,12 @@ fn static_policies_are_their_templates(rt: HostRuntime) {
     shows(
         &rt,
         policy.as_template(),
-        "p: permit(principal any, action any, resource any)",
+        "p: @a(\"x\") permit(principal, action, resource)",
     );
     says_and_copies(
         &rt,
         policy,
-        "p: permit(principal any, action any, resource any)",
+        "p: @a(\"x\") permit(principal, action, resource)",
     );
     let held = Template::from(self::policy(&rt, "p"));
     agrees(&rt, held, plain(&rt, "p"), "the template");
