@@ -12,12 +12,13 @@ use Rattle.cedar_expressions.specs.declared.atoms.Var.{Var}
 use Rattle.cedar_conversion.specs.strict.Extensions.{Extensions}
 use Rattle.cedar_conversion.specs.outcome.Held.{Held, expression, bare_name, as_expression}
 use Rattle.cedar_conversion.specs.parts.Members.{Access, field, call, index, accesses_of, some_accesses, name_accesses}
-use Rattle.cedar_conversion.specs.outcome.Outcome.{Outcome, fault_outcome, next, variable_call, no_methods, invalid_access}
+use Rattle.cedar_conversion.specs.outcome.Detail as detail
+use Rattle.cedar_conversion.specs.outcome.Outcome.{Outcome, detailed_outcome, next, variable_call, no_methods, invalid_access}
 use Rattle.cedar_conversion.specs.outcome.Seen.{Refuses, Gives}
 use Rattle.cedar_conversion.specs.machines.Applied.{after_field, begins_call, called_outcome, called_variable, is_value, left_outcome, seen_access, waiting}
-use Rattle.cedar_conversion.specs.machines.Views.{TellsAlone, plain}
+use Rattle.cedar_conversion.specs.machines.Views.{TellsOne, plain}
 use Rattle.cedar_conversion.proofs.Loops.{drop_next, drop_whole}
-use Rattle.cedar_conversion.proofs.Outcomes.{refused_at, refuses, refused_next}
+use Rattle.cedar_conversion.proofs.Outcomes.{refused_with, refuses_with, refused_next}
 
 -- ---- one step
 
@@ -91,9 +92,11 @@ as_value e place meaning (Err f) x a all n v h = cc
 
 -- a variable that is called
 pub call_of_variable : {E : Type 0} (e : Extensions) (place : Option Loc) (meaning : E → Value) (item : Result (ExprOrSpecial E) Failure) (x : Outcome Held) (a : Access) (all : List Access) (var : Var) (f : Failure)
-    → called_variable item (a ∷ all) ≡ Some var → Gives (plain meaning) item x → TellsAlone f variable_call place
+    → called_variable item (a ∷ all) ≡ Some var → Gives (plain meaning) item x → TellsOne f (variable_call, place, detail.variable var)
     → Refuses f (next x (λ h. some_accesses e place h (a ∷ all)))
-call_of_variable e place meaning (Ok (special.Var w own)) x (call args) all var f v h t = rw h (refused_at Held f variable_call place t)
+call_of_variable e place meaning (Ok (special.Var w own)) x (call args) all var f v h t =
+    let same : w ≡ var = cc in
+    rw (h, same) (refused_with Held f variable_call place (detail.variable var) t)
 call_of_variable e place meaning (Ok (special.Var w own)) x (field id) all var f v h t = cc
 call_of_variable e place meaning (Ok (special.Var w own)) x (index text) all var f v h t = cc
 call_of_variable e place meaning (Ok (special.Expr w own)) x (call args) all var f v h t = cc
@@ -140,17 +143,17 @@ some_first (x ∷ xs) h = (x, xs, refl)
 -- ---- a field of a name
 
 -- a field of a name is no access; where a call follows, it would be a method's
-abbrev no_field : Option Loc → Bool → Outcome Held
-no_field place is_called = fault_outcome (if is_called then no_methods else invalid_access) place
+abbrev no_field : Option Loc → Path → List ℕ → Bool → Outcome Held
+no_field place name id is_called = detailed_outcome (if is_called then no_methods else invalid_access) place (detail.asked_of name id)
 
-named_field : (e : Extensions) (place : Option Loc) (name : Path) (id : List ℕ) (rest : List Access) → name_accesses e place name (field id ∷ rest) ≡ no_field place (begins_call rest)
+named_field : (e : Extensions) (place : Option Loc) (name : Path) (id : List ℕ) (rest : List Access) → name_accesses e place name (field id ∷ rest) ≡ no_field place name id (begins_call rest)
 named_field e place name id [] = refl
 named_field e place name id (call args ∷ rest) = refl
 named_field e place name id (index text ∷ rest) = refl
 named_field e place name id (field other ∷ rest) = refl
 
 pub field_of_name : (e : Extensions) (place : Option Loc) (name : Path) (first : Access) (id : List ℕ) (rest : List Access) (is_called : Bool) (f : Failure)
-    → first ≡ field id → is_called ≡ begins_call rest → TellsAlone f (if is_called then no_methods else invalid_access) place
+    → first ≡ field id → is_called ≡ begins_call rest → TellsOne f (if is_called then no_methods else invalid_access, place, detail.asked_of name id)
     → Refuses f (name_accesses e place name (first ∷ rest))
 field_of_name e place name first id rest is_called f h k t =
-    rw h (refuses f (name_accesses e place name (field id ∷ rest)) (if is_called then no_methods else invalid_access) place (named_field e place name id rest ∙ ap (no_field place) (sym k)) t)
+    rw h (refuses_with f (name_accesses e place name (field id ∷ rest)) (if is_called then no_methods else invalid_access) place (detail.asked_of name id) (named_field e place name id rest ∙ ap (no_field place name id) (sym k)) t)

@@ -5,17 +5,17 @@ use Rattle.cedar_syntax.specs.declared.err.faults.Failure.TheVariants.{Errors}
 use Rattle.cedar_syntax.specs.declared.err.faults.ParseError.TheVariants.{ToAST}
 use Rattle.cedar_syntax.specs.declared.err.faults.ParseErrors.{ParseErrors}
 use Rattle.cedar_syntax.specs.declared.err.to_ast.ToASTError.{ToASTError}
-use Rattle.cedar_conversion.specs.outcome.Outcome.{NamedFault, both, next, fault_outcome, faults_outcome}
+use Rattle.cedar_conversion.specs.outcome.Outcome.{NamedFault, both, next, detailed_outcome, faults_outcome}
 use Rattle.cedar_conversion.specs.outcome.Seen.{Refuses, named_faults, named_fault}
 use Rattle.cedar_conversion.proofs.Loops.{map_snoc, take_next}
 
 -- one fault more
-pub one_behind : (faults : List NamedFault) (one : NamedFault) → next (both (faults_outcome faults) (fault_outcome {Y = Unit {0}} one.0 one.1)) (λ p. Ok tt) ≡ faults_outcome (faults ++ one ∷ [])
+pub one_behind : (faults : List NamedFault) (one : NamedFault) → next (both (faults_outcome faults) (detailed_outcome {Y = Unit {0}} one.0 one.1 one.2)) (λ p. Ok tt) ≡ faults_outcome (faults ++ one ∷ [])
 one_behind [] one = refl
 one_behind (f ∷ faults) one = refl
 
 -- one fault alone, as a refusal
-pub one_told : (made : ToASTError) (errors : ParseErrors) (one : NamedFault) → faults_of errors ≡ ToAST made ∷ [] → named_fault (ToAST made) ≡ one → Refuses {Y = Unit {0}} (Errors errors) (fault_outcome one.0 one.1)
+pub one_told : (made : ToASTError) (errors : ParseErrors) (one : NamedFault) → faults_of errors ≡ ToAST made ∷ [] → named_fault (ToAST made) ≡ one → Refuses {Y = Unit {0}} (Errors errors) (detailed_outcome one.0 one.1 one.2)
 one_told made errors one e k = ap (λ x. Err (x ∷ [])) (sym k) ∙ ap (λ fs. Err (named_faults fs)) (sym e)
 
 -- the fault of one item more stands behind those of the items before it

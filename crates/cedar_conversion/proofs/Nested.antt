@@ -29,7 +29,7 @@ use Rattle.cedar_syntax.specs.declared.cst.Ref.{Ref}
 use Rattle.cedar_syntax.specs.declared.cst.RecInit.{RecInit}
 use Rattle.cedar_syntax.specs.trees.Forms.{located, parts_of, expr_form, data_form, or_form, and_form, relation_form, add_form, mult_form, unary_form, member_form, primary_form, access_form, init_form, or_operand, and_operand, relation_operand, add_operand, mult_operand, listed_access, listed_expr, listed_init, typed_form}
 use Rattle.cedar_syntax.specs.trees.Located as f
-use Rattle.cedar_syntax.specs.trees.Located.{Located, Form, Parts}
+use Rattle.cedar_syntax.specs.trees.Located.{Located, Form}
 use Rattle.cedar_syntax.specs.trees.Tree.{Operator}
 use Rattle.cedar_syntax.proofs.FormLevels.{data_or, data_if, or_out, and_out, relation_common, relation_has, relation_like, relation_typed, add_out, mult_out, unary_out, member_out, primary_literal, primary_ref, primary_name, primary_slot, primary_expr, primary_list, primary_inits, access_field, access_call, access_index, init_out}
 use Rattle.cedar_conversion.specs.outcome.LonePart.{lone_part, no_sign}

@@ -1,5 +1,5 @@
 -- What each node gives, of what its parts give.
-use Rattle.std.proofs.Common.{◌≡◌, zero, suc, List, [], map, Option, Some, None, if◌then◌else◌, refl, sym, ap, ◌∙◌, Ok, Err}
+use Rattle.std.proofs.Common.{◌≡◌, zero, suc, List, [], map, Option, Some, None, if◌then◌else◌, refl, ap, ◌∙◌, Ok, Err}
 use Rattle.cedar_syntax.specs.declared.loc.Loc.{Loc}
 use Rattle.cedar_syntax.specs.declared.node.Node.{Node}
 use Rattle.cedar_syntax.specs.declared.cst.RelOp.{RelOp}

@@ -16,9 +16,10 @@ use Rattle.cedar_syntax.specs.trees.Tree.{Operator}
 use Rattle.cedar_syntax.specs.faults.Joined.{TellsBoth, TellsFaults, WantsMemory}
 use Rattle.cedar_conversion.specs.outcome.Conversion.{Part, operands, with_part, factor, value_outcome}
 use Rattle.cedar_conversion.specs.strict.Extensions.{Extensions}
-use Rattle.cedar_conversion.specs.outcome.Outcome.{Kind, Outcome, both, next, fault_outcome, item_more}
-use Rattle.cedar_conversion.specs.outcome.Seen.{Refuses, Gives, itself, kind_of, named_faults, named_fault}
-use Rattle.cedar_conversion.specs.machines.Views.{TellsAlone, Grows, alike_view, refused, one_more, rest_view}
+use Rattle.cedar_conversion.specs.outcome.Detail.{Detail, nothing}
+use Rattle.cedar_conversion.specs.outcome.Outcome.{Kind, NamedFault, Outcome, both, next, fault_outcome, detailed_outcome, item_more}
+use Rattle.cedar_conversion.specs.outcome.Seen.{Refuses, Gives, itself, detail_of, kind_of, named_faults, named_fault}
+use Rattle.cedar_conversion.specs.machines.Views.{TellsAlone, TellsOne, Grows, alike_view, refused, one_more, rest_view}
 use Rattle.cedar_conversion.proofs.Loops.{take_next, map_snoc}
 
 -- ---- faults
@@ -32,9 +33,17 @@ pub refused_at : (Y : Type 0) (f : Failure) (kind : Kind) (place : Option Loc) �
 refused_at Y (Memory e) kind place h = tt
 refused_at Y (Errors es) kind place h = ap Err (sym h)
 
+-- the same of a fault that tells more than its kind
+pub refused_with : (Y : Type 0) (f : Failure) (kind : Kind) (place : Option Loc) (detail : Detail) → TellsOne f (kind, place, detail) → Refuses {Y = Y} f (detailed_outcome kind place detail)
+refused_with Y (Memory e) kind place detail h = tt
+refused_with Y (Errors es) kind place detail h = ap Err (sym h)
+
 -- an outcome that is one fault refuses with what tells it
 pub refuses : {Y : Type 0} (f : Failure) (o : Outcome Y) (kind : Kind) (place : Option Loc) → o ≡ fault_outcome kind place → TellsAlone f kind place → Refuses f o
 refuses {Y = Y} f o kind place e h = rw e (refused_at Y f kind place h)
+
+pub refuses_with : {Y : Type 0} (f : Failure) (o : Outcome Y) (kind : Kind) (place : Option Loc) (detail : Detail) → o ≡ detailed_outcome kind place detail → TellsOne f (kind, place, detail) → Refuses f o
+refuses_with {Y = Y} f o kind place detail e h = rw e (refused_with Y f kind place detail h)
 
 -- faults, or want of memory for them, refuse what the faults refuse
 pub kept_refusal : {Y : Type 0} (f : Failure) (faults : List ParseError) (o : Outcome Y) → TellsFaults f faults → o ≡ Err (named_faults faults) → Refuses f o
@@ -42,17 +51,29 @@ kept_refusal (Memory e) faults o t h = tt
 kept_refusal (Errors es) faults o t h = h ∙ ap (λ fs. Err (named_faults fs)) (sym t)
 
 -- one fault alone, or want of memory for it
-pub told_alone : (f : Failure) (faults : List ParseError) (kind : Kind) (place : Option Loc) → TellsFaults f faults → named_faults faults ≡ (kind, place) ∷ [] → TellsAlone f kind place
-told_alone (Memory e) faults kind place t h = tt
-told_alone (Errors es) faults kind place t h = ap named_faults t ∙ h
+pub told_alone : (f : Failure) (faults : List ParseError) (fault : NamedFault) → TellsFaults f faults → named_faults faults ≡ fault ∷ [] → TellsOne f fault
+told_alone (Memory e) faults fault t h = tt
+told_alone (Errors es) faults fault t h = ap named_faults t ∙ h
+
+-- a kind of the program's is this one and tells this beside itself
+abbrev pub Tells : Kind → Detail → ToASTErrorKind → Type 0
+Tells kind detail made = (kind_of made ≡ kind) × (detail_of made ≡ detail)
 
 -- what a constructor makes of what memory was asked for is of the constructor's kind
-pub made_of_kind : {T : Type 0} (given : Result T AllocError) (made : Result ToASTErrorKind AllocError) (make : T → ToASTErrorKind) (kind : Kind) → ((x : T) → kind_of (make x) ≡ kind) →
-    MatchResult given (λ x. IsOkAnd made (λ y. y ≡ make x)) (λ e. made ≡ Err e) → IfOk made (λ y. kind_of y ≡ kind)
-made_of_kind (Ok x) (Ok y) make kind h m = ap kind_of m ∙ h x
+pub made_of_kind : {T : Type 0} (given : Result T AllocError) (made : Result ToASTErrorKind AllocError) (make : T → ToASTErrorKind) (kind : Kind) → ((x : T) → Tells kind nothing (make x)) →
+    MatchResult given (λ x. IsOkAnd made (λ y. y ≡ make x)) (λ e. made ≡ Err e) → IfOk made (Tells kind nothing)
+made_of_kind (Ok x) (Ok y) make kind h m = (ap kind_of m ∙ (h x).0, ap detail_of m ∙ (h x).1)
 made_of_kind (Ok x) (Err e) make kind h m = tt
 made_of_kind (Err e) (Ok y) make kind h m = cc
 made_of_kind (Err e) (Err d) make kind h m = tt
+
+-- and tells of what is given what it tells of what that is
+pub made_telling : {T : Type 0} (given : Result T AllocError) (made : Result ToASTErrorKind AllocError) (make : T → ToASTErrorKind) (whole : T) (kind : Kind) (detail : Detail) → IfOk given (λ x. x ≡ whole) → Tells kind detail (make whole) →
+    MatchResult given (λ x. IsOkAnd made (λ y. y ≡ make x)) (λ e. made ≡ Err e) → IfOk made (Tells kind detail)
+made_telling (Ok x) (Ok y) make whole kind detail same h m = (ap kind_of m ∙ ap (λ z. kind_of (make z)) same ∙ h.0, ap detail_of m ∙ ap (λ z. detail_of (make z)) same ∙ h.1)
+made_telling (Ok x) (Err e) make whole kind detail same h m = tt
+made_telling (Err e) (Ok y) make whole kind detail same h m = cc
+made_telling (Err e) (Err d) make whole kind detail same h m = tt
 
 -- ---- what is joined
 

@@ -1,5 +1,6 @@
 -- What the right side of `has` gives, level by level.
 use Rattle.std.proofs.Common.{◌≡◌, Bool, true, false, List, map, Option, Some, None, if◌then◌else◌, refl, ap, ◌∙◌}
+use Rattle.std.specs.Option.{option_map}
 use Rattle.cedar_syntax.specs.declared.loc.Loc.{Loc}
 use Rattle.cedar_syntax.specs.declared.node.Node.{Node}
 use Rattle.cedar_syntax.specs.declared.cst.Add.{Add}
@@ -15,7 +16,7 @@ use Rattle.cedar_syntax.specs.declared.cst.Name.{Name}
 use Rattle.cedar_syntax.specs.declared.cst.Slot.{Slot}
 use Rattle.cedar_syntax.specs.declared.cst.Ref.{Ref}
 use Rattle.cedar_syntax.specs.declared.cst.RecInit.{RecInit}
-use Rattle.cedar_syntax.specs.trees.Forms.{located, parts_of, add_form, mult_form, unary_form, member_form, primary_form, listed_access}
+use Rattle.cedar_syntax.specs.trees.Forms.{located, form_at, parts_of, add_form, mult_form, unary_form, member_form, primary_form, listed_access}
 use Rattle.cedar_syntax.specs.trees.Located as f
 use Rattle.cedar_syntax.specs.trees.Located.{Located, Form, Parts}
 use Rattle.cedar_syntax.specs.trees.Tree.{Level, sum, product}
@@ -24,6 +25,8 @@ use Rattle.cedar_conversion.specs.outcome.Conversion.{tree_place}
 use Rattle.cedar_conversion.specs.parts.HasSide.{Attributes, attributes_of, begins_with, beginning_outcome, right_form, right_side}
 use Rattle.cedar_conversion.specs.parts.Leaves.{name_leaf}
 use Rattle.cedar_conversion.specs.parts.Literals.{literal_outcome}
+use Rattle.cedar_conversion.specs.parts.Names.{content_outcome}
+use Rattle.cedar_conversion.specs.machines.SideChild.{part_or_refused, side_child}
 use Rattle.cedar_conversion.specs.outcome.LonePart.{lone_part, no_sign}
 use Rattle.cedar_conversion.specs.outcome.Outcome.{Outcome, fault_outcome, next, empty_node, invalid_has_rhs}
 use Rattle.cedar_conversion.proofs.LoneParts.{through, to_none, to_part}
@@ -69,10 +72,13 @@ pub no_side : {X : Type 0} (w : Option Loc) (g : X → Form) (n : Node (Option X
 unfolding right_side
 no_side w g n h = rw h refl
 
-pub member_side : (w : Option Loc) (n : Node (Option Member)) (d : Member) → n.node ≡ Some d
-    → right_side w (located member_form n) ≡ begins_with w (parts_of (map listed_access d.access)) (located primary_form d.item)
+pub below_member : (w : Option Loc) (n : Node (Option Member)) → right_side w (located member_form n) ≡ next (content_outcome n.loc n.node) (λ d. begins_with w (parts_of (map listed_access d.access)) (located primary_form d.item))
 unfolding right_form
-member_side w n d h = side_is w member_form n d _ h (member_out d)
+below_member w n = go n.node refl
+  where
+    go : (o : Option Member) → n.node ≡ o → right_side w (located member_form n) ≡ next (content_outcome n.loc o) (λ d. begins_with w (parts_of (map listed_access d.access)) (located primary_form d.item))
+    go None h = no_side w member_form n h
+    go (Some d) h = side_is w member_form n d _ h (member_out d)
 
 -- operators and signs: one part alone is gone on to, anything else is refused at the whole side
 abbrev sided : Option Loc → Option Located → Outcome Attributes
@@ -97,11 +103,23 @@ by_form w t u h k = rw h k
 pub add_side : (w : Option Loc) (d : Add) → right_form w (add_form d) ≡ sided w (lone_part (add_form d))
 add_side w d = by_form w _ _ (add_out d) (by_chain w sum _ _)
 
-pub mult_side : (w : Option Loc) (n : Node (Option Mult)) (d : Mult) → n.node ≡ Some d → right_side w (located mult_form n) ≡ sided w (lone_part (mult_form d))
-mult_side w n d h = side_is w mult_form n d _ h refl ∙ by_form w _ _ (mult_out d) (by_chain w product _ _)
+-- so is a node below a sum
+child_next : (w : Option Loc) (p : Option Located) → sided w p ≡ next (part_or_refused w p) (right_side w)
+child_next w (Some a) = refl
+child_next w None = refl
 
-pub unary_side : (w : Option Loc) (n : Node (Option Unary)) (d : Unary) → n.node ≡ Some d → right_side w (located unary_form n) ≡ sided w (lone_part (unary_form d))
-unary_side w n d h = side_is w unary_form n d _ h refl ∙ by_form w _ _ (unary_out d) (by_unary w _ _)
+below : {X : Type 0} (w : Option Loc) (g : X → Form) → ((d : X) → right_form w (g d) ≡ sided w (lone_part (g d))) → (n : Node (Option X)) → right_side w (located g n) ≡ next (side_child w (located g n)) (right_side w)
+below {X} w g sides n = go n.node refl
+  where
+    go : (o : Option X) → n.node ≡ o → right_side w (located g n) ≡ next (side_child w (form_at n.loc (option_map g o))) (right_side w)
+    go None h = no_side w g n h
+    go (Some d) h = side_is w g n d _ h refl ∙ sides d ∙ child_next w (lone_part (g d))
+
+pub below_mult : (w : Option Loc) (n : Node (Option Mult)) → right_side w (located mult_form n) ≡ next (side_child w (located mult_form n)) (right_side w)
+below_mult w n = below w mult_form (λ d. by_form w _ _ (mult_out d) (by_chain w product _ _)) n
+
+pub below_unary : (w : Option Loc) (n : Node (Option Unary)) → right_side w (located unary_form n) ≡ next (side_child w (located unary_form n)) (right_side w)
+below_unary w n = below w unary_form (λ d. by_form w _ _ (unary_out d) (by_unary w _ _)) n
 
 pub on_part : (w : Option Loc) (o : Outcome Attributes) (p : Option Located) (a : Located) → o ≡ sided w p → Some a ≡ p → o ≡ right_side w a
 on_part w o p a h k = to_part (right_side w) (fault_outcome invalid_has_rhs w) o p a h k

@@ -10,7 +10,8 @@ use Rattle.cedar_syntax.specs.trees.Trees.{bangs_of, dashes_of}
 use Rattle.cedar_syntax.specs.tokens.Signs.{sign_limit}
 use Rattle.cedar_conversion.specs.outcome.Conversion.{application_outcome, dashes_outcome, signs_outcome, number_outcome, expression_at}
 use Rattle.cedar_conversion.specs.outcome.Held.{Held, as_expression}
-use Rattle.cedar_conversion.specs.outcome.Outcome.{Outcome, next, fault_outcome, integer_literal_too_large}
+use Rattle.cedar_conversion.specs.outcome.Detail as detail
+use Rattle.cedar_conversion.specs.outcome.Outcome.{Outcome, next, detailed_outcome, integer_literal_too_large}
 use Rattle.cedar_conversion.specs.outcome.Seen.{Refuses}
 use Rattle.cedar_conversion.specs.strict.Strict.{iteration, largest}
 use Rattle.cedar_conversion.proofs.Inverted.{next_ok, made_is}
@@ -35,7 +36,7 @@ banged_value p (suc n) o x h e = applied_value p n v.not o x e
 abbrev pub literal_of : ℕ → ℕ → Value
 literal_of n k = iteration n v.neg (v.val (literals.Long (neg_ℤ (pos k))))
 
-negative_value : (p : Option Loc) (n k : ℕ) (b : Bool) (x : Value) → nat_le k largest ≡ b → next (cond b (expression_at p (literal_of n k)) (fault_outcome integer_literal_too_large p)) as_expression ≡ Ok x → (k ≤ largest) × (x ≡ literal_of n k)
+negative_value : (p : Option Loc) (n k : ℕ) (b : Bool) (x : Value) → nat_le k largest ≡ b → next (cond b (expression_at p (literal_of n k)) (detailed_outcome integer_literal_too_large p (detail.number k))) as_expression ≡ Ok x → (k ≤ largest) × (x ≡ literal_of n k)
 negative_value p n k true x h e = (grind (arith, h), cc)
 negative_value p n k false x h e = cc
 
@@ -78,7 +79,7 @@ negative_gives p n k bare o within fits b =
     let small : nat_le k largest ≡ true = grind arith in
     rw (few, b, small) refl
 
-literal_within : (p : Option Loc) (n : ℕ) (b : Bool) (x : Value) → nat_le largest n ≡ b → next (cond b (fault_outcome integer_literal_too_large p) (expression_at p (v.val (literals.Long (pos n))))) as_expression ≡ Ok x → (n < largest) × (x ≡ v.val (literals.Long (pos n)))
+literal_within : (p : Option Loc) (n : ℕ) (b : Bool) (x : Value) → nat_le largest n ≡ b → next (cond b (detailed_outcome integer_literal_too_large p (detail.number n)) (expression_at p (v.val (literals.Long (pos n))))) as_expression ≡ Ok x → (n < largest) × (x ≡ v.val (literals.Long (pos n)))
 literal_within p n true x h e = cc
 literal_within p n false x h e = (grind (arith, h), cc)
 

@@ -1,5 +1,5 @@
 -- How answers that wait are taken, one part's after another's.
-use Rattle.std.proofs.Common.{◌≡◌, ◌<◌, ◌+◌, ℕ, append-nil, List, [], ◌∷◌, ◌++◌, append_assoc, map, take, length, get_or, Option, Result, Err, alloc_error, subst, refl, sym, ap, ◌∙◌}
+use Rattle.std.proofs.Common.{◌≡◌, ◌<◌, ◌+◌, ℕ, append-nil, List, [], ◌∷◌, ◌++◌, append_assoc, map, take, length, get_or, Option, Err, alloc_error, subst, sym, ap, ◌∙◌}
 use Rattle.std.specs.List.{flat_map}
 use Rattle.std.proofs.lemmas.List.{flat_map_more}
 use denote.Ref.{Bor}

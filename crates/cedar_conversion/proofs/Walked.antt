@@ -1,5 +1,5 @@
 -- What a walk lists is what is nested in the node that it goes through.
-use Rattle.std.proofs.Common.{◌≡◌, List, [], ◌∷◌, ◌++◌, append_assoc, map, Option, Result, Ok, Err, OnOk, refl, sym, ap, ◌∙◌}
+use Rattle.std.proofs.Common.{◌≡◌, List, [], ◌∷◌, ◌++◌, append_assoc, Option, Result, Ok, Err, OnOk, sym, ap, ◌∙◌}
 use denote.Ref.{Bor}
 use Rattle.cedar_syntax.specs.declared.cst.Expr.{Expr}
 use Rattle.cedar_syntax.specs.declared.node.Node.{Node}

@@ -1,5 +1,6 @@
 pub mod Causes
 pub mod Conversion
+pub mod Detail
 pub mod Held
 pub mod LonePart
 pub mod Outcome

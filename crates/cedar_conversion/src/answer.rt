@@ -13,6 +13,7 @@ ghost use Rattle.cedar_conversion.specs.outcome.Outcome.{Outcome, both, empty_no
 ghost use Rattle.cedar_conversion.specs.outcome.Seen.{Gives};
 ghost use Rattle.cedar_conversion.specs.strict.Table.{table_of};
 ghost use Rattle.cedar_conversion.specs.machines.Applied.{seen_access, seen_accesses};
+ghost use Rattle.cedar_conversion.specs.machines.AsExpression.{IsExpressionOf};
 ghost use Rattle.cedar_conversion.specs.machines.Views.{alike_view, rest_view, refused, one_more, plain};
 ghost use Rattle.cedar_syntax.specs.faults.Joined.{TellsBoth};
 
@@ -24,35 +25,35 @@ pub mod places;
 pub mod special;
 pub mod wanted;
 
-use crate::answer::failure::{Failure, joined};
+use crate::answer::failure::{BoxedFailure, joined};
 use crate::answer::lists::{add, more};
 use crate::answer::special::{ExprOrSpecial, empty_node, expr_of};
 use crate::operators::conditional::{if_from, parens_from};
 use crate::primaries::collections::Accesses;
 use crate::primaries::members::{AccessValue, accessed_in, lone_accessed_in};
-use crate::primaries::methods::Site;
+use crate::primaries::methods::CallSite;
 use cedar_expressions::{ExprBuilderInfallibleBuild, TryClone};
 use cedar_syntax::loc::Loc;
 use std::alloc::{AllocError, Global};
 use std::mem;
 
 /// What a conversion answers.
-pub type Converted<E> = Result<ExprOrSpecial<E>, Failure>;
+pub type Converted<E> = Result<ExprOrSpecial<E>, BoxedFailure>;
 
 /// Parts behind operators.
-pub(crate) type Parts<O, E> = Result<Vec<(O, E)>, Failure>;
+pub(crate) type Parts<O, E> = Result<Vec<(O, E)>, BoxedFailure>;
 
 /// Parts that stand behind the same operator, or behind none.
-pub(crate) type Values<E> = Result<Vec<E>, Failure>;
+pub(crate) type Values<E> = Result<Vec<E>, BoxedFailure>;
 
 /// A place for an answer, before there is one.
-pub fn placeholder<T>() -> Result<T, Failure> {
-    Err(Failure::from(AllocError))
+pub fn placeholder<T>() -> Result<T, BoxedFailure> {
+    Err(BoxedFailure::from(AllocError))
 }
 
 /// Leaves an answer. Mostly there is none yet, and so nothing large to let go.
 #[inline(always)]
-pub(crate) fn put<T: Drop>(place: &mut Result<T, Failure>, answer: Result<T, Failure>)
+pub(crate) fn put<T: Drop>(place: &mut Result<T, BoxedFailure>, answer: Result<T, BoxedFailure>)
     ensures { place.new ≡ answer }
 {
     match place {
@@ -64,7 +65,7 @@ pub(crate) fn put<T: Drop>(place: &mut Result<T, Failure>, answer: Result<T, Fai
 /// Leaves an answer in the place of another one.
 #[cold]
 #[inline(never)]
-fn put_over<T: Drop>(place: &mut Result<T, Failure>, answer: Result<T, Failure>)
+fn put_over<T: Drop>(place: &mut Result<T, BoxedFailure>, answer: Result<T, BoxedFailure>)
     ensures { place.new ≡ answer }
 {
     *place = answer;
@@ -72,7 +73,7 @@ fn put_over<T: Drop>(place: &mut Result<T, Failure>, answer: Result<T, Failure>)
 
 /// Takes the answer that was left.
 #[inline(always)]
-pub(crate) fn take<T: Drop>(place: &mut Result<T, Failure>) -> Result<T, Failure>
+pub(crate) fn take<T: Drop>(place: &mut Result<T, BoxedFailure>) -> Result<T, BoxedFailure>
     ensures { result ≡ place.old }
 {
     mem::replace(place, placeholder::<T>())
@@ -85,9 +86,8 @@ pub(crate) fn take<T: Drop>(place: &mut Result<T, Failure>) -> Result<T, Failure
 pub(crate) fn value_in<B: ExprBuilderInfallibleBuild>(
     alloc: Global,
     answer: &mut Converted<B::Expr>,
-) -> Result<B::Expr, Failure>
-    ensures { (x : Outcome Held) → Gives (plain B.meaning) answer.old x
-        → Gives B.meaning result (next x as_expression) }
+) -> Result<B::Expr, BoxedFailure>
+    ensures { IsExpressionOf B.meaning answer.old result }
 {
     match answer {
         Ok(ExprOrSpecial::Expr(_, _)) => made_value::<B>(alloc, answer),
@@ -99,9 +99,8 @@ pub(crate) fn value_in<B: ExprBuilderInfallibleBuild>(
 fn made_value<B: ExprBuilderInfallibleBuild>(
     alloc: Global,
     answer: &mut Converted<B::Expr>,
-) -> Result<B::Expr, Failure>
-    ensures { (x : Outcome Held) → Gives (plain B.meaning) answer.old x
-        → Gives B.meaning result (next x as_expression) }
+) -> Result<B::Expr, BoxedFailure>
+    ensures { IsExpressionOf B.meaning answer.old result }
 {
     match take(answer) {
         Ok(ExprOrSpecial::Expr(expr, _)) => Ok(expr),
@@ -113,9 +112,8 @@ fn made_value<B: ExprBuilderInfallibleBuild>(
 fn taken_value<B: ExprBuilderInfallibleBuild>(
     alloc: Global,
     answer: &mut Converted<B::Expr>,
-) -> Result<B::Expr, Failure>
-    ensures { (x : Outcome Held) → Gives (plain B.meaning) answer.old x
-        → Gives B.meaning result (next x as_expression) }
+) -> Result<B::Expr, BoxedFailure>
+    ensures { IsExpressionOf B.meaning answer.old result }
 {
     expr_of::<B>(alloc, take(answer))
 }
@@ -124,9 +122,8 @@ fn taken_value<B: ExprBuilderInfallibleBuild>(
 fn special_value<B: ExprBuilderInfallibleBuild>(
     alloc: Global,
     answer: &mut Converted<B::Expr>,
-) -> Result<B::Expr, Failure>
-    ensures { (x : Outcome Held) → Gives (plain B.meaning) answer.old x
-        → Gives B.meaning result (next x as_expression) }
+) -> Result<B::Expr, BoxedFailure>
+    ensures { IsExpressionOf B.meaning answer.old result }
 {
     match answer {
         Ok(ExprOrSpecial::Var(_, _)) => taken_value::<B>(alloc, answer),
@@ -138,9 +135,8 @@ fn special_value<B: ExprBuilderInfallibleBuild>(
 fn literal_value<B: ExprBuilderInfallibleBuild>(
     alloc: Global,
     answer: &mut Converted<B::Expr>,
-) -> Result<B::Expr, Failure>
-    ensures { (x : Outcome Held) → Gives (plain B.meaning) answer.old x
-        → Gives B.meaning result (next x as_expression) }
+) -> Result<B::Expr, BoxedFailure>
+    ensures { IsExpressionOf B.meaning answer.old result }
 {
     match answer {
         Ok(ExprOrSpecial::BoolLit(_, _)) => taken_value::<B>(alloc, answer),
@@ -152,9 +148,8 @@ fn literal_value<B: ExprBuilderInfallibleBuild>(
 fn other_value<B: ExprBuilderInfallibleBuild>(
     alloc: Global,
     answer: &mut Converted<B::Expr>,
-) -> Result<B::Expr, Failure>
-    ensures { (x : Outcome Held) → Gives (plain B.meaning) answer.old x
-        → Gives B.meaning result (next x as_expression) }
+) -> Result<B::Expr, BoxedFailure>
+    ensures { IsExpressionOf B.meaning answer.old result }
 {
     taken_value::<B>(alloc, answer)
 }
@@ -225,7 +220,7 @@ pub(crate) fn parens_in<B: ExprBuilderInfallibleBuild>(
     match answer {
         Ok(ExprOrSpecial::Expr(_, place)) => match loc.try_clone() {
             Ok(loc) => *place = loc,
-            Err(error) => put(answer, Err(Failure::from(error))),
+            Err(error) => put(answer, Err(BoxedFailure::from(error))),
         },
         _ => {
             let inner = take(answer);
@@ -239,8 +234,8 @@ pub(crate) fn parens_in<B: ExprBuilderInfallibleBuild>(
 pub(crate) fn if_in<B: ExprBuilderInfallibleBuild>(
     alloc: Global,
     loc: &Option<Loc>,
-    guard: &mut Result<B::Expr, Failure>,
-    consequent: &mut Result<B::Expr, Failure>,
+    guard: &mut Result<B::Expr, BoxedFailure>,
+    consequent: &mut Result<B::Expr, BoxedFailure>,
     answer: &mut Converted<B::Expr>,
 )
     ensures { (x y : Outcome Value) (h : Outcome Held) → Gives B.meaning guard.old x
@@ -260,7 +255,7 @@ pub(crate) fn if_in<B: ExprBuilderInfallibleBuild>(
 /// A primary and its accesses.
 #[inline(never)]
 pub(crate) fn member_in<B: ExprBuilderInfallibleBuild>(
-    site: Site<'_>,
+    site: CallSite<'_>,
     item: &mut Converted<B::Expr>,
     accesses: &mut Accesses<B::Expr>,
     answer: &mut Converted<B::Expr>,
@@ -279,9 +274,9 @@ pub(crate) fn member_in<B: ExprBuilderInfallibleBuild>(
 /// A primary and its one access.
 #[inline(never)]
 pub(crate) fn lone_access_in<B: ExprBuilderInfallibleBuild>(
-    site: Site<'_>,
+    site: CallSite<'_>,
     item: &mut Converted<B::Expr>,
-    given: &mut Result<AccessValue<B::Expr>, Failure>,
+    given: &mut Result<AccessValue<B::Expr>, BoxedFailure>,
     answer: &mut Converted<B::Expr>,
 )
     ensures { (x : Outcome Held) (a : Outcome Given) → Gives (plain B.meaning) item.old x
@@ -298,7 +293,10 @@ pub(crate) fn lone_access_in<B: ExprBuilderInfallibleBuild>(
 /// A failure, behind that of a part before it if that fails too.
 #[cold]
 #[inline(never)]
-pub(crate) fn behind<T: Drop>(first: &mut Result<T, Failure>, failure: Failure) -> Failure
+pub(crate) fn behind<T: Drop>(
+    first: &mut Result<T, BoxedFailure>,
+    failure: BoxedFailure,
+) -> BoxedFailure
     ensures { TellsBoth result first.old (refused failure) }
 {
     match take(first) {

@@ -13,17 +13,17 @@ ghost use Rattle.cedar_conversion.specs.machines.Nested.{lent_nodes};
 ghost use Rattle.cedar_conversion.specs.machines.Taking.{Waits};
 ghost use Rattle.cedar_conversion.specs.machines.Views.{plain};
 
-use crate::answer::failure::Failure;
+use crate::answer::failure::BoxedFailure;
 use crate::answer::{Converted, put, take};
 use crate::levels;
 use crate::listing::order::ordered;
-use crate::listing::stack::Stack;
 use crate::listing::{Lent, in_add, in_expr};
 use crate::nesting::{Answers, Near, Waiting};
 use crate::styles::ExtStyles;
 use cedar_expressions::ExprBuilderInfallibleBuild;
 use cedar_syntax::cst;
 use cedar_syntax::node::Node;
+use cedar_syntax::stack::Stack;
 use std::alloc::{AllocError, Global};
 
 /// A disjunction or a conditional, as which an expression is one.
@@ -102,7 +102,7 @@ pub fn expr<B: ExprBuilderInfallibleBuild>(
     if answers.is_too_deep {
         match expr_by_lists::<B>(alloc, styles, node) {
             Ok(given) => put(answer, given),
-            Err(error) => put(answer, Err(Failure::from(error))),
+            Err(error) => put(answer, Err(BoxedFailure::from(error))),
         }
     } else {
         put(answer, take(&mut answers.answer))
@@ -124,7 +124,7 @@ pub fn add<B: ExprBuilderInfallibleBuild>(
     if answers.is_too_deep {
         match add_by_lists::<B>(alloc, styles, node) {
             Ok(given) => put(answer, given),
-            Err(error) => put(answer, Err(Failure::from(error))),
+            Err(error) => put(answer, Err(BoxedFailure::from(error))),
         }
     } else {
         put(answer, take(&mut answers.answer))

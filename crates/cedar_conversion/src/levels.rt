@@ -23,11 +23,11 @@ use crate::answer::{
 use crate::convert::data_of;
 use crate::leaves::literals::bare_number;
 use crate::nesting::{Answers, Nests};
-use crate::operators::alone::Alone;
 use crate::operators::chain::{AndAnd, OrOr, alike_in, chain_from, comparison_in, factor_of};
 use crate::operators::has_side::right_side;
 use crate::operators::sides::{has_from, is_from, is_in_from, like_from, type_beside};
 use crate::operators::signs::{signed_from, without_operand};
+use crate::operators::single_child::SingleChild;
 use crate::primaries::member;
 use crate::styles::ExtStyles;
 use cedar_expressions::{AddOp, ExprBuilderInfallibleBuild};
@@ -97,7 +97,7 @@ fn or<B: ExprBuilderInfallibleBuild, N: Nests<B>>(
         (located or_form node.now) }
 {
     match &node.node {
-        Some(tree) => match tree.alone() {
+        Some(tree) => match tree.single_child() {
             Some(part) => and::<B, N>(alloc, answers, styles, part),
             None => or_chain::<B, N>(alloc, answers, styles, &node.loc, tree),
         },
@@ -138,7 +138,7 @@ fn and<B: ExprBuilderInfallibleBuild, N: Nests<B>>(
         (located and_form node.now) }
 {
     match &node.node {
-        Some(tree) => match tree.alone() {
+        Some(tree) => match tree.single_child() {
             Some(part) => relation::<B, N>(alloc, answers, styles, part),
             None => and_chain::<B, N>(alloc, answers, styles, &node.loc, tree),
         },
@@ -179,7 +179,7 @@ fn relation<B: ExprBuilderInfallibleBuild, N: Nests<B>>(
         (located relation_form node.now) }
 {
     match &node.node {
-        Some(tree) => match tree.alone() {
+        Some(tree) => match tree.single_child() {
             Some(part) => add::<B, N>(alloc, answers, styles, part),
             None => relation_chain::<B, N>(alloc, answers, styles, &node.loc, tree),
         },
@@ -350,7 +350,7 @@ pub(crate) fn add<B: ExprBuilderInfallibleBuild, N: Nests<B>>(
         (located add_form node.now) }
 {
     match &node.node {
-        Some(tree) => match tree.alone() {
+        Some(tree) => match tree.single_child() {
             Some(part) => mult::<B, N>(alloc, answers, styles, part),
             None => add_chain::<B, N>(alloc, answers, styles, &node.loc, tree),
         },
@@ -394,7 +394,7 @@ fn mult<B: ExprBuilderInfallibleBuild, N: Nests<B>>(
         (located mult_form node.now) }
 {
     match &node.node {
-        Some(tree) => match tree.alone() {
+        Some(tree) => match tree.single_child() {
             Some(part) => unary::<B, N>(alloc, answers, styles, part),
             None => mult_chain::<B, N>(alloc, answers, styles, &node.loc, tree),
         },
@@ -439,7 +439,7 @@ fn unary<B: ExprBuilderInfallibleBuild, N: Nests<B>>(
         (located unary_form node.now) }
 {
     match &node.node {
-        Some(tree) => match tree.alone() {
+        Some(tree) => match tree.single_child() {
             Some(item) => member::<B, N>(alloc, answers, styles, item),
             None => signs::<B, N>(alloc, answers, styles, &node.loc, tree),
         },

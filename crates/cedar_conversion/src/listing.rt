@@ -8,13 +8,12 @@ ghost use Rattle.cedar_syntax.specs.trees.Forms.{located, expr_form, or_form, an
 ghost use Rattle.cedar_conversion.specs.machines.Nested.{is_counted, lent_nodes, nested, nested_within};
 
 pub(crate) mod order;
-pub mod stack;
 
 use crate::convert::data_of;
-use crate::listing::stack::Stack;
 use cedar_expressions::{AddOp, Boxed};
 use cedar_syntax::cst::{self, Expr, MultOp, NegOp, RelOp};
 use cedar_syntax::node::Node;
+use cedar_syntax::stack::Stack;
 use std::alloc::AllocError;
 
 /// Expressions that are lent.

@@ -6,14 +6,14 @@
 ghost use Rattle.std.specs.Prelude.{◌≡◌, [], ◌∷◌, OnOk};
 ghost use Rattle.cedar_conversion.specs.machines.Taking.{Waits};
 
-use crate::answer::failure::Failure;
+use crate::answer::failure::BoxedFailure;
 use crate::answer::{Converted, placeholder, put, take};
 use crate::levels;
-use crate::listing::stack::Stack;
 use crate::styles::ExtStyles;
 use cedar_expressions::ExprBuilderInfallibleBuild;
 use cedar_syntax::cst::Expr;
 use cedar_syntax::node::Node;
+use cedar_syntax::stack::Stack;
 use std::alloc::{AllocError, Global};
 
 /// Where a conversion leaves its answer, and the answers that wait for what they are nested in, the
@@ -140,7 +140,7 @@ impl<B: ExprBuilderInfallibleBuild> Nests<B> for TooDeep {
         let _ = styles;
         let _ = node;
         answers.is_too_deep = true;
-        put(&mut answers.answer, Err(Failure::from(AllocError)))
+        put(&mut answers.answer, Err(BoxedFailure::from(AllocError)))
     }
 }
 

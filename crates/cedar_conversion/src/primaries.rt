@@ -22,7 +22,7 @@ pub(crate) mod collections;
 pub(crate) mod members;
 pub mod methods;
 
-use crate::answer::failure::Failure;
+use crate::answer::failure::BoxedFailure;
 use crate::answer::lists::{only_one, with_room};
 use crate::answer::special::empty_node;
 use crate::answer::{
@@ -34,13 +34,13 @@ use crate::leaves::literals::literal;
 use crate::leaves::names::variable_or_name;
 use crate::leaves::slots::slot;
 use crate::nesting::{Answers, Nests};
-use crate::operators::alone::Alone;
+use crate::operators::single_child::SingleChild;
 use crate::primaries::collections::{
     Accesses, Pairs, add_access, add_pair, call_from, field_from, index_from, pair_from,
     record_from, set_from,
 };
 use crate::primaries::members::AccessValue;
-use crate::primaries::methods::Site;
+use crate::primaries::methods::CallSite;
 use crate::styles::ExtStyles;
 use cedar_expressions::ExprBuilderInfallibleBuild;
 use cedar_syntax::cst;
@@ -60,7 +60,7 @@ pub(crate) fn member<B: ExprBuilderInfallibleBuild, N: Nests<B>>(
         (located member_form node.now) }
 {
     match &node.node {
-        Some(tree) => match tree.alone() {
+        Some(tree) => match tree.single_child() {
             Some(item) => primary::<B, N>(alloc, answers, styles, item),
             None => member_chain::<B, N>(alloc, answers, styles, &node.loc, tree),
         },
@@ -82,7 +82,7 @@ fn member_chain<B: ExprBuilderInfallibleBuild, N: Nests<B>>(
 {
     primary::<B, N>(alloc, answers, styles, &member.item);
     let mut item = take(&mut answers.answer);
-    let site = Site { alloc, styles, loc };
+    let site = CallSite { alloc, styles, loc };
     let mut given = placeholder();
     match only_one(member.access.as_slice()) {
         Some(part) => {
@@ -107,7 +107,7 @@ fn access<B: ExprBuilderInfallibleBuild, N: Nests<B>>(
     answers: &mut Answers<B::Expr>,
     styles: &ExtStyles,
     node: &Node<Option<cst::MemAccess>>,
-    given: &mut Result<AccessValue<B::Expr>, Failure>,
+    given: &mut Result<AccessValue<B::Expr>, BoxedFailure>,
 )
     ensures { Taking (N.waits (table_of styles.now)) answers.old.nested
         (nested (located access_form node.now)) answers.new.nested
@@ -133,7 +133,7 @@ fn arguments<B: ExprBuilderInfallibleBuild, N: Nests<B>>(
     answers: &mut Answers<B::Expr>,
     styles: &ExtStyles,
     node: &Node<Option<cst::MemAccess>>,
-    given: &mut Result<AccessValue<B::Expr>, Failure>,
+    given: &mut Result<AccessValue<B::Expr>, BoxedFailure>,
 )
     ensures { (a : List (Held (Option Tree))) → node.now.node ≡ Some (accesses.Call a)
         → Taking (N.waits (table_of styles.now)) answers.old.nested

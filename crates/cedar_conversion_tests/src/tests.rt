@@ -9,6 +9,7 @@ mod places;
 mod policies;
 mod policy_trees;
 mod round_trip;
+mod shown;
 mod signs;
 mod strings;
 mod texts;

@@ -28,7 +28,7 @@ condition_free : (e : Extensions) (n : Node (Option Cond)) (c : Value) → condi
 condition_free e n c h =
     let a = next_ok (content_outcome n.loc n.node) (condition_of e n.loc) c h in
     let f = next_ok (is_when a.0.cond) _ c a.2 in
-    let g = next_ok (clause e n.loc a.0.expr) (without_slots n.loc f.0) c f.2 in
+    let g = next_ok (clause e n.loc a.0.cond.node a.0.expr) (without_slots n.loc f.0) c f.2 in
     let u = next_ok (slots_outcome n.loc g.0) _ c g.2 in
     ap slots_of (sym (ok_is u.2)) ∙ value_free f.0 g.0 (no_slots n.loc (slots_of g.0) u.0 u.1)
 

@@ -22,6 +22,7 @@ use Rattle.cedar_syntax.specs.declared.node.Node.{Node}
 use Rattle.cedar_syntax.specs.faults.Joined.{WantsMemory}
 use Rattle.cedar_policy_conversion.specs.AnnotationKeys.{AnnotationContent, Answers, AnswersEach, Gathering, GivesByKey, annotation_at, annotation_outcome, gathering_with, gathering_with_node, gathering, has_key, with_pair, empty_gathering, key_value_outcome, paired_keys, with_new_key}
 use Rattle.cedar_conversion.specs.parts.Names.{content_outcome}
+use Rattle.cedar_conversion.specs.outcome.Detail.{spelling}
 use Rattle.cedar_conversion.specs.outcome.Outcome.{NamedFault, Outcome, both, next, duplicate_annotation, item_more, faults_outcome}
 use Rattle.cedar_conversion.specs.outcome.Seen.{Gives, Refuses, named_faults}
 use Rattle.cedar_policy_conversion.specs.machines.Filled.{HoldsSoFar, HasKeys, HoldsAll}
@@ -77,10 +78,10 @@ new_given keys all o a e h = rw (e, h) refl
 new_refused : (keys : List (List ℕ)) (fs : List NamedFault) (o : Outcome (List AnnotationContent)) (a : AnnotationContent) → o ≡ Err fs → has_key keys a.key ≡ false → item_more o (with_new_key keys a) ≡ Err fs
 new_refused keys fs o a e h = rw (e, h) refl
 
-known_first : (keys : List (List ℕ)) (all : List AnnotationContent) (o : Outcome (List AnnotationContent)) (a : AnnotationContent) → o ≡ Ok all → has_key keys a.key ≡ true → item_more o (with_new_key keys a) ≡ Err ((duplicate_annotation, a.place) ∷ [])
+known_first : (keys : List (List ℕ)) (all : List AnnotationContent) (o : Outcome (List AnnotationContent)) (a : AnnotationContent) → o ≡ Ok all → has_key keys a.key ≡ true → item_more o (with_new_key keys a) ≡ Err ((duplicate_annotation, a.place, spelling a.key) ∷ [])
 known_first keys all o a e h = rw (e, h) refl
 
-known_behind : (keys : List (List ℕ)) (fs : List NamedFault) (o : Outcome (List AnnotationContent)) (a : AnnotationContent) → o ≡ Err fs → has_key keys a.key ≡ true → item_more o (with_new_key keys a) ≡ Err (fs ++ (duplicate_annotation, a.place) ∷ [])
+known_behind : (keys : List (List ℕ)) (fs : List NamedFault) (o : Outcome (List AnnotationContent)) (a : AnnotationContent) → o ≡ Err fs → has_key keys a.key ≡ true → item_more o (with_new_key keys a) ≡ Err (fs ++ (duplicate_annotation, a.place, spelling a.key) ∷ [])
 known_behind keys fs o a e h = rw (e, h) refl
 
 -- faults of an outcome of any kind
@@ -131,7 +132,7 @@ module _ {F T : Type 0} (g : Shared F (Option (String Global) × (Option (Bor Lo
   new_kept so_far m n all r a t fresh says h (inr p) = rw (p.0, p.1) (new_more so_far m all a t fresh says h)
 
   known_more : (so_far : Gathering) (m : FinMap text_order T) (all r : Result (Unit {0}) Failure) (a : AnnotationContent) → contains_key m a.key ≡ true → (WantsMemory all → WantsMemory r)
-      → ((faults : List NamedFault) → Gives empty_view all (faults_outcome faults) → Gives empty_view r (faults_outcome (faults ++ (duplicate_annotation, a.place) ∷ [])))
+      → ((faults : List NamedFault) → Gives empty_view all (faults_outcome faults) → Gives empty_view r (faults_outcome (faults ++ (duplicate_annotation, a.place, spelling a.key) ∷ [])))
       → HoldsSoFar g f so_far m all → HoldsSoFar g f (gathering_with so_far (Ok a)) m r
   known_more so_far m (Ok u) (Ok v) a known w tells h = let impossible = tells [] refl in cc
   known_more so_far m (Ok u) (Err (Memory e)) a known w tells h = tt
@@ -147,7 +148,7 @@ module _ {F T : Type 0} (g : Shared F (Option (String Global) × (Option (Bor Lo
 
   -- an annotation that converts
   by_key : (b : Bool) (so_far : Gathering) (m n : FinMap text_order T) (all r : Result (Unit {0}) Failure) (a : AnnotationContent) (t : T) → contains_key m a.key ≡ b → Answers g f a t → (WantsMemory all → WantsMemory r)
-      → (contains_key m a.key ≡ true → (n ≡ m) × ((faults : List NamedFault) → Gives empty_view all (faults_outcome faults) → Gives empty_view r (faults_outcome (faults ++ (duplicate_annotation, a.place) ∷ []))))
+      → (contains_key m a.key ≡ true → (n ≡ m) × ((faults : List NamedFault) → Gives empty_view all (faults_outcome faults) → Gives empty_view r (faults_outcome (faults ++ (duplicate_annotation, a.place, spelling a.key) ∷ []))))
       → (contains_key m a.key ≡ false → WantsMemory r ⊎ ((r ≡ all) × (n ≡ insert m a.key t)))
       → HoldsSoFar g f so_far m all → HoldsSoFar g f (gathering_with so_far (Ok a)) n r
   by_key true so_far m n all r a t is says w known new h = let k = known is in rw k.0 (known_more so_far m all r a is w k.1 h)
@@ -155,12 +156,12 @@ module _ {F T : Type 0} (g : Shared F (Option (String Global) × (Option (Bor Lo
 
   pub kept_more : (so_far : Gathering) (x : Node (Option Annotation)) (m n : FinMap text_order T) (all r : Result (Unit {0}) Failure) (a : AnnotationContent) (key : List ℕ) (t : T)
       → annotation_outcome x ≡ Ok a → a.key ≡ key → Answers g f a t → (WantsMemory all → WantsMemory r)
-      → (contains_key m key ≡ true → (n ≡ m) × ((faults : List NamedFault) → Gives empty_view all (faults_outcome faults) → Gives empty_view r (faults_outcome (faults ++ (duplicate_annotation, x.loc) ∷ []))))
+      → (contains_key m key ≡ true → (n ≡ m) × ((faults : List NamedFault) → Gives empty_view all (faults_outcome faults) → Gives empty_view r (faults_outcome (faults ++ (duplicate_annotation, x.loc, spelling key) ∷ []))))
       → (contains_key m key ≡ false → WantsMemory r ⊎ ((r ≡ all) × (n ≡ insert m key t)))
       → HoldsSoFar g f so_far m all → HoldsSoFar g f (gathering_with_node so_far x) n r
   kept_more so_far x m n all r a key t e same says w known new h =
-      let here = subst (λ k. contains_key m k ≡ true → (n ≡ m) × ((faults : List NamedFault) → Gives empty_view all (faults_outcome faults) → Gives empty_view r (faults_outcome (faults ++ (duplicate_annotation, x.loc) ∷ [])))) (sym same) known in
-      let there = subst (λ p. contains_key m a.key ≡ true → (n ≡ m) × ((faults : List NamedFault) → Gives empty_view all (faults_outcome faults) → Gives empty_view r (faults_outcome (faults ++ (duplicate_annotation, p) ∷ [])))) (placed x a e) here in
+      let here = subst (λ k. contains_key m k ≡ true → (n ≡ m) × ((faults : List NamedFault) → Gives empty_view all (faults_outcome faults) → Gives empty_view r (faults_outcome (faults ++ (duplicate_annotation, x.loc, spelling k) ∷ [])))) (sym same) known in
+      let there = subst (λ p. contains_key m a.key ≡ true → (n ≡ m) × ((faults : List NamedFault) → Gives empty_view all (faults_outcome faults) → Gives empty_view r (faults_outcome (faults ++ (duplicate_annotation, p, spelling a.key) ∷ [])))) (placed x a e) here in
       let fresh = subst (λ k. contains_key m k ≡ false → WantsMemory r ⊎ ((r ≡ all) × (n ≡ insert m k t))) (sym same) new in
       subst (λ o. HoldsSoFar g f (gathering_with so_far o) n r) (sym e) (by_key (contains_key m a.key) so_far m n all r a t refl says w there fresh h)
 

@@ -21,19 +21,23 @@ use Rattle.cedar_syntax.specs.declared.cst.Name.{Name}
 use Rattle.cedar_syntax.specs.declared.cst.Slot.{Slot}
 use Rattle.cedar_syntax.specs.declared.cst.Ref.{Ref}
 use Rattle.cedar_syntax.specs.declared.cst.RecInit.{RecInit}
-use Rattle.cedar_syntax.specs.trees.Forms.{F, located, expr_step, data_step, access_step, primary_step, relation_step, add_step, and_step, impl_step, linked_step, member_step, mult_step, or_step, init_step, unary_step, expr_form, data_form, or_form, and_form, relation_form, add_form, mult_form, unary_form, member_form, primary_form}
+use Rattle.cedar_syntax.specs.trees.Forms.{F, located, form_at, expr_step, data_step, access_step, primary_step, relation_step, add_step, and_step, impl_step, linked_step, member_step, mult_step, or_step, init_step, unary_step, expr_form, data_form, or_form, and_form, relation_form, add_form, mult_form, unary_form, member_form, primary_form}
 use Rattle.cedar_syntax.specs.trees.Located as f
 use Rattle.cedar_syntax.specs.trees.Located.{Located, Form}
 use Rattle.cedar_syntax.proofs.FormLevels.{data_or, data_if, or_out, and_out, add_out, mult_out, unary_out, member_out, primary_literal, primary_ref, primary_name, primary_slot, primary_expr, primary_list, primary_inits}
 use Rattle.cedar_conversion.specs.outcome.LonePart.{lone_part, no_sign}
+use Rattle.cedar_conversion.specs.outcome.Seen.{Gives, Refuses}
 use Rattle.cedar_conversion.specs.outcome.Outcome.{Outcome, fault_outcome, empty_node, wrong_node}
 use Rattle.cedar_conversion.proofs.LoneParts.{through, to_part}
+use Rattle.std.specs.Option.{option_map}
+use Rattle.std.specs.Result.{IsErrAnd}
 use denote.Ref.{Bor}
 use Rattle.cedar_syntax.specs.declared.err.faults.Failure.{Failure}
 use Rattle.cedar_conversion.specs.machines.Nested.{nested}
 use Rattle.cedar_conversion.proofs.Nested as inner
+use Rattle.cedar_conversion.proofs.Outcomes.{nothing_refused}
 use Rattle.cedar_conversion.proofs.Weights.{all_weight, first_opened}
-use Rattle.cedar_policy_conversion.specs.machines.LonePaths.{ComesToPrimary}
+use Rattle.cedar_policy_conversion.specs.machines.LonePaths.{ComesToPrimary, child_at, child_outcome}
 use Rattle.cedar_policy_conversion.specs.References.{lone, lone_form}
 
 -- ---- nodes
@@ -64,7 +68,7 @@ by_part p (f.unary op n) = by_sign (fault_outcome wrong_node p) n (no_sign op)
 by_part p (f.member n f.none) = refl
 by_part p t = refl
 
-pub part_lone : {X Y : Type 0} (g : X → Form) (h : Y → Form) (n : Node (Option X)) (d : X) (a : Node (Option Y)) → n.node ≡ Some d → Some (located h a) ≡ lone_part (g d) → lone (located g n) ≡ lone (located h a)
+part_lone : {X Y : Type 0} (g : X → Form) (h : Y → Form) (n : Node (Option X)) (d : X) (a : Node (Option Y)) → n.node ≡ Some d → Some (located h a) ≡ lone_part (g d) → lone (located g n) ≡ lone (located h a)
 part_lone g h n d a e k = to_part lone (lone_form n.loc (g d)) _ (lone_part (g d)) (located h a) (lone_is g n d _ e refl ∙ by_part n.loc (g d)) k
 
 -- a primary: no level of operators, and no access
@@ -103,7 +107,7 @@ wrong_form p (f.set items) e h = cc
 wrong_form p (f.record_of inits) e h = cc
 wrong_form p t e h = refl
 
-pub wrong_level : {X : Type 0} (g : X → Form) (n : Node (Option X)) (d : X) → n.node ≡ Some d → is_primary (g d) ≡ false → None ≡ lone_part (g d) → lone (located g n) ≡ fault_outcome wrong_node n.loc
+wrong_level : {X : Type 0} (g : X → Form) (n : Node (Option X)) (d : X) → n.node ≡ Some d → is_primary (g d) ≡ false → None ≡ lone_part (g d) → lone (located g n) ≡ fault_outcome wrong_node n.loc
 wrong_level g n d e k h = lone_is g n d _ e refl ∙ wrong_form n.loc (g d) k h
 
 pub only_expr : (n : Node (Option Expr)) (d : Expr) (x : ExprData) (a : Node (Option Or)) → n.node ≡ Some d → expr_form d ≡ data_form x → x ≡ datas.Or a → lone (located expr_form n) ≡ lone (located or_form a)
@@ -118,6 +122,43 @@ if_expr n d x a b c h k l = lone_is expr_form n d _ h (k ∙ ap data_form l ∙ 
 pub comes : (n m : Located) (r : Result (Bor (Node (Option Primary))) Failure) → lone n ≡ lone m → nested n ≡ nested m → ComesToPrimary m r → ComesToPrimary n r
 comes n m (Ok p) h k c = (h ∙ c.0, k ∙ c.1)
 comes n m (Err f) h k c = rw h c
+
+some_child : (place : Option Loc) (o : Option Located) (m : Located) → child_at place o ≡ Ok m → Some m ≡ o
+some_child place (Some a) m h = cc
+some_child place None m h = cc
+
+child : {X Y : Type 0} (g : X → Form) (h : Y → Form) (n : Node (Option X)) (a : Node (Option Y)) → child_outcome (located g n) ≡ Ok (located h a) → (lone (located g n) ≡ lone (located h a)) × (nested (located g n) ≡ nested (located h a))
+child {X} {Y} g h n a = go n.node refl
+  where
+    go : (o : Option X) → n.node ≡ o → child_outcome (form_at n.loc (option_map g o)) ≡ Ok (located h a) → (lone (located g n) ≡ lone (located h a)) × (nested (located g n) ≡ nested (located h a))
+    go None e k = cc
+    go (Some d) e k = let part = some_child n.loc (lone_part (g d)) (located h a) k in (part_lone g h n d a e part, inner.part g h n d a e part)
+
+pub comes_by : {X Y : Type 0} (g : X → Form) (h : Y → Form) (n : Node (Option X)) (a : Node (Option Y)) (r : Result (Bor (Node (Option Primary))) Failure) → child_outcome (located g n) ≡ Ok (located h a)
+    → ComesToPrimary (located h a) r → ComesToPrimary (located g n) r
+comes_by g h n a r k c = let same = child g h n a k in comes (located g n) (located h a) r same.0 same.1 c
+
+-- and is refused as it is no one part
+no_child : {X : Type 0} (g : X → Form) (n : Node (Option X)) (d : X) (f : Failure) (o : Option Located) → n.node ≡ Some d → is_primary (g d) ≡ false → o ≡ lone_part (g d) → Refuses f (child_at n.loc o) → Refuses f (lone (located g n))
+no_child g n d f (Some a) e level i k = nothing_refused f a (lone (located g n)) k
+no_child g n d f None e level i k = rw (wrong_level g n d e level i) k
+
+childless : {X : Type 0} (g : X → Form) → ((d : X) → is_primary (g d) ≡ false) → (n : Node (Option X)) (f : Failure) → Refuses f (child_outcome (located g n)) → Refuses f (lone (located g n))
+childless {X} g levels n f = go n.node refl
+  where
+    go : (o : Option X) → n.node ≡ o → Refuses f (child_outcome (form_at n.loc (option_map g o))) → Refuses f (lone (located g n))
+    go None e k = rw (no_lone g n e) k
+    go (Some d) e k = no_child g n d f (lone_part (g d)) e (levels d) refl k
+
+pub comes_to_none : {X : Type 0} (g : X → Form) → ((d : X) → is_primary (g d) ≡ false) → (n : Node (Option X)) (r : Result (Bor (Node (Option Primary))) Failure) (f : Failure) → IsErrAnd r (λ e. e ≡ f)
+    → Refuses f (child_outcome (located g n)) → ComesToPrimary (located g n) r
+comes_to_none g levels n (Ok p) f is k = absurd is
+comes_to_none g levels n (Err e) f is k = rw is (childless g levels n f k)
+
+pub comes_at_last : {X : Type 0} (g : X → Form) → ((d : X) → is_primary (g d) ≡ false) → (n : Node (Option X)) (r : Result (Bor (Node (Option Primary))) Failure) → Gives (λ p. located primary_form p.now) r (child_outcome (located g n))
+    → ComesToPrimary (located g n) r
+comes_at_last g levels n (Ok p) k = child g primary_form n p.now k
+comes_at_last g levels n (Err f) k = childless g levels n f k
 
 -- no level above is a primary
 pub or_level : (d : Or) → is_primary (or_form d) ≡ false

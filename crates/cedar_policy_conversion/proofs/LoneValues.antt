@@ -31,7 +31,8 @@ use Rattle.cedar_conversion.specs.strict.Extensions.{Extensions}
 use Rattle.cedar_conversion.specs.outcome.Held.{Held, as_expression, bare_name, expression, text_value}
 use Rattle.cedar_conversion.specs.parts.Leaves.{slot_value, variable_or_name}
 use Rattle.cedar_conversion.specs.parts.Names.{name_outcome, named_variable}
-use Rattle.cedar_conversion.specs.outcome.Outcome.{Outcome, expression_construction_error, fault_outcome, integer_literal_too_large, next}
+use Rattle.cedar_conversion.specs.outcome.Detail as detail
+use Rattle.cedar_conversion.specs.outcome.Outcome.{Outcome, detailed_outcome, expression_construction_error, fault_outcome, integer_literal_too_large, next}
 use Rattle.cedar_conversion.specs.outcome.Seen.{Refuses}
 use Rattle.cedar_conversion.specs.strict.Strict.{largest}
 use Rattle.cedar_conversion.specs.parts.Strings.{text_outcome}
@@ -54,7 +55,7 @@ from_text (Err fs) = refl
 from_number : (place : Option Loc) (n : ℕ) → IsOther (number_outcome place n)
 from_number place n = go (nat_le largest n)
   where
-    go : (b : Bool) → IsOther (if b then fault_outcome integer_literal_too_large place else Ok (expression place (v.val (literals.Long (pos n)))))
+    go : (b : Bool) → IsOther (if b then detailed_outcome integer_literal_too_large place (detail.number n) else Ok (expression place (v.val (literals.Long (pos n)))))
     go true = refl
     go false = refl
 

@@ -15,7 +15,7 @@ use Rattle.cedar_policy_conversion.specs.declared.policy_ids.GeneratedPolicyIds.
 use Rattle.cedar_policy_conversion.specs.GeneratedIds.{NamedPolicy, named_policies, remaining_nodes}
 use Rattle.cedar_policy_conversion.specs.Policies as k
 use Rattle.cedar_policy_conversion.specs.PolicyMeaning.{policy_id}
-use Rattle.cedar_policy_conversion.specs.machines.Filled.{AddsAtMost, IsFreeFor, set_view}
+use Rattle.cedar_policy_conversion.specs.machines.Filled.{AddsAtMost, IsFreeFor, seen_outcome, seen_policies, set_view}
 use Rattle.cedar_conversion.proofs.Outcomes.{gives_at}
 use Rattle.cedar_policy_conversion.proofs.FreeNames.{HasName, IsFreeFrom, free_behind, free_first, free_for, named}
 use Rattle.cedar_policy_conversion.proofs.SetSteps.{nothing_kept, numbered_snoc, zero-plus}
@@ -30,7 +30,7 @@ Sided = Result (Either Template Template) Failure
 abbrev pub AreKept : Extensions → Cells → GeneratedPolicyIds → PolicyMaps → Result (Unit {0}) Failure → Type 0
 AreKept e nodes ids set all =
     (before : Cells) × (after : Cells) × (nodes ≡ before ++ after) × (remaining_nodes ids ≡ named_policies (length before) after)
-    × IsFreeFrom set (length before) × Gives (set_view set) all (k.set_outcome e before)
+    × IsFreeFrom set (length before) × Gives (set_view set) all (seen_policies e before)
 
 pub first_kept : (e : Extensions) (nodes : Cells) (ids : GeneratedPolicyIds) (set : PolicyMaps) → remaining_nodes ids ≡ named_policies 0 nodes → set ≡ record { policies = empty; templates = empty } → AreKept e nodes ids set (Ok tt)
 first_kept e nodes ids set all none = ([], nodes, refl, all, free_first set none, nothing_kept e set none)
@@ -68,7 +68,7 @@ module _ (e : Extensions) (nodes : Cells) (fits : length nodes < 2 ^ 64) (ids la
   next_free = free_for set (length kept.0) next small kept.4 has_name
 
   pub next_kept : (after : PolicyMaps) (r : Result (Unit {0}) Failure) → AddsAtMost next set after
-      → ((o : Outcome (List k.TemplateParts)) (x : Outcome k.TemplateParts) → Gives (set_view set) all (k.parts_set_outcome o) → Gives k.either_parts next (k.side_outcome x) → Gives (set_view after) r (k.parts_set_outcome (item_more o x)))
+      → ((o : Outcome (List k.TemplateParts)) (x : Outcome k.TemplateParts) → Gives (set_view set) all (seen_outcome o) → Gives k.either_parts next (k.side_outcome x) → Gives (set_view after) r (seen_outcome (item_more o x)))
       → AreKept e nodes later after r
   next_kept after r adds told =
       let longer : suc (length kept.0) ≡ length (kept.0 ++ n ∷ []) = omega (arith, length_push kept.0 n) in
@@ -79,7 +79,7 @@ module _ (e : Extensions) (nodes : Cells) (fits : length nodes < 2 ^ 64) (ids la
         whole ∙ sym (append_assoc kept.0 (n ∷ []) found.0),
         found.3 ∙ ap (λ j. named_policies j found.0) longer,
         subst (IsFreeFrom after) longer (free_behind set after next (length kept.0) small has_name adds kept.4),
-        gives_at (set_view after) r _ _ (ap k.parts_set_outcome (numbered_snoc e 0 kept.0 n))
+        gives_at (set_view after) r _ _ (ap seen_outcome (numbered_snoc e 0 kept.0 n))
             (told (k.policies_from e 0 kept.0) (k.template_outcome e (policy_id (0 + length kept.0)) n) kept.5 part),
       )
 
@@ -90,7 +90,7 @@ none_named i [] h = refl
 none_named i (n ∷ ns) h = cc
 
 -- nothing is to come, so all of them are kept
-pub whole_kept : (e : Extensions) (nodes : Cells) (ids : GeneratedPolicyIds) (set : PolicyMaps) (all : Result (Unit {0}) Failure) → AreKept e nodes ids set all → remaining_nodes ids ≡ [] → Gives (set_view set) all (k.set_outcome e nodes)
+pub whole_kept : (e : Extensions) (nodes : Cells) (ids : GeneratedPolicyIds) (set : PolicyMaps) (all : Result (Unit {0}) Failure) → AreKept e nodes ids set all → remaining_nodes ids ≡ [] → Gives (set_view set) all (seen_policies e nodes)
 whole_kept e nodes ids set all kept none =
     gives_at (set_view set) all _ _
-    (ap (k.set_outcome e) (kept.2 ∙ ap (λ ms. kept.0 ++ ms) (none_named (length kept.0) kept.1 (sym kept.3 ∙ none)) ∙ append-nil kept.0)) kept.5
+    (ap (seen_policies e) (kept.2 ∙ ap (λ ms. kept.0 ++ ms) (none_named (length kept.0) kept.1 (sym kept.3 ∙ none)) ∙ append-nil kept.0)) kept.5

@@ -48,7 +48,7 @@ module _ {F : Type 0} (g : Shared F (Option (String Global) × (Option (Bor Loc)
 -- ---- faults behind those of slots in conditions
 
 abbrev wanted : NamedFault → NamedFault
-wanted f = (expected_static_policy, f.1)
+wanted f = (expected_static_policy, f.1, f.2)
 
 one_more_by : (b : Bool) (f : NamedFault) (xs ys zs : List NamedFault) → map wanted xs ≡ map wanted ys ++ zs → map wanted (cond b (f ∷ xs) xs) ≡ map wanted (cond b (f ∷ ys) ys) ++ zs
 one_more_by true f xs ys zs h = ap (λ us. wanted f ∷ us) h

@@ -11,9 +11,9 @@ use Rattle.cedar_policy_store.specs.declared.template.Template.{Template}
 use Rattle.cedar_policy_store.specs.PlaceFree.{asks_for_slot, constraint_meaning, has_slot_in_scope}
 use Rattle.cedar_policy_store.specs.TemplateSlots.{at_most_one, constraint_slot, template_slots}
 use Rattle.cedar_syntax.specs.declared.loc.Loc.{Loc}
-use Rattle.cedar_conversion.specs.outcome.Places.{place_within}
-use Rattle.cedar_conversion.specs.outcome.Outcome.{Outcome, NamedFault, fault_outcome, expected_static_policy}
-use Rattle.cedar_policy_conversion.specs.Policies.{TemplateParts, meaning_of, only_static, scope_slots, side_outcome, policy_side, slot_faults, template_parts, unless_slots}
+use Rattle.cedar_conversion.specs.outcome.Detail.{slot}
+use Rattle.cedar_conversion.specs.outcome.Outcome.{Outcome, NamedFault, detailed_outcome, expected_static_policy}
+use Rattle.cedar_policy_conversion.specs.Policies.{TemplateParts, meaning_of, only_static, scope_slots, side_outcome, policy_side, slot_faults, slot_place, template_parts, unless_slots}
 use Rattle.cedar_policy_conversion.specs.machines.PolicyViews.{IsConditionFree}
 
 -- ---- a template's slots
@@ -82,7 +82,7 @@ on_left o t p h same none =
 
 -- ---- a static policy is wanted
 
-pub unless_some : (place : Option Loc) (slots : List Slot) (t : TemplateParts) (s : Slot) → Some s ≡ slice_get slots 0 → unless_slots place slots t ≡ fault_outcome expected_static_policy (place_within place s.place)
+pub unless_some : (place : Option Loc) (slots : List Slot) (t : TemplateParts) (s : Slot) → Some s ≡ slice_get slots 0 → unless_slots place slots t ≡ detailed_outcome expected_static_policy (slot_place place s.place) (slot s)
 unless_some place [] t s h = cc
 unless_some place (r ∷ slots) t s h = let same : r ≡ s = cc in ap (λ u. unless_slots place (u ∷ slots) t) same
 

@@ -19,7 +19,8 @@ use Rattle.cedar_syntax.specs.declared.loc.Loc.{Loc}
 use Rattle.cedar_syntax.specs.declared.node.Node.{Node}
 use Rattle.cedar_conversion.specs.parts.Entities.{id_outcome}
 use Rattle.cedar_conversion.specs.parts.Names.{content_outcome, any_ident}
-use Rattle.cedar_conversion.specs.outcome.Outcome.{Outcome, fault_outcome, both, next, duplicate_annotation, item_more}
+use Rattle.cedar_conversion.specs.outcome.Detail.{spelling}
+use Rattle.cedar_conversion.specs.outcome.Outcome.{Outcome, detailed_outcome, both, next, duplicate_annotation, item_more}
 use Rattle.cedar_conversion.specs.outcome.Places.{place_mark}
 use Rattle.cedar_conversion.specs.outcome.Seen.{Refuses}
 
@@ -54,7 +55,8 @@ has_key keys key = list_any (bytes_eq key) keys
 -- a key that an earlier annotation has, if that one converted, is refused at the later one
 abbrev pub with_new_key : List (List ℕ) → AnnotationContent → Outcome AnnotationContent
 with_new_key keys a =
-    if has_key keys a.key then fault_outcome duplicate_annotation a.place else Ok a
+    if has_key keys a.key
+    then detailed_outcome duplicate_annotation a.place (spelling a.key) else Ok a
 
 abbrev pub converted_key : Outcome AnnotationContent → List (List ℕ)
 converted_key (Ok a) = a.key ∷ []

@@ -15,7 +15,8 @@ use Rattle.cedar_syntax.specs.trees.Forms.{located, expr_form}
 use Rattle.cedar_conversion.specs.outcome.Conversion.{value_outcome}
 use Rattle.cedar_conversion.specs.strict.Extensions.{Extensions}
 use Rattle.cedar_conversion.specs.parts.Names.{content_outcome, all_of}
-use Rattle.cedar_conversion.specs.outcome.Outcome.{NamedFault, Outcome, fault_outcome, next, invalid_condition, empty_clause, slots_in_condition_clause, faults_outcome}
+use Rattle.cedar_conversion.specs.outcome.Detail as detail
+use Rattle.cedar_conversion.specs.outcome.Outcome.{NamedFault, Outcome, detailed_outcome, next, invalid_condition, empty_clause, slots_in_condition_clause, faults_outcome}
 use Rattle.cedar_conversion.specs.outcome.Places.{place_within}
 
 -- ---- one condition
@@ -24,14 +25,16 @@ use Rattle.cedar_conversion.specs.outcome.Places.{place_within}
 abbrev pub is_when_of : Option Loc → Ident → Outcome Bool
 is_when_of place words.When = Ok true
 is_when_of place words.Unless = Ok false
-is_when_of place _ = fault_outcome invalid_condition place
+is_when_of place i = detailed_outcome invalid_condition place (detail.word i)
 
 abbrev pub is_when : Node (Option Ident) → Outcome Bool
 is_when n = next (content_outcome n.loc n.node) (is_when_of n.loc)
 
-abbrev pub clause : Extensions → Option Loc → Option (Node (Option Expr)) → Outcome Value
-clause e place (Some n) = value_outcome e (located expr_form n)
-clause e place None = fault_outcome empty_clause place
+-- behind the condition's word
+abbrev pub clause : Extensions → Option Loc → Option Ident → Option (Node (Option Expr))
+    → Outcome Value
+clause e place word (Some n) = value_outcome e (located expr_form n)
+clause e place word None = detailed_outcome empty_clause place (detail.word_there word)
 
 -- `unless` is `not`
 abbrev pub condition_value : Bool → Value → Value
@@ -40,7 +43,8 @@ condition_value false x = v.not x
 
 -- a slot where it stands within the condition, else at the condition
 abbrev pub condition_slot_fault : Option Loc → Slot → NamedFault
-condition_slot_fault place s = (slots_in_condition_clause, place_within place s.place)
+condition_slot_fault place s =
+    (slots_in_condition_clause, place_within place s.place, detail.slot s)
 
 abbrev pub slots_outcome : Option Loc → Value → Outcome (Unit {0})
 slots_outcome place x = faults_outcome (map (condition_slot_fault place) (slots_of x))
@@ -50,7 +54,8 @@ without_slots place when x = next (slots_outcome place x) (λ _. Ok (condition_v
 
 abbrev pub condition_of : Extensions → Option Loc → Cond → Outcome Value
 condition_of e place c =
-    next (is_when c.cond) (λ when. next (clause e place c.expr) (without_slots place when))
+    next (is_when c.cond) (λ when. next (clause e place c.cond.node c.expr)
+    (without_slots place when))
 
 abbrev pub condition_outcome : Extensions → Node (Option Cond) → Outcome Value
 condition_outcome e n = next (content_outcome n.loc n.node) (condition_of e n.loc)

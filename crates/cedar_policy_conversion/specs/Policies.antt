@@ -1,10 +1,10 @@
 -- Policies and sets of them: what their trees give. The rules are those of Cedar's
 -- `to_policy_template`, `to_policy_or_template`, `to_policy` and `to_policyset`.
-use Rattle.std.specs.Prelude.{ℕ, suc, List, [], ◌∷◌, ◌++◌, map, filter, fold, Option, Ok, Err, Bool, true, false}
+use Rattle.std.specs.Prelude.{ℕ, suc, ◌+◌, ◌^◌, nat_lt, List, [], ◌∷◌, ◌++◌, map, filter, fold, Option, Some, Ok, Err, Bool, true, false, if◌then◌else◌}
 use Rattle.std.specs.Option.{option_map}
 use Rattle.either.specs.declared.Either.{Either}
 use Rattle.either.specs.declared.Either.TheVariants.{Left, Right}
-use Rattle.std.specs.FinMap.{FinMap}
+use Rattle.std.specs.FinMap.{FinMap, empty, insert}
 use Rattle.cedar_expressions.specs.declared.place.Place.{Place}
 use Rattle.cedar_expressions.specs.declared.place.Slot.{Slot}
 use Rattle.cedar_expressions.specs.declared.atoms.SlotId.TheVariants as ids
@@ -19,7 +19,8 @@ use Rattle.cedar_policy_store.specs.declared.effect.Effect.{Effect}
 use Rattle.cedar_policy_store.specs.declared.effect.Effect.TheVariants as effects
 use Rattle.cedar_policy_store.specs.declared.template.Template.{Template}
 use Rattle.cedar_policy_store.specs.PlaceFree as free
-use Rattle.cedar_policy_store.specs.PlaceFree.{annotation_value, constraint_meaning, set_meaning, with_values}
+use Rattle.cedar_policy_store.specs.PlaceFree.{annotation_value, constraint_meaning, has_slot_in_scope, set_meaning, with_values}
+use Rattle.cedar_policy_store.specs.PolicyMaps.{PolicyMaps}
 use Rattle.cedar_policy_store.specs.TemplateSlots.{constraint_slot, at_most_one}
 use Rattle.cedar_policy_store.specs.TextMap.{text_order}
 use Rattle.cedar_syntax.specs.declared.cst.Annotation.{Annotation as AnnotationTree}
@@ -33,11 +34,12 @@ use Rattle.cedar_syntax.specs.declared.loc.Loc.{Loc}
 use Rattle.cedar_syntax.specs.declared.node.Node.{Node}
 use Rattle.cedar_policy_conversion.specs.AnnotationKeys.{annotations_outcome, annotation_map}
 use Rattle.cedar_policy_conversion.specs.Conditions.{conditions_outcome}
-use Rattle.cedar_conversion.specs.outcome.Places.{place_within, bytes_of}
+use Rattle.cedar_conversion.specs.outcome.Places.{bytes_at, bytes_of}
 use Rattle.cedar_conversion.specs.outcome.Conversion.{with_first}
 use Rattle.cedar_conversion.specs.strict.Extensions.{Extensions}
 use Rattle.cedar_conversion.specs.parts.Names.{content_outcome}
-use Rattle.cedar_conversion.specs.outcome.Outcome.{Kind, NamedFault, Outcome, fault_outcome, both, next, invalid_effect, expected_static_policy, slots_in_condition_clause}
+use Rattle.cedar_conversion.specs.outcome.Detail as detail
+use Rattle.cedar_conversion.specs.outcome.Outcome.{Kind, NamedFault, Outcome, detailed_outcome, both, next, invalid_effect, expected_static_policy, slots_in_condition_clause}
 use Rattle.cedar_policy_conversion.specs.PolicyMeaning.{no_policies, policy_id, with_policy, joint_condition}
 use Rattle.cedar_policy_conversion.specs.Scope.{Scope, scope_outcome}
 
@@ -46,7 +48,7 @@ use Rattle.cedar_policy_conversion.specs.Scope.{Scope, scope_outcome}
 abbrev pub effect_of : Option Loc → Ident → Outcome Effect
 effect_of place words.Permit = Ok effects.Permit
 effect_of place words.Forbid = Ok effects.Forbid
-effect_of place _ = fault_outcome invalid_effect place
+effect_of place i = detailed_outcome invalid_effect place (detail.word i)
 
 abbrev pub effect_outcome : Node (Option Ident) → Outcome Effect
 effect_outcome n = next (content_outcome n.loc n.node) (effect_of n.loc)
@@ -134,19 +136,29 @@ abbrev pub either_parts : Either Template Template → Either TemplateParts Temp
 either_parts (Left t) = Left (template_parts t)
 either_parts (Right t) = Right (template_parts t)
 
--- a template is refused at its first slot where that stands within the policy, else at the policy
+-- the bytes of a slot in the policy's text, inside the policy or not; the policy's place where
+-- the slot's isn't known or is no range of bytes
+abbrev pub slot_bytes : Loc → Place → Loc
+slot_bytes loc p = if nat_lt (p.offset + p.length) (2 ^ 64) then bytes_at loc p else loc
+
+abbrev pub slot_place : Option Loc → Option Place → Option Loc
+slot_place (Some loc) (Some p) = Some (slot_bytes loc p)
+slot_place place _ = place
+
+-- a template is refused at its first slot
 abbrev pub unless_slots : Option Loc → List Slot → TemplateParts → Outcome TemplateParts
 unless_slots place [] t = Ok t
-unless_slots place (s ∷ ss) t = fault_outcome expected_static_policy (place_within place s.place)
+unless_slots place (s ∷ ss) t =
+    detailed_outcome expected_static_policy (slot_place place s.place) (detail.slot s)
 
 abbrev pub is_slot_fault : Kind → Bool
 is_slot_fault slots_in_condition_clause = true
 is_slot_fault _ = false
 
--- one more fault for each slot in a condition, at its place
+-- one more fault for each slot in a condition, with it and at its place
 abbrev pub slot_faults : List NamedFault → List NamedFault
 slot_faults faults =
-    map (λ f. (expected_static_policy, f.1)) (filter (λ f. is_slot_fault f.0) faults)
+    map (λ f. (expected_static_policy, f.1, f.2)) (filter (λ f. is_slot_fault f.0) faults)
 
 abbrev pub only_static : Option Loc → Outcome TemplateParts → Outcome TemplateParts
 only_static place (Ok t) = unless_slots place (scope_slots t) t
@@ -190,3 +202,37 @@ set_outcome e ns = parts_set_outcome (policies_from e 0 ns)
 
 abbrev pub policies_outcome : Extensions → Node (Option Policies) → Outcome free.Policies
 policies_outcome e n = next (content_outcome n.loc n.node) (λ ps. set_outcome e ps.0)
+
+-- ---- sets with their places
+
+-- a set's static policies and templates, by name, with all places but those inside conditions
+pub record PlacedPolicies : Type 0 where
+  pub policies : FinMap text_order TemplateParts
+  pub templates : FinMap text_order TemplateParts
+
+abbrev pub no_placed : PlacedPolicies
+no_placed = record { policies = empty; templates = empty }
+
+abbrev pub placed_on : Bool → PlacedPolicies → TemplateParts → PlacedPolicies
+placed_on true set t = record set { templates = insert set.templates t.id t }
+placed_on false set t = record set { policies = insert set.policies t.id t }
+
+-- as a template where a slot stands in its scope, else as a static policy
+abbrev pub with_placed : PlacedPolicies → TemplateParts → PlacedPolicies
+with_placed set t = placed_on (has_slot_in_scope (meaning_of t)) set t
+
+abbrev pub placed_set : List TemplateParts → PlacedPolicies
+placed_set ts = fold with_placed no_placed ts
+
+abbrev pub placed_policies : Extensions → List (Node (Option Policy)) → Outcome PlacedPolicies
+placed_policies e ns = next (policies_from e 0 ns) (λ ts. Ok (placed_set ts))
+
+abbrev pub placed_outcome : Extensions → Node (Option Policies) → Outcome PlacedPolicies
+placed_outcome e n = next (content_outcome n.loc n.node) (λ ps. placed_policies e ps.0)
+
+-- the same of what the program holds
+abbrev pub set_parts : PolicyMaps → PlacedPolicies
+set_parts set = record {
+  policies = with_values template_parts set.policies;
+  templates = with_values template_parts set.templates;
+}

@@ -25,6 +25,7 @@ use Rattle.cedar_conversion.specs.parts.Entities.{entity_outcome}
 use Rattle.cedar_conversion.specs.parts.HasSide.{no_sign}
 use Rattle.cedar_conversion.specs.parts.Names.{content_outcome}
 use Rattle.cedar_conversion.specs.outcome.Places.{place_mark}
+use Rattle.cedar_conversion.specs.outcome.Detail.{nothing}
 use Rattle.cedar_conversion.specs.outcome.Outcome.{NamedFault, Outcome, fault_outcome, both, next, empty_node, wrong_node, wrong_entity_argument}
 
 -- ---- kinds of reference
@@ -87,13 +88,13 @@ unfoldable mutual
 
 -- a literal refers to nothing; an empty one is refused at its own place
 abbrev pub literal_fault : Option Loc → Option Loc → Option Literal → NamedFault
-literal_fault place own (Some literal) = (wrong_node, place)
-literal_fault place own None = (empty_node, own)
+literal_fault place own (Some literal) = (wrong_node, place, nothing)
+literal_fault place own None = (empty_node, own, nothing)
 
 -- nor does a name or a record
 abbrev pub form_fault : Option Loc → Form → NamedFault
 form_fault place (f.literal n) = literal_fault place n.loc n.node
-form_fault place _ = (wrong_node, place)
+form_fault place _ = (wrong_node, place, nothing)
 
 abbrev pub no_reference : {X : Type 0} → Option Loc → Form → Outcome X
 no_reference place form = Err (form_fault place form ∷ [])

@@ -37,7 +37,8 @@ use Rattle.cedar_conversion.specs.outcome.Conversion.{outcome, value_outcome}
 use Rattle.cedar_conversion.specs.strict.Extensions.{Extensions}
 use Rattle.cedar_conversion.specs.outcome.Held.{as_entity_type}
 use Rattle.cedar_conversion.specs.parts.Names.{content_outcome}
-use Rattle.cedar_conversion.specs.outcome.Outcome.{NamedFault, Outcome, fault_outcome, both, next, empty_node, invalid_scope_variable, type_constraints, inverted_is_in, is_with_eq, invalid_single_eq, invalid_scope_operator, incorrect_variable, is_in_action_scope, invalid_action_scope_operator, invalid_action_type, missing_scope_variable, extra_scope_element, faults_outcome}
+use Rattle.cedar_conversion.specs.outcome.Detail as detail
+use Rattle.cedar_conversion.specs.outcome.Outcome.{NamedFault, Outcome, fault_outcome, detailed_outcome, both, next, empty_node, invalid_scope_variable, type_constraints, inverted_is_in, is_with_eq, invalid_single_eq, invalid_scope_operator, incorrect_variable, is_in_action_scope, invalid_action_scope_operator, invalid_action_type, missing_scope_variable, extra_scope_element, faults_outcome}
 use Rattle.cedar_policy_conversion.specs.References.{referent_outcome, single_entity, entity_or_slot, one_or_multiple}
 
 -- ---- an element's variable
@@ -47,7 +48,7 @@ abbrev pub scope_variable_of : Option Loc → Ident → Outcome Var
 scope_variable_of place words.Principal = Ok vars.Principal
 scope_variable_of place words.Action = Ok vars.Action
 scope_variable_of place words.Resource = Ok vars.Resource
-scope_variable_of place _ = fault_outcome invalid_scope_variable place
+scope_variable_of place i = detailed_outcome invalid_scope_variable place (detail.word i)
 
 abbrev pub scope_variable : Node (Option Ident) → Outcome Var
 scope_variable n = next (content_outcome n.loc n.node) (scope_variable_of n.loc)
@@ -100,7 +101,8 @@ operator_outcome e place rel.Eq (Some n) r = fault_outcome is_with_eq place
 operator_outcome e place rel.In None r = Ok (constraint.In r)
 operator_outcome e place rel.In (Some n) r = type_and e r n
 operator_outcome e place rel.InvalidSingleEq n r = fault_outcome invalid_single_eq place
-operator_outcome e place _ n r = fault_outcome invalid_scope_operator place
+operator_outcome e place op n r =
+    detailed_outcome invalid_scope_operator place (detail.operator op)
 
 -- a type alone, or nothing
 abbrev pub asked_type : Extensions → Option (Node (Option Add))
@@ -125,7 +127,8 @@ stands_there _ _ = false
 abbrev pub in_its_place : Option Loc → Var → Var → PrincipalOrResourceConstraint
     → Outcome PrincipalOrResourceConstraint
 in_its_place place expected x c =
-    if stands_there expected x then Ok c else fault_outcome incorrect_variable place
+    if stands_there expected x then Ok c
+    else detailed_outcome incorrect_variable place (detail.variables expected x)
 
 abbrev pub element_of : Extensions → Var → Option Loc → VariableDef
     → Outcome PrincipalOrResourceConstraint
@@ -150,7 +153,8 @@ resource_outcome e n =
 
 abbrev pub action_alone : Option Loc → Var → Outcome (Unit {0})
 action_alone place vars.Action = Ok tt
-action_alone place _ = fault_outcome incorrect_variable place
+action_alone place x =
+    detailed_outcome incorrect_variable place (detail.variables vars.Action x)
 
 -- the action has no type
 abbrev pub no_entity_type : Option Loc → Option (Node (Option Add)) → Outcome (Unit {0})
@@ -178,13 +182,15 @@ abbrev pub action_by : Extensions → Option Loc → RelOp → Node (Option Expr
 action_by e place rel.In n = action_in e place n
 action_by e place rel.Eq n = action_eq n
 action_by e place rel.InvalidSingleEq n = fault_outcome invalid_single_eq place
-action_by e place _ n = fault_outcome invalid_action_scope_operator place
+action_by e place op n =
+    detailed_outcome invalid_action_scope_operator place (detail.operator op)
 
 -- entities that have no action type are refused where they stand
 abbrev pub unless_others : Option Loc → ActionConstraint → List EntityUID
     → Outcome ActionConstraint
 unless_others place c [] = Ok c
-unless_others place c (uid ∷ uids) = fault_outcome invalid_action_type place
+unless_others place c (uid ∷ uids) =
+    detailed_outcome invalid_action_type place (detail.entities (uid ∷ uids))
 
 abbrev pub only_actions : Option Loc → ActionConstraint → Outcome ActionConstraint
 only_actions place c = unless_others place c (but_actions (named_entities c))
@@ -228,16 +234,17 @@ end_place place =
     option_map
     (λ loc. record { span = record { offset = end_of loc.span; len = 0 }; src = loc.src }) place
 
--- an element that isn't there stands at the end of what is before it
-abbrev pub if_there : {X : Type 0} → (Node (Option VariableDef) → Outcome X) → Option Loc
+-- the element of a variable; one that isn't there stands at the end of what is before it
+abbrev pub if_there : {X : Type 0} → Var → (Node (Option VariableDef) → Outcome X) → Option Loc
     → Option (Node (Option VariableDef)) → Outcome X
-if_there f before (Some n) = f n
-if_there f before None = fault_outcome missing_scope_variable (end_place before)
+if_there x f before (Some n) = f n
+if_there x f before None =
+    detailed_outcome missing_scope_variable (end_place before) (detail.variable x)
 
 -- each element beyond the third
 abbrev pub extra_element_fault : Option Loc → Option VariableDef → NamedFault
-extra_element_fault place (Some d) = (extra_scope_element, place)
-extra_element_fault place None = (empty_node, place)
+extra_element_fault place (Some d) = (extra_scope_element, place, detail.nothing)
+extra_element_fault place None = (empty_node, place, detail.nothing)
 
 abbrev pub no_extra : List (Node (Option VariableDef)) → Outcome (Unit {0})
 no_extra ns = faults_outcome (map (λ n. extra_element_fault n.loc n.node) ns)
@@ -252,9 +259,10 @@ abbrev pub scope_of : Extensions → Option Loc → Option (Node (Option Variabl
     → List (Node (Option VariableDef)) → Outcome Scope
 scope_of e before first second third others =
     next (both
-    (both (if_there (principal_outcome e) before first)
-    (if_there (action_outcome e) (place_behind before first) second))
-    (both (if_there (resource_outcome e) (place_behind (place_behind before first) second) third)
+    (both (if_there vars.Principal (principal_outcome e) before first)
+    (if_there vars.Action (action_outcome e) (place_behind before first) second))
+    (both (if_there vars.Resource (resource_outcome e)
+    (place_behind (place_behind before first) second) third)
     (no_extra others))) three
 
 abbrev pub elements_outcome : Extensions → Option Loc → List (Node (Option VariableDef))

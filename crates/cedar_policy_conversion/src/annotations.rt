@@ -6,6 +6,7 @@ ghost use Rattle.std.specs.Option.{option_map};
 ghost use Rattle.cedar_syntax.specs.declared.err.faults.ParseError.TheVariants.{ToAST};
 ghost use Rattle.cedar_policy_conversion.specs.AnnotationKeys as k;
 ghost use Rattle.cedar_policy_store.specs.TextMap.{map_in, text_order};
+ghost use Rattle.cedar_conversion.specs.outcome.Detail.{spelling};
 ghost use Rattle.cedar_conversion.specs.outcome.Outcome.{NamedFault, duplicate_annotation, faults_outcome};
 ghost use Rattle.cedar_conversion.specs.outcome.Seen.{Gives, named_fault};
 ghost use Rattle.cedar_syntax.specs.faults.Joined.{WantsMemory};
@@ -13,7 +14,7 @@ ghost use Rattle.cedar_policy_conversion.specs.machines.Filled.{HoldsSoFar};
 ghost use Rattle.cedar_policy_conversion.specs.machines.PolicyViews.{pair_view};
 ghost use Rattle.cedar_conversion.specs.machines.Views.{empty_view};
 
-use cedar_conversion::answer::failure::{Failure, flatten_tuple_2};
+use cedar_conversion::answer::failure::{BoxedFailure, flatten_tuple_2, go_on};
 use cedar_conversion::answer::faults::{add_fault, add_refusal};
 use cedar_conversion::answer::special::empty_node;
 use cedar_conversion::leaves::entities::id_of;
@@ -32,7 +33,7 @@ fn text_of(
     alloc: Global,
     loc: &Option<Loc>,
     node: &Option<Node<Option<Str>>>,
-) -> Result<Option<String>, Failure>
+) -> Result<Option<String>, BoxedFailure>
     ensures { Gives (option_map string_bytes) result (k.value_text_outcome loc.now node.now) }
 {
     match node {
@@ -46,7 +47,7 @@ fn pair(
     alloc: Global,
     loc: &Option<Loc>,
     annotation: &Annotation,
-) -> Result<(AnyId, Option<String>), Failure>
+) -> Result<(AnyId, Option<String>), BoxedFailure>
     ensures { Gives (pair_view loc.now) result (k.key_value_outcome loc.now annotation.now) }
 {
     flatten_tuple_2(
@@ -59,7 +60,7 @@ fn pair(
 fn text_pair(
     alloc: Global,
     node: &Node<Option<Annotation>>,
-) -> Result<(AnyId, Option<String>), Failure>
+) -> Result<(AnyId, Option<String>), BoxedFailure>
     ensures { Gives (pair_view node.now.loc) result (k.annotation_outcome node.now) }
 {
     match &node.node {
@@ -73,7 +74,7 @@ pub(crate) fn kv_pair<T: Drop, F: Fn(Option<String>, Option<&Loc>) -> T>(
     alloc: Global,
     node: &Node<Option<Annotation>>,
     f: &F,
-) -> Result<(AnyId, T), Failure>
+) -> Result<(AnyId, T), BoxedFailure>
     requires { F.IsAlwaysCallable f.now }
     ensures { k.GivesPair F.Fn f.now result (k.annotation_outcome node.now) }
 {
@@ -84,7 +85,8 @@ pub(crate) fn kv_pair<T: Drop, F: Fn(Option<String>, Option<&Loc>) -> T>(
 
 /// An annotation whose key an earlier one has.
 fn duplicate(key: &AnyId, loc: &Option<Loc>) -> Result<ToASTError, AllocError>
-    ensures { IfOk result (λ made. named_fault (ToAST made) ≡ (duplicate_annotation, loc.now)) }
+    ensures { IfOk result (λ made. named_fault (ToAST made)
+        ≡ (duplicate_annotation, loc.now, spelling key.now)) }
 {
     let loc = loc.try_clone()?;
     Ok(ToASTError::new(ToASTErrorKind::DuplicateAnnotation(key.try_clone()?), loc))
@@ -97,15 +99,15 @@ fn keep<T: Drop>(
     map: &mut BTreeMap<AnyId, T>,
     pair: (AnyId, T),
     loc: &Option<Loc>,
-    all: Result<(), Failure>,
-) -> Result<(), Failure>
+    all: Result<(), BoxedFailure>,
+) -> Result<(), BoxedFailure>
     ensures ordered { IsOrdered text_order map.old → IsOrdered text_order map.new }
     ensures memory { WantsMemory all → WantsMemory result }
     ensures known { IsOrdered text_order map.old → contains_key (map_in map.old) pair.0 ≡ true
         → (map_in map.new ≡ map_in map.old)
         × ((faults : List NamedFault) → Gives empty_view all (faults_outcome faults)
         → Gives empty_view result
-        (faults_outcome (faults ++ (duplicate_annotation, loc.now) ∷ []))) }
+        (faults_outcome (faults ++ (duplicate_annotation, loc.now, spelling pair.0) ∷ []))) }
     ensures new { IsOrdered text_order map.old → contains_key (map_in map.old) pair.0 ≡ false
         → WantsMemory result
         ⊎ ((result ≡ all) × (map_in map.new ≡ insert (map_in map.old) pair.0 pair.1)) }
@@ -124,10 +126,10 @@ fn keep<T: Drop>(
 fn one_more<T: Drop, F: Fn(Option<String>, Option<&Loc>) -> T>(
     alloc: Global,
     map: &mut BTreeMap<AnyId, T>,
-    all: Result<(), Failure>,
+    all: Result<(), BoxedFailure>,
     node: &Node<Option<Annotation>>,
     f: &F,
-) -> Result<(), Failure>
+) -> Result<(), BoxedFailure>
     requires { F.IsAlwaysCallable f.now }
     ensures ordered { IsOrdered text_order map.old → IsOrdered text_order map.new }
     ensures filled { (so_far : k.Gathering) → IsOrdered text_order map.old
@@ -145,14 +147,15 @@ pub(crate) fn annotations<T: Drop, F: Fn(Option<String>, Option<&Loc>) -> T>(
     alloc: Global,
     nodes: &[Node<Option<Annotation>>],
     f: &F,
-) -> Result<BTreeMap<AnyId, T>, Failure>
+) -> Result<BTreeMap<AnyId, T>, BoxedFailure>
     requires { F.IsAlwaysCallable f.now }
     ensures { k.GivesByKey F.Fn f.now result (k.annotations_outcome nodes.now) }
 {
     let mut map = BTreeMap::new(alloc);
-    let mut all: Result<(), Failure> = Ok(());
+    let mut all: Result<(), BoxedFailure> = Ok(());
     for node in nodes {
         all = one_more::<T, F>(alloc, &mut map, all, node, f);
+        go_on(&all)?;
     }
     all?;
     Ok(map)

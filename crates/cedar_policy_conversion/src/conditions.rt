@@ -4,21 +4,22 @@ ghost use Rattle.std.specs.Option.{option_map};
 ghost use Rattle.cedar_expressions.specs.Meaning.{expr_meaning, unplaced};
 ghost use Rattle.cedar_syntax.specs.declared.err.faults.ParseError.TheVariants.{ToAST};
 ghost use Rattle.cedar_policy_conversion.specs.Conditions as k;
+ghost use Rattle.cedar_conversion.specs.outcome.Detail as d;
 ghost use Rattle.cedar_conversion.specs.outcome.Outcome.{empty_clause, invalid_condition, slots_in_condition_clause, faults_outcome};
 ghost use Rattle.cedar_conversion.specs.outcome.Places.{place_within};
 ghost use Rattle.cedar_policy_conversion.specs.PolicyMeaning.{joint_condition};
 ghost use Rattle.cedar_policy_conversion.specs.machines.PolicyViews.{meanings};
 ghost use Rattle.cedar_conversion.specs.outcome.Seen.{Gives, itself, named_fault};
 ghost use Rattle.cedar_conversion.specs.strict.Table.{table_of};
-ghost use Rattle.cedar_conversion.specs.machines.Views.{TellsAlone, empty_view};
+ghost use Rattle.cedar_conversion.specs.machines.Views.{TellsOne, empty_view};
 
 use crate::cst_to_ast::{ExprAst, ExtStyles};
 use crate::expressions::expression;
-use cedar_conversion::answer::failure::Failure;
+use cedar_conversion::answer::failure::{BoxedFailure, go_on};
 use cedar_conversion::answer::faults::{add_fault, place_within};
 use cedar_conversion::answer::lists::{add, with_room};
-use cedar_conversion::answer::special::{builder_at, empty_node, refusal_with};
-use cedar_conversion::primaries::methods::Site;
+use cedar_conversion::answer::special::{builder_at, content, empty_node, refusal_with};
+use cedar_conversion::primaries::methods::CallSite;
 use cedar_expressions::{Expr, ExprBuilder, ExprBuilderInfallibleBuild, Slot, TryClone};
 use cedar_syntax::cst::{Cond, Ident};
 use cedar_syntax::err::{ToASTError, ToASTErrorKind};
@@ -27,15 +28,15 @@ use cedar_syntax::node::Node;
 use std::alloc::{AllocError, Global};
 
 /// A condition's word that is neither `when` nor `unless`.
-fn other_word(alloc: Global, loc: &Option<Loc>, word: &Ident) -> Failure
-    ensures { TellsAlone result invalid_condition loc.now }
+fn other_word(alloc: Global, loc: &Option<Loc>, word: &Ident) -> BoxedFailure
+    ensures { TellsOne result (invalid_condition, loc.now, d.word word.now) }
 {
     let kind = word.try_clone().map(ToASTErrorKind::InvalidCondition);
     refusal_with(alloc, kind, loc)
 }
 
 /// Whether a condition's word is `when`; else it is `unless`.
-fn is_when(alloc: Global, node: &Node<Option<Ident>>) -> Result<bool, Failure>
+fn is_when(alloc: Global, node: &Node<Option<Ident>>) -> Result<bool, BoxedFailure>
     ensures { Gives itself result (k.is_when node.now) }
 {
     match &node.node {
@@ -47,17 +48,18 @@ fn is_when(alloc: Global, node: &Node<Option<Ident>>) -> Result<bool, Failure>
 }
 
 /// A condition with nothing in it.
-fn empty_clause(site: Site<'_>, word: &Option<Ident>) -> Failure
-    ensures { TellsAlone result empty_clause site.entry.loc.now }
+fn empty_clause(site: CallSite<'_>, word: &Option<Ident>) -> BoxedFailure
+    ensures { TellsOne result (empty_clause, site.entry.loc.now, d.word_there word.now) }
 {
     let kind = word.try_clone().map(ToASTErrorKind::EmptyClause);
     refusal_with(site.alloc, kind, site.loc)
 }
 
 /// The expression of a condition.
-fn clause(site: Site<'_>, cond: &Cond) -> Result<Expr, Failure>
+fn clause(site: CallSite<'_>, cond: &Cond) -> Result<Expr, BoxedFailure>
     ensures { Gives expr_meaning result
-        (k.clause (table_of site.entry.styles.now) site.entry.loc.now cond.now.expr) }
+        (k.clause (table_of site.entry.styles.now) site.entry.loc.now cond.now.cond.node
+        cond.now.expr) }
 {
     match &cond.expr {
         Some(expr) => expression::<ExprBuilder<()>>(site.alloc, site.styles, expr),
@@ -68,26 +70,27 @@ fn clause(site: Site<'_>, cond: &Cond) -> Result<Expr, Failure>
 /// A slot in a condition.
 fn slot_fault(slot: Slot, word: &'static str, loc: &Option<Loc>) -> Result<ToASTError, AllocError>
     ensures { IfOk result (λ made. named_fault (ToAST made)
-        ≡ (slots_in_condition_clause, place_within loc.now slot.place)) }
+        ≡ (slots_in_condition_clause, place_within loc.now slot.place, d.slot slot)) }
 {
     let loc = place_within(loc, slot.place)?;
     Ok(ToASTError::new(ToASTErrorKind::slots_in_condition_clause(slot, word), loc))
 }
 
 /// Refuses each slot of a condition.
-fn refuse_slots(site: Site<'_>, word: &'static str, slots: &[Slot]) -> Result<(), Failure>
+fn refuse_slots(site: CallSite<'_>, word: &'static str, slots: &[Slot]) -> Result<(), BoxedFailure>
     ensures { Gives empty_view result
         (faults_outcome (map (k.condition_slot_fault site.entry.loc.now) slots.now)) }
 {
-    let mut all: Result<(), Failure> = Ok(());
+    let mut all: Result<(), BoxedFailure> = Ok(());
     for slot in slots {
         all = add_fault(site.alloc, all, slot_fault(*slot, word, site.loc));
+        go_on(&all)?;
     }
     all
 }
 
 /// Refuses a condition in which slots stand.
-fn refuse_slots_of(site: Site<'_>, when: bool, expr: &Expr) -> Result<(), Failure>
+fn refuse_slots_of(site: CallSite<'_>, when: bool, expr: &Expr) -> Result<(), BoxedFailure>
     ensures { Gives empty_view result
         (k.slots_outcome site.entry.loc.now (expr_meaning expr.now)) }
 {
@@ -97,7 +100,7 @@ fn refuse_slots_of(site: Site<'_>, when: bool, expr: &Expr) -> Result<(), Failur
 }
 
 /// `unless` is `not`.
-fn condition_value(site: Site<'_>, when: bool, expr: Expr) -> Result<Expr, AllocError>
+fn condition_value(site: CallSite<'_>, when: bool, expr: Expr) -> Result<Expr, AllocError>
     ensures { IfOk result (λ e. expr_meaning e ≡ k.condition_value when (expr_meaning expr)) }
 {
     if when {
@@ -107,7 +110,7 @@ fn condition_value(site: Site<'_>, when: bool, expr: Expr) -> Result<Expr, Alloc
     }
 }
 
-fn condition_of(site: Site<'_>, cond: &Cond) -> Result<Expr, Failure>
+fn condition_of(site: CallSite<'_>, cond: &Cond) -> Result<Expr, BoxedFailure>
     ensures { Gives unplaced result
         (k.condition_of (table_of site.entry.styles.now) site.entry.loc.now cond.now) }
 {
@@ -117,21 +120,20 @@ fn condition_of(site: Site<'_>, cond: &Cond) -> Result<Expr, Failure>
     Ok(condition_value(site, when, expr)?)
 }
 
-fn condition(alloc: Global, styles: &ExtStyles, node: &Node<Option<Cond>>) -> Result<Expr, Failure>
+fn condition(
+    alloc: Global,
+    styles: &ExtStyles,
+    node: &Node<Option<Cond>>,
+) -> Result<Expr, BoxedFailure>
     ensures { Gives unplaced result
         (k.condition_outcome (table_of styles.now) node.now) }
 {
-    match &node.node {
-        Some(inner) => {
-            let site = Site {
-                alloc,
-                styles,
-                loc: &node.loc,
-            };
-            condition_of(site, inner)
-        }
-        None => Err(empty_node(alloc, &node.loc)),
-    }
+    let site = CallSite {
+        alloc,
+        styles,
+        loc: &node.loc,
+    };
+    condition_of(site, content(alloc, node)?)
 }
 
 /// The conditions of a policy, joined.
@@ -139,13 +141,14 @@ pub(crate) fn conditions(
     alloc: Global,
     styles: &ExtStyles,
     nodes: &[Node<Option<Cond>>],
-) -> Result<Vec<Expr>, Failure>
+) -> Result<Vec<Expr>, BoxedFailure>
     ensures { Gives meanings result
         (k.conditions_outcome (table_of styles.now) nodes.now) }
 {
-    let mut all: Result<Vec<Expr>, Failure> = with_room(alloc, nodes.len());
+    let mut all: Result<Vec<Expr>, BoxedFailure> = with_room(alloc, nodes.len());
     for node in nodes {
         add(&mut all, condition(alloc, styles, node));
+        go_on(&all)?;
     }
     all
 }

@@ -7,7 +7,7 @@ ghost use Rattle.std.specs.Option.{option_copied};
 ghost use Rattle.cedar_policy_store.specs.PlaceFree.{set_meaning};
 ghost use Rattle.cedar_policy_conversion.specs.AnnotationKeys.{GivesByKey, GivesPair, annotation_outcome, annotations_outcome};
 ghost use Rattle.cedar_policy_conversion.specs.GeneratedIds.{remaining_nodes, named_outcome};
-ghost use Rattle.cedar_policy_conversion.specs.Policies.{template_parts, template_outcome, either_parts, either_outcome, static_outcome, policies_outcome};
+ghost use Rattle.cedar_policy_conversion.specs.Policies.{placed_outcome, set_parts, template_parts, template_outcome, either_parts, either_outcome, static_outcome, policies_outcome};
 ghost use Rattle.cedar_policy_conversion.specs.References.{referent_outcome, single_entity, entity_or_slot, one_or_multiple};
 ghost use Rattle.cedar_policy_conversion.specs.Scope.{scope_outcome};
 ghost use Rattle.cedar_syntax.specs.trees.Forms.{located, expr_form, member_form, primary_form};
@@ -306,7 +306,8 @@ pub trait PolicyAst {
     ) -> Result<Either<StaticPolicy, Template>, Failure>;
 
     /// The static policy that the tree stands for. A template is `ExpectedStaticPolicy` alone, at
-    /// its first slot's bytes, or at the policy's where those don't lie within them. Where
+    /// its first slot's bytes, inside the policy or not, or at the policy's where the slot has none
+    /// that are a range. Where
     /// `to_template` is refused, so is this, with one `ExpectedStaticPolicy` more behind those
     /// faults for each `SlotsInConditionClause` among them, at the same bytes.
     fn to_policy(
@@ -373,8 +374,9 @@ pub trait PoliciesAst {
     fn with_generated_policyids(&self, alloc: Global) -> Result<GeneratedPolicyIds<'_>, Failure>;
 
     /// The set that the tree stands for: static policies and templates, named `policy0`, `policy1`
-    /// and so on. It is refused with the faults of each policy, as `PolicyAst::to_template` tells
-    /// them, one policy behind another. Or it is `Failure::Memory`.
+    /// and so on, each with the places of its parts. It is refused with the faults of each policy,
+    /// as `PolicyAst::to_template` tells them, one policy behind another. Or it is
+    /// `Failure::Memory`.
     fn to_policyset(&self, alloc: Global, styles: &ExtStyles) -> Result<PolicySet, Failure>;
 
     /// The same of a tree by value: each policy's tree is dropped as soon as it is converted, so
@@ -393,15 +395,19 @@ impl PoliciesAst for Node<Option<Policies>> {
     }
 
     fn to_policyset(&self, alloc: Global, styles: &ExtStyles) -> Result<PolicySet, Failure>
-        ensures { Gives set_meaning result
+        ensures meant { Gives set_meaning result
             (policies_outcome (table_of styles.now) self.now) }
+        ensures placed { Gives set_parts result
+            (placed_outcome (table_of styles.now) self.now) }
     {
         told(policy_set(alloc, styles, self))
     }
 
     fn into_policyset(self, alloc: Global, styles: &ExtStyles) -> Result<PolicySet, Failure>
-        ensures { Gives set_meaning result
+        ensures meant { Gives set_meaning result
             (policies_outcome (table_of styles.now) self) }
+        ensures placed { Gives set_parts result
+            (placed_outcome (table_of styles.now) self) }
     {
         told(own_policy_set(alloc, styles, self))
     }

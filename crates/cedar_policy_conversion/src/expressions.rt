@@ -4,7 +4,7 @@ ghost use Rattle.cedar_conversion.specs.outcome.Seen.{Gives};
 ghost use Rattle.cedar_conversion.specs.strict.Table.{table_of};
 ghost use Rattle.cedar_syntax.specs.trees.Forms.{located, expr_form};
 
-use cedar_conversion::answer::failure::Failure;
+use cedar_conversion::answer::failure::BoxedFailure;
 use cedar_conversion::answer::special::expr_of;
 use cedar_conversion::answer::{Converted, placeholder};
 use cedar_conversion::convert::expr;
@@ -19,7 +19,7 @@ pub(crate) fn expression<B: ExprBuilderInfallibleBuild>(
     alloc: Global,
     styles: &ExtStyles,
     node: &Node<Option<Expr>>,
-) -> Result<B::Expr, Failure>
+) -> Result<B::Expr, BoxedFailure>
     ensures { Gives B.meaning result (value_outcome (table_of styles.now)
         (located expr_form node.now)) }
 {

@@ -1,15 +1,16 @@
 //! The scope of a policy: what is asked of the principal, the action and the resource.
-ghost use Rattle.std.specs.Prelude.{◌≡◌, IfOk, [], ◌∷◌, drop};
+ghost use Rattle.std.specs.Prelude.{◌≡◌, IfOk, Ok, [], ◌∷◌, drop};
 ghost use Rattle.std.specs.Option.{option_copied};
 ghost use Rattle.cedar_policy_store.specs.declared.constraints.ActionConstraint.{ActionConstraint as Action};
 ghost use Rattle.cedar_policy_store.specs.declared.constraints.PrincipalConstraint.{PrincipalConstraint as Principal};
 ghost use Rattle.cedar_policy_store.specs.declared.constraints.ResourceConstraint.{ResourceConstraint as Resource};
 ghost use Rattle.cedar_syntax.specs.declared.err.faults.ParseError.TheVariants.{ToAST};
+ghost use Rattle.cedar_conversion.specs.outcome.Detail.{variable};
 ghost use Rattle.cedar_conversion.specs.outcome.Outcome.{Outcome, both, next, missing_scope_variable};
 ghost use Rattle.cedar_policy_conversion.specs.Scope as s;
 ghost use Rattle.cedar_conversion.specs.outcome.Seen.{Gives, itself, named_fault};
 ghost use Rattle.cedar_conversion.specs.strict.Table.{table_of};
-ghost use Rattle.cedar_conversion.specs.machines.Views.{TellsAlone, empty_view};
+ghost use Rattle.cedar_conversion.specs.machines.Views.{TellsOne, empty_view};
 
 mod action;
 mod element;
@@ -17,7 +18,7 @@ mod element;
 use crate::cst_to_ast::ExtStyles;
 use crate::scope::action::action;
 use crate::scope::element::{principal, resource};
-use cedar_conversion::answer::failure::{Failure, flatten_tuple_2};
+use cedar_conversion::answer::failure::{BoxedFailure, flatten_tuple_2, go_on};
 use cedar_conversion::answer::faults::add_fault;
 use cedar_conversion::answer::special::refusal;
 use cedar_expressions::{Boxed, TryClone, Var};
@@ -65,12 +66,29 @@ fn end_place(place: &Option<Loc>) -> Result<Option<Loc>, AllocError>
 }
 
 /// An element that isn't there.
-fn missing(alloc: Global, var: Var, before: &Option<Loc>) -> Failure
-    ensures { TellsAlone result missing_scope_variable (s.end_place before.now) }
+fn missing(alloc: Global, var: Var, before: &Option<Loc>) -> BoxedFailure
+    ensures { TellsOne result
+        (missing_scope_variable, s.end_place before.now, variable var) }
 {
     match end_place(before) {
         Ok(place) => refusal(alloc, ToASTErrorKind::MissingScopeVariable(var), &place),
-        Err(error) => Failure::from(error),
+        Err(error) => BoxedFailure::from(error),
+    }
+}
+
+/// The element of a variable, if it is there; `before` is the last place before it.
+fn there<'a>(
+    alloc: Global,
+    var: Var,
+    before: &Option<Loc>,
+    element: Option<&'a Node<Option<VariableDef>>>,
+) -> Result<&'a Node<Option<VariableDef>>, BoxedFailure>
+    ensures { Gives (λ node. node.now) result
+        (s.if_there var (λ node. Ok node) before.now (option_copied element.entry)) }
+{
+    match element {
+        Some(node) => Ok(node),
+        None => Err(missing(alloc, var, before)),
     }
 }
 
@@ -90,12 +108,13 @@ fn extra_fault(alloc: Global, node: &Node<Option<VariableDef>>) -> Result<ToASTE
 }
 
 /// Refuses each element beyond the third.
-fn refuse_extra(alloc: Global, others: &[Node<Option<VariableDef>>]) -> Result<(), Failure>
+fn refuse_extra(alloc: Global, others: &[Node<Option<VariableDef>>]) -> Result<(), BoxedFailure>
     ensures { Gives empty_view result (s.no_extra others.now) }
 {
-    let mut all: Result<(), Failure> = Ok(());
+    let mut all: Result<(), BoxedFailure> = Ok(());
     for node in others {
         all = add_fault(alloc, all, extra_fault(alloc, node));
+        go_on(&all)?;
     }
     all
 }
@@ -111,54 +130,6 @@ fn others(elements: &[Node<Option<VariableDef>>]) -> &[Node<Option<VariableDef>>
     }
 }
 
-/// What is asked of the principal, if its element is there; `before` is the last place before it.
-fn principal_there(
-    alloc: Global,
-    styles: &ExtStyles,
-    before: &Option<Loc>,
-    element: Option<&Node<Option<VariableDef>>>,
-) -> Result<PrincipalConstraint, Failure>
-    ensures { Gives itself result (s.if_there (s.principal_outcome (table_of styles.now))
-        before.now (option_copied element.entry)) }
-{
-    match element {
-        Some(node) => principal(alloc, styles, node),
-        None => Err(missing(alloc, Var::Principal, before)),
-    }
-}
-
-/// What is asked of the action, if its element is there; `before` is the last place before it.
-fn action_there(
-    alloc: Global,
-    styles: &ExtStyles,
-    before: &Option<Loc>,
-    element: Option<&Node<Option<VariableDef>>>,
-) -> Result<ActionConstraint, Failure>
-    ensures { Gives itself result (s.if_there (s.action_outcome (table_of styles.now))
-        before.now (option_copied element.entry)) }
-{
-    match element {
-        Some(node) => action(alloc, styles, node),
-        None => Err(missing(alloc, Var::Action, before)),
-    }
-}
-
-/// What is asked of the resource, if its element is there; `before` is the last place before it.
-fn resource_there(
-    alloc: Global,
-    styles: &ExtStyles,
-    before: &Option<Loc>,
-    element: Option<&Node<Option<VariableDef>>>,
-) -> Result<ResourceConstraint, Failure>
-    ensures { Gives itself result (s.if_there (s.resource_outcome (table_of styles.now))
-        before.now (option_copied element.entry)) }
-{
-    match element {
-        Some(node) => resource(alloc, styles, node),
-        None => Err(missing(alloc, Var::Resource, before)),
-    }
-}
-
 /// What is asked of the principal, the action and the resource.
 pub type Scope = (PrincipalConstraint, ActionConstraint, ResourceConstraint);
 
@@ -168,7 +139,7 @@ pub(crate) fn scope_of(
     styles: &ExtStyles,
     place: &Option<Loc>,
     elements: &[Node<Option<VariableDef>>],
-) -> Result<Scope, Failure>
+) -> Result<Scope, BoxedFailure>
     ensures { Gives itself result
         (s.elements_outcome (table_of styles.now) place.now elements.now) }
 {
@@ -178,20 +149,20 @@ pub(crate) fn scope_of(
     let behind_first = place_behind(place, first);
     let behind_second = place_behind(behind_first, second);
     join_elements(
-        principal_there(alloc, styles, place, first),
-        action_there(alloc, styles, behind_first, second),
-        resource_there(alloc, styles, behind_second, third),
+        principal(alloc, styles, place, first),
+        action(alloc, styles, behind_first, second),
+        resource(alloc, styles, behind_second, third),
         refuse_extra(alloc, others(elements)),
     )
 }
 
 /// The elements of a scope joined, and what is refused beside them.
 fn join_elements(
-    principal: Result<PrincipalConstraint, Failure>,
-    action: Result<ActionConstraint, Failure>,
-    resource: Result<ResourceConstraint, Failure>,
-    extra: Result<(), Failure>,
-) -> Result<Scope, Failure>
+    principal: Result<PrincipalConstraint, BoxedFailure>,
+    action: Result<ActionConstraint, BoxedFailure>,
+    resource: Result<ResourceConstraint, BoxedFailure>,
+    extra: Result<(), BoxedFailure>,
+) -> Result<Scope, BoxedFailure>
     ensures { (p : Outcome Principal) (a : Outcome Action) (r : Outcome Resource)
         (x : Outcome (Unit {0})) → Gives itself principal p → Gives itself action a
         → Gives itself resource r → Gives empty_view extra x

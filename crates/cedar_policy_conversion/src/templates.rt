@@ -6,27 +6,26 @@ ghost use Rattle.cedar_syntax.specs.declared.cst.Policy.TheVariants as variants;
 ghost use Rattle.cedar_syntax.specs.declared.err.faults.ParseError.TheVariants.{ToAST};
 ghost use Rattle.cedar_syntax.specs.faults.ParseErrors.{faults_of};
 ghost use Rattle.cedar_syntax.specs.declared.loc.Loc.{Loc};
-ghost use Rattle.cedar_conversion.specs.outcome.Places.{place_within};
+ghost use Rattle.cedar_conversion.specs.outcome.Detail as d;
 ghost use Rattle.cedar_conversion.specs.outcome.Outcome.{Outcome, invalid_effect, expected_static_policy};
 ghost use Rattle.cedar_policy_conversion.specs.Policies as k;
 ghost use Rattle.cedar_policy_conversion.specs.machines.PolicyViews.{IsConditionFree, parts_view};
 ghost use Rattle.cedar_conversion.specs.outcome.Seen.{Gives, Refuses, itself, named_faults, named_fault};
 ghost use Rattle.cedar_conversion.specs.strict.Table.{table_of};
-ghost use Rattle.cedar_conversion.specs.machines.Views.{TellsAlone, lent_bytes, optional_fault};
+ghost use Rattle.cedar_conversion.specs.machines.Views.{TellsOne, lent_bytes, optional_fault};
 
 use crate::annotations::annotations;
 use crate::conditions::{conditions, join_conditions};
 use crate::cst_to_ast::ExtStyles;
 use crate::scope::{Scope, scope_of};
-use cedar_conversion::answer::failure::{Failure, flatten_tuple_2};
-use cedar_conversion::answer::faults::place_within;
+use cedar_conversion::answer::failure::{BoxedFailure, flatten_tuple_2};
 use cedar_conversion::answer::places::{bytes_at, bytes_of};
 use cedar_conversion::answer::special::{empty_node, refusal, refusal_with};
-use cedar_expressions::{AnyId, Expr, Slot, TryClone};
+use cedar_expressions::{AnyId, Expr, Place, Slot, TryClone};
 use cedar_policy_store::{Annotation, Annotations, Effect, PolicyID, StaticPolicy, Template};
 use cedar_syntax::cst::{Ident, Policy, PolicyImpl};
 use cedar_syntax::err::{self, ParseError, ParseErrors, ToASTError, ToASTErrorKind};
-use cedar_syntax::loc::Loc;
+use cedar_syntax::loc::{Loc, SourceSpan};
 use cedar_syntax::node::Node;
 use either::Either;
 use std::alloc::{AllocError, Global};
@@ -41,14 +40,14 @@ fn inner_of(policy: &Policy) -> &PolicyImpl
 }
 
 /// A policy's first word that is neither `permit` nor `forbid`.
-fn other_word(alloc: Global, loc: &Option<Loc>, word: &Ident) -> Failure
-    ensures { TellsAlone result invalid_effect loc.now }
+fn other_word(alloc: Global, loc: &Option<Loc>, word: &Ident) -> BoxedFailure
+    ensures { TellsOne result (invalid_effect, loc.now, d.word word.now) }
 {
     let kind = word.try_clone().map(ToASTErrorKind::InvalidEffect);
     refusal_with(alloc, kind, loc)
 }
 
-fn effect(alloc: Global, node: &Node<Option<Ident>>) -> Result<Effect, Failure>
+fn effect(alloc: Global, node: &Node<Option<Ident>>) -> Result<Effect, BoxedFailure>
     ensures { Gives itself result (k.effect_outcome node.now) }
 {
     match &node.node {
@@ -60,7 +59,7 @@ fn effect(alloc: Global, node: &Node<Option<Ident>>) -> Result<Effect, Failure>
 }
 
 /// The annotations of a policy.
-fn kept_annotations(alloc: Global, policy: &PolicyImpl) -> Result<Annotations, Failure>
+fn kept_annotations(alloc: Global, policy: &PolicyImpl) -> Result<Annotations, BoxedFailure>
     ensures { Gives itself result (k.kept_outcome policy.now.annotations) }
 {
     let make = |text: Option<String>, loc: Option<&Loc>| -> Annotation
@@ -75,7 +74,7 @@ fn kept_annotations(alloc: Global, policy: &PolicyImpl) -> Result<Annotations, F
 type Parts = ((Effect, Annotations), (Scope, Vec<Expr>));
 
 /// The parts of a policy, joined.
-fn parts(alloc: Global, styles: &ExtStyles, policy: &PolicyImpl) -> Result<Parts, Failure>
+fn parts(alloc: Global, styles: &ExtStyles, policy: &PolicyImpl) -> Result<Parts, BoxedFailure>
     ensures { Gives parts_view result
         (k.parts_outcome (table_of styles.now) policy.now) }
 {
@@ -124,7 +123,7 @@ pub(crate) fn template(
     styles: &ExtStyles,
     id: PolicyID,
     node: &Node<Option<Policy>>,
-) -> Result<Template, Failure>
+) -> Result<Template, BoxedFailure>
     ensures { Gives k.template_parts result
         (k.template_outcome (table_of styles.now) id node.now) }
 {
@@ -155,7 +154,7 @@ pub(crate) fn static_or_template(
     styles: &ExtStyles,
     id: PolicyID,
     node: &Node<Option<Policy>>,
-) -> Result<Either<StaticPolicy, Template>, Failure>
+) -> Result<Either<StaticPolicy, Template>, BoxedFailure>
     ensures { Gives k.either_parts result
         (k.either_outcome (table_of styles.now) id node.now) }
 {
@@ -166,13 +165,34 @@ pub(crate) fn static_or_template(
     }
 }
 
-/// A template where a static policy is wanted.
-fn found_slot(alloc: Global, slot: Slot, loc: &Option<Loc>) -> Failure
-    ensures { TellsAlone result expected_static_policy (place_within loc.now slot.place) }
+/// The bytes of a slot in the policy's text, where they are a range.
+fn slot_bytes(loc: &Loc, bytes: Place) -> Result<Loc, AllocError>
+    ensures { IfOk result (λ place. place ≡ k.slot_bytes loc.now bytes) }
 {
-    match place_within(loc, slot.place) {
+    match SourceSpan::new(bytes.offset, bytes.length) {
+        Some(span) => loc.span(span),
+        None => loc.try_clone(),
+    }
+}
+
+/// The place of a slot, else the policy's.
+fn slot_place(loc: &Option<Loc>, bytes: Option<Place>) -> Result<Option<Loc>, AllocError>
+    ensures { IfOk result (λ place. place ≡ k.slot_place loc.now bytes) }
+{
+    match (loc, bytes) {
+        (Some(loc), Some(bytes)) => Ok(Some(slot_bytes(loc, bytes)?)),
+        _ => loc.try_clone(),
+    }
+}
+
+/// A template where a static policy is wanted.
+fn found_slot(alloc: Global, slot: Slot, loc: &Option<Loc>) -> BoxedFailure
+    ensures { TellsOne result
+        (expected_static_policy, k.slot_place loc.now slot.place, d.slot slot) }
+{
+    match slot_place(loc, slot.place) {
         Ok(place) => refusal(alloc, ToASTErrorKind::expected_static_policy(slot), &place),
-        Err(error) => Failure::from(error),
+        Err(error) => BoxedFailure::from(error),
     }
 }
 
@@ -243,7 +263,7 @@ fn only_static(
     alloc: Global,
     loc: &Option<Loc>,
     template: Template,
-) -> Result<StaticPolicy, Failure>
+) -> Result<StaticPolicy, BoxedFailure>
     requires { IsConditionFree template }
     ensures { Gives k.template_parts result
         (k.unless_slots loc.now (k.scope_slots (k.template_parts template))
@@ -256,15 +276,15 @@ fn only_static(
 }
 
 /// What refuses a static policy where this refuses a template.
-fn refused_static(alloc: Global, failure: Failure) -> Failure
+fn refused_static(alloc: Global, failure: BoxedFailure) -> BoxedFailure
     ensures { (place : Option Loc) (o : Outcome k.TemplateParts)
         → Refuses failure o → Refuses result (k.only_static place o) }
 {
     match err::Failure::from(failure) {
-        err::Failure::Memory(error) => Failure::from(error),
+        err::Failure::Memory(error) => BoxedFailure::from(error),
         err::Failure::Errors(mut faults) => match add_static_faults(alloc, &mut faults) {
-            Ok(()) => Failure::of_errors(alloc, faults),
-            Err(error) => Failure::from(error),
+            Ok(()) => BoxedFailure::of_errors(alloc, faults),
+            Err(error) => BoxedFailure::from(error),
         },
     }
 }
@@ -275,7 +295,7 @@ pub(crate) fn static_policy(
     styles: &ExtStyles,
     id: PolicyID,
     node: &Node<Option<Policy>>,
-) -> Result<StaticPolicy, Failure>
+) -> Result<StaticPolicy, BoxedFailure>
     ensures { Gives k.template_parts result
         (k.static_outcome (table_of styles.now) id node.now) }
 {

@@ -2,13 +2,13 @@
 //! What is made of the primary that stands there is told by a kind of reference.
 ghost use Rattle.std.specs.Prelude.{◌≡◌, map};
 ghost use Rattle.cedar_syntax.specs.trees.Forms.{located, parts_of, listed_expr, expr_form, primary_form};
-ghost use Rattle.cedar_conversion.specs.outcome.Outcome.{wrong_node, wrong_entity_argument};
-ghost use Rattle.cedar_policy_conversion.specs.References.{RefKind as Kind, single_entity, entity_or_slot, one_or_multiple, literal_fault, entity_at, lone_entity, entities, single_outcome, own_slot_outcome, several_outcome, of_variable, referent_at, referent_outcome};
+ghost use Rattle.cedar_conversion.specs.outcome.Outcome.{wrong_node};
+ghost use Rattle.cedar_policy_conversion.specs.References.{RefKind as Kind, single_entity, entity_or_slot, one_or_multiple, literal_fault, lone_entity, entities, single_outcome, own_slot_outcome, several_outcome, of_variable, referent_at, referent_outcome};
 ghost use Rattle.cedar_conversion.specs.outcome.Seen.{Gives, itself};
-ghost use Rattle.cedar_conversion.specs.machines.Views.{TellsAlone};
+ghost use Rattle.cedar_conversion.specs.machines.Views.{TellsAlone, TellsOne};
 
-use crate::lone::{form, lone_expr, wrong_node};
-use cedar_conversion::answer::failure::Failure;
+use crate::single_primary::{expr_primary, form, wrong_node};
+use cedar_conversion::answer::failure::{BoxedFailure, go_on};
 use cedar_conversion::answer::lists::add;
 use cedar_conversion::answer::places::bytes_of;
 use cedar_conversion::answer::special::{empty_node, refusal};
@@ -35,8 +35,6 @@ pub enum OneOrMultipleRefs {
 
 /// What may stand right of an operator of the scope, and what is made of it.
 pub(crate) trait RefKind: Drop {
-    ghost use Rattle.cedar_policy_conversion.specs.References.{RefKind as Kind};
-
     ghost kind: { Kind Self };
 
     /// What is wanted, as a message names it.
@@ -45,7 +43,7 @@ pub(crate) trait RefKind: Drop {
     fn create_single_ref(uid: EntityUID) -> Self
         ensures { result ≡ kind.single uid };
 
-    fn create_slot(alloc: Global, loc: &Option<Loc>) -> Result<Self, Failure>
+    fn create_slot(alloc: Global, loc: &Option<Loc>) -> Result<Self, BoxedFailure>
         ensures { Gives itself result (kind.slot loc.now) };
 
     /// A set of entities, or its refusal before an item is looked at.
@@ -53,18 +51,13 @@ pub(crate) trait RefKind: Drop {
         alloc: Global,
         loc: &Option<Loc>,
         items: &[Node<Option<cst::Expr>>],
-    ) -> Result<Self, Failure>
+    ) -> Result<Self, BoxedFailure>
         ensures { Gives itself result
             (several_outcome loc.now kind.several
             (entities (parts_of (map listed_expr items.now)))) };
 }
 
 impl RefKind for SingleEntity {
-    ghost use Rattle.std.specs.Prelude.{◌≡◌, map};
-    ghost use Rattle.cedar_syntax.specs.trees.Forms.{parts_of, listed_expr};
-    ghost use Rattle.cedar_policy_conversion.specs.References.{single_entity, several_outcome, entities};
-    ghost use Rattle.cedar_conversion.specs.outcome.Seen.{Gives, itself};
-
     ghost kind = { single_entity };
 
     fn err_str() -> &'static str {
@@ -75,26 +68,23 @@ impl RefKind for SingleEntity {
         SingleEntity(uid)
     }
 
-    fn create_slot(alloc: Global, loc: &Option<Loc>) -> Result<SingleEntity, Failure> {
-        Err(slot_as_entity(alloc, loc))
+    fn create_slot(alloc: Global, loc: &Option<Loc>) -> Result<SingleEntity, BoxedFailure> {
+        let kind = ToASTErrorKind::wrong_entity_argument_one_expected(Ref::Single, Ref::Template);
+        Err(refusal(alloc, kind, loc))
     }
 
     fn create_multiple_refs(
         alloc: Global,
         loc: &Option<Loc>,
         items: &[Node<Option<cst::Expr>>],
-    ) -> Result<SingleEntity, Failure> {
+    ) -> Result<SingleEntity, BoxedFailure> {
         let _ = items;
-        Err(set_as_entity(alloc, loc))
+        let kind = ToASTErrorKind::wrong_entity_argument_one_expected(Ref::Single, Ref::Set);
+        Err(refusal(alloc, kind, loc))
     }
 }
 
 impl RefKind for EntityReference {
-    ghost use Rattle.std.specs.Prelude.{◌≡◌, map};
-    ghost use Rattle.cedar_syntax.specs.trees.Forms.{parts_of, listed_expr};
-    ghost use Rattle.cedar_policy_conversion.specs.References.{entity_or_slot, several_outcome, entities};
-    ghost use Rattle.cedar_conversion.specs.outcome.Seen.{Gives, itself};
-
     ghost kind = { entity_or_slot };
 
     fn err_str() -> &'static str {
@@ -105,7 +95,7 @@ impl RefKind for EntityReference {
         EntityReference::EUID(uid)
     }
 
-    fn create_slot(alloc: Global, loc: &Option<Loc>) -> Result<EntityReference, Failure> {
+    fn create_slot(alloc: Global, loc: &Option<Loc>) -> Result<EntityReference, BoxedFailure> {
         let _ = alloc;
         Ok(EntityReference::Slot(NodePlace::from(bytes_of(loc))))
     }
@@ -114,7 +104,7 @@ impl RefKind for EntityReference {
         alloc: Global,
         loc: &Option<Loc>,
         items: &[Node<Option<cst::Expr>>],
-    ) -> Result<EntityReference, Failure> {
+    ) -> Result<EntityReference, BoxedFailure> {
         let _ = items;
         let kind = ToASTErrorKind::wrong_entity_argument_two_expected(
             Ref::Single,
@@ -126,11 +116,6 @@ impl RefKind for EntityReference {
 }
 
 impl RefKind for OneOrMultipleRefs {
-    ghost use Rattle.std.specs.Prelude.{◌≡◌, map};
-    ghost use Rattle.cedar_syntax.specs.trees.Forms.{parts_of, listed_expr};
-    ghost use Rattle.cedar_policy_conversion.specs.References.{one_or_multiple, several_outcome, entities};
-    ghost use Rattle.cedar_conversion.specs.outcome.Seen.{Gives, itself};
-
     ghost kind = { one_or_multiple };
 
     fn err_str() -> &'static str {
@@ -141,7 +126,7 @@ impl RefKind for OneOrMultipleRefs {
         OneOrMultipleRefs::Single(uid)
     }
 
-    fn create_slot(alloc: Global, loc: &Option<Loc>) -> Result<OneOrMultipleRefs, Failure> {
+    fn create_slot(alloc: Global, loc: &Option<Loc>) -> Result<OneOrMultipleRefs, BoxedFailure> {
         let kind = ToASTErrorKind::wrong_entity_argument_two_expected(
             Ref::Single,
             Ref::Set,
@@ -154,27 +139,11 @@ impl RefKind for OneOrMultipleRefs {
         alloc: Global,
         loc: &Option<Loc>,
         items: &[Node<Option<cst::Expr>>],
-    ) -> Result<OneOrMultipleRefs, Failure> {
+    ) -> Result<OneOrMultipleRefs, BoxedFailure> {
         let _ = loc;
         let uids = entities(alloc, items)?;
         Ok(OneOrMultipleRefs::Multiple(Items::from(uids)))
     }
-}
-
-/// A slot where one entity is wanted.
-fn slot_as_entity(alloc: Global, loc: &Option<Loc>) -> Failure
-    ensures { TellsAlone result wrong_entity_argument loc.now }
-{
-    let kind = ToASTErrorKind::wrong_entity_argument_one_expected(Ref::Single, Ref::Template);
-    refusal(alloc, kind, loc)
-}
-
-/// A set where one entity is wanted.
-fn set_as_entity(alloc: Global, loc: &Option<Loc>) -> Failure
-    ensures { TellsAlone result wrong_entity_argument loc.now }
-{
-    let kind = ToASTErrorKind::wrong_entity_argument_one_expected(Ref::Single, Ref::Set);
-    refusal(alloc, kind, loc)
 }
 
 // ---- what a primary refers to
@@ -184,9 +153,8 @@ fn literal_found(
     expected: &'static str,
     loc: &Option<Loc>,
     node: &Node<Option<cst::Literal>>,
-) -> Failure
-    ensures { TellsAlone result (literal_fault loc.now node.now.loc node.now.node).0
-        (literal_fault loc.now node.now.loc node.now.node).1 }
+) -> BoxedFailure
+    ensures { TellsOne result (literal_fault loc.now node.now.loc node.now.node) }
 {
     match &node.node {
         Some(literal) => {
@@ -205,7 +173,7 @@ fn name_found(
     expected: &'static str,
     loc: &Option<Loc>,
     node: &Node<Option<cst::Name>>,
-) -> Failure
+) -> BoxedFailure
     ensures { TellsAlone result wrong_node loc.now }
 {
     match &node.node {
@@ -218,50 +186,31 @@ fn name_found(
 }
 
 /// A record or an expression, which refer to nothing.
-fn record_found(alloc: Global, expected: &'static str, loc: &Option<Loc>) -> Failure
+fn record_found(alloc: Global, expected: &'static str, loc: &Option<Loc>) -> BoxedFailure
     ensures { TellsAlone result wrong_node loc.now }
 {
     form(alloc, expected, "record initializer", "", loc)
 }
 
-/// An entity alone.
-fn entity_at(alloc: Global, node: &Node<Option<cst::Primary>>) -> Result<EntityUID, Failure>
-    ensures { Gives itself result (entity_at (located primary_form node.now)) }
-{
-    match &node.node {
-        Some(cst::Primary::Ref(inner)) => entity_of(alloc, inner.as_ref()),
-        Some(cst::Primary::Slot(_)) => Err(slot_as_entity(alloc, &node.loc)),
-        Some(cst::Primary::EList(_)) => Err(set_as_entity(alloc, &node.loc)),
-        Some(cst::Primary::Literal(inner)) => {
-            Err(literal_found(alloc, SingleEntity::err_str(), &node.loc, inner))
-        }
-        Some(cst::Primary::Name(inner)) => {
-            Err(name_found(alloc, SingleEntity::err_str(), &node.loc, inner))
-        }
-        Some(cst::Primary::RInits(_)) => {
-            Err(record_found(alloc, SingleEntity::err_str(), &node.loc))
-        }
-        Some(cst::Primary::Expr(_)) => {
-            Err(record_found(alloc, SingleEntity::err_str(), &node.loc))
-        }
-        None => Err(empty_node(alloc, &node.loc)),
-    }
-}
-
-/// The entity that an expression is.
-fn lone_entity(alloc: Global, node: &Node<Option<cst::Expr>>) -> Result<EntityUID, Failure>
+/// An item of a set, which the action alone may be asked for.
+fn lone_entity(alloc: Global, node: &Node<Option<cst::Expr>>) -> Result<EntityUID, BoxedFailure>
     ensures { Gives itself result (lone_entity (located expr_form node.now)) }
 {
-    entity_at(alloc, lone_expr(alloc, SingleEntity::err_str(), node)?)
+    let SingleEntity(uid) = to_ref_or_refs::<SingleEntity>(alloc, Var::Action, node)?;
+    Ok(uid)
 }
 
 /// The entities of a set.
-fn entities(alloc: Global, items: &[Node<Option<cst::Expr>>]) -> Result<Vec<EntityUID>, Failure>
+fn entities(
+    alloc: Global,
+    items: &[Node<Option<cst::Expr>>],
+) -> Result<Vec<EntityUID>, BoxedFailure>
     ensures { Gives (λ v. v.items) result (entities (parts_of (map listed_expr items.now))) }
 {
-    let mut all: Result<Vec<EntityUID>, Failure> = Ok(Vec::new(alloc));
+    let mut all: Result<Vec<EntityUID>, BoxedFailure> = Ok(Vec::new(alloc));
     for item in items {
         add(&mut all, lone_entity(alloc, item));
+        go_on(&all)?;
     }
     all
 }
@@ -273,7 +222,7 @@ fn other_slot(
     loc: &Option<Loc>,
     slot: &cst::Slot,
     var: Var,
-) -> Failure
+) -> BoxedFailure
     ensures { TellsAlone result wrong_node loc.now }
 {
     let got = format!(in alloc; "{slot} instead of ?{var}");
@@ -287,7 +236,7 @@ fn of_variable<T: RefKind>(
     var: Var,
     made: T,
     slot: &cst::Slot,
-) -> Result<T, Failure>
+) -> Result<T, BoxedFailure>
     ensures { Gives itself result (of_variable loc.now var made slot.now) }
 {
     if slot.matches(var) {
@@ -298,7 +247,7 @@ fn of_variable<T: RefKind>(
 }
 
 /// What is made of an entity.
-fn entity_found<T: RefKind>(alloc: Global, node: &Node<Option<cst::Ref>>) -> Result<T, Failure>
+fn entity_found<T: RefKind>(alloc: Global, node: &Node<Option<cst::Ref>>) -> Result<T, BoxedFailure>
     ensures { Gives itself result (single_outcome T.kind node.now) }
 {
     let uid = entity_of(alloc, node)?;
@@ -311,7 +260,7 @@ fn slot_found<T: RefKind>(
     var: Var,
     loc: &Option<Loc>,
     node: &Node<Option<cst::Slot>>,
-) -> Result<T, Failure>
+) -> Result<T, BoxedFailure>
     ensures { Gives itself result (own_slot_outcome T.kind var loc.now node.now) }
 {
     let made = T::create_slot(alloc, loc)?;
@@ -326,7 +275,7 @@ fn referred_at<T: RefKind>(
     alloc: Global,
     var: Var,
     node: &Node<Option<cst::Primary>>,
-) -> Result<T, Failure>
+) -> Result<T, BoxedFailure>
     ensures { Gives itself result (referent_at T.kind var (located primary_form node.now)) }
 {
     match &node.node {
@@ -353,8 +302,8 @@ pub(crate) fn to_ref_or_refs<T: RefKind>(
     alloc: Global,
     var: Var,
     node: &Node<Option<cst::Expr>>,
-) -> Result<T, Failure>
+) -> Result<T, BoxedFailure>
     ensures { Gives itself result (referent_outcome T.kind var node.now) }
 {
-    referred_at::<T>(alloc, var, lone_expr(alloc, T::err_str(), node)?)
+    referred_at::<T>(alloc, var, expr_primary(alloc, T::err_str(), node)?)
 }

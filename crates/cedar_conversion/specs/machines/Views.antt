@@ -18,20 +18,25 @@ use Rattle.cedar_conversion.specs.declared.answer.special.ExprOrSpecial.{ExprOrS
 use Rattle.cedar_conversion.specs.declared.answer.special.ExprOrSpecial.TheVariants as special
 use Rattle.cedar_conversion.specs.outcome.Conversion.{Part, comparison_outcome, joint_outcome}
 use Rattle.cedar_conversion.specs.outcome.Held.{Held, expression, variable, bare_name, bare_truth, bare_string, as_expression}
+use Rattle.cedar_conversion.specs.outcome.Detail.{nothing}
 use Rattle.cedar_conversion.specs.outcome.Outcome.{Kind, NamedFault, Outcome, both, next}
 use Rattle.cedar_conversion.specs.outcome.Places.{bytes_of}
-use Rattle.cedar_conversion.specs.outcome.Seen.{kind_of, named_faults}
+use Rattle.cedar_conversion.specs.outcome.Seen.{kind_of, detail_of, named_faults}
 
 -- ---- faults
 
 -- the failure is one fault alone, or want of memory
+abbrev pub TellsOne : Failure → NamedFault → Type 0
+TellsOne (Memory error) fault = Unit {0}
+TellsOne (Errors errors) fault = named_faults (faults_of errors) ≡ fault ∷ []
+
+-- the same of a fault of which its kind tells all
 abbrev pub TellsAlone : Failure → Kind → Option Loc → Type 0
-TellsAlone (Memory error) kind place = Unit {0}
-TellsAlone (Errors errors) kind place = named_faults (faults_of errors) ≡ (kind, place) ∷ []
+TellsAlone failure kind place = TellsOne failure (kind, place, nothing)
 
 -- a fault that is told, if there is one
 abbrev pub optional_fault : Option ToASTError → List NamedFault
-optional_fault (Some fault) = (kind_of fault.kind, fault.loc) ∷ []
+optional_fault (Some fault) = (kind_of fault.kind, fault.loc, detail_of fault.kind) ∷ []
 optional_fault None = []
 
 -- a part that fails so

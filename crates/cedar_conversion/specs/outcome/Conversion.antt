@@ -11,6 +11,7 @@ use Rattle.cedar_syntax.specs.declared.cst.RelOp.TheVariants as rel
 use Rattle.cedar_syntax.specs.declared.cst.MultOp.TheVariants as mul
 use Rattle.cedar_expressions.specs.declared.operators.AddOp.{AddOp}
 use Rattle.cedar_expressions.specs.declared.operators.AddOp.TheVariants as adding
+use Rattle.cedar_expressions.specs.declared.operators.UnaryOp.TheVariants as signs
 use Rattle.cedar_expressions.specs.declared.entity.EntityType.{EntityType}
 use Rattle.cedar_expressions.specs.declared.atoms.Literal.TheVariants as literals
 use Rattle.cedar_expressions.specs.declared.atoms.PatternElem.{PatternElem}
@@ -28,7 +29,8 @@ use Rattle.cedar_conversion.specs.parts.Leaves.{name_leaf, slot_leaf, entity_lea
 pub use Rattle.cedar_conversion.specs.parts.Literals.{number_in, literal_alone, lone_literal, number_outcome, raw_string_outcome, held_string, literal_outcome}
 use Rattle.cedar_conversion.specs.parts.Members.{Access, field, call, index, member_outcome}
 use Rattle.cedar_conversion.specs.parts.Names.{unreserved_ident}
-use Rattle.cedar_conversion.specs.outcome.Outcome.{Outcome, fault_outcome, both, next, empty_node, ambiguous_operators, invalid_single_eq, unary_op_limit, integer_literal_too_large, unsupported_division, unsupported_modulo, expression_construction_error}
+use Rattle.cedar_conversion.specs.outcome.Detail as detail
+use Rattle.cedar_conversion.specs.outcome.Outcome.{Outcome, fault_outcome, detailed_outcome, both, next, empty_node, ambiguous_operators, invalid_single_eq, unary_op_limit, integer_literal_too_large, unsupported_division, unsupported_modulo, expression_construction_error}
 use Rattle.cedar_conversion.specs.strict.Strict.{iteration, largest}
 
 -- an expression at a place
@@ -118,7 +120,7 @@ abbrev pub negative : Option Loc → ℕ → ℕ → Outcome Held
 negative place n k =
     if nat_le k largest then expression_at place
     (iteration n v.neg (v.val (literals.Long (neg_ℤ (pos k)))))
-    else fault_outcome integer_literal_too_large place
+    else detailed_outcome integer_literal_too_large place (detail.number k)
 
 abbrev pub application_outcome : Option Loc → ℕ → (Value → Value) → Outcome Held → Outcome Held
 application_outcome place zero g x = x
@@ -135,9 +137,11 @@ dashes_outcome place (suc n) None x = application_outcome place (suc n) v.neg x
 abbrev pub signs_outcome : Option Loc → Option NegOp → Option ℕ → Outcome Held → Outcome Held
 signs_outcome place None bare x = x
 signs_outcome place (Some (sign.Bang n)) bare x = application_outcome place n v.not x
-signs_outcome place (Some sign.OverBang) bare x = fault_outcome unary_op_limit place
+signs_outcome place (Some sign.OverBang) bare x =
+    detailed_outcome unary_op_limit place (detail.sign signs.Not)
 signs_outcome place (Some (sign.Dash n)) bare x = dashes_outcome place n bare x
-signs_outcome place (Some sign.OverDash) bare x = fault_outcome unary_op_limit place
+signs_outcome place (Some sign.OverDash) bare x =
+    detailed_outcome unary_op_limit place (detail.sign signs.Neg)
 
 -- ---- trees
 

@@ -1,7 +1,9 @@
 -- What a node gives while it is converted, with its place: an expression, or what is one but may
 -- be something else where it stands bare. A string is kept as it is written: what it stands for is
 -- settled where it is wanted.
-use Rattle.std.specs.Prelude.{ℕ, Bool, List, [], ◌∷◌, Option, Ok}
+use Rattle.std.specs.Prelude.{ℕ, Bool, true, false, List, [], ◌∷◌, Option, Ok}
+use Rattle.cedar_syntax.specs.declared.cst.Ident.{Ident}
+use Rattle.cedar_syntax.specs.declared.cst.Ident.TheVariants as words
 use Rattle.cedar_syntax.specs.declared.loc.Loc.{Loc}
 use Rattle.cedar_expressions.specs.declared.entity.EntityType.{EntityType}
 use Rattle.cedar_expressions.specs.declared.atoms.PatternElem.{PatternElem}
@@ -11,7 +13,8 @@ use Rattle.cedar_expressions.specs.Path.{Path}
 use Rattle.cedar_expressions.specs.Value as v
 use Rattle.cedar_expressions.specs.Value.{Value}
 use Rattle.cedar_expressions.specs.Written.{var_text}
-use Rattle.cedar_conversion.specs.outcome.Outcome.{Outcome, fault_outcome, next, arbitrary_variable, invalid_pattern, invalid_is_type, invalid_string, invalid_attribute, path_as_attribute, reserved_identifier}
+use Rattle.cedar_conversion.specs.outcome.Detail.{word}
+use Rattle.cedar_conversion.specs.outcome.Outcome.{Outcome, fault_outcome, detailed_outcome, next, arbitrary_variable, invalid_pattern, invalid_is_type, invalid_string, invalid_attribute, path_as_attribute, reserved_identifier}
 use Rattle.cedar_conversion.specs.parts.Strings.{text_outcome, pattern_outcome}
 
 pub data Held : Type 0 where
@@ -63,10 +66,16 @@ abbrev pub unqualified : Option Loc → List (List ℕ) → List ℕ → Outcome
 unqualified place [] id = Ok id
 unqualified place (_ ∷ _) id = fault_outcome path_as_attribute place
 
+-- the word that a truth value is
+abbrev pub truth_word : Bool → Ident
+truth_word true = words.True
+truth_word false = words.False
+
 -- a record's key
 abbrev pub as_attribute : Held → Outcome (List ℕ)
 as_attribute (expression place x) = fault_outcome invalid_attribute place
 as_attribute (variable place x) = Ok (var_text x)
 as_attribute (bare_name place name) = unqualified place name.path name.id
-as_attribute (bare_truth place b) = fault_outcome reserved_identifier place
+as_attribute (bare_truth place b) =
+    detailed_outcome reserved_identifier place (word (truth_word b))
 as_attribute (bare_string place raw) = text_outcome place raw

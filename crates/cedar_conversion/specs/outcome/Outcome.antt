@@ -4,8 +4,9 @@
 -- wanted, `only_static` of cedar_policy_conversion tells faults behind those of a template.)
 use Rattle.std.specs.Prelude.{List, [], ◌∷◌, ◌++◌, Option, Some, None, Result, Ok, Err}
 use Rattle.cedar_syntax.specs.declared.loc.Loc.{Loc}
+use Rattle.cedar_conversion.specs.outcome.Detail.{Detail, nothing}
 
--- what is wrong; what a message shows of it beside its kind isn't told
+-- what is wrong
 pub data Kind : Type 0 where
   duplicate_template_id : Kind
   duplicate_policy_id : Kind
@@ -64,15 +65,20 @@ pub data Kind : Type 0 where
   reserved_namespace : Kind
   inverted_is_in : Kind
 
+-- what is wrong, where, and what is told beside
 abbrev pub NamedFault : Type 0
-NamedFault = Kind × Option Loc
+NamedFault = Kind × Option Loc × Detail
 
 abbrev pub Outcome : Type 0 → Type 0
 Outcome Y = Result Y (List NamedFault)
 
 -- one fault alone
+abbrev pub detailed_outcome : {Y : Type 0} → Kind → Option Loc → Detail → Outcome Y
+detailed_outcome kind place detail = Err ((kind, place, detail) ∷ [])
+
+-- one of which its kind tells all
 abbrev pub fault_outcome : {Y : Type 0} → Kind → Option Loc → Outcome Y
-fault_outcome kind place = Err ((kind, place) ∷ [])
+fault_outcome kind place = detailed_outcome kind place nothing
 
 -- these faults, or nothing where there are none
 abbrev pub faults_outcome : List NamedFault → Outcome (Unit {0})

@@ -1,5 +1,6 @@
--- What the program holds and answers, seen without what only messages show.
+-- What the program holds and answers, seen without what is there for people alone.
 use Rattle.std.specs.Prelude.{◌≡◌, List, map, Result, Ok, Err, None}
+use Rattle.cedar_syntax.specs.faults.NonEmpty.{list_of}
 use Rattle.cedar_syntax.specs.faults.ParseErrors.{faults_of}
 use Rattle.cedar_syntax.specs.declared.err.faults.Failure.{Failure}
 use Rattle.cedar_syntax.specs.declared.err.faults.Failure.TheVariants.{Memory, Errors}
@@ -7,10 +8,12 @@ use Rattle.cedar_syntax.specs.declared.err.faults.ParseError.{ParseError}
 use Rattle.cedar_syntax.specs.declared.err.faults.ParseError.TheVariants.{ToCST, ToAST}
 use Rattle.cedar_syntax.specs.declared.err.to_ast.ToASTErrorKind.{ToASTErrorKind}
 use Rattle.cedar_syntax.specs.declared.err.to_ast.ToASTErrorKind.TheVariants as kinds
+use Rattle.cedar_conversion.specs.outcome.Detail as d
+use Rattle.cedar_conversion.specs.outcome.Detail.{Detail}
 use Rattle.cedar_conversion.specs.outcome.Outcome as k
 use Rattle.cedar_conversion.specs.outcome.Outcome.{Kind, NamedFault, Outcome}
 
--- each kind without what a message shows of it
+-- each kind without what is told beside
 abbrev pub kind_of : ToASTErrorKind → Kind
 kind_of (kinds.DuplicateTemplateId a) = k.duplicate_template_id
 kind_of (kinds.DuplicatePolicyId a) = k.duplicate_policy_id
@@ -69,10 +72,42 @@ kind_of (kinds.InvalidSlot a) = k.invalid_slot
 kind_of (kinds.ReservedNamespace a) = k.reserved_namespace
 kind_of kinds.InvertedIsIn = k.inverted_is_in
 
+-- what each kind tells beside itself
+abbrev pub detail_of : ToASTErrorKind → Detail
+detail_of (kinds.ExpectedStaticPolicy a) = d.slot a.slot
+detail_of (kinds.DuplicateAnnotation a) = d.spelling a
+detail_of (kinds.SlotsInConditionClause a) = d.slot a.slot
+detail_of (kinds.MissingScopeVariable a) = d.variable a
+detail_of (kinds.ReservedIdentifier a) = d.word a
+detail_of (kinds.InvalidIdentifier a) = d.spelling a
+detail_of (kinds.InvalidEffect a) = d.word a
+detail_of (kinds.InvalidCondition a) = d.word a
+detail_of (kinds.InvalidScopeVariable a) = d.word a
+detail_of (kinds.IncorrectVariable a b) = d.variables a b
+detail_of (kinds.InvalidScopeOperator a) = d.operator a
+detail_of (kinds.InvalidActionScopeOperator a) = d.operator a
+detail_of (kinds.InvalidActionType a) = d.entities (list_of a.euids)
+detail_of (kinds.EmptyClause a) = d.word_there a
+detail_of (kinds.FunctionCallOnMethod a) = d.spelling a
+detail_of (kinds.MethodCallOnFunction a) = d.spelling a
+detail_of (kinds.IntegerLiteralTooLarge a) = d.number a
+detail_of (kinds.UnaryOpLimit a) = d.sign a
+detail_of (kinds.VariableCall a) = d.variable a
+detail_of (kinds.NoMethods a b) = d.asked_of a b
+detail_of (kinds.UnknownMethod a b) = d.spelling a
+detail_of (kinds.UnknownFunction a b) = d.name a
+detail_of (kinds.InvalidAccess a b) = d.asked_of a b
+detail_of (kinds.InvalidIndex a b) = d.asked_of a b
+detail_of (kinds.WrongArity a b c) = d.arguments b c
+detail_of (kinds.Unescape a) = d.escape a
+detail_of (kinds.InvalidSlot a) = d.spelling a
+detail_of (kinds.ReservedNamespace a) = d.name a.name
+detail_of _ = d.nothing
+
 -- a fault of a text, which no conversion tells, is seen as one of a kind that none gives
 abbrev pub named_fault : ParseError → NamedFault
-named_fault (ToAST fault) = (kind_of fault.kind, fault.loc)
-named_fault (ToCST fault) = (k.membership_invariant_violation, None)
+named_fault (ToAST fault) = (kind_of fault.kind, fault.loc, detail_of fault.kind)
+named_fault (ToCST fault) = (k.membership_invariant_violation, None, d.nothing)
 
 abbrev pub named_faults : List ParseError → List NamedFault
 named_faults faults = map named_fault faults

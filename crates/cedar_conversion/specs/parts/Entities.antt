@@ -13,7 +13,8 @@ use Rattle.cedar_expressions.specs.declared.atoms.SlotId.{SlotId}
 use Rattle.cedar_expressions.specs.declared.atoms.SlotId.TheVariants as ids
 use Rattle.cedar_expressions.specs.Path.{Path}
 use Rattle.cedar_conversion.specs.parts.Names.{content_outcome, name_outcome}
-use Rattle.cedar_conversion.specs.outcome.Outcome.{Outcome, fault_outcome, both, next, invalid_string, invalid_entity_literal, invalid_slot}
+use Rattle.cedar_conversion.specs.outcome.Detail.{spelling}
+use Rattle.cedar_conversion.specs.outcome.Outcome.{Outcome, fault_outcome, detailed_outcome, both, next, invalid_string, invalid_entity_literal, invalid_slot}
 use Rattle.cedar_conversion.specs.parts.Strings.{text_outcome}
 
 -- the text of an entity's id: its escape faults stand at the entity's place, what is no string at
@@ -40,7 +41,7 @@ entity_outcome n = next (content_outcome n.loc n.node) (reference_outcome n.loc)
 abbrev pub slot_id : Option Loc → Slot → Outcome SlotId
 slot_id place slots.Principal = Ok ids.Principal
 slot_id place slots.Resource = Ok ids.Resource
-slot_id place (slots.Other text) = fault_outcome invalid_slot place
+slot_id place (slots.Other text) = detailed_outcome invalid_slot place (spelling text)
 
 abbrev pub slot_outcome : Node (Option Slot) → Outcome SlotId
 slot_outcome n = next (content_outcome n.loc n.node) (slot_id n.loc)

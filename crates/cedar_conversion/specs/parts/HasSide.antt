@@ -5,12 +5,13 @@ use Rattle.cedar_expressions.specs.Written.{var_text}
 use Rattle.cedar_syntax.specs.declared.loc.Loc.{Loc}
 use Rattle.cedar_syntax.specs.trees.Located as f
 use Rattle.cedar_syntax.specs.trees.Located.{Located, Form, Parts}
-use Rattle.cedar_conversion.specs.outcome.Held.{Held, expression, variable, bare_name, bare_truth, bare_string, unqualified}
+use Rattle.cedar_conversion.specs.outcome.Detail.{word}
+use Rattle.cedar_conversion.specs.outcome.Held.{Held, expression, variable, bare_name, bare_truth, bare_string, truth_word, unqualified}
 use Rattle.cedar_conversion.specs.parts.Leaves.{name_leaf}
 use Rattle.cedar_conversion.specs.parts.Literals.{literal_outcome}
 pub use Rattle.cedar_conversion.specs.outcome.LonePart.{no_sign}
 use Rattle.cedar_conversion.specs.parts.Names.{unreserved_ident}
-use Rattle.cedar_conversion.specs.outcome.Outcome.{Outcome, fault_outcome, next, empty_node, invalid_has_rhs, reserved_identifier}
+use Rattle.cedar_conversion.specs.outcome.Outcome.{Outcome, fault_outcome, detailed_outcome, next, empty_node, invalid_has_rhs, reserved_identifier}
 use Rattle.cedar_conversion.specs.parts.Strings.{text_outcome}
 
 -- the first attribute, and those behind it
@@ -46,7 +47,8 @@ attributes_of whole accesses (expression place x) = fault_outcome invalid_has_rh
 attributes_of whole accesses (variable place x) = behind_first accesses (var_text x)
 attributes_of whole accesses (bare_name place name) =
     next (unqualified place name.path name.id) (behind_first accesses)
-attributes_of whole accesses (bare_truth place b) = fault_outcome reserved_identifier place
+attributes_of whole accesses (bare_truth place b) =
+    detailed_outcome reserved_identifier place (word (truth_word b))
 attributes_of whole accesses (bare_string place raw) = string_alone whole place raw accesses
 
 -- any other primary is refused at its place

@@ -10,7 +10,8 @@ use Rattle.cedar_syntax.specs.trees.Located.{Located}
 use Rattle.cedar_expressions.specs.declared.atoms.Literal.TheVariants as literals
 use Rattle.cedar_expressions.specs.Value as v
 use Rattle.cedar_conversion.specs.outcome.Held.{Held, expression, bare_truth, bare_string, as_string}
-use Rattle.cedar_conversion.specs.outcome.Outcome.{Outcome, fault_outcome, next, empty_node, integer_literal_too_large, invalid_string}
+use Rattle.cedar_conversion.specs.outcome.Detail.{number}
+use Rattle.cedar_conversion.specs.outcome.Outcome.{Outcome, fault_outcome, detailed_outcome, next, empty_node, integer_literal_too_large, invalid_string}
 use Rattle.cedar_conversion.specs.strict.Strict.{largest}
 
 -- the number that a node is, if it is a number and no more
@@ -29,7 +30,7 @@ lone_literal _ = None
 
 abbrev pub number_outcome : Option Loc → ℕ → Outcome Held
 number_outcome place n =
-    if nat_le largest n then fault_outcome integer_literal_too_large place
+    if nat_le largest n then detailed_outcome integer_literal_too_large place (number n)
     else Ok (expression place (v.val (literals.Long (pos n))))
 
 -- a string has its literal's place; one that no text is written as is refused at its own

@@ -1,6 +1,7 @@
 -- A primary and its accesses: fields, methods, calls by the table, indexes, applied from the left.
-use Rattle.std.specs.Prelude.{ℕ, List, [], ◌∷◌, Option, Some, None, Ok, if◌then◌else◌}
+use Rattle.std.specs.Prelude.{ℕ, List, [], ◌∷◌, length, Option, Some, None, Ok, if◌then◌else◌}
 use Rattle.cedar_syntax.specs.declared.loc.Loc.{Loc}
+use Rattle.cedar_expressions.specs.declared.atoms.Var.{Var}
 use Rattle.cedar_expressions.specs.Path.{Path}
 use Rattle.cedar_expressions.specs.Value as v
 use Rattle.cedar_expressions.specs.Value.{Value, values}
@@ -8,7 +9,8 @@ use Rattle.cedar_conversion.specs.declared.primaries.methods.Standard.{Standard}
 use Rattle.cedar_conversion.specs.declared.primaries.methods.Standard.TheVariants as standard
 use Rattle.cedar_conversion.specs.strict.Extensions.{Extensions}
 use Rattle.cedar_conversion.specs.outcome.Held.{Held, expression, variable, bare_name, as_expression}
-use Rattle.cedar_conversion.specs.outcome.Outcome.{Outcome, fault_outcome, next, variable_call, no_methods, invalid_access, invalid_index, expression_call, wrong_arity, function_call_on_method, method_call_on_function, unknown_method, unknown_function}
+use Rattle.cedar_conversion.specs.outcome.Detail as detail
+use Rattle.cedar_conversion.specs.outcome.Outcome.{Outcome, fault_outcome, detailed_outcome, next, variable_call, no_methods, invalid_access, invalid_index, expression_call, wrong_arity, function_call_on_method, method_call_on_function, unknown_method, unknown_function}
 use Rattle.cedar_conversion.specs.strict.StrictCalls.{standard_method, names_method}
 
 -- what an access gives
@@ -28,12 +30,18 @@ takes_one standard.IsEmpty = None
 takes_one standard.GetTag = Some v.get_tag
 takes_one standard.HasTag = Some v.has_tag
 
+-- how many arguments that are
+abbrev pub arity : {X : Type 0} → Option X → ℕ
+arity (Some make) = 1
+arity None = 0
+
 -- one argument, or none for `isEmpty`
 abbrev pub with_arguments : Option Loc → Option (Value → Value → Value) → Value → List Value
     → Outcome Value
 with_arguments place (Some make) x (y ∷ []) = Ok (make x y)
 with_arguments place None x [] = Ok (v.is_empty x)
-with_arguments place _ x _ = fault_outcome wrong_arity place
+with_arguments place make x args =
+    detailed_outcome wrong_arity place (detail.arguments (arity make) (length args))
 
 abbrev pub standard_outcome : Option Loc → Standard → Value → List Value → Outcome Value
 standard_outcome place method x args = with_arguments place (takes_one method) x args
@@ -44,8 +52,9 @@ plain_name id = record { path = []; id = id }
 -- a method that the table doesn't have may be a function of it
 abbrev pub no_method : Extensions → Option Loc → List ℕ → Outcome Value
 no_method e place id =
-    if e.functions (plain_name id) then fault_outcome method_call_on_function place
-    else fault_outcome unknown_method place
+    if e.functions (plain_name id)
+    then detailed_outcome method_call_on_function place (detail.spelling id)
+    else detailed_outcome unknown_method place (detail.spelling id)
 
 -- a method of the table takes the object first
 abbrev pub extension_method : Extensions → Option Loc → List ℕ → Value → List Value → Outcome Value
@@ -67,9 +76,10 @@ method_outcome e place id x args = method_by e place id (standard_method id) x a
 -- a call of a name
 abbrev pub function_outcome : Extensions → Option Loc → Path → List Value → Outcome Value
 function_outcome e place name args =
-    if names_method e name.path name.id then fault_outcome function_call_on_method place
+    if names_method e name.path name.id
+    then detailed_outcome function_call_on_method place (detail.spelling name.id)
     else (if e.functions name then Ok (v.call_extension_fn name (values args))
-    else fault_outcome unknown_function place)
+    else detailed_outcome unknown_function place (detail.name name))
 
 -- ---- accesses
 
@@ -88,17 +98,21 @@ abbrev pub name_accesses : Extensions → Option Loc → Path → List Access �
 name_accesses e place name [] = fault_outcome invalid_access place
 name_accesses e place name (call args ∷ rest) =
     next (function_outcome e place name args) (λ y. accesses_of e place y rest)
-name_accesses e place name (index text ∷ rest) = fault_outcome invalid_index place
-name_accesses e place name (field id ∷ call args ∷ rest) = fault_outcome no_methods place
-name_accesses e place name (field id ∷ rest) = fault_outcome invalid_access place
+name_accesses e place name (index text ∷ rest) =
+    detailed_outcome invalid_index place (detail.asked_of name text)
+name_accesses e place name (field id ∷ call args ∷ rest) =
+    detailed_outcome no_methods place (detail.asked_of name id)
+name_accesses e place name (field id ∷ rest) =
+    detailed_outcome invalid_access place (detail.asked_of name id)
 
 -- a variable can't be called
-abbrev pub variable_accesses : Extensions → Option Loc → Value → List Access → Outcome Held
-variable_accesses e place x (call args ∷ rest) = fault_outcome variable_call place
-variable_accesses e place x accesses = accesses_of e place x accesses
+abbrev pub variable_accesses : Extensions → Option Loc → Var → List Access → Outcome Held
+variable_accesses e place x (call args ∷ rest) =
+    detailed_outcome variable_call place (detail.variable x)
+variable_accesses e place x accesses = accesses_of e place (v.var x) accesses
 
 abbrev pub some_accesses : Extensions → Option Loc → Held → List Access → Outcome Held
-some_accesses e place (variable own x) accesses = variable_accesses e place (v.var x) accesses
+some_accesses e place (variable own x) accesses = variable_accesses e place x accesses
 some_accesses e place (bare_name own name) accesses = name_accesses e place name accesses
 some_accesses e place h accesses =
     next (as_expression h) (λ x. accesses_of e place x accesses)

@@ -10,7 +10,8 @@ use Rattle.cedar_syntax.specs.declared.cst.Name.{Name}
 use Rattle.cedar_expressions.specs.declared.atoms.Var.{Var}
 use Rattle.cedar_expressions.specs.declared.atoms.Var.TheVariants as vars
 use Rattle.cedar_expressions.specs.Path.{Path, is_identifier, is_valid_identifier, is_reserved_namespace, has_reserved_namespace}
-use Rattle.cedar_conversion.specs.outcome.Outcome.{Outcome, fault_outcome, both, next, empty_node, reserved_identifier, invalid_identifier, reserved_namespace}
+use Rattle.cedar_conversion.specs.outcome.Detail as detail
+use Rattle.cedar_conversion.specs.outcome.Outcome.{Outcome, fault_outcome, detailed_outcome, both, next, empty_node, reserved_identifier, invalid_identifier, reserved_namespace}
 
 -- what a node holds
 abbrev pub content_outcome : {X : Type 0} → Option Loc → Option X → Outcome X
@@ -27,12 +28,14 @@ all_of f (x ∷ xs) = next (both (f x) (all_of f xs)) (λ p. Ok (p.0 ∷ p.1))
 -- an identifier's spelling, the words' too
 abbrev pub spelling_outcome : Option Loc → List ℕ → Outcome (List ℕ)
 spelling_outcome place text =
-    if is_identifier text then Ok text else fault_outcome invalid_identifier place
+    if is_identifier text then Ok text
+    else detailed_outcome invalid_identifier place (detail.spelling text)
 
 -- an identifier that a name may hold
 abbrev pub valid_text : Option Loc → List ℕ → Outcome (List ℕ)
 valid_text place text =
-    if is_valid_identifier text then Ok text else fault_outcome invalid_identifier place
+    if is_valid_identifier text then Ok text
+    else detailed_outcome invalid_identifier place (detail.spelling text)
 
 -- the nine reserved words are refused
 abbrev pub valid_ident_of : Option Loc → Ident → Outcome (List ℕ)
@@ -45,8 +48,9 @@ valid_ident_of place words.Forbid = Ok (codes "forbid")
 valid_ident_of place words.When = Ok (codes "when")
 valid_ident_of place words.Unless = Ok (codes "unless")
 valid_ident_of place (words.Ident text) = valid_text place text
-valid_ident_of place (words.Invalid text) = fault_outcome invalid_identifier place
-valid_ident_of place _ = fault_outcome reserved_identifier place
+valid_ident_of place (words.Invalid text) =
+    detailed_outcome invalid_identifier place (detail.spelling text)
+valid_ident_of place i = detailed_outcome reserved_identifier place (detail.word i)
 
 abbrev pub valid_ident : Node (Option Ident) → Outcome (List ℕ)
 valid_ident n = next (content_outcome n.loc n.node) (valid_ident_of n.loc)
@@ -70,7 +74,9 @@ any_ident n = next (content_outcome n.loc n.node) (any_ident_of n.loc)
 
 abbrev pub unreserved : Option Loc → List ℕ → Outcome (List ℕ)
 unreserved place id =
-    if is_reserved_namespace id then fault_outcome reserved_namespace place else Ok id
+    if is_reserved_namespace id
+    then detailed_outcome reserved_namespace place (detail.name (record { path = []; id = id }))
+    else Ok id
 
 -- an identifier that a field, a method or an attribute may be
 abbrev pub unreserved_ident : Node (Option Ident) → Outcome (List ℕ)
@@ -80,7 +86,8 @@ unreserved_ident n = next (valid_ident n) (unreserved n.loc)
 
 abbrev pub unreserved_name : Option Loc → Path → Outcome Path
 unreserved_name place name =
-    if has_reserved_namespace name then fault_outcome reserved_namespace place else Ok name
+    if has_reserved_namespace name
+    then detailed_outcome reserved_namespace place (detail.name name) else Ok name
 
 abbrev pub path_of : List ℕ × List (List ℕ) → Path
 path_of p = record { path = p.1; id = p.0 }

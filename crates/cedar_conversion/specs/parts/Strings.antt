@@ -7,6 +7,7 @@ use Rattle.cedar_expressions.specs.declared.atoms.PatternElem.{PatternElem}
 use Rattle.cedar_syntax.specs.strings.Pattern.{pattern_faults, pattern_pieces}
 use Rattle.cedar_syntax.specs.strings.Piece.{Placed, bytes_len, piece_at, piece_faults, unescaped_pieces}
 use Rattle.cedar_syntax.specs.strings.PieceAhead.{PieceAhead, first_piece}
+use Rattle.cedar_conversion.specs.outcome.Detail.{escape}
 use Rattle.cedar_conversion.specs.outcome.Outcome.{Outcome, NamedFault, unescape}
 
 -- the characters of the first piece of a text, of what stands behind it
@@ -34,9 +35,9 @@ escape_faults raw = piece_faults raw (layout raw)
 abbrev pub unescaped : List ℕ → List ℕ
 unescaped raw = unescaped_pieces (layout raw)
 
--- escape faults, each at the string's place
+-- each escape fault, at the string's place
 abbrev pub string_faults : Option Loc → List UnescapeError → List NamedFault
-string_faults place faults = map (λ fault. (unescape, place)) faults
+string_faults place faults = map (λ fault. (unescape, place, escape fault)) faults
 
 abbrev pub unless_faulty : {X : Type 0} → Option Loc → List UnescapeError → X → Outcome X
 unless_faulty place [] x = Ok x

@@ -8,7 +8,7 @@ ghost use Rattle.cedar_syntax.specs.faults.ParseErrors.{IsMemory};
 ghost use Rattle.cedar_syntax.specs.faults.Joined.{WantsMemory};
 ghost use Rattle.cedar_conversion.specs.machines.Views.{empty_view};
 
-use crate::answer::failure::{Failure, flatten_tuple_2};
+use crate::answer::failure::{BoxedFailure, flatten_tuple_2};
 use cedar_expressions::{Place, TryClone};
 use cedar_syntax::err::{ParseErrors, ToASTError};
 use cedar_syntax::loc::{Loc, SourceSpan};
@@ -17,28 +17,28 @@ use std::alloc::{AllocError, Global};
 /// One more fault, behind those so far if there are any.
 pub fn add_fault(
     alloc: Global,
-    all: Result<(), Failure>,
+    all: Result<(), BoxedFailure>,
     fault: Result<ToASTError, AllocError>,
-) -> Result<(), Failure>
+) -> Result<(), BoxedFailure>
     ensures told { (faults : List NamedFault) (one : NamedFault)
         → Gives empty_view all (faults_outcome faults)
         → IfOk fault (λ made. named_fault (ToAST made) ≡ one)
         → Gives empty_view result (faults_outcome (faults ++ one ∷ [])) }
     ensures memory { WantsMemory all → WantsMemory result }
 {
-    let fault = Failure::of_errors(alloc, ParseErrors::from_ast(alloc, fault?));
-    let refused: Result<(), Failure> = Err(fault);
+    let fault = BoxedFailure::of_errors(alloc, ParseErrors::from_ast(alloc, fault?));
+    let refused: Result<(), BoxedFailure> = Err(fault);
     let ((), ()) = flatten_tuple_2(all, refused)?;
     Ok(())
 }
 
 /// The faults so far, and those of one part more.
-pub fn add_refusal(all: Result<(), Failure>, failure: Failure) -> Result<(), Failure>
+pub fn add_refusal(all: Result<(), BoxedFailure>, failure: BoxedFailure) -> Result<(), BoxedFailure>
     ensures told { (o p : Outcome (Unit {0})) → Gives empty_view all o → Refuses failure p
         → Gives empty_view result (next (both o p) (λ _. Ok tt)) }
     ensures memory { WantsMemory all ⊎ IsMemory failure → WantsMemory result }
 {
-    let refused: Result<(), Failure> = Err(failure);
+    let refused: Result<(), BoxedFailure> = Err(failure);
     let ((), ()) = flatten_tuple_2(all, refused)?;
     Ok(())
 }

@@ -10,7 +10,7 @@ ghost use Rattle.cedar_conversion.specs.outcome.Outcome.{Outcome};
 ghost use Rattle.cedar_conversion.specs.outcome.Seen.{Gives};
 ghost use Rattle.cedar_conversion.specs.machines.Views.{Grows, empty_view, one_more, rest_view};
 
-use crate::answer::failure::{Failure, flatten_tuple_2};
+use crate::answer::failure::{BoxedFailure, flatten_tuple_2};
 use crate::answer::special::refusal;
 use crate::answer::{put, take};
 use cedar_expressions::ExprBuilderInfallibleBuild;
@@ -20,9 +20,9 @@ use std::alloc::{AllocError, Global};
 
 /// One more item behind those so far, or the faults of both.
 fn push_both<T: Drop>(
-    all: Result<Vec<T>, Failure>,
-    next: Result<T, Failure>,
-) -> Result<Vec<T>, Failure>
+    all: Result<Vec<T>, BoxedFailure>,
+    next: Result<T, BoxedFailure>,
+) -> Result<Vec<T>, BoxedFailure>
     ensures { Grows all next result }
 {
     let (mut all, next) = flatten_tuple_2(all, next)?;
@@ -33,7 +33,7 @@ fn push_both<T: Drop>(
 /// A failure behind the items so far: their own is joined to it.
 #[cold]
 #[inline(never)]
-fn add_failure<T: Drop>(all: &mut Result<Vec<T>, Failure>, failure: Failure)
+fn add_failure<T: Drop>(all: &mut Result<Vec<T>, BoxedFailure>, failure: BoxedFailure)
     ensures { Grows all.old (Err failure) all.new }
 {
     let held = take(all);
@@ -43,15 +43,15 @@ fn add_failure<T: Drop>(all: &mut Result<Vec<T>, Failure>, failure: Failure)
 /// Memory for one item more is wanting.
 #[cold]
 #[inline(never)]
-fn want_memory<T: Drop>(all: &mut Result<Vec<T>, Failure>, error: AllocError)
+fn want_memory<T: Drop>(all: &mut Result<Vec<T>, BoxedFailure>, error: AllocError)
     ensures { all.new ≡ Err (Memory alloc_error) }
 {
-    put(all, Err(Failure::from(error)));
+    put(all, Err(BoxedFailure::from(error)));
 }
 
 /// One more item behind those so far, where they stand.
 #[inline(always)]
-fn add_item<T: Drop>(all: &mut Result<Vec<T>, Failure>, item: T)
+fn add_item<T: Drop>(all: &mut Result<Vec<T>, BoxedFailure>, item: T)
     ensures { Grows all.old (Ok item) all.new }
 {
     match all {
@@ -65,7 +65,7 @@ fn add_item<T: Drop>(all: &mut Result<Vec<T>, Failure>, item: T)
 
 /// One more item behind those so far, where they stand, or the faults of both.
 #[inline(always)]
-pub fn add<T: Drop>(all: &mut Result<Vec<T>, Failure>, next: Result<T, Failure>)
+pub fn add<T: Drop>(all: &mut Result<Vec<T>, BoxedFailure>, next: Result<T, BoxedFailure>)
     ensures { Grows all.old next all.new }
 {
     match next {
@@ -75,7 +75,7 @@ pub fn add<T: Drop>(all: &mut Result<Vec<T>, Failure>, next: Result<T, Failure>)
 }
 
 /// An empty list with room for so many items.
-pub fn with_room<T>(alloc: Global, count: usize) -> Result<Vec<T>, Failure>
+pub fn with_room<T>(alloc: Global, count: usize) -> Result<Vec<T>, BoxedFailure>
     ensures { Gives (λ list. list.items) result (Ok []) }
 {
     Ok(Vec::with_capacity(alloc, count)?)
@@ -94,9 +94,9 @@ pub(crate) fn only_one<T>(all: &[T]) -> Option<&T>
 /// One more value behind an operator, where those so far stand.
 #[inline(always)]
 pub(crate) fn more<B: ExprBuilderInfallibleBuild, O: Copy + Drop>(
-    all: &mut Result<Vec<(O, B::Expr)>, Failure>,
+    all: &mut Result<Vec<(O, B::Expr)>, BoxedFailure>,
     op: O,
-    next: Result<B::Expr, Failure>,
+    next: Result<B::Expr, BoxedFailure>,
 )
     ensures { (operator : O → Operator) (ps : Outcome (List Part)) (x : Outcome Value)
         → Gives (rest_view operator B.meaning) all.old ps → Gives B.meaning next x
@@ -123,7 +123,11 @@ pub(crate) fn bodies_of<O: Copy, E: Drop>(
 }
 
 /// Refuses two operators of a relation or more.
-pub(crate) fn at_most_one<T>(alloc: Global, loc: &Option<Loc>, parts: &[T]) -> Result<(), Failure>
+pub(crate) fn at_most_one<T>(
+    alloc: Global,
+    loc: &Option<Loc>,
+    parts: &[T],
+) -> Result<(), BoxedFailure>
     requires { length parts.now < 2 ^ 64 }
     ensures { (f : T → Operator × Located)
         → Gives empty_view result (operator_limit relation loc.now (parts_of (map f parts.now))) }

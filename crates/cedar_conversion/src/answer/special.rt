@@ -3,17 +3,20 @@
 ghost use Rattle.std.specs.Prelude.{◌≡◌, IfOk, Ok};
 ghost use Rattle.std.specs.Option.{option_map};
 ghost use Rattle.cedar_conversion.specs.outcome.Held.{Held, expression, as_expression};
+ghost use Rattle.cedar_conversion.specs.outcome.Detail.{Detail};
 ghost use Rattle.cedar_conversion.specs.outcome.Outcome.{Kind, Outcome, arbitrary_variable, empty_node, next};
 ghost use Rattle.cedar_conversion.specs.outcome.Places.{bytes_of};
-ghost use Rattle.cedar_conversion.specs.outcome.Seen.{Gives, kind_of};
-ghost use Rattle.cedar_conversion.specs.machines.Views.{TellsAlone, plain};
+ghost use Rattle.cedar_conversion.specs.parts.Names.{content_outcome};
+ghost use Rattle.cedar_conversion.specs.outcome.Seen.{Gives, detail_of, kind_of};
+ghost use Rattle.cedar_conversion.specs.machines.Views.{TellsAlone, TellsOne, plain};
 
-use crate::answer::failure::Failure;
+use crate::answer::failure::BoxedFailure;
 use crate::answer::places::bytes_of;
 use crate::leaves::strings::text_of;
 use cedar_expressions::{ExprBuilderInfallibleBuild, Literal, Name, Text, TryClone, Var};
 use cedar_syntax::err::{ParseErrors, ToASTError, ToASTErrorKind};
 use cedar_syntax::loc::Loc;
+use cedar_syntax::node::Node;
 use std::alloc::{AllocError, Global};
 use std::fmt::Display;
 
@@ -41,7 +44,7 @@ pub fn builder_at<B: ExprBuilderInfallibleBuild>(alloc: Global, loc: &Option<Loc
 pub(crate) fn expr_at<B: ExprBuilderInfallibleBuild>(
     expr: B::Expr,
     loc: &Option<Loc>,
-) -> Result<ExprOrSpecial<B::Expr>, Failure>
+) -> Result<ExprOrSpecial<B::Expr>, BoxedFailure>
     ensures { Gives (plain B.meaning) result (Ok (expression loc.now (B.meaning expr))) }
 {
     Ok(ExprOrSpecial::Expr(expr, loc.try_clone()?))
@@ -57,20 +60,20 @@ fn with_place<T: Drop>(value: T, loc: &Option<Loc>) -> Result<(T, Option<Loc>), 
 }
 
 /// One fault at a place of its own.
-fn fault_at(alloc: Global, kind: ToASTErrorKind, loc: Option<Loc>) -> Failure
-    ensures { TellsAlone result (kind_of kind) loc }
+fn fault_at(alloc: Global, kind: ToASTErrorKind, loc: Option<Loc>) -> BoxedFailure
+    ensures { TellsOne result (kind_of kind, loc, detail_of kind) }
 {
     let faults = ParseErrors::from_ast(alloc, ToASTError::new(kind, loc));
-    Failure::of_errors(alloc, faults)
+    BoxedFailure::of_errors(alloc, faults)
 }
 
 /// One fault at a place.
-pub fn refusal(alloc: Global, kind: ToASTErrorKind, loc: &Option<Loc>) -> Failure
-    ensures { TellsAlone result (kind_of kind) loc.now }
+pub fn refusal(alloc: Global, kind: ToASTErrorKind, loc: &Option<Loc>) -> BoxedFailure
+    ensures { TellsOne result (kind_of kind, loc.now, detail_of kind) }
 {
     match with_place(kind, loc) {
         Ok((kind, loc)) => fault_at(alloc, kind, loc),
-        Err(error) => Failure::from(error),
+        Err(error) => BoxedFailure::from(error),
     }
 }
 
@@ -79,12 +82,14 @@ pub fn refusal_with(
     alloc: Global,
     kind: Result<ToASTErrorKind, AllocError>,
     loc: &Option<Loc>,
-) -> Failure
-    ensures { (k : Kind) → IfOk kind (λ kind. kind_of kind ≡ k) → TellsAlone result k loc.now }
+) -> BoxedFailure
+    ensures { (k : Kind) (d : Detail)
+        → IfOk kind (λ kind. (kind_of kind ≡ k) × (detail_of kind ≡ d))
+        → TellsOne result (k, loc.now, d) }
 {
     match kind {
         Ok(kind) => refusal(alloc, kind, loc),
-        Err(error) => Failure::from(error),
+        Err(error) => BoxedFailure::from(error),
     }
 }
 
@@ -97,16 +102,27 @@ pub(crate) fn to_text<T: Display>(alloc: Global, value: &T) -> Result<Text, Allo
 }
 
 /// A node with nothing in it, or with a form that its caller has another call for.
-pub fn empty_node(alloc: Global, loc: &Option<Loc>) -> Failure
+pub fn empty_node(alloc: Global, loc: &Option<Loc>) -> BoxedFailure
     ensures { TellsAlone result empty_node loc.now }
 {
     refusal(alloc, ToASTErrorKind::EmptyNodeInvariantViolation, loc)
 }
 
+/// What a node holds; an empty one is refused.
+#[inline(always)]
+pub fn content<T>(alloc: Global, node: &Node<Option<T>>) -> Result<&T, BoxedFailure>
+    ensures { Gives (λ inner. inner.now) result (content_outcome node.now.loc node.now.node) }
+{
+    match &node.node {
+        Some(inner) => Ok(inner),
+        None => Err(empty_node(alloc, &node.loc)),
+    }
+}
+
 /// A name where an expression is wanted.
 #[cold]
 #[inline(never)]
-fn arbitrary_variable(alloc: Global, name: &Name, loc: &Option<Loc>) -> Failure
+fn arbitrary_variable(alloc: Global, name: &Name, loc: &Option<Loc>) -> BoxedFailure
     ensures { TellsAlone result arbitrary_variable loc.now }
 {
     let kind = to_text(alloc, name).map(ToASTErrorKind::ArbitraryVariable);
@@ -118,7 +134,7 @@ fn arbitrary_variable(alloc: Global, name: &Name, loc: &Option<Loc>) -> Failure
 pub(crate) fn into_expr<B: ExprBuilderInfallibleBuild>(
     alloc: Global,
     special: ExprOrSpecial<B::Expr>,
-) -> Result<B::Expr, Failure>
+) -> Result<B::Expr, BoxedFailure>
     ensures { Gives B.meaning result (as_expression (plain B.meaning special)) }
 {
     match special {
@@ -136,8 +152,8 @@ pub(crate) fn into_expr<B: ExprBuilderInfallibleBuild>(
 #[inline(always)]
 pub fn expr_of<B: ExprBuilderInfallibleBuild>(
     alloc: Global,
-    converted: Result<ExprOrSpecial<B::Expr>, Failure>,
-) -> Result<B::Expr, Failure>
+    converted: Result<ExprOrSpecial<B::Expr>, BoxedFailure>,
+) -> Result<B::Expr, BoxedFailure>
     ensures { (x : Outcome Held) → Gives (plain B.meaning) converted x
         → Gives B.meaning result (next x as_expression) }
 {

@@ -3,14 +3,15 @@
 ghost use Rattle.std.specs.Prelude.{◌≡◌, [], false, IfOk, MatchOption};
 ghost use Rattle.cedar_expressions.specs.Path.{is_unreserved_identifier};
 ghost use Rattle.cedar_expressions.specs.Written.{var_text};
-ghost use Rattle.cedar_conversion.specs.outcome.Held.{Held, as_attribute, as_entity_type, as_pattern, as_string, unqualified};
+ghost use Rattle.cedar_conversion.specs.outcome.Detail.{nothing, word};
+ghost use Rattle.cedar_conversion.specs.outcome.Held.{Held, as_attribute, as_entity_type, as_pattern, as_string, truth_word, unqualified};
 ghost use Rattle.cedar_conversion.specs.parts.Literals.{string_outcome};
 ghost use Rattle.cedar_syntax.specs.trees.Forms.{located, primary_form};
 ghost use Rattle.cedar_conversion.specs.outcome.Outcome.{Outcome, next, invalid_attribute, invalid_is_type, invalid_pattern, invalid_string, path_as_attribute, reserved_identifier};
-ghost use Rattle.cedar_conversion.specs.outcome.Seen.{Gives, itself, kind_of};
-ghost use Rattle.cedar_conversion.specs.machines.Views.{TellsAlone, plain};
+ghost use Rattle.cedar_conversion.specs.outcome.Seen.{Gives, detail_of, itself, kind_of};
+ghost use Rattle.cedar_conversion.specs.machines.Views.{TellsAlone, TellsOne, plain};
 
-use crate::answer::failure::Failure;
+use crate::answer::failure::BoxedFailure;
 use crate::answer::special::{ExprOrSpecial, empty_node, refusal, refusal_with, to_text};
 use crate::answer::{Converted, placeholder};
 use crate::leaves::literals::literal;
@@ -62,7 +63,7 @@ fn shown<E>(alloc: Global, special: &ExprOrSpecial<E>) -> Result<Text, AllocErro
     }
 }
 
-fn invalid_pattern<E>(alloc: Global, special: &ExprOrSpecial<E>, loc: &Option<Loc>) -> Failure
+fn invalid_pattern<E>(alloc: Global, special: &ExprOrSpecial<E>, loc: &Option<Loc>) -> BoxedFailure
     ensures { TellsAlone result invalid_pattern loc.now }
 {
     let kind = shown(alloc, special).map(ToASTErrorKind::InvalidPattern);
@@ -73,7 +74,7 @@ fn invalid_pattern<E>(alloc: Global, special: &ExprOrSpecial<E>, loc: &Option<Lo
 pub(crate) fn into_pattern<B: ExprBuilderInfallibleBuild>(
     alloc: Global,
     special: &ExprOrSpecial<B::Expr>,
-) -> Result<Vec<PatternElem>, Failure>
+) -> Result<Vec<PatternElem>, BoxedFailure>
     ensures { Gives (λ elements. elements.items) result
         (as_pattern (plain B.meaning special.now)) }
 {
@@ -86,7 +87,7 @@ pub(crate) fn into_pattern<B: ExprBuilderInfallibleBuild>(
     }
 }
 
-fn invalid_string<E>(alloc: Global, special: &ExprOrSpecial<E>, loc: &Option<Loc>) -> Failure
+fn invalid_string<E>(alloc: Global, special: &ExprOrSpecial<E>, loc: &Option<Loc>) -> BoxedFailure
     ensures { TellsAlone result invalid_string loc.now }
 {
     let kind = shown(alloc, special).map(ToASTErrorKind::InvalidString);
@@ -97,7 +98,7 @@ fn invalid_string<E>(alloc: Global, special: &ExprOrSpecial<E>, loc: &Option<Loc
 fn into_string<B: ExprBuilderInfallibleBuild>(
     alloc: Global,
     special: &ExprOrSpecial<B::Expr>,
-) -> Result<Text, Failure>
+) -> Result<Text, BoxedFailure>
     ensures { Gives itself result (as_string (plain B.meaning special.now)) }
 {
     match special {
@@ -116,7 +117,8 @@ fn sides_shown(
     left: Option<&Loc>,
     right: Option<&Loc>,
 ) -> Result<ToASTErrorKind, AllocError>
-    ensures { IfOk result (λ kind. kind_of kind ≡ invalid_is_type) }
+    ensures { IfOk result (λ kind. (kind_of kind ≡ invalid_is_type)
+        × (detail_of kind ≡ nothing)) }
 {
     let lhs = match left {
         Some(_) => source_at(alloc, left)?,
@@ -127,7 +129,7 @@ fn sides_shown(
 }
 
 /// What can't stand right of `is`.
-fn invalid_is_type(alloc: Global, left: Option<&Loc>, loc: &Option<Loc>) -> Failure
+fn invalid_is_type(alloc: Global, left: Option<&Loc>, loc: &Option<Loc>) -> BoxedFailure
     ensures { TellsAlone result invalid_is_type loc.now }
 {
     refusal_with(alloc, sides_shown(alloc, left, loc.as_ref()), loc)
@@ -159,7 +161,7 @@ pub fn into_entity_type<B: ExprBuilderInfallibleBuild>(
     alloc: Global,
     left: Option<&Loc>,
     special: ExprOrSpecial<B::Expr>,
-) -> Result<EntityType, Failure>
+) -> Result<EntityType, BoxedFailure>
     ensures { Gives itself result (as_entity_type (plain B.meaning special)) }
 {
     match special {
@@ -171,7 +173,7 @@ pub fn into_entity_type<B: ExprBuilderInfallibleBuild>(
     }
 }
 
-fn invalid_attribute(alloc: Global, loc: &Option<Loc>) -> Failure
+fn invalid_attribute(alloc: Global, loc: &Option<Loc>) -> BoxedFailure
     ensures { TellsAlone result invalid_attribute loc.now }
 {
     let kind = source_at(alloc, loc.as_ref()).map(ToASTErrorKind::InvalidAttribute);
@@ -183,23 +185,33 @@ pub(crate) fn path_as_attribute(
     alloc: Global,
     shown: Result<Text, AllocError>,
     loc: &Option<Loc>,
-) -> Failure
+) -> BoxedFailure
     ensures { TellsAlone result path_as_attribute loc.now }
 {
     let kind = shown.map(ToASTErrorKind::PathAsAttribute);
     refusal_with(alloc, kind, loc)
 }
 
-/// `true` or `false` where an attribute is wanted.
-pub(crate) fn truth_as_attribute(alloc: Global, value: bool, loc: &Option<Loc>) -> Failure
-    ensures { TellsAlone result reserved_identifier loc.now }
+/// The word that a truth value is.
+fn truth_word(value: bool) -> Ident
+    ensures { result ≡ truth_word value }
 {
-    let word = if value { Ident::True } else { Ident::False };
-    refusal(alloc, ToASTErrorKind::ReservedIdentifier(word), loc)
+    if value { Ident::True } else { Ident::False }
+}
+
+/// `true` or `false` where an attribute is wanted.
+pub(crate) fn truth_as_attribute(alloc: Global, value: bool, loc: &Option<Loc>) -> BoxedFailure
+    ensures { TellsOne result (reserved_identifier, loc.now, word (truth_word value)) }
+{
+    refusal(
+        alloc,
+        ToASTErrorKind::ReservedIdentifier(truth_word(value)),
+        loc,
+    )
 }
 
 /// The identifier that a name is as a record's key.
-fn name_attribute(alloc: Global, name: &Name, loc: &Option<Loc>) -> Result<Text, Failure>
+fn name_attribute(alloc: Global, name: &Name, loc: &Option<Loc>) -> Result<Text, BoxedFailure>
     ensures { Gives itself result (unqualified loc.now name.now.path name.now.id) }
 {
     if name.as_internal().namespace_components().is_empty() {
@@ -213,7 +225,7 @@ fn name_attribute(alloc: Global, name: &Name, loc: &Option<Loc>) -> Result<Text,
 pub(crate) fn into_attribute<B: ExprBuilderInfallibleBuild>(
     alloc: Global,
     special: &ExprOrSpecial<B::Expr>,
-) -> Result<Text, Failure>
+) -> Result<Text, BoxedFailure>
     ensures { Gives itself result (as_attribute (plain B.meaning special.now)) }
 {
     match special {
@@ -228,8 +240,8 @@ pub(crate) fn into_attribute<B: ExprBuilderInfallibleBuild>(
 /// The string that a conversion gives, where a string is wanted and nothing else.
 pub(crate) fn string_from<B: ExprBuilderInfallibleBuild>(
     alloc: Global,
-    converted: Result<ExprOrSpecial<B::Expr>, Failure>,
-) -> Result<Text, Failure>
+    converted: Result<ExprOrSpecial<B::Expr>, BoxedFailure>,
+) -> Result<Text, BoxedFailure>
     ensures { (h : Outcome Held) → Gives (plain B.meaning) converted h
         → Gives itself result (next h as_string) }
 {
@@ -243,7 +255,7 @@ pub(crate) fn string_from<B: ExprBuilderInfallibleBuild>(
 pub fn string_literal<B: ExprBuilderInfallibleBuild>(
     alloc: Global,
     node: &Node<Option<Primary>>,
-) -> Result<Text, Failure>
+) -> Result<Text, BoxedFailure>
     ensures { Gives itself result (string_outcome (located primary_form node.now)) }
 {
     match &node.node {
@@ -267,7 +279,7 @@ fn name_as_string<B: ExprBuilderInfallibleBuild>(
     alloc: Global,
     loc: &Option<Loc>,
     name: &Node<Option<cst::Name>>,
-) -> Failure
+) -> BoxedFailure
     ensures { TellsAlone result invalid_string loc.now }
 {
     let mut answer: Converted<B::Expr> = placeholder();
@@ -279,13 +291,13 @@ fn name_as_string<B: ExprBuilderInfallibleBuild>(
             failure
         }
         Err(failure) => match err::Failure::from(failure) {
-            err::Failure::Memory(error) => Failure::from(error),
+            err::Failure::Memory(error) => BoxedFailure::from(error),
             err::Failure::Errors(_) => invalid_string_at(alloc, loc),
         },
     }
 }
 
-fn invalid_string_at(alloc: Global, loc: &Option<Loc>) -> Failure
+fn invalid_string_at(alloc: Global, loc: &Option<Loc>) -> BoxedFailure
     ensures { TellsAlone result invalid_string loc.now }
 {
     let kind = source_at(alloc, loc.as_ref()).map(ToASTErrorKind::InvalidString);

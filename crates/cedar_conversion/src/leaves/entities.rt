@@ -5,7 +5,7 @@ ghost use Rattle.cedar_conversion.specs.outcome.Outcome.{invalid_entity_literal}
 ghost use Rattle.cedar_conversion.specs.outcome.Seen.{Gives, itself};
 ghost use Rattle.cedar_conversion.specs.machines.Views.{TellsAlone, plain};
 
-use crate::answer::failure::{Failure, flatten_tuple_2};
+use crate::answer::failure::{BoxedFailure, flatten_tuple_2};
 use crate::answer::special::{ExprOrSpecial, builder_at, empty_node, refusal_with, to_text};
 use crate::leaves::literals::invalid_raw;
 use crate::leaves::names::name_of;
@@ -20,7 +20,11 @@ use cedar_syntax::node::Node;
 use std::alloc::Global;
 
 /// The text of an entity's id: its escape faults stand at the entity's place.
-pub fn id_of(alloc: Global, loc: &Option<Loc>, node: &Node<Option<Str>>) -> Result<Text, Failure>
+pub fn id_of(
+    alloc: Global,
+    loc: &Option<Loc>,
+    node: &Node<Option<Str>>,
+) -> Result<Text, BoxedFailure>
     ensures { Gives itself result (id_outcome loc.now node.now) }
 {
     match &node.node {
@@ -31,14 +35,14 @@ pub fn id_of(alloc: Global, loc: &Option<Loc>, node: &Node<Option<Str>>) -> Resu
 }
 
 /// The form with braces, printed.
-fn invalid_entity_literal(alloc: Global, loc: &Option<Loc>, reference: &Ref) -> Failure
+fn invalid_entity_literal(alloc: Global, loc: &Option<Loc>, reference: &Ref) -> BoxedFailure
     ensures { TellsAlone result invalid_entity_literal loc.now }
 {
     let kind = to_text(alloc, reference).map(ToASTErrorKind::InvalidEntityLiteral);
     refusal_with(alloc, kind, loc)
 }
 
-fn reference(alloc: Global, loc: &Option<Loc>, reference: &Ref) -> Result<EntityUID, Failure>
+fn reference(alloc: Global, loc: &Option<Loc>, reference: &Ref) -> Result<EntityUID, BoxedFailure>
     ensures { Gives itself result (reference_outcome loc.now reference.now) }
 {
     match reference {
@@ -51,7 +55,7 @@ fn reference(alloc: Global, loc: &Option<Loc>, reference: &Ref) -> Result<Entity
 }
 
 /// The entity that a node holds.
-pub fn entity_of(alloc: Global, node: &Node<Option<Ref>>) -> Result<EntityUID, Failure>
+pub fn entity_of(alloc: Global, node: &Node<Option<Ref>>) -> Result<EntityUID, BoxedFailure>
     ensures { Gives itself result (entity_outcome node.now) }
 {
     match &node.node {
@@ -65,7 +69,7 @@ pub fn entity_of(alloc: Global, node: &Node<Option<Ref>>) -> Result<EntityUID, F
 pub(crate) fn entity<B: ExprBuilderInfallibleBuild>(
     alloc: Global,
     node: &Node<Option<Ref>>,
-) -> Result<ExprOrSpecial<B::Expr>, Failure>
+) -> Result<ExprOrSpecial<B::Expr>, BoxedFailure>
     ensures { Gives (plain B.meaning) result (entity_leaf node.now) }
 {
     let place = node.loc.try_clone()?;

@@ -5,14 +5,15 @@ ghost use Rattle.cedar_expressions.specs.Value.{Value};
 ghost use Rattle.cedar_syntax.specs.trees.Forms.{located, primary_form, member_form};
 ghost use Rattle.cedar_conversion.specs.outcome.Conversion.{literal_outcome, held_string, number_outcome, number_in, literal_alone, lone_literal};
 ghost use Rattle.cedar_conversion.specs.outcome.Held.{bare_truth};
+ghost use Rattle.cedar_conversion.specs.outcome.Detail as d;
 ghost use Rattle.cedar_conversion.specs.outcome.Outcome.{integer_literal_too_large, invalid_string};
 ghost use Rattle.cedar_conversion.specs.outcome.Seen.{Gives};
-ghost use Rattle.cedar_conversion.specs.machines.Views.{TellsAlone, plain};
+ghost use Rattle.cedar_conversion.specs.machines.Views.{TellsAlone, TellsOne, plain};
 
-use crate::answer::failure::Failure;
+use crate::answer::failure::BoxedFailure;
 use crate::answer::special::{ExprOrSpecial, builder_at, empty_node, refusal, refusal_with};
 use crate::answer::{Converted, empty_node_in, put};
-use crate::operators::alone::Alone;
+use crate::operators::single_child::SingleChild;
 use cedar_expressions::{ExprBuilderInfallibleBuild, Literal, Text, TryClone};
 use cedar_syntax::cst;
 use cedar_syntax::err::ToASTErrorKind;
@@ -26,8 +27,8 @@ pub(crate) const LARGEST: u64 = 0x8000_0000_0000_0000;
 /// A number that is too large behind no `-`.
 #[cold]
 #[inline(never)]
-fn too_large(alloc: Global, loc: &Option<Loc>, number: u64) -> Failure
-    ensures { TellsAlone result integer_literal_too_large loc.now }
+fn too_large(alloc: Global, loc: &Option<Loc>, number: u64) -> BoxedFailure
+    ensures { TellsOne result (integer_literal_too_large, loc.now, d.number number) }
 {
     refusal(alloc, ToASTErrorKind::IntegerLiteralTooLarge(number), loc)
 }
@@ -37,7 +38,7 @@ fn number<B: ExprBuilderInfallibleBuild>(
     alloc: Global,
     loc: &Option<Loc>,
     number: u64,
-) -> Result<ExprOrSpecial<B::Expr>, Failure>
+) -> Result<ExprOrSpecial<B::Expr>, BoxedFailure>
     ensures { Gives (plain B.meaning) result (number_outcome loc.now number) }
 {
     if number >= LARGEST {
@@ -49,7 +50,7 @@ fn number<B: ExprBuilderInfallibleBuild>(
 }
 
 /// A string that no text is written as, with its raw text.
-pub(crate) fn invalid_raw(alloc: Global, raw: &Text, loc: &Option<Loc>) -> Failure
+pub(crate) fn invalid_raw(alloc: Global, raw: &Text, loc: &Option<Loc>) -> BoxedFailure
     ensures { TellsAlone result invalid_string loc.now }
 {
     let kind = raw.try_clone().map(ToASTErrorKind::InvalidString);
@@ -62,7 +63,7 @@ fn raw_string<E>(
     alloc: Global,
     loc: &Option<Loc>,
     node: &Node<Option<cst::Str>>,
-) -> Result<ExprOrSpecial<E>, Failure>
+) -> Result<ExprOrSpecial<E>, BoxedFailure>
     ensures { (meaning : E → Value)
         → Gives (plain meaning) result (held_string loc.now node.now.loc node.now.node) }
 {
@@ -77,7 +78,7 @@ fn raw_string<E>(
 }
 
 #[inline(always)]
-fn truth<E>(value: bool, loc: &Option<Loc>) -> Result<ExprOrSpecial<E>, Failure>
+fn truth<E>(value: bool, loc: &Option<Loc>) -> Result<ExprOrSpecial<E>, BoxedFailure>
     ensures { (meaning : E → Value) → Gives (plain meaning) result
         (Ok (bare_truth loc.now value)) }
 {
@@ -164,7 +165,7 @@ pub fn literal_of(node: &Node<Option<cst::Member>>) -> Option<&cst::Literal>
     ensures { option_copied result ≡ lone_literal (located member_form node.now) }
 {
     match &node.node {
-        Some(member) => match member.alone() {
+        Some(member) => match member.single_child() {
             Some(item) => literal_alone(item),
             None => None,
         },

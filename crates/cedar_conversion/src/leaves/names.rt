@@ -4,11 +4,12 @@ ghost use Rattle.cedar_expressions.specs.Value.{Value};
 ghost use Rattle.cedar_conversion.specs.outcome.Held.{bare_name, variable};
 ghost use Rattle.cedar_conversion.specs.parts.Leaves.{name_leaf as named_held};
 ghost use Rattle.cedar_conversion.specs.parts.Names.{spelling_outcome, valid_text as valid_text_of, valid_ident_of as valid_of, valid_ident as valid_outcome, any_ident_of as any_of, any_ident as any_outcome, unreserved_ident as unreserved_outcome, all_of, path_outcome, name_outcome, variable_of, named_variable};
+ghost use Rattle.cedar_conversion.specs.outcome.Detail as d;
 ghost use Rattle.cedar_conversion.specs.outcome.Outcome.{next, reserved_identifier, invalid_identifier};
 ghost use Rattle.cedar_conversion.specs.outcome.Seen.{Gives, itself};
-ghost use Rattle.cedar_conversion.specs.machines.Views.{TellsAlone, plain};
+ghost use Rattle.cedar_conversion.specs.machines.Views.{TellsOne, plain};
 
-use crate::answer::failure::{Failure, flatten_tuple_2};
+use crate::answer::failure::{BoxedFailure, flatten_tuple_2, go_on};
 use crate::answer::lists::{add, with_room};
 use crate::answer::special::{ExprOrSpecial, empty_node, refusal, refusal_with};
 use crate::answer::{Converted, put};
@@ -22,22 +23,22 @@ use cedar_syntax::node::Node;
 use std::alloc::Global;
 
 /// A text that no identifier is spelled as.
-fn invalid_identifier(alloc: Global, loc: &Option<Loc>, text: &str) -> Failure
-    ensures { TellsAlone result invalid_identifier loc.now }
+fn invalid_identifier(alloc: Global, loc: &Option<Loc>, text: &str) -> BoxedFailure
+    ensures { TellsOne result (invalid_identifier, loc.now, d.spelling text.now) }
 {
     let kind = Text::from_str(alloc, text).map(ToASTErrorKind::InvalidIdentifier);
     refusal_with(alloc, kind, loc)
 }
 
 /// A word that no name may hold.
-fn reserved_identifier(alloc: Global, loc: &Option<Loc>, word: &Ident) -> Failure
-    ensures { TellsAlone result reserved_identifier loc.now }
+fn reserved_identifier(alloc: Global, loc: &Option<Loc>, word: &Ident) -> BoxedFailure
+    ensures { TellsOne result (reserved_identifier, loc.now, d.word word.now) }
 {
     let kind = word.try_clone().map(ToASTErrorKind::ReservedIdentifier);
     refusal_with(alloc, kind, loc)
 }
 
-fn valid_text(alloc: Global, loc: &Option<Loc>, text: &str) -> Result<Id, Failure>
+fn valid_text(alloc: Global, loc: &Option<Loc>, text: &str) -> Result<Id, BoxedFailure>
     ensures { Gives itself result (valid_text_of loc.now text.now) }
 {
     match Id::new(Text::from_str(alloc, text)?) {
@@ -46,7 +47,7 @@ fn valid_text(alloc: Global, loc: &Option<Loc>, text: &str) -> Result<Id, Failur
     }
 }
 
-fn any_text(alloc: Global, loc: &Option<Loc>, text: &str) -> Result<AnyId, Failure>
+fn any_text(alloc: Global, loc: &Option<Loc>, text: &str) -> Result<AnyId, BoxedFailure>
     ensures { Gives itself result (spelling_outcome loc.now text.now) }
 {
     match AnyId::new(Text::from_str(alloc, text)?) {
@@ -55,7 +56,7 @@ fn any_text(alloc: Global, loc: &Option<Loc>, text: &str) -> Result<AnyId, Failu
     }
 }
 
-fn valid_ident_of(alloc: Global, loc: &Option<Loc>, ident: &Ident) -> Result<Id, Failure>
+fn valid_ident_of(alloc: Global, loc: &Option<Loc>, ident: &Ident) -> Result<Id, BoxedFailure>
     ensures { Gives itself result (valid_of loc.now ident.now) }
 {
     match ident {
@@ -74,7 +75,7 @@ fn valid_ident_of(alloc: Global, loc: &Option<Loc>, ident: &Ident) -> Result<Id,
 }
 
 /// An identifier that a name may hold.
-pub fn valid_id(alloc: Global, node: &Node<Option<Ident>>) -> Result<Id, Failure>
+pub fn valid_id(alloc: Global, node: &Node<Option<Ident>>) -> Result<Id, BoxedFailure>
     ensures { Gives itself result (valid_outcome node.now) }
 {
     match &node.node {
@@ -83,7 +84,7 @@ pub fn valid_id(alloc: Global, node: &Node<Option<Ident>>) -> Result<Id, Failure
     }
 }
 
-fn any_ident_of(alloc: Global, loc: &Option<Loc>, ident: &Ident) -> Result<AnyId, Failure>
+fn any_ident_of(alloc: Global, loc: &Option<Loc>, ident: &Ident) -> Result<AnyId, BoxedFailure>
     ensures { Gives itself result (any_of loc.now ident.now) }
 {
     match ident {
@@ -110,7 +111,7 @@ fn any_ident_of(alloc: Global, loc: &Option<Loc>, ident: &Ident) -> Result<AnyId
 }
 
 /// Any identifier, the reserved words too.
-pub fn any_id(alloc: Global, node: &Node<Option<Ident>>) -> Result<AnyId, Failure>
+pub fn any_id(alloc: Global, node: &Node<Option<Ident>>) -> Result<AnyId, BoxedFailure>
     ensures { Gives itself result (any_outcome node.now) }
 {
     match &node.node {
@@ -123,7 +124,7 @@ pub fn any_id(alloc: Global, node: &Node<Option<Ident>>) -> Result<AnyId, Failur
 pub(crate) fn unreserved_ident(
     alloc: Global,
     node: &Node<Option<Ident>>,
-) -> Result<UnreservedId, Failure>
+) -> Result<UnreservedId, BoxedFailure>
     ensures { Gives itself result (unreserved_outcome node.now) }
 {
     match UnreservedId::try_from(valid_id(alloc, node)?) {
@@ -132,17 +133,18 @@ pub(crate) fn unreserved_ident(
     }
 }
 
-fn path_of(alloc: Global, path: &[Node<Option<Ident>>]) -> Result<Vec<Id>, Failure>
+fn path_of(alloc: Global, path: &[Node<Option<Ident>>]) -> Result<Vec<Id>, BoxedFailure>
     ensures { Gives (λ ids. ids.items) result (all_of valid_outcome path.now) }
 {
-    let mut all: Result<Vec<Id>, Failure> = with_room(alloc, path.len());
+    let mut all: Result<Vec<Id>, BoxedFailure> = with_room(alloc, path.len());
     for part in path {
         add(&mut all, valid_id(alloc, part));
+        go_on(&all)?;
     }
     all
 }
 
-fn name_at(alloc: Global, loc: &Option<Loc>, name: &cst::Name) -> Result<Name, Failure>
+fn name_at(alloc: Global, loc: &Option<Loc>, name: &cst::Name) -> Result<Name, BoxedFailure>
     ensures { Gives itself result (path_outcome loc.now name.now) }
 {
     let last = valid_id(alloc, &name.name);
@@ -155,7 +157,7 @@ fn name_at(alloc: Global, loc: &Option<Loc>, name: &cst::Name) -> Result<Name, F
 }
 
 /// A name: identifiers without `__cedar`.
-pub(crate) fn name_of(alloc: Global, node: &Node<Option<cst::Name>>) -> Result<Name, Failure>
+pub(crate) fn name_of(alloc: Global, node: &Node<Option<cst::Name>>) -> Result<Name, BoxedFailure>
     ensures { Gives itself result (name_outcome node.now) }
 {
     match &node.node {
@@ -189,7 +191,7 @@ fn variable_in(node: &Node<Option<cst::Name>>) -> Option<Var>
 
 /// A variable, with the place of its primary.
 #[inline(always)]
-fn variable_at<E>(var: Var, loc: &Option<Loc>) -> Result<ExprOrSpecial<E>, Failure>
+fn variable_at<E>(var: Var, loc: &Option<Loc>) -> Result<ExprOrSpecial<E>, BoxedFailure>
     ensures { (meaning : E → Value) → Gives (plain meaning) result (Ok (variable loc.now var)) }
 {
     Ok(ExprOrSpecial::Var(var, loc.try_clone()?))
@@ -201,7 +203,7 @@ fn name_with<E>(
     alloc: Global,
     loc: &Option<Loc>,
     node: &Node<Option<cst::Name>>,
-) -> Result<ExprOrSpecial<E>, Failure>
+) -> Result<ExprOrSpecial<E>, BoxedFailure>
     ensures { (meaning : E → Value) → Gives (plain meaning) result
         (next (name_outcome node.now) (λ name. Ok (bare_name loc.now name))) }
 {

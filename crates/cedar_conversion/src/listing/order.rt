@@ -4,8 +4,8 @@ ghost use Rattle.std.specs.Prelude.{[], IfOk};
 ghost use Rattle.cedar_conversion.specs.machines.Nested.{lent_nodes};
 ghost use Rattle.cedar_conversion.specs.machines.Taking.{LeadTo};
 
-use crate::listing::stack::Stack;
 use crate::listing::{Lent, in_expr};
+use cedar_syntax::stack::Stack;
 use std::alloc::{AllocError, Global};
 
 /// These expressions and all that are nested in them, the first to be converted on top.

@@ -9,7 +9,7 @@ ghost use Rattle.cedar_conversion.specs.outcome.Outcome.{Outcome, both, next};
 ghost use Rattle.cedar_conversion.specs.outcome.Seen.{Gives};
 ghost use Rattle.cedar_conversion.specs.machines.Views.{plain, alike_view, rest_view, empty_view, sides_outcome, alike_outcome};
 
-use crate::answer::failure::{Failure, flatten_tuple_2};
+use crate::answer::failure::{BoxedFailure, flatten_tuple_2};
 use crate::answer::lists::bodies_of;
 use crate::answer::special::{ExprOrSpecial, builder_at, expr_at, into_expr, refusal};
 use crate::answer::{Converted, Values, behind, put, take, value_in};
@@ -31,7 +31,7 @@ pub(crate) trait Joins: Copy {
         loc: &Option<Loc>,
         first: B::Expr,
         rest: Vec<(Self, B::Expr)>,
-    ) -> Result<ExprOrSpecial<B::Expr>, Failure>
+    ) -> Result<ExprOrSpecial<B::Expr>, BoxedFailure>
         ensures { Gives (plain B.meaning) result
             (level_outcome level loc.now (rest_view operator B.meaning rest) (B.meaning first)) };
 }
@@ -48,7 +48,7 @@ pub(crate) trait JoinsAlike {
         loc: &Option<Loc>,
         first: B::Expr,
         rest: Vec<B::Expr>,
-    ) -> Result<ExprOrSpecial<B::Expr>, Failure>
+    ) -> Result<ExprOrSpecial<B::Expr>, BoxedFailure>
         ensures { Gives (plain B.meaning) result
             (level_outcome level loc.now (alike_view operator B.meaning rest) (B.meaning first)) };
 }
@@ -69,11 +69,7 @@ impl JoinsAlike for OrOr {
         loc: &Option<Loc>,
         first: B::Expr,
         rest: Vec<B::Expr>,
-    ) -> Result<ExprOrSpecial<B::Expr>, Failure>
-        ensures { Gives (plain B.meaning) result
-            (level_outcome disjunction loc.now (alike_view or_or B.meaning rest)
-            (B.meaning first)) }
-    {
+    ) -> Result<ExprOrSpecial<B::Expr>, BoxedFailure> {
         expr_at::<B>(builder_at::<B>(alloc, loc).or_nary(first, rest)?, loc)
     }
 }
@@ -88,11 +84,7 @@ impl JoinsAlike for AndAnd {
         loc: &Option<Loc>,
         first: B::Expr,
         rest: Vec<B::Expr>,
-    ) -> Result<ExprOrSpecial<B::Expr>, Failure>
-        ensures { Gives (plain B.meaning) result
-            (level_outcome conjunction loc.now (alike_view and_and B.meaning rest)
-            (B.meaning first)) }
-    {
+    ) -> Result<ExprOrSpecial<B::Expr>, BoxedFailure> {
         expr_at::<B>(builder_at::<B>(alloc, loc).and_naryl(first, rest)?, loc)
     }
 }
@@ -107,7 +99,7 @@ impl Joins for AddOp {
         loc: &Option<Loc>,
         first: B::Expr,
         rest: Vec<(AddOp, B::Expr)>,
-    ) -> Result<ExprOrSpecial<B::Expr>, Failure>
+    ) -> Result<ExprOrSpecial<B::Expr>, BoxedFailure>
         ensures { Gives (plain B.meaning) result
             (level_outcome sum loc.now (rest_view add B.meaning rest) (B.meaning first)) }
     {
@@ -125,7 +117,7 @@ impl Joins for MultOp {
         loc: &Option<Loc>,
         first: B::Expr,
         rest: Vec<(MultOp, B::Expr)>,
-    ) -> Result<ExprOrSpecial<B::Expr>, Failure>
+    ) -> Result<ExprOrSpecial<B::Expr>, BoxedFailure>
         ensures { Gives (plain B.meaning) result
             (level_outcome product loc.now (rest_view multiply B.meaning rest) (B.meaning first)) }
     {
@@ -140,7 +132,7 @@ fn relate<B: ExprBuilderInfallibleBuild>(
     left: B::Expr,
     op: RelOp,
     right: B::Expr,
-) -> Result<ExprOrSpecial<B::Expr>, Failure>
+) -> Result<ExprOrSpecial<B::Expr>, BoxedFailure>
     ensures { Gives (plain B.meaning) result
         (comparison_outcome loc.now op (B.meaning left) (B.meaning right)) }
 {
@@ -168,7 +160,7 @@ impl Joins for RelOp {
         loc: &Option<Loc>,
         first: B::Expr,
         rest: Vec<(RelOp, B::Expr)>,
-    ) -> Result<ExprOrSpecial<B::Expr>, Failure>
+    ) -> Result<ExprOrSpecial<B::Expr>, BoxedFailure>
         ensures { Gives (plain B.meaning) result
             (level_outcome relation loc.now (rest_view compare B.meaning rest) (B.meaning first)) }
     {
@@ -206,7 +198,7 @@ fn compared<B: ExprBuilderInfallibleBuild>(
     first: &mut Converted<B::Expr>,
     op: RelOp,
     second: B::Expr,
-) -> Result<ExprOrSpecial<B::Expr>, Failure>
+) -> Result<ExprOrSpecial<B::Expr>, BoxedFailure>
     ensures { (x : Outcome Held) → Gives (plain B.meaning) first.old x
         → Gives (plain B.meaning) result (next (next x as_expression)
         (λ a. comparison_outcome loc.now op a (B.meaning second))) }
@@ -220,8 +212,8 @@ pub(crate) fn factor_of<B: ExprBuilderInfallibleBuild>(
     alloc: Global,
     loc: &Option<Loc>,
     op: MultOp,
-    converted: Result<B::Expr, Failure>,
-) -> Result<B::Expr, Failure>
+    converted: Result<B::Expr, BoxedFailure>,
+) -> Result<B::Expr, BoxedFailure>
     ensures { (x : Outcome Value) → Gives B.meaning converted x
         → Gives B.meaning result (next x (factor loc.now (multiply op))) }
 {
@@ -237,10 +229,10 @@ pub(crate) fn factor_of<B: ExprBuilderInfallibleBuild>(
 pub(crate) fn chain_from<B: ExprBuilderInfallibleBuild, O: Joins + Drop>(
     alloc: Global,
     loc: &Option<Loc>,
-    first: Result<ExprOrSpecial<B::Expr>, Failure>,
-    rest: Result<Vec<(O, B::Expr)>, Failure>,
-    allowed: Result<(), Failure>,
-) -> Result<ExprOrSpecial<B::Expr>, Failure>
+    first: Result<ExprOrSpecial<B::Expr>, BoxedFailure>,
+    rest: Result<Vec<(O, B::Expr)>, BoxedFailure>,
+    allowed: Result<(), BoxedFailure>,
+) -> Result<ExprOrSpecial<B::Expr>, BoxedFailure>
     ensures { (x : Outcome Held) (ps : Outcome (List Part)) (u : Outcome (Unit {0}))
         → Gives (plain B.meaning) first x → Gives (rest_view O.operator B.meaning) rest ps
         → Gives empty_view allowed u → Gives (plain B.meaning) result
@@ -279,7 +271,7 @@ fn alike_from<B: ExprBuilderInfallibleBuild, O: JoinsAlike>(
     loc: &Option<Loc>,
     first: &mut Converted<B::Expr>,
     rest: Values<B::Expr>,
-) -> Result<ExprOrSpecial<B::Expr>, Failure>
+) -> Result<ExprOrSpecial<B::Expr>, BoxedFailure>
     ensures { (x : Outcome Held) (ps : Outcome (List Part))
         → Gives (plain B.meaning) first.old x → Gives (alike_view O.operator B.meaning) rest ps
         → Gives (plain B.meaning) result

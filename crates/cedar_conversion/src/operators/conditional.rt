@@ -6,7 +6,7 @@ ghost use Rattle.cedar_conversion.specs.outcome.Outcome.{Outcome, both, next};
 ghost use Rattle.cedar_conversion.specs.outcome.Seen.{Gives};
 ghost use Rattle.cedar_conversion.specs.machines.Views.{plain};
 
-use crate::answer::failure::{Failure, flatten_tuple_2};
+use crate::answer::failure::{BoxedFailure, flatten_tuple_2};
 use crate::answer::special::{ExprOrSpecial, builder_at, expr_at, expr_of};
 use cedar_expressions::ExprBuilderInfallibleBuild;
 use cedar_syntax::loc::Loc;
@@ -16,8 +16,8 @@ use std::alloc::Global;
 pub(crate) fn parens_from<B: ExprBuilderInfallibleBuild>(
     alloc: Global,
     loc: &Option<Loc>,
-    inner: Result<ExprOrSpecial<B::Expr>, Failure>,
-) -> Result<ExprOrSpecial<B::Expr>, Failure>
+    inner: Result<ExprOrSpecial<B::Expr>, BoxedFailure>,
+) -> Result<ExprOrSpecial<B::Expr>, BoxedFailure>
     ensures { (x : Outcome Held) → Gives (plain B.meaning) inner x
         → Gives (plain B.meaning) result (next (next x as_expression) (made_at loc.now)) }
 {
@@ -28,10 +28,10 @@ pub(crate) fn parens_from<B: ExprBuilderInfallibleBuild>(
 pub(crate) fn if_from<B: ExprBuilderInfallibleBuild>(
     alloc: Global,
     loc: &Option<Loc>,
-    guard: Result<B::Expr, Failure>,
-    consequent: Result<B::Expr, Failure>,
-    alternative: Result<B::Expr, Failure>,
-) -> Result<ExprOrSpecial<B::Expr>, Failure>
+    guard: Result<B::Expr, BoxedFailure>,
+    consequent: Result<B::Expr, BoxedFailure>,
+    alternative: Result<B::Expr, BoxedFailure>,
+) -> Result<ExprOrSpecial<B::Expr>, BoxedFailure>
     ensures { (x y z : Outcome Value) → Gives B.meaning guard x → Gives B.meaning consequent y
         → Gives B.meaning alternative z
         → Gives (plain B.meaning) result (next (both (both x y) z) (conditional_outcome loc.now)) }

@@ -1,6 +1,6 @@
 //! Right of `has`: a string alone, or identifiers joined by `.`.
 ghost use Rattle.std.specs.Prelude.{map};
-ghost use Rattle.cedar_syntax.specs.trees.Forms.{located, parts_of, listed_access, access_form, add_form, mult_form, unary_form, member_form, primary_form};
+ghost use Rattle.cedar_syntax.specs.trees.Forms.{located, parts_of, listed_access, access_form, add_form, mult_form, primary_form};
 ghost use Rattle.cedar_conversion.specs.outcome.Conversion.{tree_place};
 ghost use Rattle.cedar_conversion.specs.parts.HasSide.{attributes_of, begins_with, behind_first, field_of, fields_of, right_form, right_side, string_alone};
 ghost use Rattle.cedar_conversion.specs.parts.Names.{unreserved_ident as unreserved_outcome};
@@ -8,18 +8,19 @@ ghost use Rattle.cedar_conversion.specs.outcome.Outcome.{Outcome, invalid_has_rh
 ghost use Rattle.cedar_conversion.specs.outcome.Held.{Held, unqualified};
 ghost use Rattle.cedar_conversion.specs.outcome.Seen.{Gives, itself};
 ghost use Rattle.cedar_conversion.specs.machines.Applied.{seen_attributes};
+ghost use Rattle.cedar_conversion.specs.machines.SideChild.{side_child};
 ghost use Rattle.cedar_conversion.specs.machines.Views.{TellsAlone, plain};
 
-use crate::answer::failure::Failure;
-use crate::answer::special::{ExprOrSpecial, empty_node, refusal_with, to_text};
+use crate::answer::failure::BoxedFailure;
+use crate::answer::special::{ExprOrSpecial, content, empty_node, refusal_with, to_text};
 use crate::answer::wanted::{path_as_attribute, truth_as_attribute, variable_word};
 use crate::answer::{Converted, placeholder};
 use crate::leaves::literals::literal;
 use crate::leaves::names::{unreserved_ident, variable_or_name};
 use crate::leaves::strings::unescape_raw;
-use crate::operators::alone::Alone;
+use crate::operators::single_child::SingleChild;
 use cedar_expressions::{ExprBuilderInfallibleBuild, Name, Text};
-use cedar_syntax::cst::{Add, Ident, MemAccess, Member, Mult, Primary, Unary};
+use cedar_syntax::cst::{Add, Ident, MemAccess, Mult, Primary};
 use cedar_syntax::err::ToASTErrorKind;
 use cedar_syntax::loc::Loc;
 use cedar_syntax::node::Node;
@@ -42,7 +43,7 @@ fn shown(side: RightSide<'_>) -> Result<Text, AllocError> {
 }
 
 /// A right side that is refused for what stands at a place.
-fn invalid_has_rhs(side: RightSide<'_>, loc: &Option<Loc>) -> Failure
+fn invalid_has_rhs(side: RightSide<'_>, loc: &Option<Loc>) -> BoxedFailure
     ensures { TellsAlone result invalid_has_rhs loc.now }
 {
     let kind = shown(side).map(ToASTErrorKind::InvalidHasRHS);
@@ -50,14 +51,14 @@ fn invalid_has_rhs(side: RightSide<'_>, loc: &Option<Loc>) -> Failure
 }
 
 /// The identifier of a field.
-fn field_text(alloc: Global, node: &Node<Option<Ident>>) -> Result<Text, Failure>
+fn field_text(alloc: Global, node: &Node<Option<Ident>>) -> Result<Text, BoxedFailure>
     ensures { Gives itself result (unreserved_outcome node.now) }
 {
     Ok(unreserved_ident(alloc, node)?.into_text())
 }
 
 /// A field, the only access that may stand there.
-fn field_of(side: RightSide<'_>, node: &Node<Option<MemAccess>>) -> Result<Text, Failure>
+fn field_of(side: RightSide<'_>, node: &Node<Option<MemAccess>>) -> Result<Text, BoxedFailure>
     ensures { Gives itself result (field_of (located access_form node.now)) }
 {
     match &node.node {
@@ -72,7 +73,7 @@ fn field_of(side: RightSide<'_>, node: &Node<Option<MemAccess>>) -> Result<Text,
 fn fields_of(
     side: RightSide<'_>,
     accesses: &[Node<Option<MemAccess>>],
-) -> Result<Vec<Text>, Failure>
+) -> Result<Vec<Text>, BoxedFailure>
     ensures { Gives (λ texts. texts.items) result
         (fields_of (parts_of (map listed_access accesses.now))) }
 {
@@ -87,7 +88,7 @@ fn behind_first(
     side: RightSide<'_>,
     accesses: &[Node<Option<MemAccess>>],
     first: Text,
-) -> Result<Attributes, Failure>
+) -> Result<Attributes, BoxedFailure>
     ensures { Gives seen_attributes result
         (behind_first (parts_of (map listed_access accesses.now)) first) }
 {
@@ -101,7 +102,7 @@ fn string_alone(
     accesses: &[Node<Option<MemAccess>>],
     raw: &Text,
     loc: &Option<Loc>,
-) -> Result<Attributes, Failure>
+) -> Result<Attributes, BoxedFailure>
     ensures { Gives seen_attributes result
         (string_alone side.entry.loc.now loc.now raw.now
         (parts_of (map listed_access accesses.now))) }
@@ -115,7 +116,7 @@ fn string_alone(
 }
 
 /// The identifier that a name is.
-fn lone_word(side: RightSide<'_>, name: &Name, loc: &Option<Loc>) -> Result<Text, Failure>
+fn lone_word(side: RightSide<'_>, name: &Name, loc: &Option<Loc>) -> Result<Text, BoxedFailure>
     ensures { Gives itself result (unqualified loc.now name.now.path name.now.id) }
 {
     if name.as_internal().namespace_components().is_empty() {
@@ -130,7 +131,7 @@ fn attributes_of<B: ExprBuilderInfallibleBuild>(
     side: RightSide<'_>,
     accesses: &[Node<Option<MemAccess>>],
     special: &ExprOrSpecial<B::Expr>,
-) -> Result<Attributes, Failure>
+) -> Result<Attributes, BoxedFailure>
     ensures { Gives seen_attributes result (attributes_of side.entry.loc.now
         (parts_of (map listed_access accesses.now)) (plain B.meaning special.now)) }
 {
@@ -151,8 +152,8 @@ fn attributes_of<B: ExprBuilderInfallibleBuild>(
 fn attributes_from<B: ExprBuilderInfallibleBuild>(
     side: RightSide<'_>,
     accesses: &[Node<Option<MemAccess>>],
-    special: Result<ExprOrSpecial<B::Expr>, Failure>,
-) -> Result<Attributes, Failure>
+    special: Result<ExprOrSpecial<B::Expr>, BoxedFailure>,
+) -> Result<Attributes, BoxedFailure>
     ensures { (h : Outcome Held) → Gives (plain B.meaning) special h
         → Gives seen_attributes result (next h (attributes_of side.entry.loc.now
         (parts_of (map listed_access accesses.now)))) }
@@ -168,7 +169,7 @@ fn begins_with<B: ExprBuilderInfallibleBuild>(
     side: RightSide<'_>,
     accesses: &[Node<Option<MemAccess>>],
     node: &Node<Option<Primary>>,
-) -> Result<Attributes, Failure>
+) -> Result<Attributes, BoxedFailure>
     ensures { Gives seen_attributes result (begins_with side.entry.loc.now
         (parts_of (map listed_access accesses.now)) (located primary_form node.now)) }
 {
@@ -192,29 +193,17 @@ fn begins_with<B: ExprBuilderInfallibleBuild>(
     }
 }
 
-fn of_member<B: ExprBuilderInfallibleBuild>(
+/// The one part that a node below a sum is; any other form is refused at the whole side.
+fn child_of<'a, L: SingleChild>(
     side: RightSide<'_>,
-    node: &Node<Option<Member>>,
-) -> Result<Attributes, Failure>
-    ensures { Gives seen_attributes result (right_side side.entry.loc.now
-        (located member_form node.now)) }
+    node: &'a Node<Option<L>>,
+) -> Result<&'a Node<Option<L::Part>>, BoxedFailure>
+    ensures { Gives (λ part. located L.part_form part.now) result
+        (side_child side.entry.loc.now (located L.form node.now)) }
 {
     match &node.node {
-        Some(member) => begins_with::<B>(side, member.access.as_slice(), &member.item),
-        None => Err(empty_node(side.alloc, &node.loc)),
-    }
-}
-
-fn of_unary<B: ExprBuilderInfallibleBuild>(
-    side: RightSide<'_>,
-    node: &Node<Option<Unary>>,
-) -> Result<Attributes, Failure>
-    ensures { Gives seen_attributes result (right_side side.entry.loc.now
-        (located unary_form node.now)) }
-{
-    match &node.node {
-        Some(unary) => match unary.alone() {
-            Some(item) => of_member::<B>(side, item),
+        Some(level) => match level.single_child() {
+            Some(part) => Ok(part),
             None => Err(invalid_has_rhs(side, side.loc)),
         },
         None => Err(empty_node(side.alloc, &node.loc)),
@@ -224,24 +213,21 @@ fn of_unary<B: ExprBuilderInfallibleBuild>(
 fn of_mult<B: ExprBuilderInfallibleBuild>(
     side: RightSide<'_>,
     node: &Node<Option<Mult>>,
-) -> Result<Attributes, Failure>
+) -> Result<Attributes, BoxedFailure>
     ensures { Gives seen_attributes result (right_side side.entry.loc.now
         (located mult_form node.now)) }
 {
-    match &node.node {
-        Some(mult) => match mult.alone() {
-            Some(factor) => of_unary::<B>(side, factor),
-            None => Err(invalid_has_rhs(side, side.loc)),
-        },
-        None => Err(empty_node(side.alloc, &node.loc)),
-    }
+    let unary = child_of(side, node)?;
+    let member = child_of(side, unary)?;
+    let inner = content(side.alloc, member)?;
+    begins_with::<B>(side, inner.access.as_slice(), &inner.item)
 }
 
-fn of_add<B: ExprBuilderInfallibleBuild>(side: RightSide<'_>) -> Result<Attributes, Failure>
+fn of_add<B: ExprBuilderInfallibleBuild>(side: RightSide<'_>) -> Result<Attributes, BoxedFailure>
     ensures { Gives seen_attributes result (right_form side.entry.loc.now
         (add_form side.entry.tree.now)) }
 {
-    match side.tree.alone() {
+    match side.tree.single_child() {
         Some(term) => of_mult::<B>(side, term),
         None => Err(invalid_has_rhs(side, side.loc)),
     }
@@ -252,7 +238,7 @@ fn of_add<B: ExprBuilderInfallibleBuild>(side: RightSide<'_>) -> Result<Attribut
 pub(crate) fn right_side<B: ExprBuilderInfallibleBuild>(
     alloc: Global,
     node: &Node<Option<Add>>,
-) -> Result<Attributes, Failure>
+) -> Result<Attributes, BoxedFailure>
     ensures { Gives seen_attributes result
         (right_side (tree_place (located add_form node.now)) (located add_form node.now)) }
 {

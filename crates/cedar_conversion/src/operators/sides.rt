@@ -8,7 +8,7 @@ ghost use Rattle.cedar_conversion.specs.outcome.Seen.{Gives};
 ghost use Rattle.cedar_conversion.specs.machines.Applied.{Matched, seen_attributes, seen_pattern, seen_type};
 ghost use Rattle.cedar_conversion.specs.machines.Views.{plain};
 
-use crate::answer::failure::{Failure, flatten_tuple_2};
+use crate::answer::failure::{BoxedFailure, flatten_tuple_2};
 use crate::answer::special::{ExprOrSpecial, builder_at, expr_at};
 use crate::answer::wanted::{into_entity_type, into_pattern};
 use crate::operators::has_side::Attributes;
@@ -21,9 +21,9 @@ use std::alloc::Global;
 pub(crate) fn has_from<B: ExprBuilderInfallibleBuild>(
     alloc: Global,
     loc: &Option<Loc>,
-    right: Result<Attributes, Failure>,
-    target: Result<B::Expr, Failure>,
-) -> Result<ExprOrSpecial<B::Expr>, Failure>
+    right: Result<Attributes, BoxedFailure>,
+    target: Result<B::Expr, BoxedFailure>,
+) -> Result<ExprOrSpecial<B::Expr>, BoxedFailure>
     ensures { (r : Outcome Named) (x : Outcome Value) → Gives seen_attributes right r
         → Gives B.meaning target x → Gives (plain B.meaning) result
         (next r (λ named. next x (with_attributes loc.now named))) }
@@ -39,9 +39,9 @@ pub(crate) fn has_from<B: ExprBuilderInfallibleBuild>(
 /// The right side's conversion, and then a value and the pattern right of its `like` joined.
 fn pattern_beside<B: ExprBuilderInfallibleBuild>(
     alloc: Global,
-    target: Result<B::Expr, Failure>,
-    right: Result<ExprOrSpecial<B::Expr>, Failure>,
-) -> Result<(B::Expr, Vec<PatternElem>), Failure>
+    target: Result<B::Expr, BoxedFailure>,
+    right: Result<ExprOrSpecial<B::Expr>, BoxedFailure>,
+) -> Result<(B::Expr, Vec<PatternElem>), BoxedFailure>
     ensures { (x : Outcome Value) (h : Outcome Held) → Gives B.meaning target x
         → Gives (plain B.meaning) right h → Gives (seen_pattern B.meaning) result
         (next h (λ held. both x (as_pattern held))) }
@@ -56,8 +56,8 @@ fn pattern_beside<B: ExprBuilderInfallibleBuild>(
 fn match_from<B: ExprBuilderInfallibleBuild>(
     alloc: Global,
     loc: &Option<Loc>,
-    pair: Result<(B::Expr, Vec<PatternElem>), Failure>,
-) -> Result<ExprOrSpecial<B::Expr>, Failure>
+    pair: Result<(B::Expr, Vec<PatternElem>), BoxedFailure>,
+) -> Result<ExprOrSpecial<B::Expr>, BoxedFailure>
     ensures { (p : Outcome Matched) → Gives (seen_pattern B.meaning) pair p
         → Gives (plain B.meaning) result (next p (match_outcome loc.now)) }
 {
@@ -70,9 +70,9 @@ fn match_from<B: ExprBuilderInfallibleBuild>(
 pub(crate) fn like_from<B: ExprBuilderInfallibleBuild>(
     alloc: Global,
     loc: &Option<Loc>,
-    target: Result<B::Expr, Failure>,
-    right: Result<ExprOrSpecial<B::Expr>, Failure>,
-) -> Result<ExprOrSpecial<B::Expr>, Failure>
+    target: Result<B::Expr, BoxedFailure>,
+    right: Result<ExprOrSpecial<B::Expr>, BoxedFailure>,
+) -> Result<ExprOrSpecial<B::Expr>, BoxedFailure>
     ensures { (x : Outcome Value) (h : Outcome Held) → Gives B.meaning target x
         → Gives (plain B.meaning) right h → Gives (plain B.meaning) result
         (next h (λ held. next (both x (as_pattern held)) (match_outcome loc.now))) }
@@ -86,9 +86,9 @@ pub(crate) fn like_from<B: ExprBuilderInfallibleBuild>(
 pub(crate) fn type_beside<B: ExprBuilderInfallibleBuild>(
     alloc: Global,
     loc: &Option<Loc>,
-    target: Result<B::Expr, Failure>,
-    right: Result<ExprOrSpecial<B::Expr>, Failure>,
-) -> Result<(B::Expr, EntityType), Failure>
+    target: Result<B::Expr, BoxedFailure>,
+    right: Result<ExprOrSpecial<B::Expr>, BoxedFailure>,
+) -> Result<(B::Expr, EntityType), BoxedFailure>
     ensures { (x : Outcome Value) (h : Outcome Held) → Gives B.meaning target x
         → Gives (plain B.meaning) right h
         → Gives (seen_type B.meaning) result (next h (beside_type x)) }
@@ -103,8 +103,8 @@ pub(crate) fn type_beside<B: ExprBuilderInfallibleBuild>(
 pub(crate) fn is_from<B: ExprBuilderInfallibleBuild>(
     alloc: Global,
     loc: &Option<Loc>,
-    typed_value: Result<(B::Expr, EntityType), Failure>,
-) -> Result<ExprOrSpecial<B::Expr>, Failure>
+    typed_value: Result<(B::Expr, EntityType), BoxedFailure>,
+) -> Result<ExprOrSpecial<B::Expr>, BoxedFailure>
     ensures { (p : Outcome ValueAndType) → Gives (seen_type B.meaning) typed_value p
         → Gives (plain B.meaning) result (next p (type_test_outcome loc.now)) }
 {
@@ -120,9 +120,9 @@ pub(crate) fn is_from<B: ExprBuilderInfallibleBuild>(
 pub(crate) fn is_in_from<B: ExprBuilderInfallibleBuild>(
     alloc: Global,
     loc: &Option<Loc>,
-    typed_value: Result<(B::Expr, EntityType), Failure>,
-    within: Result<B::Expr, Failure>,
-) -> Result<ExprOrSpecial<B::Expr>, Failure>
+    typed_value: Result<(B::Expr, EntityType), BoxedFailure>,
+    within: Result<B::Expr, BoxedFailure>,
+) -> Result<ExprOrSpecial<B::Expr>, BoxedFailure>
     ensures { (p : Outcome ValueAndType) (x : Outcome Value)
         → Gives (seen_type B.meaning) typed_value p
         → Gives B.meaning within x → Gives (plain B.meaning) result

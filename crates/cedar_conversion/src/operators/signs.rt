@@ -1,49 +1,54 @@
 //! Signs before an operand.
-ghost use Rattle.std.specs.Prelude.{◌≡◌, ◌≤◌, ◌⊎◌, IfSome, IsSome, MatchOption, pos, neg_ℤ, Ok, true, false};
-ghost use Rattle.cedar_expressions.specs.Value as v;
+ghost use Rattle.std.specs.Prelude.{◌≡◌, ◌≤◌, ◌⊎◌, IfOk, IfSome, IsSome, MatchOption, pos, neg_ℤ, Ok, true, false};
+ghost use Rattle.cedar_expressions.specs.Meaning.{operator_call};
 ghost use Rattle.cedar_conversion.specs.outcome.Conversion.{application_outcome, dashes_outcome, negative as negative_of, signs_outcome};
+ghost use Rattle.cedar_conversion.specs.outcome.Detail.{sign};
 ghost use Rattle.cedar_conversion.specs.outcome.Held.{Held};
-ghost use Rattle.cedar_conversion.specs.outcome.Outcome.{Outcome, fault_outcome, unary_op_limit};
+ghost use Rattle.cedar_conversion.specs.outcome.Outcome.{Outcome, detailed_outcome, unary_op_limit};
 ghost use Rattle.cedar_conversion.specs.outcome.Seen.{Gives};
 ghost use Rattle.cedar_conversion.specs.strict.Strict.{iteration, largest};
 ghost use Rattle.cedar_conversion.specs.machines.Nested.{is_counted};
-ghost use Rattle.cedar_conversion.specs.machines.Views.{TellsAlone, plain};
+ghost use Rattle.cedar_conversion.specs.machines.Views.{TellsOne, plain};
 
-use crate::answer::failure::Failure;
+use crate::answer::failure::BoxedFailure;
 use crate::answer::special::{ExprOrSpecial, builder_at, expr_at, expr_of, refusal};
 use crate::leaves::literals::LARGEST;
 use cedar_expressions::{ExprBuilderInfallibleBuild, Literal, UnaryOp};
 use cedar_syntax::cst::NegOp;
 use cedar_syntax::err::ToASTErrorKind;
 use cedar_syntax::loc::Loc;
-use std::alloc::Global;
+use std::alloc::{AllocError, Global};
 
-fn repeat_not<B: ExprBuilderInfallibleBuild>(
+/// One sign before an expression.
+#[inline(always)]
+fn signed_once<B: ExprBuilderInfallibleBuild>(
     alloc: Global,
     loc: &Option<Loc>,
-    count: u8,
+    op: UnaryOp,
     inner: B::Expr,
-) -> Result<B::Expr, Failure>
-    ensures { Gives B.meaning result (Ok (iteration count v.not (B.meaning inner))) }
+) -> Result<B::Expr, AllocError>
+    ensures { IfOk result (λ e. B.meaning e ≡ operator_call op (B.meaning inner)) }
 {
-    let mut all = inner;
-    for i in 0..count {
-        all = builder_at::<B>(alloc, loc).not(all)?;
+    let builder = builder_at::<B>(alloc, loc);
+    match op {
+        UnaryOp::Not => builder.not(inner),
+        UnaryOp::Neg => builder.neg(inner),
     }
-    Ok(all)
 }
 
-fn repeat_neg<B: ExprBuilderInfallibleBuild>(
+/// As many of one sign before an expression.
+fn repeat_sign<B: ExprBuilderInfallibleBuild>(
     alloc: Global,
     loc: &Option<Loc>,
+    op: UnaryOp,
     count: u8,
     inner: B::Expr,
-) -> Result<B::Expr, Failure>
-    ensures { Gives B.meaning result (Ok (iteration count v.neg (B.meaning inner))) }
+) -> Result<B::Expr, BoxedFailure>
+    ensures { Gives B.meaning result (Ok (iteration count (operator_call op) (B.meaning inner))) }
 {
     let mut all = inner;
     for i in 0..count {
-        all = builder_at::<B>(alloc, loc).neg(all)?;
+        all = signed_once::<B>(alloc, loc, op, all)?;
     }
     Ok(all)
 }
@@ -67,19 +72,22 @@ fn negative<B: ExprBuilderInfallibleBuild>(
     at: &Option<Loc>,
     others: u8,
     number: u64,
-) -> Result<ExprOrSpecial<B::Expr>, Failure>
+) -> Result<ExprOrSpecial<B::Expr>, BoxedFailure>
     ensures { Gives (plain B.meaning) result (negative_of loc.now others number) }
 {
     if number > LARGEST {
         return Err(refusal(alloc, ToASTErrorKind::IntegerLiteralTooLarge(number), loc));
     }
     let literal = builder_at::<B>(alloc, at).val(Literal::Long(negate(number)))?;
-    expr_at::<B>(repeat_neg::<B>(alloc, loc, others, literal)?, loc)
+    expr_at::<B>(
+        repeat_sign::<B>(alloc, loc, UnaryOp::Neg, others, literal)?,
+        loc,
+    )
 }
 
 /// Signs above the limit.
-fn unary_op_limit(alloc: Global, op: UnaryOp, loc: &Option<Loc>) -> Failure
-    ensures { TellsAlone result unary_op_limit loc.now }
+fn unary_op_limit(alloc: Global, op: UnaryOp, loc: &Option<Loc>) -> BoxedFailure
+    ensures { TellsOne result (unary_op_limit, loc.now, sign op) }
 {
     refusal(alloc, ToASTErrorKind::UnaryOpLimit(op), loc)
 }
@@ -92,7 +100,7 @@ pub(crate) fn without_operand<B: ExprBuilderInfallibleBuild>(
     at: &Option<Loc>,
     op: Option<NegOp>,
     bare: Option<u64>,
-) -> Option<Result<ExprOrSpecial<B::Expr>, Failure>>
+) -> Option<Result<ExprOrSpecial<B::Expr>, BoxedFailure>>
     ensures given { MatchOption result (is_counted op ≡ true) (λ answer.
         (x : Outcome Held) → Gives (plain B.meaning) answer (signs_outcome loc.now op bare x)) }
     ensures unasked { IfSome result (λ answer. (is_counted op ≡ false) ⊎ IsSome bare) }
@@ -113,38 +121,23 @@ pub(crate) fn without_operand<B: ExprBuilderInfallibleBuild>(
     }
 }
 
-/// What `!` gives, of what its operand gives.
-fn apply_not<B: ExprBuilderInfallibleBuild>(
+/// What signs give before what is no number, of what their operand gives.
+fn apply_sign<B: ExprBuilderInfallibleBuild>(
     alloc: Global,
     loc: &Option<Loc>,
+    op: UnaryOp,
     count: u8,
-    item: Result<ExprOrSpecial<B::Expr>, Failure>,
-) -> Result<ExprOrSpecial<B::Expr>, Failure>
+    item: Result<ExprOrSpecial<B::Expr>, BoxedFailure>,
+) -> Result<ExprOrSpecial<B::Expr>, BoxedFailure>
     ensures { (x : Outcome Held) → Gives (plain B.meaning) item x
-        → Gives (plain B.meaning) result (application_outcome loc.now count v.not x) }
+        → Gives (plain B.meaning) result
+        (application_outcome loc.now count (operator_call op) x) }
 {
     if count == 0 {
         return item;
     }
     let inner = expr_of::<B>(alloc, item)?;
-    expr_at::<B>(repeat_not::<B>(alloc, loc, count, inner)?, loc)
-}
-
-/// What `-` gives before what is no number, of what its operand gives.
-fn apply_neg<B: ExprBuilderInfallibleBuild>(
-    alloc: Global,
-    loc: &Option<Loc>,
-    count: u8,
-    item: Result<ExprOrSpecial<B::Expr>, Failure>,
-) -> Result<ExprOrSpecial<B::Expr>, Failure>
-    ensures { (x : Outcome Held) → Gives (plain B.meaning) item x
-        → Gives (plain B.meaning) result (application_outcome loc.now count v.neg x) }
-{
-    if count == 0 {
-        return item;
-    }
-    let inner = expr_of::<B>(alloc, item)?;
-    expr_at::<B>(repeat_neg::<B>(alloc, loc, count, inner)?, loc)
+    expr_at::<B>(repeat_sign::<B>(alloc, loc, op, count, inner)?, loc)
 }
 
 /// What `-` gives, of what its operand gives.
@@ -153,8 +146,8 @@ fn apply_dashes<B: ExprBuilderInfallibleBuild>(
     loc: &Option<Loc>,
     count: u8,
     bare: Option<u64>,
-    item: Result<ExprOrSpecial<B::Expr>, Failure>,
-) -> Result<ExprOrSpecial<B::Expr>, Failure>
+    item: Result<ExprOrSpecial<B::Expr>, BoxedFailure>,
+) -> Result<ExprOrSpecial<B::Expr>, BoxedFailure>
     ensures { (x : Outcome Held) → Gives (plain B.meaning) item x
         → Gives (plain B.meaning) result (dashes_outcome loc.now count bare x) }
 {
@@ -165,7 +158,7 @@ fn apply_dashes<B: ExprBuilderInfallibleBuild>(
             }
             negative::<B>(alloc, loc, loc, count - 1, number)
         }
-        None => apply_neg::<B>(alloc, loc, count, item),
+        None => apply_sign::<B>(alloc, loc, UnaryOp::Neg, count, item),
     }
 }
 
@@ -174,9 +167,10 @@ fn refuse_signs<B: ExprBuilderInfallibleBuild>(
     alloc: Global,
     loc: &Option<Loc>,
     op: UnaryOp,
-    item: Result<ExprOrSpecial<B::Expr>, Failure>,
-) -> Result<ExprOrSpecial<B::Expr>, Failure>
-    ensures { Gives (plain B.meaning) result (fault_outcome unary_op_limit loc.now) }
+    item: Result<ExprOrSpecial<B::Expr>, BoxedFailure>,
+) -> Result<ExprOrSpecial<B::Expr>, BoxedFailure>
+    ensures { Gives (plain B.meaning) result
+        (detailed_outcome unary_op_limit loc.now (sign op)) }
 {
     drop(item);
     Err(unary_op_limit(alloc, op, loc))
@@ -188,14 +182,14 @@ pub(crate) fn signed_from<B: ExprBuilderInfallibleBuild>(
     loc: &Option<Loc>,
     op: Option<NegOp>,
     bare: Option<u64>,
-    item: Result<ExprOrSpecial<B::Expr>, Failure>,
-) -> Result<ExprOrSpecial<B::Expr>, Failure>
+    item: Result<ExprOrSpecial<B::Expr>, BoxedFailure>,
+) -> Result<ExprOrSpecial<B::Expr>, BoxedFailure>
     ensures { (x : Outcome Held) → Gives (plain B.meaning) item x
         → Gives (plain B.meaning) result (signs_outcome loc.now op bare x) }
 {
     match op {
         None => item,
-        Some(NegOp::Bang(count)) => apply_not::<B>(alloc, loc, count, item),
+        Some(NegOp::Bang(count)) => apply_sign::<B>(alloc, loc, UnaryOp::Not, count, item),
         Some(NegOp::Dash(count)) => apply_dashes::<B>(alloc, loc, count, bare, item),
         Some(NegOp::OverBang) => refuse_signs::<B>(alloc, loc, UnaryOp::Not, item),
         Some(NegOp::OverDash) => refuse_signs::<B>(alloc, loc, UnaryOp::Neg, item),

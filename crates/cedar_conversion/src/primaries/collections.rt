@@ -11,7 +11,7 @@ ghost use Rattle.cedar_expressions.specs.Value.{Value};
 ghost use Rattle.cedar_conversion.specs.machines.Applied.{Pair, seen_access, seen_accesses, seen_pair, seen_pairs};
 ghost use Rattle.cedar_conversion.specs.machines.Views.{alike_view, plain};
 
-use crate::answer::failure::{Failure, flatten_tuple_2};
+use crate::answer::failure::{BoxedFailure, flatten_tuple_2};
 use crate::answer::lists::add;
 use crate::answer::special::{ExprOrSpecial, builder_at, expr_at, refusal};
 use crate::answer::wanted::{into_attribute, string_from};
@@ -29,10 +29,10 @@ use std::alloc::Global;
 pub(crate) type Keyed<E> = (Text, E);
 
 /// The pairs of a record.
-pub(crate) type Pairs<E> = Result<Vec<Keyed<E>>, Failure>;
+pub(crate) type Pairs<E> = Result<Vec<Keyed<E>>, BoxedFailure>;
 
 /// The accesses of a member.
-pub(crate) type Accesses<E> = Result<Vec<AccessValue<E>>, Failure>;
+pub(crate) type Accesses<E> = Result<Vec<AccessValue<E>>, BoxedFailure>;
 
 /// A set of its items.
 #[inline(never)]
@@ -40,7 +40,7 @@ pub(crate) fn set_from<B: ExprBuilderInfallibleBuild>(
     alloc: Global,
     loc: &Option<Loc>,
     items: Values<B::Expr>,
-) -> Result<ExprOrSpecial<B::Expr>, Failure>
+) -> Result<ExprOrSpecial<B::Expr>, BoxedFailure>
     ensures { (ps : Outcome (List Part)) → Gives (alike_view beside B.meaning) items ps
         → Gives (plain B.meaning) result (next ps (set_value_outcome loc.now)) }
 {
@@ -52,7 +52,7 @@ pub(crate) fn set_from<B: ExprBuilderInfallibleBuild>(
 pub(crate) fn field_from<E>(
     alloc: Global,
     node: &Node<Option<Ident>>,
-) -> Result<AccessValue<E>, Failure>
+) -> Result<AccessValue<E>, BoxedFailure>
     ensures { (meaning : E → Value) → Gives (seen_access meaning) result
         (next (unreserved_outcome node.now) (λ id. Ok (field id))) }
 {
@@ -63,7 +63,7 @@ pub(crate) fn field_from<E>(
 #[inline(never)]
 pub(crate) fn call_from<B: ExprBuilderInfallibleBuild>(
     items: Values<B::Expr>,
-) -> Result<AccessValue<B::Expr>, Failure>
+) -> Result<AccessValue<B::Expr>, BoxedFailure>
     ensures { (ps : Outcome (List Part)) → Gives (alike_view beside B.meaning) items ps
         → Gives (seen_access B.meaning) result (next ps (λ qs. Ok (call (bodies qs)))) }
 {
@@ -74,8 +74,8 @@ pub(crate) fn call_from<B: ExprBuilderInfallibleBuild>(
 #[inline(never)]
 pub(crate) fn index_from<B: ExprBuilderInfallibleBuild>(
     alloc: Global,
-    inner: Result<ExprOrSpecial<B::Expr>, Failure>,
-) -> Result<AccessValue<B::Expr>, Failure>
+    inner: Result<ExprOrSpecial<B::Expr>, BoxedFailure>,
+) -> Result<AccessValue<B::Expr>, BoxedFailure>
     ensures { (h : Outcome Held) → Gives (plain B.meaning) inner h
         → Gives (seen_access B.meaning) result
         (next (next h as_string) (λ text. Ok (index text))) }
@@ -87,7 +87,7 @@ pub(crate) fn index_from<B: ExprBuilderInfallibleBuild>(
 #[inline(never)]
 pub(crate) fn add_access<B: ExprBuilderInfallibleBuild>(
     all: &mut Accesses<B::Expr>,
-    given: &mut Result<AccessValue<B::Expr>, Failure>,
+    given: &mut Result<AccessValue<B::Expr>, BoxedFailure>,
 )
     ensures { (xs : Outcome (List Given)) (x : Outcome Given)
         → Gives (seen_accesses B.meaning) all.old xs → Gives (seen_access B.meaning) given.old x
@@ -100,9 +100,9 @@ pub(crate) fn add_access<B: ExprBuilderInfallibleBuild>(
 #[inline(never)]
 pub(crate) fn pair_from<B: ExprBuilderInfallibleBuild>(
     alloc: Global,
-    key: Result<ExprOrSpecial<B::Expr>, Failure>,
-    value: Result<B::Expr, Failure>,
-) -> Result<Keyed<B::Expr>, Failure>
+    key: Result<ExprOrSpecial<B::Expr>, BoxedFailure>,
+    value: Result<B::Expr, BoxedFailure>,
+) -> Result<Keyed<B::Expr>, BoxedFailure>
     ensures { (h : Outcome Held) (x : Outcome Value) → Gives (plain B.meaning) key h
         → Gives B.meaning value x → Gives (seen_pair B.meaning) result
         (next h (λ held. both (as_attribute held) x)) }
@@ -117,7 +117,7 @@ pub(crate) fn pair_from<B: ExprBuilderInfallibleBuild>(
 #[inline(never)]
 pub(crate) fn add_pair<B: ExprBuilderInfallibleBuild>(
     all: &mut Pairs<B::Expr>,
-    next: Result<Keyed<B::Expr>, Failure>,
+    next: Result<Keyed<B::Expr>, BoxedFailure>,
 )
     ensures { (xs : Outcome (List Pair)) (x : Outcome Pair)
         → Gives (seen_pairs B.meaning) all.old xs → Gives (seen_pair B.meaning) next x
@@ -132,13 +132,13 @@ pub(crate) fn record_from<B: ExprBuilderInfallibleBuild>(
     alloc: Global,
     loc: &Option<Loc>,
     pairs: Pairs<B::Expr>,
-) -> Result<ExprOrSpecial<B::Expr>, Failure>
+) -> Result<ExprOrSpecial<B::Expr>, BoxedFailure>
     ensures { (ps : Outcome (List Pair)) → Gives (seen_pairs B.meaning) pairs ps
         → Gives (plain B.meaning) result (next ps (record_outcome loc.now)) }
 {
     match builder_at::<B>(alloc, loc).record(pairs?) {
         Ok(expr) => expr_at::<B>(expr, loc),
-        Err(RecordError::Memory(error)) => Err(Failure::from(error)),
+        Err(RecordError::Memory(error)) => Err(BoxedFailure::from(error)),
         Err(RecordError::Construction(error)) => {
             let kind = ToASTErrorKind::ExpressionConstructionError(error);
             Err(refusal(alloc, kind, loc))

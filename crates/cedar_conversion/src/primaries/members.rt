@@ -8,16 +8,17 @@ ghost use Rattle.cedar_syntax.specs.declared.loc.Loc.{Loc};
 ghost use Rattle.cedar_conversion.specs.declared.answer.special.ExprOrSpecial.TheVariants as special;
 ghost use Rattle.cedar_conversion.specs.outcome.Held.{Held, as_expression, expression};
 ghost use Rattle.cedar_conversion.specs.parts.Members.{Access as Given, accesses_of, name_accesses, some_accesses, member_outcome};
+ghost use Rattle.cedar_conversion.specs.outcome.Detail as d;
 ghost use Rattle.cedar_conversion.specs.outcome.Outcome.{Outcome, next, no_methods, invalid_access, variable_call};
 ghost use Rattle.cedar_conversion.specs.outcome.Seen.{Gives};
 ghost use Rattle.cedar_conversion.specs.strict.Table.{table_of};
 ghost use Rattle.cedar_conversion.specs.machines.Applied.{after_field, begins_call, called_outcome, called_variable, is_value, seen_access, seen_accesses, variable_of};
-ghost use Rattle.cedar_conversion.specs.machines.Views.{TellsAlone, plain};
+ghost use Rattle.cedar_conversion.specs.machines.Views.{TellsOne, plain};
 
-use crate::answer::failure::Failure;
+use crate::answer::failure::BoxedFailure;
 use crate::answer::special::{ExprOrSpecial, builder_at, empty_node, expr_at, refusal};
 use crate::answer::{Converted, put, take, value_in};
-use crate::primaries::methods::{Site, function, method};
+use crate::primaries::methods::{CallSite, function, method};
 use cedar_expressions::{ExprBuilderInfallibleBuild, Name, Text, TryClone, UnreservedId, Var};
 use cedar_syntax::err::ToASTErrorKind;
 use std::alloc::{AllocError, Global};
@@ -33,7 +34,7 @@ pub(crate) enum AccessValue<E> {
 /// The value once the field that waits, if one does, is applied to it.
 #[inline(always)]
 fn settled<B: ExprBuilderInfallibleBuild>(
-    site: Site<'_>,
+    site: CallSite<'_>,
     value: B::Expr,
     field: Option<UnreservedId>,
 ) -> Result<B::Expr, AllocError>
@@ -48,11 +49,11 @@ fn settled<B: ExprBuilderInfallibleBuild>(
 /// A call of a value: a method's if a field waits, else of an expression, which none may be.
 #[inline(never)]
 fn called<B: ExprBuilderInfallibleBuild>(
-    site: Site<'_>,
+    site: CallSite<'_>,
     value: B::Expr,
     field: Option<UnreservedId>,
     args: Vec<B::Expr>,
-) -> Result<B::Expr, Failure>
+) -> Result<B::Expr, BoxedFailure>
     ensures { Gives B.meaning result (called_outcome (table_of site.entry.styles.now)
         site.entry.loc.now (B.meaning value) field (map B.meaning args.items)) }
 {
@@ -66,10 +67,10 @@ fn called<B: ExprBuilderInfallibleBuild>(
 /// it: if that is a call, it is a method's.
 #[inline(always)]
 fn apply_accesses<B: ExprBuilderInfallibleBuild>(
-    site: Site<'_>,
+    site: CallSite<'_>,
     value: B::Expr,
     accesses: Vec<AccessValue<B::Expr>>,
-) -> Result<B::Expr, Failure>
+) -> Result<B::Expr, BoxedFailure>
     ensures { Gives (λ e. expression site.entry.loc.now (B.meaning e)) result
         (accesses_of (table_of site.entry.styles.now) site.entry.loc.now (B.meaning value)
         (seen_accesses B.meaning accesses)) }
@@ -105,9 +106,12 @@ fn begins_call<E>(accesses: &[AccessValue<E>]) -> bool
 }
 
 /// A field of a name, which has none, and no methods.
-fn field_of_name(site: Site<'_>, name: Name, id: UnreservedId, is_called: bool) -> Failure
-    ensures { TellsAlone result
-        (if is_called then no_methods else invalid_access) site.entry.loc.now }
+fn field_of_name(site: CallSite<'_>, name: Name, id: UnreservedId, is_called: bool) -> BoxedFailure
+    ensures { TellsOne result (
+      if is_called then no_methods else invalid_access,
+      site.entry.loc.now,
+      d.asked_of name id,
+    ) }
 {
     let kind = if is_called {
         ToASTErrorKind::NoMethods(name, id)
@@ -122,11 +126,11 @@ fn field_of_name(site: Site<'_>, name: Name, id: UnreservedId, is_called: bool) 
 
 /// Accesses of a name that is no variable: a call, and accesses of what that gives.
 fn of_name<B: ExprBuilderInfallibleBuild>(
-    site: Site<'_>,
+    site: CallSite<'_>,
     name: Name,
     first: AccessValue<B::Expr>,
     rest: Vec<AccessValue<B::Expr>>,
-) -> Result<ExprOrSpecial<B::Expr>, Failure>
+) -> Result<ExprOrSpecial<B::Expr>, BoxedFailure>
     ensures { Gives (plain B.meaning) result (name_accesses (table_of site.entry.styles.now)
         site.entry.loc.now name (seen_access B.meaning first ∷ seen_accesses B.meaning rest)) }
 {
@@ -168,7 +172,7 @@ fn split_first<E: Drop>(
 /// caller's.
 #[inline(never)]
 fn named_in<B: ExprBuilderInfallibleBuild>(
-    site: Site<'_>,
+    site: CallSite<'_>,
     item: &mut Converted<B::Expr>,
     accesses: Vec<AccessValue<B::Expr>>,
     answer: &mut Converted<B::Expr>,
@@ -234,8 +238,8 @@ fn called_variable<E>(item: &Converted<E>, accesses: &[AccessValue<E>]) -> Optio
 /// A call of a variable, which can't be called.
 #[cold]
 #[inline(never)]
-fn variable_call(site: Site<'_>, var: Var) -> Failure
-    ensures { TellsAlone result variable_call site.entry.loc.now }
+fn variable_call(site: CallSite<'_>, var: Var) -> BoxedFailure
+    ensures { TellsOne result (variable_call, site.entry.loc.now, d.variable var) }
 {
     refusal(site.alloc, ToASTErrorKind::VariableCall(var), site.loc)
 }
@@ -243,10 +247,10 @@ fn variable_call(site: Site<'_>, var: Var) -> Failure
 /// Accesses of a value, once it is an expression. A variable can't be called.
 #[inline(always)]
 fn of_value<B: ExprBuilderInfallibleBuild>(
-    site: Site<'_>,
+    site: CallSite<'_>,
     item: &mut Converted<B::Expr>,
     accesses: Vec<AccessValue<B::Expr>>,
-) -> Result<B::Expr, Failure>
+) -> Result<B::Expr, BoxedFailure>
     requires { is_value item.old ≡ true }
     ensures { (x : Outcome Held) (a : Given) (all : List Given)
         → Gives (plain B.meaning) item.old x → seen_accesses B.meaning accesses ≡ a ∷ all
@@ -263,7 +267,7 @@ fn of_value<B: ExprBuilderInfallibleBuild>(
 /// Accesses of a value.
 #[inline(never)]
 fn valued_in<B: ExprBuilderInfallibleBuild>(
-    site: Site<'_>,
+    site: CallSite<'_>,
     item: &mut Converted<B::Expr>,
     accesses: Vec<AccessValue<B::Expr>>,
     answer: &mut Converted<B::Expr>,
@@ -282,7 +286,7 @@ fn valued_in<B: ExprBuilderInfallibleBuild>(
 
 /// A primary and its accesses.
 pub(crate) fn accessed_in<B: ExprBuilderInfallibleBuild>(
-    site: Site<'_>,
+    site: CallSite<'_>,
     item: &mut Converted<B::Expr>,
     accesses: Vec<AccessValue<B::Expr>>,
     answer: &mut Converted<B::Expr>,
@@ -305,10 +309,10 @@ pub(crate) fn accessed_in<B: ExprBuilderInfallibleBuild>(
 /// A value's attribute.
 #[inline(always)]
 fn attribute<B: ExprBuilderInfallibleBuild>(
-    site: Site<'_>,
+    site: CallSite<'_>,
     item: &mut Converted<B::Expr>,
     name: Text,
-) -> Result<ExprOrSpecial<B::Expr>, Failure>
+) -> Result<ExprOrSpecial<B::Expr>, BoxedFailure>
     ensures { (x : Outcome Held) → Gives (plain B.meaning) item.old x
         → Gives (plain B.meaning) result (next (next x as_expression)
         (λ w. Ok (expression site.entry.loc.now (v.get_attr w name)))) }
@@ -335,7 +339,7 @@ fn list_of<E: Drop>(
 /// A primary and one access in a list.
 #[inline(never)]
 fn listed_in<B: ExprBuilderInfallibleBuild>(
-    site: Site<'_>,
+    site: CallSite<'_>,
     item: &mut Converted<B::Expr>,
     access: AccessValue<B::Expr>,
     answer: &mut Converted<B::Expr>,
@@ -347,13 +351,13 @@ fn listed_in<B: ExprBuilderInfallibleBuild>(
 {
     match list_of(site.alloc, access) {
         Ok(all) => accessed_in::<B>(site, item, all, answer),
-        Err(error) => put(answer, Err(Failure::from(error))),
+        Err(error) => put(answer, Err(BoxedFailure::from(error))),
     }
 }
 
 /// A primary and its one access: an attribute of a value takes no list.
 pub(crate) fn lone_accessed_in<B: ExprBuilderInfallibleBuild>(
-    site: Site<'_>,
+    site: CallSite<'_>,
     item: &mut Converted<B::Expr>,
     access: AccessValue<B::Expr>,
     answer: &mut Converted<B::Expr>,

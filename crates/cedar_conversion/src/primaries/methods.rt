@@ -1,14 +1,15 @@
 //! Calls: the methods that every text may call, and the functions and methods of the table.
-ghost use Rattle.std.specs.Prelude.{◌≡◌, ◌∷◌, [], ◌≢◌, MatchOption, IfOk, map, length};
+ghost use Rattle.std.specs.Prelude.{◌≡◌, ◌∷◌, [], ◌≢◌, MatchOption, IfOk, IfSome, map, length};
 ghost use Rattle.std.specs.Option.{is_some};
-ghost use Rattle.cedar_conversion.specs.parts.Members.{standard_outcome, extension_method, method_outcome, function_outcome, no_method};
+ghost use Rattle.cedar_conversion.specs.outcome.Detail.{arguments};
+ghost use Rattle.cedar_conversion.specs.parts.Members.{arity, takes_one, standard_outcome, extension_method, method_outcome, function_outcome, no_method};
 ghost use Rattle.cedar_conversion.specs.outcome.Outcome.{wrong_arity};
 ghost use Rattle.cedar_conversion.specs.outcome.Seen.{Gives};
 ghost use Rattle.cedar_conversion.specs.strict.StrictCalls.{standard_method, names_method};
 ghost use Rattle.cedar_conversion.specs.strict.Table.{table_of};
-ghost use Rattle.cedar_conversion.specs.machines.Views.{TellsAlone};
+ghost use Rattle.cedar_conversion.specs.machines.Views.{TellsOne};
 
-use crate::answer::failure::Failure;
+use crate::answer::failure::BoxedFailure;
 use crate::answer::special::{builder_at, refusal};
 use crate::styles::ExtStyles;
 use cedar_expressions::{ExprBuilderInfallibleBuild, Name, TryClone, UnreservedId};
@@ -29,7 +30,7 @@ pub enum Standard {
 
 /// Where a member stands and what may be called there.
 #[derive(Clone, Copy)]
-pub struct Site<'a> {
+pub struct CallSite<'a> {
     pub alloc: Global,
     pub styles: &'a ExtStyles,
     pub loc: &'a Option<Loc>,
@@ -49,18 +50,26 @@ fn standard_method(id: &str) -> Option<Standard>
     }
 }
 
-/// A call with another number of arguments than the method takes.
-fn wrong_arity(site: Site<'_>, method: Standard, got: usize) -> Failure
-    ensures { TellsAlone result wrong_arity site.entry.loc.now }
+/// A method as it is called, and how many arguments it takes.
+fn usage(method: Standard) -> (&'static str, usize)
+    ensures { result.1 ≡ arity (takes_one method) }
 {
-    let (name, expected) = match method {
+    match method {
         Standard::Contains => ("contains", 1),
         Standard::ContainsAll => ("containsAll", 1),
         Standard::ContainsAny => ("containsAny", 1),
         Standard::IsEmpty => ("isEmpty", 0),
         Standard::GetTag => ("getTag", 1),
         Standard::HasTag => ("hasTag", 1),
-    };
+    }
+}
+
+/// A call with another number of arguments than the method takes.
+fn wrong_arity(site: CallSite<'_>, method: Standard, got: usize) -> BoxedFailure
+    ensures { TellsOne result
+        (wrong_arity, site.entry.loc.now, arguments (arity (takes_one method)) got) }
+{
+    let (name, expected) = usage(method);
     refusal(
         site.alloc,
         ToASTErrorKind::wrong_arity(name, expected, got),
@@ -69,11 +78,11 @@ fn wrong_arity(site: Site<'_>, method: Standard, got: usize) -> Failure
 }
 
 fn with_argument<B: ExprBuilderInfallibleBuild>(
-    site: Site<'_>,
+    site: CallSite<'_>,
     method: Standard,
     object: B::Expr,
     argument: B::Expr,
-) -> Result<B::Expr, Failure>
+) -> Result<B::Expr, BoxedFailure>
     ensures { Gives B.meaning result (standard_outcome site.entry.loc.now method (B.meaning object)
         (B.meaning argument ∷ [])) }
 {
@@ -90,10 +99,10 @@ fn with_argument<B: ExprBuilderInfallibleBuild>(
 }
 
 fn without_argument<B: ExprBuilderInfallibleBuild>(
-    site: Site<'_>,
+    site: CallSite<'_>,
     method: Standard,
     object: B::Expr,
-) -> Result<B::Expr, Failure>
+) -> Result<B::Expr, BoxedFailure>
     ensures { Gives B.meaning result (standard_outcome site.entry.loc.now method
         (B.meaning object) []) }
 {
@@ -112,11 +121,11 @@ fn only_one<E: Drop>(list: Vec<E>) -> Option<E>
 }
 
 fn standard_call<B: ExprBuilderInfallibleBuild>(
-    site: Site<'_>,
+    site: CallSite<'_>,
     method: Standard,
     object: B::Expr,
     args: Vec<B::Expr>,
-) -> Result<B::Expr, Failure>
+) -> Result<B::Expr, BoxedFailure>
     ensures { Gives B.meaning result (standard_outcome site.entry.loc.now method (B.meaning object)
         (map B.meaning args.items)) }
 {
@@ -132,9 +141,9 @@ fn standard_call<B: ExprBuilderInfallibleBuild>(
 
 /// A method that is none of the table's.
 fn no_method<B: ExprBuilderInfallibleBuild>(
-    site: Site<'_>,
+    site: CallSite<'_>,
     id: UnreservedId,
-) -> Result<B::Expr, Failure>
+) -> Result<B::Expr, BoxedFailure>
     ensures { Gives B.meaning result
         (no_method (table_of site.entry.styles.now) site.entry.loc.now id) }
 {
@@ -151,11 +160,11 @@ fn no_method<B: ExprBuilderInfallibleBuild>(
 }
 
 fn extension_call<B: ExprBuilderInfallibleBuild>(
-    site: Site<'_>,
+    site: CallSite<'_>,
     object: B::Expr,
     id: UnreservedId,
     args: Vec<B::Expr>,
-) -> Result<B::Expr, Failure>
+) -> Result<B::Expr, BoxedFailure>
     ensures { Gives B.meaning result (extension_method
         (table_of site.entry.styles.now) site.entry.loc.now id
         (B.meaning object) (map B.meaning args.items)) }
@@ -171,11 +180,11 @@ fn extension_call<B: ExprBuilderInfallibleBuild>(
 
 /// A method called on a value.
 pub(crate) fn method<B: ExprBuilderInfallibleBuild>(
-    site: Site<'_>,
+    site: CallSite<'_>,
     object: B::Expr,
     id: UnreservedId,
     args: Vec<B::Expr>,
-) -> Result<B::Expr, Failure>
+) -> Result<B::Expr, BoxedFailure>
     ensures { Gives B.meaning result (method_outcome
         (table_of site.entry.styles.now) site.entry.loc.now id
         (B.meaning object) (map B.meaning args.items)) }
@@ -187,7 +196,7 @@ pub(crate) fn method<B: ExprBuilderInfallibleBuild>(
 }
 
 /// The identifier of a name without a path.
-fn lone_id(name: &Name) -> Result<Option<UnreservedId>, AllocError>
+fn unqualified_id(name: &Name) -> Result<Option<UnreservedId>, AllocError>
     ensures { IfOk result (λ found. MatchOption found (name.now.path ≢ [])
         (λ id. (name.now.path ≡ []) × (id ≡ name.now.id))) }
 {
@@ -202,10 +211,11 @@ fn lone_id(name: &Name) -> Result<Option<UnreservedId>, AllocError>
 
 /// The method that an unqualified name is, if it is one.
 fn method_named(styles: &ExtStyles, name: &Name) -> Result<Option<UnreservedId>, AllocError>
-    ensures { IfOk result (λ found.
+    ensures found { IfOk result (λ found.
         is_some found ≡ names_method (table_of styles.now) name.now.path name.now.id) }
+    ensures id { IfOk result (λ found. IfSome found (λ id. id ≡ name.now.id)) }
 {
-    match lone_id(name)? {
+    match unqualified_id(name)? {
         Some(id) => {
             if standard_method(id.as_str()).is_some() || styles.is_method(&id) {
                 Ok(Some(id))
@@ -219,10 +229,10 @@ fn method_named(styles: &ExtStyles, name: &Name) -> Result<Option<UnreservedId>,
 
 /// A call of a name.
 pub(crate) fn function<B: ExprBuilderInfallibleBuild>(
-    site: Site<'_>,
+    site: CallSite<'_>,
     name: Name,
     args: Vec<B::Expr>,
-) -> Result<B::Expr, Failure>
+) -> Result<B::Expr, BoxedFailure>
     ensures { Gives B.meaning result (function_outcome
         (table_of site.entry.styles.now) site.entry.loc.now name
         (map B.meaning args.items)) }

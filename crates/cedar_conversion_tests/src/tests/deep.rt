@@ -35,3 +35,26 @@ fn five_hundred_parentheses_hold_a_value(rt: HostRuntime) {
     drop((text, styles));
     says(&rt, made(&rt, answer), "1");
 }
+
+/// `inner` within so many calls that open and close so.
+fn within(
+    rt: &(impl Abort + AllocGlobal),
+    (open, inner, close): (&str, &str, &str),
+    count: usize,
+) -> String {
+    let mut text = repeated(rt, open, count);
+    made(rt, text.push_str(inner));
+    let closing = repeated(rt, close, count);
+    made(rt, text.push_str(closing.as_str()));
+    text
+}
+
+#[test]
+fn two_hundred_negations_are_shown(rt: HostRuntime) {
+    let text = within(&rt, ("!(", "true", ")"), 200);
+    let shown = within(&rt, ("not(", "true", ")"), 200);
+    let styles = ExtStyles::new(BTreeSet::new(rt.alloc()), BTreeSet::new(rt.alloc()));
+    let answer = parse_expression(rt.alloc(), text.as_str(), &styles);
+    drop((text, styles));
+    says(&rt, made(&rt, answer), shown.as_str());
+}

@@ -203,12 +203,12 @@ fn asked(
 #[test]
 fn an_empty_type_name_and_no_signs_ask_nothing(rt: HostRuntime) {
     let scope = asked(&rt, Some(empty(&rt, 7, 9)), None, None);
-    asks(&rt, scope, "principal any, action any, resource any");
+    asks(&rt, scope, "principal, action, resource");
     for op in &[NegOp::Bang(0), NegOp::Dash(0)] {
         let entity = tree_of::<Primary>(&rt, "User::\"a\"");
         let right = expr(&rt, sum(&rt, Some(*op), entity));
         let scope = asked(&rt, None, None, Some((RelOp::Eq, right)));
-        let wanted = "principal any, action any, resource == User::\"a\"";
+        let wanted = "principal, action, resource == User::\"a\"";
         asks(&rt, scope, wanted);
     }
 }

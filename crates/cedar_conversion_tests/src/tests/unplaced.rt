@@ -65,7 +65,11 @@ fn a_slot_in_a_condition_without_a_place_is_told_without_one(rt: HostRuntime) {
 
 /// A template of which the slot, `?resource`, has no place.
 fn template(rt: &(impl Abort + AllocGlobal)) -> PolicyImpl {
-    let slot = node(Primary::Slot(node(Slot::Resource)));
+    with_slot(rt, node(Primary::Slot(node(Slot::Resource))))
+}
+
+/// A policy whose resource is this slot.
+fn with_slot(rt: &(impl Abort + AllocGlobal), slot: Node<Option<Primary>>) -> PolicyImpl {
     let resource = VariableDef {
         variable: node(Ident::Resource),
         unused_type_name: None,
@@ -95,6 +99,19 @@ fn a_template_is_told_at_its_place_where_its_slot_has_none(rt: HostRuntime) {
     let failure = refusal(&rt, unplaced.to_policy(rt.alloc(), id(&rt), &styles));
     drop((styles, unplaced));
     stand_nowhere(&rt, &failure, 1);
+    says(&rt, failure, SAID_OF_TEMPLATE);
+}
+
+#[test]
+fn a_slot_outside_of_its_policy_is_told_where_it_stands(rt: HostRuntime) {
+    let styles = no_styles(&rt);
+    let slot = Node::with_source_loc(Some(Slot::Resource), place(&rt, 43, 52));
+    let primary = Node::with_source_loc(Some(Primary::Slot(slot)), place(&rt, 43, 52));
+    let policy = Policy::Policy(with_slot(&rt, primary));
+    let placed = Node::with_source_loc(Some(policy), place(&rt, 0, 10));
+    let failure = refusal(&rt, placed.to_policy(rt.alloc(), id(&rt), &styles));
+    drop((styles, placed));
+    spans(&rt, &failure, &[(43, 52)]);
     says(&rt, failure, SAID_OF_TEMPLATE);
 }
 

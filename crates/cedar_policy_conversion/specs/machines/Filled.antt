@@ -19,6 +19,11 @@ use Rattle.cedar_syntax.specs.declared.err.faults.Failure.TheVariants.{Memory, E
 use Rattle.cedar_syntax.specs.declared.loc.Loc.{Loc}
 use Rattle.cedar_syntax.specs.faults.ParseErrors.{faults_of}
 use Rattle.cedar_policy_conversion.specs.AnnotationKeys.{AnnotationContent, AnswersEach, Gathering, has_key, values_by_key}
+use Rattle.cedar_syntax.specs.declared.cst.Policy.{Policy}
+use Rattle.cedar_syntax.specs.declared.node.Node.{Node}
+use Rattle.cedar_policy_conversion.specs.Policies.{PlacedPolicies, TemplateParts, placed_set, policies_from, set_of, set_parts}
+use Rattle.cedar_conversion.specs.strict.Extensions.{Extensions}
+use Rattle.cedar_conversion.specs.outcome.Outcome.{Outcome, next}
 use Rattle.cedar_conversion.specs.outcome.Seen.{named_faults}
 
 -- ---- annotations
@@ -76,6 +81,20 @@ abbrev pub WantsMemoryAlone : PolicySetError → Type 0
 WantsMemoryAlone (refusals.Memory error) = Unit {0}
 WantsMemoryAlone (refusals.Occupied id) = ⊥
 
+-- a set as what it means, and with its places
+abbrev pub SeenSet : Type 0
+SeenSet = free.Policies × PlacedPolicies
+
+abbrev pub seen_set : PolicyMaps → SeenSet
+seen_set set = (set_meaning set, set_parts set)
+
+-- the same of policies that are given
+abbrev pub seen_outcome : Outcome (List TemplateParts) → Outcome SeenSet
+seen_outcome all = next all (λ ts. Ok (set_of ts, placed_set ts))
+
+abbrev pub seen_policies : Extensions → List (Node (Option Policy)) → Outcome SeenSet
+seen_policies e ns = seen_outcome (policies_from e 0 ns)
+
 -- the set so far, if all of it is given
-abbrev pub set_view : PolicyMaps → Unit {0} → free.Policies
-set_view set all = set_meaning set
+abbrev pub set_view : PolicyMaps → Unit {0} → SeenSet
+set_view set all = seen_set set

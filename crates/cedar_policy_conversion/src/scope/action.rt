@@ -1,17 +1,21 @@
 //! The element of a scope that asks of the action.
-ghost use Rattle.std.specs.Prelude.{◌≡◌, Some, IfOk};
+ghost use Rattle.std.specs.Prelude.{◌≡◌, ◌∷◌, IfOk};
+ghost use Rattle.std.specs.Option.{option_copied};
+ghost use Rattle.cedar_expressions.specs.declared.atoms.Var.TheVariants as vars;
+ghost use Rattle.cedar_conversion.specs.outcome.Detail.{entities};
 ghost use Rattle.cedar_conversion.specs.outcome.Outcome.{invalid_action_type};
 ghost use Rattle.cedar_policy_conversion.specs.Scope as s;
 ghost use Rattle.cedar_conversion.specs.outcome.Seen.{Gives, itself};
 ghost use Rattle.cedar_conversion.specs.strict.Table.{table_of};
-ghost use Rattle.cedar_conversion.specs.machines.Views.{TellsAlone, empty_view};
+ghost use Rattle.cedar_conversion.specs.machines.Views.{TellsOne, empty_view};
 
 use crate::cst_to_ast::ExtStyles;
 use crate::scope::element::{is_inverted, refuse_type_name, scope_variable};
+use crate::scope::there;
 use crate::to_ref_or_refs::{OneOrMultipleRefs, SingleEntity, to_ref_or_refs};
-use cedar_conversion::answer::failure::Failure;
-use cedar_conversion::answer::special::{empty_node, refusal};
-use cedar_conversion::primaries::methods::Site;
+use cedar_conversion::answer::failure::{BoxedFailure, go_on};
+use cedar_conversion::answer::special::{content, refusal};
+use cedar_conversion::primaries::methods::CallSite;
 use cedar_expressions::{EntityUID, Items, Var};
 use cedar_policy_store::ActionConstraint;
 use cedar_syntax::cst::{self, Add, RelOp, VariableDef};
@@ -22,7 +26,7 @@ use cedar_syntax::node::Node;
 use std::alloc::{AllocError, Global};
 
 /// Refuses another variable than the action.
-fn action_alone(alloc: Global, loc: &Option<Loc>, got: Var) -> Result<(), Failure>
+fn action_alone(alloc: Global, loc: &Option<Loc>, got: Var) -> Result<(), BoxedFailure>
     ensures { Gives empty_view result (s.action_alone loc.now got) }
 {
     match got {
@@ -42,7 +46,7 @@ fn refuse_entity_type(
     alloc: Global,
     loc: &Option<Loc>,
     node: &Option<Node<Option<Add>>>,
-) -> Result<(), Failure>
+) -> Result<(), BoxedFailure>
     ensures { Gives empty_view result (s.no_entity_type loc.now node.now) }
 {
     match node {
@@ -51,7 +55,11 @@ fn refuse_entity_type(
     }
 }
 
-fn action_variable(alloc: Global, loc: &Option<Loc>, element: &VariableDef) -> Result<(), Failure>
+fn action_variable(
+    alloc: Global,
+    loc: &Option<Loc>,
+    element: &VariableDef,
+) -> Result<(), BoxedFailure>
     ensures { Gives empty_view result (s.action_variable loc.now element.now) }
 {
     action_alone(alloc, loc, scope_variable(alloc, &element.variable)?)?;
@@ -73,11 +81,16 @@ fn within(alloc: Global, refs: OneOrMultipleRefs) -> Result<ActionConstraint, Al
     }
 }
 
-fn action_in(site: Site<'_>, right: &Node<Option<cst::Expr>>) -> Result<ActionConstraint, Failure>
+fn action_in(
+    site: CallSite<'_>,
+    right: &Node<Option<cst::Expr>>,
+) -> Result<ActionConstraint, BoxedFailure>
     ensures { Gives itself result (s.action_in (table_of site.entry.styles.now) site.entry.loc.now
         right.now) }
 {
-    match to_ref_or_refs::<OneOrMultipleRefs>(site.alloc, Var::Action, right) {
+    let answer = to_ref_or_refs::<OneOrMultipleRefs>(site.alloc, Var::Action, right);
+    go_on(&answer)?;
+    match answer {
         Ok(refs) => Ok(within(site.alloc, refs)?),
         Err(failure) => {
             if is_inverted(site, RelOp::In, right)? {
@@ -88,7 +101,10 @@ fn action_in(site: Site<'_>, right: &Node<Option<cst::Expr>>) -> Result<ActionCo
     }
 }
 
-fn action_eq(alloc: Global, right: &Node<Option<cst::Expr>>) -> Result<ActionConstraint, Failure>
+fn action_eq(
+    alloc: Global,
+    right: &Node<Option<cst::Expr>>,
+) -> Result<ActionConstraint, BoxedFailure>
     ensures { Gives itself result (s.action_eq right.now) }
 {
     let SingleEntity(uid) = to_ref_or_refs::<SingleEntity>(alloc, Var::Action, right)?;
@@ -96,10 +112,10 @@ fn action_eq(alloc: Global, right: &Node<Option<cst::Expr>>) -> Result<ActionCon
 }
 
 fn action_by(
-    site: Site<'_>,
+    site: CallSite<'_>,
     op: RelOp,
     right: &Node<Option<cst::Expr>>,
-) -> Result<ActionConstraint, Failure>
+) -> Result<ActionConstraint, BoxedFailure>
     ensures { Gives itself result (s.action_by (table_of site.entry.styles.now)
         site.entry.loc.now op right.now) }
 {
@@ -117,8 +133,13 @@ fn action_by(
 }
 
 /// Entities that have no action type.
-fn other_types(alloc: Global, loc: &Option<Loc>, first: EntityUID, rest: Vec<EntityUID>) -> Failure
-    ensures { TellsAlone result invalid_action_type loc.now }
+fn other_types(
+    alloc: Global,
+    loc: &Option<Loc>,
+    first: EntityUID,
+    rest: Vec<EntityUID>,
+) -> BoxedFailure
+    ensures { TellsOne result (invalid_action_type, loc.now, entities (first ∷ rest.items)) }
 {
     let euids = NonEmpty {
         head: first,
@@ -136,7 +157,7 @@ fn only_actions(
     alloc: Global,
     loc: &Option<Loc>,
     constraint: ActionConstraint,
-) -> Result<ActionConstraint, Failure>
+) -> Result<ActionConstraint, BoxedFailure>
     ensures { Gives itself result (s.only_actions loc.now constraint) }
 {
     match constraint.contains_only_action_types(alloc)? {
@@ -145,56 +166,35 @@ fn only_actions(
     }
 }
 
-/// What an operator and its right side ask of the action.
-fn action_beside(
-    site: Site<'_>,
-    ineq: &(RelOp, Node<Option<cst::Expr>>),
-) -> Result<ActionConstraint, Failure>
-    ensures { Gives itself result (s.asked_action (table_of site.entry.styles.now)
-        site.entry.loc.now (Some ineq.now)) }
-{
-    let constraint = action_by(site, ineq.0, &ineq.1)?;
-    only_actions(site.alloc, &ineq.1.loc, constraint)
-}
-
-fn action_constraint(
-    site: Site<'_>,
-    ineq: &Option<(RelOp, Node<Option<cst::Expr>>)>,
-) -> Result<ActionConstraint, Failure>
-    ensures { Gives itself result (s.asked_action (table_of site.entry.styles.now)
-        site.entry.loc.now ineq.now) }
-{
-    match ineq {
-        Some(ineq) => action_beside(site, ineq),
-        None => Ok(ActionConstraint::Any),
-    }
-}
-
-fn action_of(site: Site<'_>, element: &VariableDef) -> Result<ActionConstraint, Failure>
+fn action_of(site: CallSite<'_>, element: &VariableDef) -> Result<ActionConstraint, BoxedFailure>
     ensures { Gives itself result (s.action_of (table_of site.entry.styles.now) site.entry.loc.now
         element.now) }
 {
     action_variable(site.alloc, site.loc, element)?;
-    action_constraint(site, &element.ineq)
+    match &element.ineq {
+        Some(ineq) => {
+            let constraint = action_by(site, ineq.0, &ineq.1)?;
+            only_actions(site.alloc, &ineq.1.loc, constraint)
+        }
+        None => Ok(ActionConstraint::Any),
+    }
 }
 
-/// The element of the action.
+/// What the element of the action asks, if it is there; `before` is the last place before it.
 pub(crate) fn action(
     alloc: Global,
     styles: &ExtStyles,
-    node: &Node<Option<VariableDef>>,
-) -> Result<ActionConstraint, Failure>
-    ensures { Gives itself result (s.action_outcome (table_of styles.now) node.now) }
+    before: &Option<Loc>,
+    element: Option<&Node<Option<VariableDef>>>,
+) -> Result<ActionConstraint, BoxedFailure>
+    ensures { Gives itself result (s.if_there vars.Action
+        (s.action_outcome (table_of styles.now)) before.now (option_copied element.entry)) }
 {
-    match &node.node {
-        Some(inner) => {
-            let site = Site {
-                alloc,
-                styles,
-                loc: &node.loc,
-            };
-            action_of(site, inner)
-        }
-        None => Err(empty_node(alloc, &node.loc)),
-    }
+    let node = there(alloc, Var::Action, before, element)?;
+    let site = CallSite {
+        alloc,
+        styles,
+        loc: &node.loc,
+    };
+    action_of(site, content(alloc, node)?)
 }

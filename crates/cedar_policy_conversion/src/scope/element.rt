@@ -1,28 +1,31 @@
 //! An element of a scope that asks of the principal or the resource; what both kinds of elements
 //! begin with.
 ghost use Rattle.std.specs.Prelude.{◌≡◌, Some, IfOk};
+ghost use Rattle.std.specs.Option.{option_copied};
 ghost use Rattle.cedar_expressions.specs.Meaning.{expr_meaning};
 ghost use Rattle.cedar_expressions.specs.Value.{Value};
 ghost use Rattle.cedar_expressions.specs.declared.atoms.Var.TheVariants as vars;
 ghost use Rattle.cedar_syntax.specs.declared.cst.RelOp.TheVariants as rel;
 ghost use Rattle.cedar_syntax.specs.trees.Forms.{located, expr_form};
 ghost use Rattle.cedar_conversion.specs.outcome.Conversion.{value_outcome};
+ghost use Rattle.cedar_conversion.specs.outcome.Detail as d;
 ghost use Rattle.cedar_conversion.specs.outcome.Outcome.{Outcome, invalid_scope_variable};
 ghost use Rattle.cedar_policy_conversion.specs.Scope as s;
 ghost use Rattle.cedar_policy_conversion.specs.machines.PolicyViews.{is_call};
 ghost use Rattle.cedar_conversion.specs.outcome.Seen.{Gives, Refuses, itself};
 ghost use Rattle.cedar_conversion.specs.strict.Table.{table_of};
-ghost use Rattle.cedar_conversion.specs.machines.Views.{TellsAlone, empty_view};
+ghost use Rattle.cedar_conversion.specs.machines.Views.{TellsOne, empty_view};
 
 use crate::cst_to_ast::ExtStyles;
 use crate::expressions::expression;
+use crate::scope::there;
 use crate::to_ref_or_refs::to_ref_or_refs;
-use cedar_conversion::answer::failure::Failure;
-use cedar_conversion::answer::special::{empty_node, refusal, refusal_with};
+use cedar_conversion::answer::failure::{BoxedFailure, go_on};
+use cedar_conversion::answer::special::{content, empty_node, refusal, refusal_with};
 use cedar_conversion::answer::wanted::into_entity_type;
 use cedar_conversion::answer::{Converted, placeholder};
 use cedar_conversion::convert::add;
-use cedar_conversion::primaries::methods::Site;
+use cedar_conversion::primaries::methods::CallSite;
 use cedar_expressions::{EntityType, Expr, ExprBuilder, ExprKind, TryClone, UnaryCall, Var};
 use cedar_policy_store::{
     EntityReference, PrincipalConstraint, PrincipalOrResourceConstraint, ResourceConstraint,
@@ -36,15 +39,15 @@ use std::alloc::{AllocError, Global};
 // ---- an element's variable
 
 /// A word that is no variable of a scope.
-fn other_word(alloc: Global, loc: &Option<Loc>, word: &Ident) -> Failure
-    ensures { TellsAlone result invalid_scope_variable loc.now }
+fn other_word(alloc: Global, loc: &Option<Loc>, word: &Ident) -> BoxedFailure
+    ensures { TellsOne result (invalid_scope_variable, loc.now, d.word word.now) }
 {
     let kind = word.try_clone().map(ToASTErrorKind::InvalidScopeVariable);
     refusal_with(alloc, kind, loc)
 }
 
 /// The variable that an element begins with.
-pub(crate) fn scope_variable(alloc: Global, node: &Node<Option<Ident>>) -> Result<Var, Failure>
+pub(crate) fn scope_variable(alloc: Global, node: &Node<Option<Ident>>) -> Result<Var, BoxedFailure>
     ensures { Gives itself result (s.scope_variable node.now) }
 {
     match &node.node {
@@ -60,7 +63,7 @@ pub(crate) fn scope_variable(alloc: Global, node: &Node<Option<Ident>>) -> Resul
 pub(crate) fn refuse_type_name(
     alloc: Global,
     name: &Option<Node<Option<Name>>>,
-) -> Result<(), Failure>
+) -> Result<(), BoxedFailure>
     ensures { Gives empty_view result (s.no_type_name name.now) }
 {
     match name {
@@ -73,7 +76,7 @@ pub(crate) fn refuse_type_name(
 }
 
 /// The variable of an element without a name behind `:`.
-fn element_variable(alloc: Global, element: &VariableDef) -> Result<Var, Failure>
+fn element_variable(alloc: Global, element: &VariableDef) -> Result<Var, BoxedFailure>
     ensures { Gives itself result (s.element_variable element.now) }
 {
     let var = scope_variable(alloc, &element.variable)?;
@@ -116,7 +119,7 @@ fn made_by_is(expr: &Expr) -> bool
 }
 
 /// A right side that doesn't convert isn't made by `is`: its faults are told elsewhere.
-fn not_made_by_is(failure: Failure) -> Result<bool, AllocError>
+fn not_made_by_is(failure: BoxedFailure) -> Result<bool, AllocError>
     ensures { (o : Outcome Value) → Refuses failure o → IfOk result (λ b. b ≡ s.is_made_by_is o) }
 {
     match err::Failure::from(failure) {
@@ -126,7 +129,7 @@ fn not_made_by_is(failure: Failure) -> Result<bool, AllocError>
 }
 
 /// Whether `is` makes a right side.
-fn right_by_is(site: Site<'_>, right: &Node<Option<cst::Expr>>) -> Result<bool, AllocError>
+fn right_by_is(site: CallSite<'_>, right: &Node<Option<cst::Expr>>) -> Result<bool, AllocError>
     ensures { IfOk result (λ b. b ≡ s.is_made_by_is
         (value_outcome (table_of site.entry.styles.now) (located expr_form right.now))) }
 {
@@ -142,7 +145,7 @@ fn right_by_is(site: Site<'_>, right: &Node<Option<cst::Expr>>) -> Result<bool, 
 
 /// Whether an `in` stands before a right side that `is` makes.
 pub(crate) fn is_inverted(
-    site: Site<'_>,
+    site: CallSite<'_>,
     op: RelOp,
     right: &Node<Option<cst::Expr>>,
 ) -> Result<bool, AllocError>
@@ -164,10 +167,10 @@ pub(crate) fn is_inverted(
 
 /// The type right of `is`; `left` is the place of the variable before it.
 fn type_of(
-    site: Site<'_>,
+    site: CallSite<'_>,
     left: &Option<Loc>,
     node: &Node<Option<Add>>,
-) -> Result<EntityType, Failure>
+) -> Result<EntityType, BoxedFailure>
     ensures { Gives itself result (s.type_outcome (table_of site.entry.styles.now) node.now) }
 {
     let mut right: Converted<Expr> = placeholder();
@@ -176,11 +179,11 @@ fn type_of(
 }
 
 fn is_in(
-    site: Site<'_>,
+    site: CallSite<'_>,
     left: &Option<Loc>,
     node: &Node<Option<Add>>,
     reference: EntityReference,
-) -> Result<PrincipalOrResourceConstraint, Failure>
+) -> Result<PrincipalOrResourceConstraint, BoxedFailure>
     ensures { Gives itself result
         (s.type_and (table_of site.entry.styles.now) reference node.now) }
 {
@@ -190,10 +193,10 @@ fn is_in(
 
 /// `==` with an entity or a slot, without a type.
 fn by_eq(
-    site: Site<'_>,
+    site: CallSite<'_>,
     element: &VariableDef,
     reference: EntityReference,
-) -> Result<PrincipalOrResourceConstraint, Failure>
+) -> Result<PrincipalOrResourceConstraint, BoxedFailure>
     ensures { Gives itself result (s.operator_outcome (table_of site.entry.styles.now)
         site.entry.loc.now rel.Eq element.now.entity_type reference) }
 {
@@ -205,10 +208,10 @@ fn by_eq(
 
 /// `in` with an entity or a slot, beside a type if there is one.
 fn by_in(
-    site: Site<'_>,
+    site: CallSite<'_>,
     element: &VariableDef,
     reference: EntityReference,
-) -> Result<PrincipalOrResourceConstraint, Failure>
+) -> Result<PrincipalOrResourceConstraint, BoxedFailure>
     ensures { Gives itself result (s.operator_outcome (table_of site.entry.styles.now)
         site.entry.loc.now rel.In element.now.entity_type reference) }
 {
@@ -220,11 +223,11 @@ fn by_in(
 
 /// What an operator asks with an entity or a slot, beside a type if there is one.
 fn operator_constraint(
-    site: Site<'_>,
+    site: CallSite<'_>,
     op: RelOp,
     element: &VariableDef,
     reference: EntityReference,
-) -> Result<PrincipalOrResourceConstraint, Failure>
+) -> Result<PrincipalOrResourceConstraint, BoxedFailure>
     ensures { Gives itself result (s.operator_outcome (table_of site.entry.styles.now)
         site.entry.loc.now op element.now.entity_type reference) }
 {
@@ -246,9 +249,9 @@ fn operator_constraint(
 
 /// A type alone, or nothing.
 fn type_constraint(
-    site: Site<'_>,
+    site: CallSite<'_>,
     element: &VariableDef,
-) -> Result<PrincipalOrResourceConstraint, Failure>
+) -> Result<PrincipalOrResourceConstraint, BoxedFailure>
     ensures { Gives itself result
         (s.asked_type (table_of site.entry.styles.now) element.now.entity_type) }
 {
@@ -264,15 +267,17 @@ fn type_constraint(
 /// What an operator and its right side ask of an element's variable. What `is` makes refers to
 /// nothing, so only a right side that is refused is looked at for it.
 fn constraint_beside(
-    site: Site<'_>,
+    site: CallSite<'_>,
     var: Var,
     element: &VariableDef,
     ineq: &(RelOp, Node<Option<cst::Expr>>),
-) -> Result<PrincipalOrResourceConstraint, Failure>
+) -> Result<PrincipalOrResourceConstraint, BoxedFailure>
     ensures { Gives itself result (s.constraint_outcome (table_of site.entry.styles.now)
         site.entry.loc.now var element.now.entity_type (Some ineq.now)) }
 {
-    match to_ref_or_refs::<EntityReference>(site.alloc, var, &ineq.1) {
+    let answer = to_ref_or_refs::<EntityReference>(site.alloc, var, &ineq.1);
+    go_on(&answer)?;
+    match answer {
         Ok(reference) => operator_constraint(site, ineq.0, element, reference),
         Err(failure) => {
             if is_inverted(site, ineq.0, &ineq.1)? {
@@ -285,10 +290,10 @@ fn constraint_beside(
 
 /// What an element asks of its variable.
 fn element_constraint(
-    site: Site<'_>,
+    site: CallSite<'_>,
     var: Var,
     element: &VariableDef,
-) -> Result<PrincipalOrResourceConstraint, Failure>
+) -> Result<PrincipalOrResourceConstraint, BoxedFailure>
     ensures { Gives itself result (s.constraint_outcome (table_of site.entry.styles.now)
         site.entry.loc.now var element.now.entity_type element.now.ineq) }
 {
@@ -328,10 +333,10 @@ fn stands_there(expected: Var, got: Var) -> bool
 }
 
 fn element_of(
-    site: Site<'_>,
+    site: CallSite<'_>,
     expected: Var,
     element: &VariableDef,
-) -> Result<PrincipalOrResourceConstraint, Failure>
+) -> Result<PrincipalOrResourceConstraint, BoxedFailure>
     ensures { Gives itself result (s.element_of (table_of site.entry.styles.now) expected
         site.entry.loc.now element.now) }
 {
@@ -346,47 +351,50 @@ fn element_of(
     }
 }
 
-/// The element of the principal, or of the resource.
+/// What the element of the principal or of the resource asks, if it is there; `before` is the
+/// last place before it.
 fn element(
     alloc: Global,
     styles: &ExtStyles,
     expected: Var,
-    node: &Node<Option<VariableDef>>,
-) -> Result<PrincipalOrResourceConstraint, Failure>
-    ensures { Gives itself result
-        (s.element_outcome (table_of styles.now) expected node.now) }
+    before: &Option<Loc>,
+    node: Option<&Node<Option<VariableDef>>>,
+) -> Result<PrincipalOrResourceConstraint, BoxedFailure>
+    ensures { Gives itself result (s.if_there expected
+        (s.element_outcome (table_of styles.now) expected) before.now
+        (option_copied node.entry)) }
 {
-    match &node.node {
-        Some(inner) => {
-            let site = Site {
-                alloc,
-                styles,
-                loc: &node.loc,
-            };
-            element_of(site, expected, inner)
-        }
-        None => Err(empty_node(alloc, &node.loc)),
-    }
+    let node = there(alloc, expected, before, node)?;
+    let site = CallSite {
+        alloc,
+        styles,
+        loc: &node.loc,
+    };
+    element_of(site, expected, content(alloc, node)?)
 }
 
 pub(crate) fn principal(
     alloc: Global,
     styles: &ExtStyles,
-    node: &Node<Option<VariableDef>>,
-) -> Result<PrincipalConstraint, Failure>
-    ensures { Gives itself result (s.principal_outcome (table_of styles.now) node.now) }
+    before: &Option<Loc>,
+    node: Option<&Node<Option<VariableDef>>>,
+) -> Result<PrincipalConstraint, BoxedFailure>
+    ensures { Gives itself result (s.if_there vars.Principal
+        (s.principal_outcome (table_of styles.now)) before.now (option_copied node.entry)) }
 {
-    let constraint = element(alloc, styles, Var::Principal, node)?;
+    let constraint = element(alloc, styles, Var::Principal, before, node)?;
     Ok(PrincipalConstraint::new(constraint))
 }
 
 pub(crate) fn resource(
     alloc: Global,
     styles: &ExtStyles,
-    node: &Node<Option<VariableDef>>,
-) -> Result<ResourceConstraint, Failure>
-    ensures { Gives itself result (s.resource_outcome (table_of styles.now) node.now) }
+    before: &Option<Loc>,
+    node: Option<&Node<Option<VariableDef>>>,
+) -> Result<ResourceConstraint, BoxedFailure>
+    ensures { Gives itself result (s.if_there vars.Resource
+        (s.resource_outcome (table_of styles.now)) before.now (option_copied node.entry)) }
 {
-    let constraint = element(alloc, styles, Var::Resource, node)?;
+    let constraint = element(alloc, styles, Var::Resource, before, node)?;
     Ok(ResourceConstraint::new(constraint))
 }

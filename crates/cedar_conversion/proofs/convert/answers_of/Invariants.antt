@@ -1,4 +1,4 @@
-use Rattle.std.proofs.Common.{[], ◌∷◌, List, length}
+use Rattle.std.proofs.Common.{List, length}
 use Rattle.cedar_syntax.specs.trees.Located.{Located}
 use Rattle.cedar_conversion.specs.strict.Table.{table_of}
 use Rattle.cedar_conversion.specs.machines.Nested.{lent_nodes}

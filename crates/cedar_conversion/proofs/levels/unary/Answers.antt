@@ -6,13 +6,13 @@ use Rattle.cedar_conversion.proofs.Nodes as node
 use Rattle.cedar_conversion.proofs.Nested as inner
 use Rattle.cedar_conversion.proofs.levels.unary.Goals as goal
 
-pub returns-in-Some-alone : goal.returns-in-Some-alone
-returns-in-Some-alone g c =
-    let alone = rw c.in-Some-alone.is at c.alone.ensures.part in
+pub returns-in-Some-single_child : goal.returns-in-Some-single_child
+returns-in-Some-single_child g c =
+    let alone = rw c.in-Some-single_child.is at c.single_child.ensures.part in
     made (inner.part unary_form member_form c.args.node.now _ _ c.in-Some.is alone) c.member.ensures (λ h. gives_at _ c.member.new.answers.answer _ _ (node.part_node (table_of c.args.styles.now) unary_form member_form c.args.node.now _ _ c.in-Some.is alone) h)
 
-pub returns-in-None-alone : goal.returns-in-None-alone
-returns-in-None-alone g c =
+pub returns-in-None-single_child : goal.returns-in-None-single_child
+returns-in-None-single_child g c =
     made (inner.level unary_form c.args.node.now _ c.in-Some.is) c.signs.ensures (λ h. gives_at _ c.signs.new.answers.answer _ _ (node.level_node (table_of c.args.styles.now) unary_form c.args.node.now _ c.in-Some.is) h)
 
 pub returns-in-None : goal.returns-in-None

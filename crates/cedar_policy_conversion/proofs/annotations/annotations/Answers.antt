@@ -20,7 +20,7 @@ loop-node-preserved g c = record {
 pub returns-in_err-all : goal.returns-in_err-all
 returns-in_err-all g c =
     let whole = rw (take_whole c.args.nodes.now c.loop-node.node-index c.loop-node-test.false) at c.loop-node.invariant.filled in
-    refused_on g.F.Fn c.args.f.now c.from_residual.result c.in_err-all.field-0.0 _ c.from_residual.ensures.1 (filled_err g.F.Fn c.args.f.now (gathering c.args.nodes.now) (map_in c.loop-node.map) c.loop-node.all c.in_err-all.field-0.0 c.in_err-all.was whole)
+    refused_on g.F.Fn c.args.f.now c.from_residual-in_err-all.result c.in_err-all.field-0.0 _ c.from_residual-in_err-all.ensures.1 (filled_err g.F.Fn c.args.f.now (gathering c.args.nodes.now) (map_in c.loop-node.map) c.loop-node.all c.in_err-all.field-0.0 c.in_err-all.was whole)
 
 pub returns : goal.returns
 returns g c =

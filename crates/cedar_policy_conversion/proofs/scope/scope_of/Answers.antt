@@ -10,4 +10,4 @@ returns c =
     (option_copied c.get-first.result) (option_copied c.get-second.result) (option_copied c.get-third.result) c.others.result.now ns c.join_elements.result
     (got ns 0 c.get-first.result c.get-first.ensures.lookup) (got ns 1 c.get-second.result c.get-second.ensures.lookup) (got ns 2 c.get-third.result c.get-third.ensures.lookup)
     c.others.ensures c.place_behind-behind_first.ensures c.place_behind-behind_second.ensures
-    (c.join_elements.ensures _ _ _ _ c.principal_there.ensures c.action_there.ensures c.resource_there.ensures c.refuse_extra.ensures)
+    (c.join_elements.ensures _ _ _ _ c.principal.ensures c.action.ensures c.resource.ensures c.refuse_extra.ensures)

@@ -1,20 +1,20 @@
-use Rattle.std.proofs.Common.{◌≡◌, ◌∙◌, ◌+◌, ◌<◌, ◌^◌, suc, sym, subst, length, take, ap, arith}
+use Rattle.std.proofs.Common.{◌≡◌, ◌+◌, ◌<◌, ◌^◌, suc, sym, subst, length, take, ap, arith}
 use Rattle.std.specs.Iterator.Adapters.{enumerate_count, enumerate_source}
 use Rattle.std.specs.Vec.Iter.{into_iter_items, into_iter_len}
 use Rattle.std.proofs.lemmas.Iterator.Adapters.{YieldsList-from_vec}
 use Rattle.std.proofs.lemmas.Iterator.Consumers.{YieldsList-turn, YieldsList-end, YieldsList-from_enumerate}
 use Rattle.std.proofs.lemmas.List.{length_push}
 use Rattle.std.proofs.lemmas.List.FromFn.{length-enumerate_from}
-use Rattle.cedar_policy_conversion.specs.Policies.{policies_from, set_outcome, template_outcome}
+use Rattle.cedar_policy_conversion.specs.Policies.{policies_from, template_outcome}
 use Rattle.cedar_policy_conversion.specs.PolicyMeaning.{policy_id}
 use Rattle.cedar_conversion.specs.outcome.Seen.{Gives}
 use Rattle.cedar_conversion.specs.strict.Table.{table_of}
 use Rattle.cedar_policy_conversion.specs.Policies.{either_outcome, either_parts}
-use Rattle.cedar_policy_conversion.specs.machines.Filled.{set_view}
+use Rattle.cedar_policy_conversion.specs.machines.Filled.{seen_policies, set_view}
 use Rattle.cedar_conversion.proofs.Loops.{take_whole}
 use Rattle.cedar_conversion.proofs.Outcomes.{gives_at}
 use Rattle.cedar_policy_conversion.proofs.FreeNames.{HasName, IsFreeFrom, free_behind, free_first, free_for, named}
-use Rattle.cedar_policy_conversion.proofs.SetSteps.{nothing_kept, numbered_next, set_next}
+use Rattle.cedar_policy_conversion.proofs.SetSteps.{meant_alone, nothing_kept, numbered_next, placed_alone, set_next}
 use Rattle.cedar_policy_conversion.proofs.sets.own_policies.Goals as goal
 
 pub loop-count-init : goal.loop-count-init
@@ -59,8 +59,8 @@ loop-count-preserved c =
           (c.one_more-all.ensures.told (policies_from e 0 (take done nodes)) (template_outcome e (policy_id done) c.in-Some.node) c.loop-count.invariant.1 one),
     )
 
-pub returns : goal.returns
-returns c =
+pub returns-clause-meant : goal.returns-clause-meant
+returns-clause-meant c =
     let e = table_of c.args.styles.now in
     let nodes = c.args.nodes.items in
     let i = c.into_iter-count-iterator.result in
@@ -70,4 +70,17 @@ returns c =
     let all = YieldsList-from_enumerate {s = i} (YieldsList-from_vec {s = enumerate_source i} nodes items len) none in
     let t = YieldsList-end all c.loop-count.yielded c.loop-count.count-iterator c.loop-count.yielded_by c.next.result c.next.new.self c.in-None.is c.next.ensures.steps in
     let whole : take (length c.loop-count.yielded) nodes ≡ nodes = take_whole nodes (length c.loop-count.yielded) (omega (arith, t.1, length-enumerate_from 0 nodes)) in
-    c.filled.ensures (set_outcome e nodes) (gives_at (set_view c.loop-count.set) c.loop-count.all _ _ (ap (set_outcome e) (sym whole)) c.loop-count.invariant.1)
+    meant_alone c.filled.result (policies_from e 0 nodes) (c.filled.ensures (seen_policies e nodes) (gives_at (set_view c.loop-count.set) c.loop-count.all _ _ (ap (seen_policies e) (sym whole)) c.loop-count.invariant.1))
+
+pub returns-clause-placed : goal.returns-clause-placed
+returns-clause-placed c =
+    let e = table_of c.args.styles.now in
+    let nodes = c.args.nodes.items in
+    let i = c.into_iter-count-iterator.result in
+    let items : into_iter_items (enumerate_source i) ≡ nodes = cc in
+    let len : into_iter_len (enumerate_source i) ≡ length nodes = cc in
+    let none : enumerate_count i ≡ 0 = cc in
+    let all = YieldsList-from_enumerate {s = i} (YieldsList-from_vec {s = enumerate_source i} nodes items len) none in
+    let t = YieldsList-end all c.loop-count.yielded c.loop-count.count-iterator c.loop-count.yielded_by c.next.result c.next.new.self c.in-None.is c.next.ensures.steps in
+    let whole : take (length c.loop-count.yielded) nodes ≡ nodes = take_whole nodes (length c.loop-count.yielded) (omega (arith, t.1, length-enumerate_from 0 nodes)) in
+    placed_alone c.filled.result (policies_from e 0 nodes) (c.filled.ensures (seen_policies e nodes) (gives_at (set_view c.loop-count.set) c.loop-count.all _ _ (ap (seen_policies e) (sym whole)) c.loop-count.invariant.1))

@@ -1,7 +1,9 @@
 use Rattle.std.proofs.Common.{◌≡◌, Some, subst, sym}
 use Rattle.cedar_conversion.specs.strict.Table.{table_of}
 use Rattle.cedar_policy_conversion.specs.GeneratedIds.{GivesNext, named_policies, remaining_nodes}
+use Rattle.cedar_policy_conversion.specs.Policies.{policies_from}
 use Rattle.cedar_policy_conversion.proofs.NumberedSets.{first_kept, next_free, next_kept, whole_kept}
+use Rattle.cedar_policy_conversion.proofs.SetSteps.{meant_alone, placed_alone}
 use Rattle.cedar_policy_conversion.proofs.sets.policies.Goals as goal
 
 pub loop-item-init : goal.loop-item-init
@@ -22,6 +24,12 @@ loop-item-preserved c =
     next_kept (table_of c.args.styles.now) c.args.nodes.now c.requires ids c.next.new.self c.loop-item.set c.loop-item.all c.loop-item.invariant c.in_ok-id.id c.in_ok-id.node.now is c.static_or_template.result c.static_or_template.ensures
     c.one_more-all.new.set c.one_more-all.result c.one_more-all.ensures.named c.one_more-all.ensures.told
 
-pub returns : goal.returns
-returns c =
-    c.filled.ensures _ (whole_kept (table_of c.args.styles.now) c.args.nodes.now c.loop-item.item-iterator c.loop-item.set c.loop-item.all c.loop-item.invariant c.in-None.ensures.steps.0)
+pub returns-clause-meant : goal.returns-clause-meant
+returns-clause-meant c =
+    meant_alone c.filled.result (policies_from (table_of c.args.styles.now) 0 c.args.nodes.now) (
+    c.filled.ensures _ (whole_kept (table_of c.args.styles.now) c.args.nodes.now c.loop-item.item-iterator c.loop-item.set c.loop-item.all c.loop-item.invariant c.in-None.ensures.steps.0))
+
+pub returns-clause-placed : goal.returns-clause-placed
+returns-clause-placed c =
+    placed_alone c.filled.result (policies_from (table_of c.args.styles.now) 0 c.args.nodes.now) (
+    c.filled.ensures _ (whole_kept (table_of c.args.styles.now) c.args.nodes.now c.loop-item.item-iterator c.loop-item.set c.loop-item.all c.loop-item.invariant c.in-None.ensures.steps.0))

@@ -1,5 +1,5 @@
 use Rattle.cedar_conversion.specs.outcome.Seen.{itself}
-use Rattle.cedar_conversion.proofs.Outcomes.{gives_at, refuses}
+use Rattle.cedar_conversion.proofs.Outcomes.{gives_at, refuses, refuses_with}
 use Rattle.cedar_policy_conversion.proofs.ReferredNodes as node
 use Rattle.cedar_policy_conversion.proofs.to_ref_or_refs.referred_at.Goals as goal
 
@@ -13,7 +13,7 @@ pub returns-in-Some-EList : goal.returns-in-Some-EList
 returns-in-Some-EList g c = gives_at itself c.create_multiple_refs.result _ _ (node.list_referred g.T.RefKind.kind c.args.var c.args.node.now _ _ c.in-Some-EList.is (rw c.in-Some-EList.is at c.in-Some-EList.field-0-is)) (rw c.as_slice.ensures at c.create_multiple_refs.ensures)
 
 pub returns-in-Some-Literal : goal.returns-in-Some-Literal
-returns-in-Some-Literal g c = refuses c.literal_found.result _ _ _ (node.literal_referred g.T.RefKind.kind c.args.var c.args.node.now _ _ c.in-Some-Literal.is (rw c.in-Some-Literal.is at c.in-Some-Literal.field-0-is)) c.literal_found.ensures
+returns-in-Some-Literal g c = refuses_with c.literal_found.result _ _ _ _ (node.literal_referred g.T.RefKind.kind c.args.var c.args.node.now _ _ c.in-Some-Literal.is (rw c.in-Some-Literal.is at c.in-Some-Literal.field-0-is)) c.literal_found.ensures
 
 pub returns-in-Some-Name : goal.returns-in-Some-Name
 returns-in-Some-Name g c = refuses c.name_found.result _ _ _ (node.name_referred g.T.RefKind.kind c.args.var c.args.node.now _ _ c.in-Some-Name.is (rw c.in-Some-Name.is at c.in-Some-Name.field-0-is)) c.name_found.ensures

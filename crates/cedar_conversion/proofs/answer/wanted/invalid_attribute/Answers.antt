@@ -1,8 +1,9 @@
 use Rattle.std.proofs.Common.{refl}
 use Rattle.cedar_syntax.specs.declared.err.to_ast.ToASTErrorKind.TheVariants.{InvalidAttribute}
+use Rattle.cedar_conversion.specs.outcome.Detail.{nothing}
 use Rattle.cedar_conversion.specs.outcome.Outcome.{invalid_attribute}
 use Rattle.cedar_conversion.proofs.Outcomes.{made_of_kind}
 use Rattle.cedar_conversion.proofs.answer.wanted.invalid_attribute.Goals as goal
 
 pub returns : goal.returns
-returns c = c.refusal_with.ensures invalid_attribute (made_of_kind _ _ (λ x. InvalidAttribute x) invalid_attribute (λ x. refl) c.map-kind.ensures.cases)
+returns c = c.refusal_with.ensures invalid_attribute nothing (made_of_kind _ _ (λ x. InvalidAttribute x) invalid_attribute (λ x. (refl, refl)) c.map-kind.ensures.cases)

@@ -1,4 +1,3 @@
-use Rattle.std.proofs.Common.{[], ◌∷◌}
 use Rattle.cedar_conversion.specs.machines.Nested.{lent_nodes}
 use Rattle.cedar_conversion.specs.machines.Taking.{LeadTo}
 use Rattle.cedar_conversion.proofs.Weights.{all_weight}

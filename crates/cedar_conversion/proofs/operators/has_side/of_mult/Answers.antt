@@ -1,14 +1,31 @@
-use Rattle.cedar_syntax.specs.trees.Forms.{mult_form}
+use Rattle.std.proofs.Common.{◌∙◌}
+use Rattle.cedar_conversion.specs.parts.HasSide.{right_side}
 use Rattle.cedar_conversion.specs.machines.Applied.{seen_attributes}
-use Rattle.cedar_conversion.proofs.Outcomes.{gives_at, refuses}
-use Rattle.cedar_conversion.proofs.RightSides.{mult_side, no_side, on_none, on_part}
+use Rattle.cedar_conversion.proofs.Outcomes.{given_next, gives_at, passed_on, refused_next}
+use Rattle.cedar_conversion.proofs.RightSides.{below_mult, below_unary, below_member}
 use Rattle.cedar_conversion.proofs.operators.has_side.of_mult.Goals as goal
 
-pub returns-in-Some-alone : goal.returns-in-Some-alone
-returns-in-Some-alone g c = gives_at seen_attributes c.of_unary.result _ _ (on_part c.args.side.loc.now _ _ _ (mult_side c.args.side.loc.now c.args.node.now _ c.in-Some.is) (rw c.in-Some-alone.is at c.alone.ensures.part)) c.of_unary.ensures
+pub returns-in_err-unary : goal.returns-in_err-unary
+returns-in_err-unary g c =
+    gives_at seen_attributes c.from_residual.result _ _ (below_mult c.args.side.loc.now c.args.node.now)
+    (passed_on seen_attributes c.from_residual.result c.in_err-unary.field-0.0 _ c.from_residual.ensures.1 (refused_next c.in_err-unary.field-0.0 _ (right_side c.args.side.loc.now) c.in_err-unary.ensures))
 
-pub returns-in-None-alone : goal.returns-in-None-alone
-returns-in-None-alone g c = refuses c.invalid_has_rhs.result _ _ _ (on_none c.args.side.loc.now _ _ (mult_side c.args.side.loc.now c.args.node.now _ c.in-Some.is) (rw c.in-None-alone.is at c.alone.ensures.part)) c.invalid_has_rhs.ensures
+pub returns-in_err-member : goal.returns-in_err-member
+returns-in_err-member g c =
+    gives_at seen_attributes c.from_residual-in_err-member.result _ _
+    (below_mult c.args.side.loc.now c.args.node.now ∙ given_next _ _ (right_side c.args.side.loc.now) c.in_ok-unary.ensures ∙ below_unary c.args.side.loc.now c.in_ok-unary.unary.now)
+    (passed_on seen_attributes c.from_residual-in_err-member.result c.in_err-member.field-0.0 _ c.from_residual-in_err-member.ensures.1 (refused_next c.in_err-member.field-0.0 _ (right_side c.args.side.loc.now) c.in_err-member.ensures))
 
-pub returns-in-None : goal.returns-in-None
-returns-in-None g c = refuses c.empty_node.result _ _ _ (no_side c.args.side.loc.now mult_form c.args.node.now c.in-None.is) c.empty_node.ensures
+pub returns-in_err-inner : goal.returns-in_err-inner
+returns-in_err-inner g c =
+    gives_at seen_attributes c.from_residual-in_err-inner.result _ _
+    (below_mult c.args.side.loc.now c.args.node.now ∙ given_next _ _ (right_side c.args.side.loc.now) c.in_ok-unary.ensures ∙ below_unary c.args.side.loc.now c.in_ok-unary.unary.now
+    ∙ given_next _ _ (right_side c.args.side.loc.now) c.in_ok-member.ensures ∙ below_member c.args.side.loc.now c.in_ok-member.member.now)
+    (passed_on seen_attributes c.from_residual-in_err-inner.result c.in_err-inner.field-0.0 _ c.from_residual-in_err-inner.ensures.1 (refused_next c.in_err-inner.field-0.0 _ _ c.in_err-inner.ensures))
+
+pub returns : goal.returns
+returns g c =
+    gives_at seen_attributes c.begins_with.result _ _
+    (below_mult c.args.side.loc.now c.args.node.now ∙ given_next _ _ (right_side c.args.side.loc.now) c.in_ok-unary.ensures ∙ below_unary c.args.side.loc.now c.in_ok-unary.unary.now
+    ∙ given_next _ _ (right_side c.args.side.loc.now) c.in_ok-member.ensures ∙ below_member c.args.side.loc.now c.in_ok-member.member.now ∙ given_next _ _ _ c.in_ok-inner.ensures)
+    (rw c.as_slice.ensures at c.begins_with.ensures)

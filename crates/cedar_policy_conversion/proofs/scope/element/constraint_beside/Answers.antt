@@ -8,5 +8,5 @@ use Rattle.cedar_policy_conversion.proofs.scope.element.constraint_beside.Goals 
 pub returns-in-Ok : goal.returns-in-Ok
 returns-in-Ok c =
     gives_at itself c.operator_constraint.result _ _
-    (made_right (table_of c.args.site.styles.now) entity_or_slot c.args.var c.args.ineq.now.0 c.args.ineq.now.1 c.in-Ok.reference _ _ (rw c.in-Ok.is at c.to_ref_or_refs.ensures))
+    (made_right (table_of c.args.site.styles.now) entity_or_slot c.args.var c.args.ineq.now.0 c.args.ineq.now.1 c.in-Ok.reference _ _ (rw c.in-Ok.is at c.to_ref_or_refs-answer.ensures))
     c.operator_constraint.ensures

@@ -1,7 +1,0 @@
-use Rattle.std.proofs.Common.{◌≡◌}
-use Rattle.cedar_expressions.specs.Value as v
-use Rattle.cedar_conversion.specs.strict.Strict.{iteration}
-use Rattle.cedar_conversion.proofs.operators.signs.repeat_neg.Given as goal
-
-abbrev pub invariant-loop-i : goal.invariant-loop-i
-invariant-loop-i g l = g.B.ExprBuilderInfallibleBuild.meaning l.all ≡ iteration l.i v.neg (g.B.ExprBuilderInfallibleBuild.meaning l.fn.inner)

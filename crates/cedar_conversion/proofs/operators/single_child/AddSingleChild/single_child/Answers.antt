@@ -1,0 +1,14 @@
+use Rattle.std.proofs.Common.{ap, sym, ◌∙◌}
+use Rattle.cedar_syntax.specs.declared.cst.Add.{out-Add}
+use Rattle.cedar_syntax.specs.trees.Forms.{mult_form, add_operand}
+use Rattle.cedar_syntax.specs.trees.Tree.{sum}
+use Rattle.cedar_syntax.proofs.FormLevels.{add_out}
+use Rattle.cedar_conversion.specs.outcome.LonePart.{lone_part}
+use Rattle.cedar_conversion.proofs.LoneParts.{only_below, only_of_chain}
+use Rattle.cedar_conversion.proofs.operators.single_child.AddSingleChild.single_child.Goals as goal
+
+pub returns-clause-part : goal.returns-clause-part
+returns-clause-part c = only_of_chain sum mult_form _ add_operand (out-Add c.args.self.now).extended c.only.result (rw c.as_slice.ensures at c.only.ensures) ∙ sym (ap lone_part (add_out c.args.self.now))
+
+pub returns-clause-below : goal.returns-clause-below
+returns-clause-below c = only_below (out-Add c.args.self.now).initial _ c.only.result c.only.ensures
