@@ -9,6 +9,7 @@ mod finish;
 mod levels;
 mod operand;
 mod plan;
+pub mod spanned;
 pub mod start_symbols;
 pub mod state;
 mod step;

@@ -4,5 +4,4 @@
 
 pub mod expression;
 pub mod laws;
-mod node_builder;
 pub mod words;

@@ -2,7 +2,6 @@ pub mod ExpressionPlaces
 pub mod ExpressionTokens
 pub mod Lying
 pub mod MadeExpressions
-pub mod Newest
 pub mod PolicyPlaces
 pub mod Quotes
 pub mod WordPlaces

@@ -6,4 +6,3 @@ pub mod Mending
 pub mod Recovery
 pub mod SingleTokens
 pub mod Skipping
-pub mod Stacks

@@ -5,15 +5,17 @@ ghost use Rattle.cedar_lexer.specs.declared.token.TokenKind.TheVariants as kind;
 ghost use Rattle.cedar_grammar.specs.grammar.WrittenTokens.{Written};
 ghost use Rattle.cedar_policy_machine.specs.machines.Annotation.{annotation_shape, annotation_opening, annotation_filling, annotation_closing, has_key, wants_value, has_value};
 
-use cedar_expressions::Source;
 use cedar_grammar::never;
 use cedar_grammar::reading::driver::PushParser;
-use cedar_grammar::reading::put::{put, take_node};
+use cedar_grammar::reading::node_builder::NodeBuilder;
+use cedar_grammar::reading::put::take_node;
+use cedar_grammar::reading::token_read::TokenRead;
 use cedar_grammar::reading::tokens::{ident_node, if_ident, string_node};
 use cedar_lexer::token::{Token, TokenKind};
 use cedar_syntax::cst::{Annotation, Ident, Str};
 use cedar_syntax::node::Node;
 use std::alloc::{AllocError, Global};
+use std::mem;
 
 /// What has been read of an annotation.
 #[derive(Drop)]
@@ -50,6 +52,15 @@ pub fn if_mark<A: Drop>(is_mark: bool, act: A) -> Option<A>
 }
 
 impl AnnotationState {
+    /// What has been read becomes this. What stands there holds no memory: its nodes are taken out
+    /// before. So nothing is let go, and the compiler copies nothing out of the state to do so.
+    #[inline(always)]
+    fn set(&mut self, next: AnnotationState)
+        ensures { self.new ≡ next }
+    {
+        mem::forget(mem::replace(self, next));
+    }
+
     /// `(` behind the key.
     fn open(&mut self)
         requires { annotation_shape self.old ≡ has_key }
@@ -58,24 +69,24 @@ impl AnnotationState {
         match self {
             AnnotationState::Key(key) => {
                 let key = take_node(key);
-                put(self, AnnotationState::Open(key));
+                self.set(AnnotationState::Open(key));
             }
             _ => never!(),
         }
     }
 
     /// The string behind `(`.
-    fn fill(&mut self, alloc: Global, source: &Source, token: &Token<'_>) -> Result<(), AllocError>
+    fn fill(&mut self, builder: NodeBuilder<'_>, token: &Token<'_>) -> Result<(), AllocError>
         requires written { Written kind.StringLit token.now.text.now }
         requires open { annotation_shape self.old ≡ wants_value }
         ensures { OnOk result (Some self.new
-            ≡ annotation_filling source.now self.old (lexeme_of token.now)) }
+            ≡ annotation_filling builder.entry.source.now self.old (lexeme_of token.now)) }
     {
         match self {
             AnnotationState::Open(key) => {
-                let value = string_node(alloc, source, token)?;
+                let value = string_node(builder, token)?;
                 let key = take_node(key);
-                put(self, AnnotationState::Value(key, value));
+                self.set(AnnotationState::Value(key, value));
                 Ok(())
             }
             _ => never!(),
@@ -91,7 +102,7 @@ impl AnnotationState {
             AnnotationState::Value(key, value) => {
                 let key = take_node(key);
                 let value = take_node(value);
-                put(self, AnnotationState::Closed(key, value));
+                self.set(AnnotationState::Closed(key, value));
             }
             _ => never!(),
         }
@@ -139,25 +150,24 @@ impl PushParser<Annotation> for AnnotationState {
 
     fn act(
         &mut self,
-        alloc: Global,
-        source: &Source,
+        builder: NodeBuilder<'_>,
         act: AnnotationAct,
         token: &Token<'_>,
-    ) -> Result<bool, AllocError> {
+    ) -> Result<TokenRead, AllocError> {
         match act {
-            AnnotationAct::Mark => put(self, AnnotationState::At),
+            AnnotationAct::Mark => self.set(AnnotationState::At),
             AnnotationAct::Key => {
-                let key = ident_node(alloc, source, token)?;
-                put(self, AnnotationState::Key(key));
+                let key = ident_node(builder, token)?;
+                self.set(AnnotationState::Key(key));
             }
             AnnotationAct::Open => self.open(),
-            AnnotationAct::Value => self.fill(alloc, source, token)?,
+            AnnotationAct::Value => self.fill(builder, token)?,
             AnnotationAct::Close => self.close(),
         }
-        Ok(true)
+        Ok(TokenRead::Done)
     }
 
-    fn finish(&mut self, alloc: Global, source: &Source) -> Result<Annotation, AllocError> {
+    fn finish(&mut self, builder: NodeBuilder<'_>) -> Result<Annotation, AllocError> {
         match self {
             AnnotationState::Key(key) => Ok(Annotation {
                 key: take_node(key),

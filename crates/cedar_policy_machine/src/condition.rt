@@ -7,10 +7,11 @@ ghost use Rattle.cedar_policy_machine.specs.declared.condition.ConditionPart.The
 ghost use Rattle.cedar_policy_machine.specs.machines.Condition.{condition_state, body_going, in_body, behind_body, condition_reader, IsBodyPlan, HasBody};
 
 use crate::annotation::if_mark;
-use cedar_expressions::Source;
 use cedar_grammar::never;
 use cedar_grammar::reading::driver::PushParser;
+use cedar_grammar::reading::node_builder::NodeBuilder;
 use cedar_grammar::reading::put::{put, take_node};
+use cedar_grammar::reading::token_read::TokenRead;
 use cedar_grammar::reading::tokens::{ident_node, if_ident};
 use cedar_lexer::token::{Token, TokenKind};
 use cedar_syntax::cst::{Cond, Expr, Ident};
@@ -57,37 +58,36 @@ impl<E: PushParser<Node<Option<Expr>>>> ConditionState<E> {
     #[inline(never)]
     fn enter(
         &mut self,
-        alloc: Global,
-        source: &Source,
+        builder: NodeBuilder<'_>,
         act: E::Act,
         token: &Token<'_>,
-    ) -> Result<bool, AllocError>
+    ) -> Result<TokenRead, AllocError>
         requires written { IsWritten (lexeme_of token.now) }
         requires is_planned { E.reader.plan E.reader.start token.now.kind ≡ Some act }
-        ensures { IfOk result (λ fits. done_as fits self.new
-            ≡ body_going self.old (E.reader.act source.now E.reader.start act
+        ensures { IfOk result (λ read. done_as read self.new
+            ≡ body_going self.old (E.reader.act builder.entry.source.now E.reader.start act
             (lexeme_of token.now))) }
     {
-        put(&mut self.part, ConditionPart::Body(E::start(alloc)));
-        self.go_on(alloc, source, act, token)
+        put(&mut self.part, ConditionPart::Body(E::start(builder.alloc)));
+        self.go_on(builder, act, token)
     }
 
     /// A token of the body.
     #[inline(always)]
     fn go_on(
         &mut self,
-        alloc: Global,
-        source: &Source,
+        builder: NodeBuilder<'_>,
         act: E::Act,
         token: &Token<'_>,
-    ) -> Result<bool, AllocError>
+    ) -> Result<TokenRead, AllocError>
         requires written { IsWritten (lexeme_of token.now) }
         requires is_planned { IsBodyPlan E.reader.plan self.old.part token.now.kind act }
-        ensures { IfOk result (λ fits. done_as fits self.new
-            ≡ in_body source.now E.reader self.old self.old.part act (lexeme_of token.now)) }
+        ensures { IfOk result (λ read. done_as read self.new
+            ≡ in_body builder.entry.source.now E.reader self.old self.old.part act
+            (lexeme_of token.now)) }
     {
         match &mut self.part {
-            ConditionPart::Body(held) => held.act(alloc, source, act, token),
+            ConditionPart::Body(held) => held.act(builder, act, token),
             _ => never!(),
         }
     }
@@ -120,14 +120,14 @@ impl<E: PushParser<Node<Option<Expr>>>> ConditionState<E> {
 
     /// `}` behind the body, which has ended.
     #[inline(never)]
-    fn close(&mut self, alloc: Global, source: &Source) -> Result<(), AllocError>
+    fn close(&mut self, builder: NodeBuilder<'_>) -> Result<(), AllocError>
         requires { HasBody E.reader.ends self.old.part }
         ensures { OnOk result (Some self.new
-            ≡ behind_body source.now E.reader self.old self.old.part) }
+            ≡ behind_body builder.entry.source.now E.reader self.old self.old.part) }
     {
         match &mut self.part {
             ConditionPart::Body(held) => {
-                let body = held.finish(alloc, source)?;
+                let body = held.finish(builder)?;
                 put(&mut self.part, ConditionPart::Closed(Some(body)));
                 Ok(())
             }
@@ -139,35 +139,34 @@ impl<E: PushParser<Node<Option<Expr>>>> ConditionState<E> {
     #[inline(never)]
     fn act_around(
         &mut self,
-        alloc: Global,
-        source: &Source,
+        builder: NodeBuilder<'_>,
         act: ConditionAct<E::Act>,
         token: &Token<'_>,
-    ) -> Result<bool, AllocError>
+    ) -> Result<TokenRead, AllocError>
         requires written { IsWritten (lexeme_of token.now) }
         requires is_planned { (condition_reader E.reader).plan self.old token.now.kind
             ≡ Some act }
-        ensures { IfOk result (λ fits. done_as fits self.new ≡ (condition_reader E.reader).act
-            source.now self.old act (lexeme_of token.now)) }
+        ensures { IfOk result (λ read. done_as read self.new ≡ (condition_reader E.reader).act
+            builder.entry.source.now self.old act (lexeme_of token.now)) }
     {
         match act {
-            ConditionAct::Body(act) => self.go_on(alloc, source, act, token),
-            ConditionAct::First(act) => self.enter(alloc, source, act, token),
+            ConditionAct::Body(act) => self.go_on(builder, act, token),
+            ConditionAct::First(act) => self.enter(builder, act, token),
             ConditionAct::Word => {
-                self.name(ident_node(alloc, source, token)?);
-                Ok(true)
+                self.name(ident_node(builder, token)?);
+                Ok(TokenRead::Done)
             }
             ConditionAct::Open => {
                 self.open();
-                Ok(true)
+                Ok(TokenRead::Done)
             }
             ConditionAct::Close => {
-                self.close(alloc, source)?;
-                Ok(true)
+                self.close(builder)?;
+                Ok(TokenRead::Done)
             }
             ConditionAct::CloseEmpty => {
                 self.close_empty();
-                Ok(true)
+                Ok(TokenRead::Done)
             }
         }
     }
@@ -226,22 +225,21 @@ impl<E: PushParser<Node<Option<Expr>>>> PushParser<Cond> for ConditionState<E> {
     #[inline(always)]
     fn act(
         &mut self,
-        alloc: Global,
-        source: &Source,
+        builder: NodeBuilder<'_>,
         act: ConditionAct<E::Act>,
         token: &Token<'_>,
-    ) -> Result<bool, AllocError> {
+    ) -> Result<TokenRead, AllocError> {
         match act {
-            ConditionAct::Body(act) => self.go_on(alloc, source, act, token),
+            ConditionAct::Body(act) => self.go_on(builder, act, token),
             ConditionAct::First(_)
             | ConditionAct::Word
             | ConditionAct::Open
             | ConditionAct::Close
-            | ConditionAct::CloseEmpty => self.act_around(alloc, source, act, token),
+            | ConditionAct::CloseEmpty => self.act_around(builder, act, token),
         }
     }
 
-    fn finish(&mut self, alloc: Global, source: &Source) -> Result<Cond, AllocError> {
+    fn finish(&mut self, builder: NodeBuilder<'_>) -> Result<Cond, AllocError> {
         match &mut self.part {
             ConditionPart::Closed(expr) => Ok(Cond {
                 cond: take_node(&mut self.word),

@@ -7,10 +7,12 @@ use crate::policy::{
     AnnotationSequence, Begun, ConditionSequence, ElementSequence, PolicyState, Section,
 };
 use crate::sequence::{Sequence, SequenceAct, SpannedState};
-use cedar_expressions::{Items, Source};
+use cedar_expressions::Items;
 use cedar_grammar::reading::driver::PushParser;
+use cedar_grammar::reading::node_builder::NodeBuilder;
 use cedar_grammar::reading::put::put;
 use cedar_grammar::reading::recovery::{Recovering, RecoveryWay};
+use cedar_grammar::reading::token_read::TokenRead;
 use cedar_lexer::token::{Token, TokenKind};
 use cedar_syntax::cst::{Add, Expr, Name, Policy};
 use cedar_syntax::node::Node;
@@ -155,20 +157,18 @@ where
     #[inline(always)]
     fn act(
         &mut self,
-        alloc: Global,
-        source: &Source,
+        builder: NodeBuilder<'_>,
         act: PoliciesAct<N, S, E>,
         token: &Token<'_>,
-    ) -> Result<bool, AllocError> {
-        self.act_many(alloc, source, act, token)
+    ) -> Result<TokenRead, AllocError> {
+        self.act_many(builder, act, token)
     }
 
     fn finish(
         &mut self,
-        alloc: Global,
-        source: &Source,
+        builder: NodeBuilder<'_>,
     ) -> Result<Items<Node<Option<Policy>>>, AllocError> {
-        self.take(alloc, source)
+        self.take(builder)
     }
 }
 

@@ -10,9 +10,11 @@ use crate::annotation::{AnnotationAct, AnnotationState, if_mark};
 use crate::condition::{ConditionAct, ConditionState};
 use crate::scope::{ElementAct, ElementState};
 use crate::sequence::{Sequence, SequenceAct, SpannedState};
-use cedar_expressions::{Items, Source};
+use cedar_expressions::Items;
 use cedar_grammar::reading::driver::PushParser;
+use cedar_grammar::reading::node_builder::NodeBuilder;
 use cedar_grammar::reading::put::{put, take_node};
+use cedar_grammar::reading::token_read::TokenRead;
 use cedar_grammar::reading::tokens::{ident_node, if_ident};
 use cedar_lexer::token::{Token, TokenKind};
 use cedar_syntax::cst::{
@@ -125,17 +127,18 @@ where
 
     /// The effect behind the annotations.
     #[inline(never)]
-    fn name(&mut self, alloc: Global, source: &Source, token: &Token<'_>) -> Result<(), AllocError>
+    fn name(&mut self, builder: NodeBuilder<'_>, token: &Token<'_>) -> Result<(), AllocError>
         requires ended { IsTrue (
             (sections (readers_of N.reader S.reader E.reader)).annotations.ends
             self.old.annotations) }
         requires word { IsTrue (is_word token.now.kind) }
         ensures { OnOk result (effect_read self.old
-            ((sections (readers_of N.reader S.reader E.reader)).annotations.finish source.now
-            self.old.annotations) (any_node source.now (lexeme_of token.now)) ≡ Some self.new) }
+            ((sections (readers_of N.reader S.reader E.reader)).annotations.finish
+            builder.entry.source.now self.old.annotations)
+            (any_node builder.entry.source.now (lexeme_of token.now)) ≡ Some self.new) }
     {
-        self.annotations.end_item(alloc, source)?;
-        put(&mut self.effect, ident_node(alloc, source, token)?);
+        self.annotations.end_item(builder)?;
+        put(&mut self.effect, ident_node(builder, token)?);
         self.section = Section::Effect;
         Ok(())
     }
@@ -243,46 +246,45 @@ where
     #[inline(always)]
     fn act(
         &mut self,
-        alloc: Global,
-        source: &Source,
+        builder: NodeBuilder<'_>,
         act: PolicyAct<
             SequenceAct<AnnotationAct>,
             SequenceAct<ElementAct<N::Act, S::Act, E::Act>>,
             SequenceAct<ConditionAct<E::Act>>,
         >,
         token: &Token<'_>,
-    ) -> Result<bool, AllocError> {
+    ) -> Result<TokenRead, AllocError> {
         match act {
-            PolicyAct::Condition(act) => self.conditions.act_many(alloc, source, act, token),
-            PolicyAct::Element(act) => self.scope.act_many(alloc, source, act, token),
-            PolicyAct::Annotation(act) => self.annotations.act_many(alloc, source, act, token),
+            PolicyAct::Condition(act) => self.conditions.act_many(builder, act, token),
+            PolicyAct::Element(act) => self.scope.act_many(builder, act, token),
+            PolicyAct::Annotation(act) => self.annotations.act_many(builder, act, token),
             PolicyAct::Effect => {
-                self.name(alloc, source, token)?;
-                Ok(true)
+                self.name(builder, token)?;
+                Ok(TokenRead::Done)
             }
             PolicyAct::Open => {
                 self.section = Section::Scope;
-                Ok(true)
+                Ok(TokenRead::Done)
             }
             PolicyAct::Close => {
-                self.scope.end_item(alloc, source)?;
+                self.scope.end_item(builder)?;
                 self.section = Section::Conditions;
-                Ok(true)
+                Ok(TokenRead::Done)
             }
             PolicyAct::Shut => {
-                self.conditions.end_item(alloc, source)?;
+                self.conditions.end_item(builder)?;
                 self.section = Section::Closed;
-                Ok(true)
+                Ok(TokenRead::Done)
             }
         }
     }
 
-    fn finish(&mut self, alloc: Global, source: &Source) -> Result<Policy, AllocError> {
+    fn finish(&mut self, builder: NodeBuilder<'_>) -> Result<Policy, AllocError> {
         Ok(Policy::Policy(PolicyImpl {
-            annotations: mem::replace(&mut self.annotations.done, Items::new(alloc)),
+            annotations: mem::replace(&mut self.annotations.done, Items::new(builder.alloc)),
             effect: take_node(&mut self.effect),
-            variables: mem::replace(&mut self.scope.done, Items::new(alloc)),
-            conds: mem::replace(&mut self.conditions.done, Items::new(alloc)),
+            variables: mem::replace(&mut self.scope.done, Items::new(builder.alloc)),
+            conds: mem::replace(&mut self.conditions.done, Items::new(builder.alloc)),
         }))
     }
 }

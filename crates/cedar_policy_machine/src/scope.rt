@@ -4,11 +4,12 @@ ghost use Rattle.cedar_syntax.specs.trees.Trees.{variable_def_of};
 ghost use Rattle.cedar_policy_machine.specs.declared.scope.ElementPart.TheVariants as part;
 ghost use Rattle.cedar_policy_machine.specs.machines.Scope.{readers_of, reader_plans, with_variable, element_with_part, compare_plan, narrow_plan, behind_part, sum_beginning, constraint_beginning, element_ends, element_finish, MayLeave};
 
-use cedar_expressions::Source;
 use cedar_grammar::never;
 use cedar_grammar::reading::driver::PushParser;
 use cedar_grammar::reading::mark::as_relation;
+use cedar_grammar::reading::node_builder::NodeBuilder;
 use cedar_grammar::reading::put::{put, take_node};
+use cedar_grammar::reading::token_read::TokenRead;
 use cedar_grammar::reading::tokens::{ident_node, if_ident};
 use cedar_lexer::token::{Token, TokenKind};
 use cedar_syntax::cst::{Add, Expr, Ident, Name, RelOp, VariableDef};
@@ -101,23 +102,23 @@ where
 
     /// A type name or an entity type that has ended is put where it stays.
     #[inline(never)]
-    fn end_part(&mut self, alloc: Global, source: &Source) -> Result<(), AllocError>
+    fn end_part(&mut self, builder: NodeBuilder<'_>) -> Result<(), AllocError>
         requires { MayLeave (reader_plans (readers_of N.reader S.reader E.reader))
             self.old.part }
         ensures slots { OnOk result ((part : _) → element_with_part self.new part
-            ≡ behind_part source.now (readers_of N.reader S.reader E.reader) self.old
+            ≡ behind_part builder.entry.source.now (readers_of N.reader S.reader E.reader) self.old
             self.old.part part) }
         ensures tree { OnOk result (element_finish (readers_of N.reader S.reader E.reader)
-            source.now self.old ≡ Some (variable_def_of self.new.variable
+            builder.entry.source.now self.old ≡ Some (variable_def_of self.new.variable
             self.new.unused_type_name self.new.entity_type None)) }
     {
         match &mut self.part {
             ElementPart::TypeName(held) => {
-                let name = held.finish(alloc, source)?;
+                let name = held.finish(builder)?;
                 put(&mut self.unused_type_name, Some(name));
             }
             ElementPart::EntityType(held) => {
-                let sum = held.finish(alloc, source)?;
+                let sum = held.finish(builder)?;
                 put(&mut self.entity_type, Some(sum));
             }
             ElementPart::Nothing => {}
@@ -128,54 +129,54 @@ where
 
     /// Begins a part behind one that may have ended.
     #[inline(never)]
-    fn begin_sum(&mut self, alloc: Global, source: &Source) -> Result<(), AllocError>
+    fn begin_sum(&mut self, builder: NodeBuilder<'_>) -> Result<(), AllocError>
         requires { MayLeave (reader_plans (readers_of N.reader S.reader E.reader))
             self.old.part }
-        ensures { OnOk result (self.new ≡ sum_beginning source.now
+        ensures { OnOk result (self.new ≡ sum_beginning builder.entry.source.now
             (readers_of N.reader S.reader E.reader) self.old) }
     {
-        self.end_part(alloc, source)?;
-        put(&mut self.part, ElementPart::EntityType(S::start(alloc)));
+        self.end_part(builder)?;
+        put(
+            &mut self.part,
+            ElementPart::EntityType(S::start(builder.alloc)),
+        );
         Ok(())
     }
 
     /// The same, of a constraint.
     #[inline(never)]
-    fn begin_constraint(
-        &mut self,
-        alloc: Global,
-        source: &Source,
-        op: RelOp,
-    ) -> Result<(), AllocError>
+    fn begin_constraint(&mut self, builder: NodeBuilder<'_>, op: RelOp) -> Result<(), AllocError>
         requires { MayLeave (reader_plans (readers_of N.reader S.reader E.reader))
             self.old.part }
-        ensures { OnOk result (self.new ≡ constraint_beginning source.now
+        ensures { OnOk result (self.new ≡ constraint_beginning builder.entry.source.now
             (readers_of N.reader S.reader E.reader) self.old op) }
     {
-        self.end_part(alloc, source)?;
-        put(&mut self.part, ElementPart::Constraint(op, E::start(alloc)));
+        self.end_part(builder)?;
+        put(
+            &mut self.part,
+            ElementPart::Constraint(op, E::start(builder.alloc)),
+        );
         Ok(())
     }
 
     /// What the constraint compares with, where one is begun, which has ended; another part ends.
     fn end_constraint(
         &mut self,
-        alloc: Global,
-        source: &Source,
+        builder: NodeBuilder<'_>,
     ) -> Result<Option<(RelOp, Node<Option<Expr>>)>, AllocError>
         requires { IsTrue (element_ends
             (reader_plans (readers_of N.reader S.reader E.reader)) self.old.part) }
         ensures { IfOk result (λ ineq. element_finish (readers_of N.reader S.reader E.reader)
-            source.now self.old ≡ Some (variable_def_of self.new.variable
+            builder.entry.source.now self.old ≡ Some (variable_def_of self.new.variable
             self.new.unused_type_name self.new.entity_type ineq)) }
     {
         match &mut self.part {
             ElementPart::Constraint(op, held) => {
-                let right = held.finish(alloc, source)?;
+                let right = held.finish(builder)?;
                 Ok(Some((*op, right)))
             }
             _ => {
-                self.end_part(alloc, source)?;
+                self.end_part(builder)?;
                 Ok(None)
             }
         }
@@ -251,45 +252,44 @@ where
 
     fn act(
         &mut self,
-        alloc: Global,
-        source: &Source,
+        builder: NodeBuilder<'_>,
         act: ElementAct<N::Act, S::Act, E::Act>,
         token: &Token<'_>,
-    ) -> Result<bool, AllocError> {
+    ) -> Result<TokenRead, AllocError> {
         match act {
             ElementAct::Constraint(act) => match &mut self.part {
-                ElementPart::Constraint(_, held) => held.act(alloc, source, act, token),
+                ElementPart::Constraint(_, held) => held.act(builder, act, token),
                 _ => never!(),
             },
             ElementAct::EntityType(act) => match &mut self.part {
-                ElementPart::EntityType(held) => held.act(alloc, source, act, token),
+                ElementPart::EntityType(held) => held.act(builder, act, token),
                 _ => never!(),
             },
             ElementAct::TypeName(act) => match &mut self.part {
-                ElementPart::TypeName(held) => held.act(alloc, source, act, token),
+                ElementPart::TypeName(held) => held.act(builder, act, token),
                 _ => never!(),
             },
             ElementAct::Variable => {
-                self.name(ident_node(alloc, source, token)?);
-                Ok(true)
+                self.name(ident_node(builder, token)?);
+                Ok(TokenRead::Done)
             }
             ElementAct::Colon => {
-                self.begin_type_name(alloc);
-                Ok(true)
+                self.begin_type_name(builder.alloc);
+                Ok(TokenRead::Done)
             }
             ElementAct::Is => {
-                self.begin_sum(alloc, source)?;
-                Ok(true)
+                self.begin_sum(builder)?;
+                Ok(TokenRead::Done)
             }
             ElementAct::Compare(op) => {
-                self.begin_constraint(alloc, source, op)?;
-                Ok(true)
+                self.begin_constraint(builder, op)?;
+                Ok(TokenRead::Done)
             }
         }
     }
 
-    fn finish(&mut self, alloc: Global, source: &Source) -> Result<VariableDef, AllocError> {
-        let ineq = self.end_constraint(alloc, source)?;
+    fn finish(&mut self, builder: NodeBuilder<'_>) -> Result<VariableDef, AllocError> {
+        let ineq = self.end_constraint(builder)?;
         Ok(VariableDef {
             variable: take_node(&mut self.variable),
             unused_type_name: self.unused_type_name.take(),

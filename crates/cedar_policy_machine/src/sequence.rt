@@ -7,12 +7,14 @@ ghost use Rattle.cedar_grammar.specs.machines.Machine.{option_image};
 ghost use Rattle.cedar_grammar.specs.machines.Judged.{done_as};
 ghost use Rattle.cedar_policy_machine.specs.machines.Sequences.{sequence, many_plan, list_plan, sequence_ends, sequence_end, item_begun, item_going, items_ended, next_item, sequence_act, IsItemPlan, IsSequencePlan};
 
-use cedar_expressions::{Items, Source};
+use cedar_expressions::Items;
 use cedar_grammar::never;
 use cedar_grammar::reading::driver::PushParser;
 use cedar_grammar::reading::extent::Extent;
-use cedar_grammar::reading::place::{loc_at, token_extent};
+use cedar_grammar::reading::node_builder::NodeBuilder;
+use cedar_grammar::reading::place::token_extent;
 use cedar_grammar::reading::put::put;
+use cedar_grammar::reading::token_read::TokenRead;
 use cedar_lexer::token::{Token, TokenKind};
 use cedar_syntax::node::Node;
 use std::alloc::{AllocError, Global};
@@ -71,18 +73,17 @@ impl<T: Drop, S: PushParser<T>> PushParser<Node<Option<T>>> for SpannedState<S> 
     #[inline(always)]
     fn act(
         &mut self,
-        alloc: Global,
-        source: &Source,
+        builder: NodeBuilder<'_>,
         act: S::Act,
         token: &Token<'_>,
-    ) -> Result<bool, AllocError> {
+    ) -> Result<TokenRead, AllocError> {
         stretch(&mut self.extent, token);
-        self.state.act(alloc, source, act, token)
+        self.state.act(builder, act, token)
     }
 
-    fn finish(&mut self, alloc: Global, source: &Source) -> Result<Node<Option<T>>, AllocError> {
-        let loc = loc_at(source, self.extent)?;
-        match self.state.finish(alloc, source) {
+    fn finish(&mut self, builder: NodeBuilder<'_>) -> Result<Node<Option<T>>, AllocError> {
+        let loc = builder.loc_at(self.extent)?;
+        match self.state.finish(builder) {
             Ok(tree) => Ok(Node {
                 node: Some(tree),
                 loc,
@@ -205,13 +206,13 @@ impl<T: Drop, S: PushParser<T>> Sequence<S, T> {
 
     /// The tree of the item that has ended is put to the others.
     #[inline(never)]
-    fn keep_item(&mut self, alloc: Global, source: &Source) -> Result<(), AllocError>
+    fn keep_item(&mut self, builder: NodeBuilder<'_>) -> Result<(), AllocError>
         requires { IsTrue (sequence_ends S.reader.ends self.old.begun) }
-        ensures { OnOk result (sequence_end (S.reader.finish source.now)
+        ensures { OnOk result (sequence_end (S.reader.finish builder.entry.source.now)
             self.old.done self.old.begun ≡ Some self.new.done) }
     {
         match &mut self.begun {
-            Some(item) => match item.finish(alloc, source) {
+            Some(item) => match item.finish(builder) {
                 Ok(tree) => self.done.push(tree),
                 Err(error) => Err(error),
             },
@@ -221,12 +222,12 @@ impl<T: Drop, S: PushParser<T>> Sequence<S, T> {
 
     /// The item that has ended is put to the others.
     #[inline(never)]
-    pub fn end_item(&mut self, alloc: Global, source: &Source) -> Result<(), AllocError>
+    pub fn end_item(&mut self, builder: NodeBuilder<'_>) -> Result<(), AllocError>
         requires { IsTrue (sequence_ends S.reader.ends self.old.begun) }
-        ensures { OnOk result (items_ended (sequence_end (S.reader.finish source.now)
+        ensures { OnOk result (items_ended (sequence_end (S.reader.finish builder.entry.source.now)
             self.old.done self.old.begun) ≡ Some self.new) }
     {
-        self.keep_item(alloc, source)?;
+        self.keep_item(builder)?;
         self.begun = None;
         Ok(())
     }
@@ -246,56 +247,53 @@ impl<T: Drop, S: PushParser<T>> Sequence<S, T> {
     #[inline(never)]
     fn begin_item(
         &mut self,
-        alloc: Global,
-        source: &Source,
+        builder: NodeBuilder<'_>,
         act: S::Act,
         token: &Token<'_>,
-    ) -> Result<bool, AllocError>
+    ) -> Result<TokenRead, AllocError>
         requires written { IsWritten (lexeme_of token.now) }
         requires is_planned { S.reader.plan S.reader.start token.now.kind ≡ Some act }
-        ensures { IfOk result (λ fits. done_as fits self.new ≡ item_begun self.old.done
-            (S.reader.act source.now S.reader.start act (lexeme_of token.now))) }
+        ensures { IfOk result (λ read. done_as read self.new ≡ item_begun self.old.done
+            (S.reader.act builder.entry.source.now S.reader.start act (lexeme_of token.now))) }
     {
-        self.enter(alloc);
-        self.go_on(alloc, source, act, token)
+        self.enter(builder.alloc);
+        self.go_on(builder, act, token)
     }
 
     /// The first token of an item behind the begun one, which has ended.
     #[inline(never)]
     fn next_item(
         &mut self,
-        alloc: Global,
-        source: &Source,
+        builder: NodeBuilder<'_>,
         act: S::Act,
         token: &Token<'_>,
-    ) -> Result<bool, AllocError>
+    ) -> Result<TokenRead, AllocError>
         requires written { IsWritten (lexeme_of token.now) }
         requires ended { IsTrue (sequence_ends S.reader.ends self.old.begun) }
         requires is_planned { S.reader.plan S.reader.start token.now.kind ≡ Some act }
-        ensures { IfOk result (λ fits. done_as fits self.new ≡ next_item
-            (sequence_end (S.reader.finish source.now) self.old.done self.old.begun)
-            (S.reader.act source.now S.reader.start act (lexeme_of token.now))) }
+        ensures { IfOk result (λ read. done_as read self.new ≡ next_item
+            (sequence_end (S.reader.finish builder.entry.source.now) self.old.done self.old.begun)
+            (S.reader.act builder.entry.source.now S.reader.start act (lexeme_of token.now))) }
     {
-        self.keep_item(alloc, source)?;
-        self.begin_item(alloc, source, act, token)
+        self.keep_item(builder)?;
+        self.begin_item(builder, act, token)
     }
 
     /// A token of the begun item.
     #[inline(always)]
     fn go_on(
         &mut self,
-        alloc: Global,
-        source: &Source,
+        builder: NodeBuilder<'_>,
         act: S::Act,
         token: &Token<'_>,
-    ) -> Result<bool, AllocError>
+    ) -> Result<TokenRead, AllocError>
         requires written { IsWritten (lexeme_of token.now) }
         requires is_planned { IsItemPlan S.reader.plan self.old.begun token.now.kind act }
-        ensures { IfOk result (λ fits. done_as fits self.new ≡ item_going S.reader source.now
-            self.old.done self.old.begun act (lexeme_of token.now)) }
+        ensures { IfOk result (λ read. done_as read self.new ≡ item_going S.reader
+            builder.entry.source.now self.old.done self.old.begun act (lexeme_of token.now)) }
     {
         match &mut self.begun {
-            Some(item) => item.act(alloc, source, act, token),
+            Some(item) => item.act(builder, act, token),
             None => never!(),
         }
     }
@@ -304,34 +302,33 @@ impl<T: Drop, S: PushParser<T>> Sequence<S, T> {
     #[inline(always)]
     pub fn act_many(
         &mut self,
-        alloc: Global,
-        source: &Source,
+        builder: NodeBuilder<'_>,
         act: SequenceAct<S::Act>,
         token: &Token<'_>,
-    ) -> Result<bool, AllocError>
+    ) -> Result<TokenRead, AllocError>
         requires written { IsWritten (lexeme_of token.now) }
         requires is_planned { IsSequencePlan S.reader self.old.begun token.now.kind act }
-        ensures { IfOk result (λ fits. done_as fits self.new
-            ≡ sequence_act S.reader source.now self.old act (lexeme_of token.now)) }
+        ensures { IfOk result (λ read. done_as read self.new
+            ≡ sequence_act S.reader builder.entry.source.now self.old act (lexeme_of token.now)) }
     {
         match act {
-            SequenceAct::On(act) => self.go_on(alloc, source, act, token),
-            SequenceAct::First(act) => self.begin_item(alloc, source, act, token),
-            SequenceAct::Next(act) => self.next_item(alloc, source, act, token),
+            SequenceAct::On(act) => self.go_on(builder, act, token),
+            SequenceAct::First(act) => self.begin_item(builder, act, token),
+            SequenceAct::Next(act) => self.next_item(builder, act, token),
             SequenceAct::Comma => {
-                self.end_item(alloc, source)?;
-                Ok(true)
+                self.end_item(builder)?;
+                Ok(TokenRead::Done)
             }
         }
     }
 
     /// The items that have ended, taken out.
-    pub fn take(&mut self, alloc: Global, source: &Source) -> Result<Items<T>, AllocError>
+    pub fn take(&mut self, builder: NodeBuilder<'_>) -> Result<Items<T>, AllocError>
         requires { IsTrue (sequence_ends S.reader.ends self.old.begun) }
-        ensures { IfOk result (λ items. sequence_end (S.reader.finish source.now)
+        ensures { IfOk result (λ items. sequence_end (S.reader.finish builder.entry.source.now)
             self.old.done self.old.begun ≡ Some items) }
     {
-        self.end_item(alloc, source)?;
-        Ok(mem::replace(&mut self.done, Items::new(alloc)))
+        self.end_item(builder)?;
+        Ok(mem::replace(&mut self.done, Items::new(builder.alloc)))
     }
 }

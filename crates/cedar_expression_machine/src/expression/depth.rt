@@ -2,7 +2,7 @@
 //! says anything of it.
 
 use crate::expression::state::{Branch, State};
-use cedar_grammar::reading::stack::Stack;
+use cedar_syntax::stack::Stack;
 
 /// In an expression that isn't deep at most so many brackets stand in one another: with more, the
 /// calls that drop it would take too much stack.

@@ -4,7 +4,7 @@ ghost use Rattle.cedar_expression_machine.specs.machines.ExpressionModes.{IsRedu
 ghost use Rattle.cedar_expression_machine.specs.machines.WholeExpressions.{state_ends, whole_expression_reader, whole_primary_reader, whole_sum_reader};
 
 use crate::expression::state::{OperandMode, OperandPlace, State};
-use crate::node_builder::NodeBuilder;
+use cedar_grammar::reading::node_builder::NodeBuilder;
 use cedar_syntax::cst::{Add, Expr, Primary};
 use cedar_syntax::node::Node;
 use std::alloc::AllocError;
@@ -45,7 +45,7 @@ impl State {
         self.reduce_last(builder)?;
         let operand = self.take_operand(OperandPlace::Operand);
         let item = self.levels.close_add(builder, operand)?;
-        builder.node_of(item)
+        item.into_node(builder)
     }
 
     /// The primary that has ended. Nothing is said of the state behind it.

@@ -5,11 +5,11 @@ use crate::words::state::{WordsAct, WordsState};
 use cedar_expressions::{Boxed, Items};
 use cedar_grammar::reading::class::{Closing, FollowClass, Sign, SlotToken};
 use cedar_grammar::reading::extent::Extent;
-use cedar_grammar::reading::stack::Stack;
 use cedar_syntax::cst::{
     Add, AddOp, And, Expr, Member, Mult, MultOp, NegOp, RecInit, RelOp, Relation, Unary,
 };
 use cedar_syntax::node::Node;
+use cedar_syntax::stack::Stack;
 
 /// A tree that isn't a node yet, and the bytes of its tokens.
 #[derive(Drop)]

@@ -8,22 +8,22 @@ ghost use Rattle.cedar_expression_machine.specs.machines.Named.{named_reader};
 ghost use Rattle.cedar_expression_machine.specs.machines.WholeExpressions.{IsPlanned};
 
 use crate::expression::state::{Act, State};
-use crate::node_builder::NodeBuilder;
+use cedar_grammar::reading::node_builder::NodeBuilder;
+use cedar_grammar::reading::token_read::TokenRead;
 use cedar_lexer::token::Token;
 use std::alloc::AllocError;
 
 impl State {
-    /// Does with a token what is planned. The answer is false, and nothing is said of the state,
-    /// if it is a number that doesn't fit; nor is anything after want of memory.
+    /// Does with a token what is planned. Nothing is said of the state after want of memory.
     pub fn act(
         &mut self,
         builder: NodeBuilder<'_>,
         act: Act,
         token: &Token<'_>,
-    ) -> Result<bool, AllocError>
+    ) -> Result<TokenRead, AllocError>
         requires written { IsWritten (lexeme_of token.now) }
         requires is_planned { IsPlanned self.old token.now.kind act }
-        ensures { IfOk result (λ fits. done_as fits self.new ≡ expression_act
+        ensures { IfOk result (λ read. done_as read self.new ≡ expression_act
             builder.entry.source.now named_reader self.old act (lexeme_of token.now)) }
     {
         match act {
@@ -32,7 +32,7 @@ impl State {
             Act::Reduce(operator) => {
                 self.reduce(builder)?;
                 self.follow(builder, operator, token)?;
-                Ok(true)
+                Ok(TokenRead::Done)
             }
             Act::Guard(begin) => {
                 self.open_guard(builder.alloc)?;
@@ -40,15 +40,15 @@ impl State {
             }
             Act::Key => {
                 self.close_if_key(builder, token)?;
-                Ok(true)
+                Ok(TokenRead::Done)
             }
             Act::Field => {
                 self.read_field(builder, token)?;
-                Ok(true)
+                Ok(TokenRead::Done)
             }
             Act::Follow(operator) => {
                 self.follow(builder, operator, token)?;
-                Ok(true)
+                Ok(TokenRead::Done)
             }
         }
     }

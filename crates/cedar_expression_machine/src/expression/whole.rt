@@ -5,7 +5,7 @@ ghost use Rattle.cedar_expression_machine.specs.machines.ExpressionShapes.{start
 
 use crate::expression::levels::begin::{fresh_levels, want_at};
 use crate::expression::state::{OperandPlace, StartSymbol, State};
-use cedar_grammar::reading::stack::Stack;
+use cedar_syntax::stack::Stack;
 use std::alloc::Global;
 
 /// Where the first operand is wanted.

@@ -22,8 +22,10 @@ use cedar_grammar::never;
 use cedar_grammar::reading::driver::PushParser;
 use cedar_grammar::reading::extent::Extent;
 use cedar_grammar::reading::literal::as_number;
+use cedar_grammar::reading::node_builder::NodeBuilder;
 use cedar_grammar::reading::place::{node_at, token_extent};
 use cedar_grammar::reading::put::put;
+use cedar_grammar::reading::token_read::TokenRead;
 use cedar_grammar::reading::tokens::{if_ident, string_node};
 use cedar_lexer::token::{Token, TokenKind};
 use cedar_syntax::cst::{Literal, Ref, RefInit};
@@ -32,51 +34,43 @@ use std::alloc::{AllocError, Global};
 use std::mem;
 
 /// An entity literal at its bytes.
-fn entity_of(
-    alloc: Global,
-    source: &Source,
-    reference: Ref,
-    extent: Extent,
-) -> Result<Entity, AllocError>
-    ensures { IfOk result (λ entity. entity ≡ entity_with_extent source.now reference extent) }
+fn entity_of(builder: NodeBuilder<'_>, reference: Ref, extent: Extent) -> Result<Entity, AllocError>
+    ensures { IfOk result
+        (λ entity. entity ≡ entity_with_extent builder.entry.source.now reference extent) }
 {
-    let node = node_at(source, Some(extent), reference)?;
+    let node = builder.node_at(Some(extent), reference)?;
     Ok(Entity {
-        node: Boxed::new(alloc, node)?,
+        node: Boxed::new(builder.alloc, node)?,
         extent,
     })
 }
 
 /// A path and a string.
-fn uid_of(
-    alloc: Global,
-    source: &Source,
-    path: Path,
-    token: &Token<'_>,
-) -> Result<Entity, AllocError>
+fn uid_of(builder: NodeBuilder<'_>, path: Path, token: &Token<'_>) -> Result<Entity, AllocError>
     requires { Written kind.StringLit token.now.text.now }
-    ensures { IfOk result (λ entity. entity ≡ uid_of source.now path (lexeme_of token.now)) }
+    ensures { IfOk result
+        (λ entity. entity ≡ uid_of builder.entry.source.now path (lexeme_of token.now)) }
 {
     let start = path.start;
-    let eid = string_node(alloc, source, token)?;
-    let path = path.into_name(source)?;
+    let eid = string_node(builder, token)?;
+    let path = path.into_name(builder.source)?;
     let extent = Extent {
         start,
         end: token.end,
     };
-    entity_of(alloc, source, Ref::Uid { path, eid }, extent)
+    entity_of(builder, Ref::Uid { path, eid }, extent)
 }
 
 /// An entity literal whose brace opens.
-fn open_entity(alloc: Global, source: &Source, path: Path) -> Result<OpenEntity, AllocError>
-    ensures { IfOk result (λ begun. begun ≡ opened source.now path) }
+fn open_entity(builder: NodeBuilder<'_>, path: Path) -> Result<OpenEntity, AllocError>
+    ensures { IfOk result (λ begun. begun ≡ opened builder.entry.source.now path) }
 {
     let start = path.start;
-    let path = path.into_name(source)?;
+    let path = path.into_name(builder.source)?;
     Ok(OpenEntity {
-        path: Boxed::new(alloc, path)?,
+        path: Boxed::new(builder.alloc, path)?,
         start,
-        inits: Items::new(alloc),
+        inits: Items::new(builder.alloc),
     })
 }
 
@@ -212,8 +206,9 @@ impl Inits {
     }
 
     /// The closing brace.
-    fn close(self, alloc: Global, source: &Source, end: Extent) -> Result<WordsState, AllocError>
-        ensures { IfOk result (λ state. state ≡ inits_closed source.now self.begun end) }
+    fn close(self, builder: NodeBuilder<'_>, end: Extent) -> Result<WordsState, AllocError>
+        ensures { IfOk result
+            (λ state. state ≡ inits_closed builder.entry.source.now self.begun end) }
     {
         let OpenEntity { path, start, inits } = self.begun;
         let reference = Ref::Ref {
@@ -221,39 +216,38 @@ impl Inits {
             rinits: inits,
         };
         let end = end.end;
-        let entity = entity_of(alloc, source, reference, Extent { start, end })?;
+        let entity = entity_of(builder, reference, Extent { start, end })?;
         Ok(WordsState::Entity(entity))
     }
 
     /// What a token in braces makes of the literal, or nothing if it is a number that doesn't fit.
     fn read(
         self,
-        alloc: Global,
-        source: &Source,
+        builder: NodeBuilder<'_>,
         act: InitAct,
         token: &Token<'_>,
     ) -> Result<Option<WordsState>, AllocError>
         requires written { IsWritten (lexeme_of token.now) }
         requires is_planned { init_plan (init_shape self.place) token.now.kind ≡ Some act }
         ensures { IfOk result (λ state. state
-            ≡ init_act source.now self.begun self.place act (lexeme_of token.now)) }
+            ≡ init_act builder.entry.source.now self.begun self.place act (lexeme_of token.now)) }
     {
         let extent = token_extent(token);
         match act {
-            InitAct::Key => Ok(Some(self.name(alloc, token)?)),
+            InitAct::Key => Ok(Some(self.name(builder.alloc, token)?)),
             InitAct::Colon => Ok(Some(self.part())),
-            InitAct::True => Ok(Some(self.put(source, Literal::True, extent)?)),
-            InitAct::False => Ok(Some(self.put(source, Literal::False, extent)?)),
+            InitAct::True => Ok(Some(self.put(builder.source, Literal::True, extent)?)),
+            InitAct::False => Ok(Some(self.put(builder.source, Literal::False, extent)?)),
             InitAct::Number => match as_number(token.text) {
-                Some(number) => Ok(Some(self.put(source, Literal::Num(number), extent)?)),
+                Some(number) => Ok(Some(self.put(builder.source, Literal::Num(number), extent)?)),
                 None => Ok(None),
             },
             InitAct::String => {
-                let text = string_node(alloc, source, token)?;
-                Ok(Some(self.put(source, Literal::Str(text), extent)?))
+                let text = string_node(builder, token)?;
+                Ok(Some(self.put(builder.source, Literal::Str(text), extent)?))
             }
             InitAct::Comma => Ok(Some(self.go_on())),
-            InitAct::Close => Ok(Some(self.close(alloc, source, extent)?)),
+            InitAct::Close => Ok(Some(self.close(builder, extent)?)),
         }
     }
 }
@@ -281,16 +275,16 @@ impl WordsState {
 
     /// A string behind `::`.
     #[inline(never)]
-    fn name(&mut self, alloc: Global, source: &Source, token: &Token<'_>) -> Result<(), AllocError>
+    fn name(&mut self, builder: NodeBuilder<'_>, token: &Token<'_>) -> Result<(), AllocError>
         requires written { IsWritten (lexeme_of token.now) }
         requires is_planned { words_plan (words_shape self.old) token.now.kind
             ≡ Some WordsAct.Eid }
         ensures { OnOk result
-            (Some self.new ≡ words_named source.now self.old (lexeme_of token.now)) }
+            (Some self.new ≡ words_named builder.entry.source.now self.old (lexeme_of token.now)) }
     {
         match mem::replace(self, WordsState::Path(PathState::Start)) {
             WordsState::Path(PathState::Behind(path)) => {
-                let entity = uid_of(alloc, source, path, token)?;
+                let entity = uid_of(builder, path, token)?;
                 put(self, WordsState::Entity(entity));
                 Ok(())
             }
@@ -302,13 +296,13 @@ impl WordsState {
 
     /// `{` behind `::`.
     #[inline(never)]
-    fn open(&mut self, alloc: Global, source: &Source) -> Result<(), AllocError>
+    fn open(&mut self, builder: NodeBuilder<'_>) -> Result<(), AllocError>
         requires { words_plan (words_shape self.old) kind.OpenBrace ≡ Some WordsAct.Open }
-        ensures { OnOk result (Some self.new ≡ words_opened source.now self.old) }
+        ensures { OnOk result (Some self.new ≡ words_opened builder.entry.source.now self.old) }
     {
         match mem::replace(self, WordsState::Path(PathState::Start)) {
             WordsState::Path(PathState::Behind(path)) => {
-                let begun = open_entity(alloc, source, path)?;
+                let begun = open_entity(builder, path)?;
                 let place = InitPlace::Item;
                 put(self, WordsState::Inits(Inits { begun, place }));
                 Ok(())
@@ -323,59 +317,57 @@ impl WordsState {
     #[inline(never)]
     fn list(
         &mut self,
-        alloc: Global,
-        source: &Source,
+        builder: NodeBuilder<'_>,
         act: InitAct,
         token: &Token<'_>,
-    ) -> Result<bool, AllocError>
+    ) -> Result<TokenRead, AllocError>
         requires written { IsWritten (lexeme_of token.now) }
         requires is_planned { words_plan (words_shape self.old) token.now.kind
             ≡ Some (WordsAct.Init act) }
-        ensures { IfOk result (λ fits. done_as fits self.new
-            ≡ in_inits source.now self.old act (lexeme_of token.now)) }
+        ensures { IfOk result (λ read. done_as read self.new
+            ≡ in_inits builder.entry.source.now self.old act (lexeme_of token.now)) }
     {
         match mem::replace(self, WordsState::Path(PathState::Start)) {
-            WordsState::Inits(inits) => match inits.read(alloc, source, act, token)? {
+            WordsState::Inits(inits) => match inits.read(builder, act, token)? {
                 Some(next) => {
                     put(self, next);
-                    Ok(true)
+                    Ok(TokenRead::Done)
                 }
-                None => Ok(false),
+                None => Ok(TokenRead::TooLarge),
             },
             WordsState::Path(_) | WordsState::Entity(_) => never!(),
         }
     }
 
-    /// Does with a token what is planned. The answer is false if it is a number that doesn't fit.
+    /// Does with a token what is planned.
     pub fn act_words(
         &mut self,
-        alloc: Global,
-        source: &Source,
+        builder: NodeBuilder<'_>,
         act: WordsAct,
         token: &Token<'_>,
-    ) -> Result<bool, AllocError>
+    ) -> Result<TokenRead, AllocError>
         requires written { IsWritten (lexeme_of token.now) }
         requires is_planned { words_plan (words_shape self.old) token.now.kind ≡ Some act }
-        ensures { IfOk result (λ fits. done_as fits self.new
-            ≡ words_act source.now self.old act (lexeme_of token.now)) }
+        ensures { IfOk result (λ read. done_as read self.new
+            ≡ words_act builder.entry.source.now self.old act (lexeme_of token.now)) }
     {
         match act {
             WordsAct::Path(act) => {
                 match self {
-                    WordsState::Path(path) => path.act_path(alloc, source, act, token)?,
+                    WordsState::Path(path) => path.act_path(builder, act, token)?,
                     WordsState::Inits(_) | WordsState::Entity(_) => never!(),
                 }
-                Ok(true)
+                Ok(TokenRead::Done)
             }
             WordsAct::Eid => {
-                self.name(alloc, source, token)?;
-                Ok(true)
+                self.name(builder, token)?;
+                Ok(TokenRead::Done)
             }
             WordsAct::Open => {
-                self.open(alloc, source)?;
-                Ok(true)
+                self.open(builder)?;
+                Ok(TokenRead::Done)
             }
-            WordsAct::Init(act) => self.list(alloc, source, act, token),
+            WordsAct::Init(act) => self.list(builder, act, token),
         }
     }
 }
@@ -406,15 +398,14 @@ impl PushParser<Node<Option<Ref>>> for WordsState {
 
     fn act(
         &mut self,
-        alloc: Global,
-        source: &Source,
+        builder: NodeBuilder<'_>,
         act: WordsAct,
         token: &Token<'_>,
-    ) -> Result<bool, AllocError> {
-        self.act_words(alloc, source, act, token)
+    ) -> Result<TokenRead, AllocError> {
+        self.act_words(builder, act, token)
     }
 
-    fn finish(&mut self, alloc: Global, source: &Source) -> Result<Node<Option<Ref>>, AllocError> {
+    fn finish(&mut self, builder: NodeBuilder<'_>) -> Result<Node<Option<Ref>>, AllocError> {
         match mem::replace(self, WordsState::Path(PathState::Start)) {
             WordsState::Entity(entity) => Ok(entity.node.into_inner()),
             WordsState::Path(_) | WordsState::Inits(_) => never!(),

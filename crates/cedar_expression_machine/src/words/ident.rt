@@ -2,9 +2,10 @@
 
 use crate::words::nodes::{word_node, word_of};
 use crate::words::state::IdentState;
-use cedar_expressions::Source;
 use cedar_grammar::never;
 use cedar_grammar::reading::driver::PushParser;
+use cedar_grammar::reading::node_builder::NodeBuilder;
+use cedar_grammar::reading::token_read::TokenRead;
 use cedar_grammar::reading::tokens::if_ident;
 use cedar_lexer::token::{Token, TokenKind};
 use cedar_syntax::cst::Ident;
@@ -40,23 +41,18 @@ impl PushParser<Node<Option<Ident>>> for IdentState {
 
     fn act(
         &mut self,
-        alloc: Global,
-        source: &Source,
+        builder: NodeBuilder<'_>,
         _act: (),
         token: &Token<'_>,
-    ) -> Result<bool, AllocError> {
-        *self = IdentState::Have(word_of(alloc, token)?);
-        Ok(true)
+    ) -> Result<TokenRead, AllocError> {
+        *self = IdentState::Have(word_of(builder.alloc, token)?);
+        Ok(TokenRead::Done)
     }
 
-    fn finish(
-        &mut self,
-        alloc: Global,
-        source: &Source,
-    ) -> Result<Node<Option<Ident>>, AllocError> {
+    fn finish(&mut self, builder: NodeBuilder<'_>) -> Result<Node<Option<Ident>>, AllocError> {
         match mem::replace(self, IdentState::Start) {
             IdentState::Start => never!(),
-            IdentState::Have(word) => word_node(source, word),
+            IdentState::Have(word) => word_node(builder.source, word),
         }
     }
 }

@@ -15,8 +15,10 @@ use cedar_expressions::{Items, Source};
 use cedar_grammar::never;
 use cedar_grammar::reading::driver::PushParser;
 use cedar_grammar::reading::extent::Extent;
+use cedar_grammar::reading::node_builder::NodeBuilder;
 use cedar_grammar::reading::place::node_at;
 use cedar_grammar::reading::put::put;
+use cedar_grammar::reading::token_read::TokenRead;
 use cedar_grammar::reading::tokens::if_ident;
 use cedar_lexer::token::{Token, TokenKind};
 use cedar_syntax::cst::{Ident, Name};
@@ -125,15 +127,15 @@ impl PathState {
     }
 
     /// An identifier behind `::`.
-    fn go_on(&mut self, alloc: Global, source: &Source, token: &Token<'_>) -> Result<(), AllocError>
+    fn go_on(&mut self, builder: NodeBuilder<'_>, token: &Token<'_>) -> Result<(), AllocError>
         requires { path_plan (path_shape self.old) token.now.kind ≡ Some PathAct.More }
         ensures { OnOk result
-            (Some self.new ≡ path_longer source.now self.old
+            (Some self.new ≡ path_longer builder.entry.source.now self.old
             (any_of token.now.kind token.now.text.now) (extent_of (lexeme_of token.now))) }
     {
         match mem::replace(self, PathState::Start) {
             PathState::Behind(path) => {
-                let path = with_word(source, path, word_of(alloc, token)?)?;
+                let path = with_word(builder.source, path, word_of(builder.alloc, token)?)?;
                 put(self, PathState::Have(path));
                 Ok(())
             }
@@ -144,22 +146,22 @@ impl PathState {
     /// Does with a token what is planned.
     pub fn act_path(
         &mut self,
-        alloc: Global,
-        source: &Source,
+        builder: NodeBuilder<'_>,
         act: PathAct,
         token: &Token<'_>,
     ) -> Result<(), AllocError>
         requires { path_plan (path_shape self.old) token.now.kind ≡ Some act }
         ensures { OnOk result
-            (Some self.new ≡ path_act source.now self.old act (lexeme_of token.now)) }
+            (Some self.new
+            ≡ path_act builder.entry.source.now self.old act (lexeme_of token.now)) }
     {
         match act {
-            PathAct::First => self.begin(alloc, token),
+            PathAct::First => self.begin(builder.alloc, token),
             PathAct::Colons => {
                 self.part();
                 Ok(())
             }
-            PathAct::More => self.go_on(alloc, source, token),
+            PathAct::More => self.go_on(builder, token),
         }
     }
 }
@@ -193,18 +195,17 @@ impl PushParser<Node<Option<Name>>> for PathState {
 
     fn act(
         &mut self,
-        alloc: Global,
-        source: &Source,
+        builder: NodeBuilder<'_>,
         act: PathAct,
         token: &Token<'_>,
-    ) -> Result<bool, AllocError> {
-        self.act_path(alloc, source, act, token)?;
-        Ok(true)
+    ) -> Result<TokenRead, AllocError> {
+        self.act_path(builder, act, token)?;
+        Ok(TokenRead::Done)
     }
 
-    fn finish(&mut self, alloc: Global, source: &Source) -> Result<Node<Option<Name>>, AllocError> {
+    fn finish(&mut self, builder: NodeBuilder<'_>) -> Result<Node<Option<Name>>, AllocError> {
         match mem::replace(self, PathState::Start) {
-            PathState::Have(path) => path.into_name(source),
+            PathState::Have(path) => path.into_name(builder.source),
             PathState::Start | PathState::Behind(_) => never!(),
         }
     }

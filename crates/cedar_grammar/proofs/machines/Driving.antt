@@ -15,6 +15,8 @@ use Rattle.cedar_syntax.specs.declared.err.faults.Failure.{Failure}
 use Rattle.cedar_syntax.specs.declared.err.faults.Failure.TheVariants.{Memory, Errors}
 use Rattle.cedar_grammar.specs.declared.reading.extent.Extent.{Extent}
 use Rattle.cedar_grammar.specs.declared.reading.expected.ClosersOnly.{ClosersOnly}
+use Rattle.cedar_grammar.specs.declared.reading.token_read.TokenRead.{TokenRead}
+use Rattle.cedar_grammar.specs.declared.reading.token_read.TokenRead.TheVariants.{Done, TooLarge}
 use Rattle.cedar_syntax.specs.declared.err.to_cst.RawFault.TheVariants as fault
 use Rattle.cedar_grammar.specs.faults.FirstFault.{end_at, tokens_end, unexpected_fault, early_at, large_at}
 use Rattle.cedar_grammar.specs.grammar.Place.{joint_extent, extent_of, extent}
@@ -140,8 +142,8 @@ one_more {m = m} {text = text} {s = s} {r = r} {l = l} {u = u} t p a h = record 
 }
 
 -- a planned token is taken
-pub takes : {S A T : Type 0} (r : Reader S A T) (src : List ℕ) (s q : S) (a : A) (t : Lexeme) (fits : Bool) → r.plan s t.kind ≡ Some a → done_as fits q ≡ r.act src s a t → fits ≡ true → (machine_of src r).step s t ≡ next q
-takes r src s q a t fits g h i =
+pub takes : {S A T : Type 0} (r : Reader S A T) (src : List ℕ) (s q : S) (a : A) (t : Lexeme) (read : TokenRead) → r.plan s t.kind ≡ Some a → done_as read q ≡ r.act src s a t → read ≡ Done → (machine_of src r).step s t ≡ next q
+takes r src s q a t read g h i =
     ap (λ o. planned_answer (λ a. r.act src s a t) (r.finish src s) o) g ∙ (ap (λ o. done_answer o) (sym h) ∙ ap (λ b. done_answer (done_as b q)) i)
 
 -- ---- where it stops
@@ -166,10 +168,10 @@ stops_at_token p n {text = text} {s = s} {l = l} {u = u} t (Errors errors) q a h
     )
 
 -- a planned number that doesn't fit
-pub stops_at_number : {S A T : Type 0} (r : Reader S A T) (n : ClosersOnly) (src : List ℕ) (s q : S) (a : A) (t : Lexeme) (fits : Bool) (f : Failure) → r.plan s t.kind ≡ Some a → done_as fits q ≡ r.act src s a t → fits ≡ false → FailsWith src (large_at src t) f →
+pub stops_at_number : {S A T : Type 0} (r : Reader S A T) (n : ClosersOnly) (src : List ℕ) (s q : S) (a : A) (t : Lexeme) (read : TokenRead) (f : Failure) → r.plan s t.kind ≡ Some a → done_as read q ≡ r.act src s a t → read ≡ TooLarge → FailsWith src (large_at src t) f →
     StopsAtToken (machine_of src r) (allowed_by r) n src s t f
-stops_at_number r n src s q a t fits (Memory e) g h i w = tt
-stops_at_number {S = S} {T = T} r n src s q a t fits (Errors errors) g h i w = (
+stops_at_number r n src s q a t read (Memory e) g h i w = tt
+stops_at_number {S = S} {T = T} r n src s q a t read (Errors errors) g h i w = (
   large_at src t,
   ap (λ o. cond (is_some o) (large_fault src (planned_answer (λ a. r.act src s a t) (r.finish src s) o) t) (Some (unexpected_fault t (wanted_kinds (allowed_by r s) n (Some t.kind))))) g
       ∙ (ap (λ o. large_fault {S = S} {T = T} src (done_answer o) t) (sym h) ∙ ap (λ b. large_fault {S = S} {T = T} src (done_answer (done_as b q)) t) i),

@@ -14,15 +14,17 @@ use Rattle.cedar_syntax.specs.declared.err.faults.ParseError.TheVariants.{ToCST}
 use Rattle.cedar_syntax.specs.declared.err.to_cst.RawFault.{RawFault}
 use Rattle.cedar_syntax.specs.declared.err.to_cst.RawFault.TheVariants as fault
 use Rattle.cedar_grammar.specs.declared.reading.expected.ClosersOnly.{ClosersOnly}
+use Rattle.cedar_grammar.specs.declared.reading.token_read.TokenRead.{TokenRead}
+use Rattle.cedar_grammar.specs.declared.reading.token_read.TokenRead.TheVariants.{Done, TooLarge}
 use Rattle.cedar_grammar.specs.faults.Expected.{by_name, is_closer, can_narrow}
 use Rattle.cedar_grammar.specs.faults.FirstFault.{tokens_end, unexpected_fault, early_at, large_at}
 use Rattle.cedar_grammar.specs.grammar.Sentences.{kinds, Allowed}
 use Rattle.cedar_grammar.specs.machines.Machine.{Answer, next, ended, refused, too_large, Machine, Comes, RunsTo, IsParser, is_some, Reader, machine_of, allowed_by}
 
--- what an act made of a state: nothing is said of it where a number doesn't fit
-abbrev pub done_as : {S : Type 0} → Bool → S → Option S
-done_as true s = Some s
-done_as false s = None
+-- what an act made of a state: nothing is said of it where a number is too large
+abbrev pub done_as : {S : Type 0} → TokenRead → S → Option S
+done_as Done s = Some s
+done_as TooLarge s = None
 
 -- whether a kind is allowed, by what a machine answers to a token of it
 abbrev pub may_take : {S T : Type 0} → Answer S T → Bool

@@ -7,8 +7,10 @@ ghost use Rattle.cedar_grammar.specs.machines.Machine.{next, machine_of, allowed
 ghost use Rattle.cedar_grammar.specs.machines.Judged.{wanted_kinds, IsRead, FailsWith, GivesToken, StopsBadly, StopsAtToken, StopsAtEnd, IsStop};
 
 use crate::reading::expected::{ClosersOnly, expected};
+use crate::reading::node_builder::NodeBuilder;
 use crate::reading::place::{loc_at, token_extent};
 use crate::reading::put::put;
+use crate::reading::token_read::TokenRead;
 use cedar_expressions::{Source, Text};
 use cedar_lexer::lexer::Lexer;
 use cedar_lexer::token::{InvalidToken, Token, TokenKind};
@@ -57,30 +59,29 @@ pub trait PushParser<T: Drop>: Drop {
     fn ends(&self) -> bool
         ensures { result ≡ reader.ends self.now };
 
-    /// Does with a token what is planned. The answer is false, and nothing is said of the state,
-    /// if the token is a number that doesn't fit; nor is anything said after want of memory.
+    /// Does with a token what is planned. Nothing is said of the state after want of memory.
     fn act(
         &mut self,
-        alloc: Global,
-        source: &Source,
+        builder: NodeBuilder<'_>,
         act: Self::Act,
         token: &Token<'_>,
-    ) -> Result<bool, AllocError>
+    ) -> Result<TokenRead, AllocError>
         requires written { IsWritten (lexeme_of token.now) }
         requires is_planned { reader.plan self.old token.now.kind ≡ Some act }
         ensures { IfOk result
-            (λ fits. done_as fits self.new ≡
-            reader.act source.now self.old act (lexeme_of token.now)) };
+            (λ read. done_as read self.new ≡
+            reader.act builder.entry.source.now self.old act (lexeme_of token.now)) };
 
     /// The tree, where one can end. Nothing is said of the state behind it.
-    fn finish(&mut self, alloc: Global, source: &Source) -> Result<T, AllocError>
+    fn finish(&mut self, builder: NodeBuilder<'_>) -> Result<T, AllocError>
         requires { IsTrue (reader.ends self.old) }
-        ensures { IfOk result (λ tree. reader.finish source.now self.old ≡ Some tree) };
+        ensures { IfOk result
+            (λ tree. reader.finish builder.entry.source.now self.old ≡ Some tree) };
 }
 
-/// Whether some sentence has this next, a kind of token or the end. A call of its own, since only
-/// here nothing is done with what is planned: so it isn't made.
-#[inline(never)]
+/// Whether some sentence has this next, a kind of token or the end. A refusal asks it of each kind:
+/// inlined there, what is planned isn't made, and no kind takes a call.
+#[inline(always)]
 pub fn allows<T: Drop, E: PushParser<T>>(state: &E, next: Option<TokenKind>) -> bool
     ensures { result ≡ allowed_by E.reader state.now next }
 {
@@ -225,7 +226,7 @@ fn conclude<T: Drop, E: PushParser<T>>(
         let raw = early::<T, E>(alloc, &state, narrowing, end)?;
         return Err(failure(alloc, source, raw));
     }
-    Ok(state.finish(alloc, source)?)
+    Ok(state.finish(NodeBuilder { alloc, source })?)
 }
 
 /// Reads the text, of which the source is a copy, to its end.
@@ -249,10 +250,10 @@ fn read<T: Drop, E: PushParser<T>>(
                 let Some(act) = state.plan(token.kind) else {
                     return Err(refuse::<T, E>(alloc, source, narrowing, &state, token));
                 };
-                if !state.act(alloc, source, act, token)? {
-                    return Err(refuse_number(alloc, source, token));
+                match state.act(NodeBuilder { alloc, source }, act, token)? {
+                    TokenRead::Done => end = token.end,
+                    TokenRead::TooLarge => return Err(refuse_number(alloc, source, token)),
                 }
-                end = token.end;
             }
             Some(Err(bad)) => {
                 let location = bad.location;

@@ -17,7 +17,9 @@ use crate::never;
 use crate::reading::driver::{PushParser, early, large_number, unexpected};
 use crate::reading::expected::ClosersOnly;
 use crate::reading::mark::as_mark;
+use crate::reading::node_builder::NodeBuilder;
 use crate::reading::recovery::{Recovering, RecoveryWay, Skipping, skip};
+use crate::reading::token_read::TokenRead;
 use cedar_expressions::{Items, Source};
 use cedar_lexer::lexer::Lexer;
 use cedar_lexer::token::Token;
@@ -256,11 +258,13 @@ fn judge<T: Drop, E: PushParser<T> + Recovering, F: FromRawFault>(
     let Some(act) = run.state.plan(token.kind) else {
         return refuse::<T, E, F>(alloc, source, run, token);
     };
-    if !run.state.act(alloc, source, act, token)? {
-        return refuse_number(alloc, source, run, token);
+    match run.state.act(NodeBuilder { alloc, source }, act, token)? {
+        TokenRead::Done => {
+            run.end = token.end;
+            Ok(())
+        }
+        TokenRead::TooLarge => refuse_number(alloc, source, run, token),
     }
-    run.end = token.end;
-    Ok(())
 }
 
 /// One more token.
@@ -392,7 +396,7 @@ fn conclude<T: Drop, E: PushParser<T> + Recovering, F: FromRawFault>(
     } = run;
     match all_faults(last, mended) {
         Some(faults) => Err(Refusal::Faults(faults)),
-        None => Ok(state.finish(alloc, source)?),
+        None => Ok(state.finish(NodeBuilder { alloc, source })?),
     }
 }
 

@@ -10,6 +10,7 @@ ghost use Rattle.cedar_grammar.specs.machines.SingleTokens.{if_any, token_node, 
 use crate::never;
 use crate::reading::identifier::{as_ident, is_ident};
 use crate::reading::literal::between_quotes;
+use crate::reading::node_builder::NodeBuilder;
 use crate::reading::place::{node_at, token_extent};
 use cedar_expressions::{Source, Text};
 use cedar_lexer::token::{Token, TokenKind};
@@ -40,17 +41,16 @@ pub fn ident_of(alloc: Global, token: &Token<'_>) -> Result<Ident, AllocError>
 /// The identifier that a token is, as a node.
 #[inline(always)]
 pub fn ident_node(
-    alloc: Global,
-    source: &Source,
+    builder: NodeBuilder<'_>,
     token: &Token<'_>,
 ) -> Result<Node<Option<Ident>>, AllocError>
     requires { IsTrue (is_some (any_of token.now.kind [])) }
     ensures { IfOk result (λ node. (ident : _) → any_of token.now.kind token.now.text.now ≡ Some
         ident
-        → node ≡ token_node source.now (lexeme_of token.now) ident) }
+        → node ≡ token_node builder.entry.source.now (lexeme_of token.now) ident) }
 {
-    let ident = ident_of(alloc, token)?;
-    token_node(source, token, ident)
+    let ident = ident_of(builder.alloc, token)?;
+    token_node(builder.source, token, ident)
 }
 
 /// A tree of one token as a node, at its bytes.
@@ -67,13 +67,13 @@ pub fn token_node<T: Drop>(
 /// A string as a node, at its bytes.
 #[inline(always)]
 pub fn string_node(
-    alloc: Global,
-    source: &Source,
+    builder: NodeBuilder<'_>,
     token: &Token<'_>,
 ) -> Result<Node<Option<Str>>, AllocError>
     requires { Written kind.StringLit token.now.text.now }
-    ensures { IfOk result (λ node. node ≡ string_node source.now (lexeme_of token.now)) }
+    ensures { IfOk result
+        (λ node. node ≡ string_node builder.entry.source.now (lexeme_of token.now)) }
 {
-    let raw = Str::String(Text::from_str(alloc, between_quotes(token.text))?);
-    node_at(source, Some(token_extent(token)), raw)
+    let raw = Str::String(Text::from_str(builder.alloc, between_quotes(token.text))?);
+    builder.node_at(Some(token_extent(token)), raw)
 }

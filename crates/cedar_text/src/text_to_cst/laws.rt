@@ -11,7 +11,6 @@ ghost use Rattle.cedar_syntax.specs.declared.cst.Policy.{Policy};
 ghost use Rattle.cedar_syntax.specs.declared.cst.Primary.{Primary};
 ghost use Rattle.cedar_syntax.specs.declared.err.faults.ParseError.{ParseError};
 ghost use Rattle.cedar_grammar.specs.faults.Expected.{by_name, IsIn, stand_by_name};
-ghost use Rattle.cedar_grammar.specs.faults.FirstFault.{HasOneTree, HasTreeOrFault, HasOneFault, HasNotBoth};
 ghost use Rattle.cedar_grammar.specs.printing.Formatted.{formatted};
 ghost use Rattle.cedar_grammar.specs.grammar.Grammar.{IsTreeOf};
 ghost use Rattle.cedar_grammar.specs.faults.Leftmost.{StandsLeftmost};
@@ -25,8 +24,7 @@ ghost use Rattle.cedar_syntax.specs.trees.Trees.{Cell};
 ghost use Rattle.cedar_syntax.specs.trees.Unlocated.{unlocated_name, unlocated_ref};
 ghost use Rattle.cedar_syntax.specs.trees.UnlocatedTrees.{unlocated_expr, unlocated_ident, unlocated_primary, unlocated_policy, unlocated_policies};
 ghost use Rattle.cedar_syntax.specs.trees.Unplaced.{expr_tree, primary_tree, name_tree, ref_tree, ident_tree, policy_tree, policies_tree};
-ghost use Rattle.cedar_text.specs.GoesOn.{GoesOnInText};
-ghost use Rattle.cedar_text.specs.StandsInText.{StandsInText};
+ghost use Rattle.cedar_text.specs.TextRules.{IsTextRule};
 ghost use Rattle.cedar_text.specs.TreeDepth.{NestsAsTold};
 
 use cedar_grammar::reading::expected::ClosersOnly;
@@ -35,74 +33,39 @@ use cedar_grammar::reading::expected::ClosersOnly;
 /// never both. And each sentence stands in a text: the tokens of some text are of its kinds, and
 /// have one. A text's tokens go on with each sentence that they begin, behind the same bytes.
 pub fn entity_literals()
-    ensures one_tree { HasOneTree ReadsRef }
-    ensures tree_or_fault { HasTreeOrFault ReadsRef ClosersOnly.Never }
-    ensures one_fault { HasOneFault ReadsRef ClosersOnly.Never }
-    ensures not_both { HasNotBoth ReadsRef ClosersOnly.Never }
-    ensures stands_in_text { StandsInText ReadsRef }
-    ensures goes_on_in_text { GoesOnInText ReadsRef }
+    ensures { IsTextRule ReadsRef ClosersOnly.Never }
 {}
 
 /// The same of names.
 pub fn names()
-    ensures one_tree { HasOneTree ReadsName }
-    ensures tree_or_fault { HasTreeOrFault ReadsName ClosersOnly.Never }
-    ensures one_fault { HasOneFault ReadsName ClosersOnly.Never }
-    ensures not_both { HasNotBoth ReadsName ClosersOnly.Never }
-    ensures stands_in_text { StandsInText ReadsName }
-    ensures goes_on_in_text { GoesOnInText ReadsName }
+    ensures { IsTextRule ReadsName ClosersOnly.Never }
 {}
 
 /// The same of single identifiers.
 pub fn identifiers()
-    ensures one_tree { HasOneTree ReadsIdent }
-    ensures tree_or_fault { HasTreeOrFault ReadsIdent ClosersOnly.Never }
-    ensures one_fault { HasOneFault ReadsIdent ClosersOnly.Never }
-    ensures not_both { HasNotBoth ReadsIdent ClosersOnly.Never }
-    ensures stands_in_text { StandsInText ReadsIdent }
-    ensures goes_on_in_text { GoesOnInText ReadsIdent }
+    ensures { IsTextRule ReadsIdent ClosersOnly.Never }
 {}
 
 /// The same of expressions.
 pub fn expressions()
-    ensures one_tree { HasOneTree ReadsExpr }
-    ensures tree_or_fault { HasTreeOrFault ReadsExpr ClosersOnly.TokensAndEnd }
-    ensures one_fault { HasOneFault ReadsExpr ClosersOnly.TokensAndEnd }
-    ensures not_both { HasNotBoth ReadsExpr ClosersOnly.TokensAndEnd }
-    ensures stands_in_text { StandsInText ReadsExpr }
-    ensures goes_on_in_text { GoesOnInText ReadsExpr }
+    ensures { IsTextRule ReadsExpr ClosersOnly.TokensAndEnd }
 {}
 
 /// The same of primaries.
 pub fn primaries()
-    ensures one_tree { HasOneTree ReadsPrimary }
-    ensures tree_or_fault { HasTreeOrFault ReadsPrimary ClosersOnly.TokensAndEnd }
-    ensures one_fault { HasOneFault ReadsPrimary ClosersOnly.TokensAndEnd }
-    ensures not_both { HasNotBoth ReadsPrimary ClosersOnly.TokensAndEnd }
-    ensures stands_in_text { StandsInText ReadsPrimary }
-    ensures goes_on_in_text { GoesOnInText ReadsPrimary }
+    ensures { IsTextRule ReadsPrimary ClosersOnly.TokensAndEnd }
 {}
 
 /// The same of policies. And mending comes to an end: tokens have a list of faults, and just one.
 pub fn policies()
-    ensures one_tree { HasOneTree ReadsPolicies }
-    ensures tree_or_fault { HasTreeOrFault ReadsPolicies ClosersOnly.Tokens }
-    ensures one_fault { HasOneFault ReadsPolicies ClosersOnly.Tokens }
-    ensures not_both { HasNotBoth ReadsPolicies ClosersOnly.Tokens }
-    ensures stands_in_text { StandsInText ReadsPolicies }
-    ensures goes_on_in_text { GoesOnInText ReadsPolicies }
+    ensures rule { IsTextRule ReadsPolicies ClosersOnly.Tokens }
     ensures fault_list { HasFaultList ReadsPolicies PoliciesBefore }
     ensures one_list { HasOneFaultList ReadsPolicies PoliciesBefore }
 {}
 
 /// The same of single policies.
 pub fn single_policies()
-    ensures one_tree { HasOneTree ReadsPolicy }
-    ensures tree_or_fault { HasTreeOrFault ReadsPolicy ClosersOnly.Tokens }
-    ensures one_fault { HasOneFault ReadsPolicy ClosersOnly.Tokens }
-    ensures not_both { HasNotBoth ReadsPolicy ClosersOnly.Tokens }
-    ensures stands_in_text { StandsInText ReadsPolicy }
-    ensures goes_on_in_text { GoesOnInText ReadsPolicy }
+    ensures rule { IsTextRule ReadsPolicy ClosersOnly.Tokens }
     ensures fault_list { HasFaultList ReadsPolicy NothingBefore }
     ensures one_list { HasOneFaultList ReadsPolicy NothingBefore }
 {}

@@ -1,11 +1,12 @@
 //! One policy and policies as whole texts.
 use cedar_expression_machine::expression::start_symbols::{ExprState, SumState};
 use cedar_expression_machine::words::state::PathState;
-use cedar_expressions::{Items, Source};
+use cedar_expressions::Items;
 use cedar_grammar::reading::driver::PushParser;
 use cedar_grammar::reading::extent::Extent;
-use cedar_grammar::reading::place::node_at;
+use cedar_grammar::reading::node_builder::NodeBuilder;
 use cedar_grammar::reading::recovery::{Recovering, RecoveryWay};
+use cedar_grammar::reading::token_read::TokenRead;
 use cedar_lexer::token::{Token, TokenKind};
 use cedar_policy_machine::policies::{PolicySequence, SpannedSequence};
 use cedar_policy_machine::policy::Begun;
@@ -61,25 +62,20 @@ impl PushParser<Node<Option<Policies>>> for WholePoliciesState {
     #[inline(always)]
     fn act(
         &mut self,
-        alloc: Global,
-        source: &Source,
+        builder: NodeBuilder<'_>,
         act: <Many as PushParser<PolicyNodes>>::Act,
         token: &Token<'_>,
-    ) -> Result<bool, AllocError> {
-        self.text.act(alloc, source, act, token)
+    ) -> Result<TokenRead, AllocError> {
+        self.text.act(builder, act, token)
     }
 
-    fn finish(
-        &mut self,
-        alloc: Global,
-        source: &Source,
-    ) -> Result<Node<Option<Policies>>, AllocError> {
-        let policies = Policies(self.text.state.finish(alloc, source)?);
+    fn finish(&mut self, builder: NodeBuilder<'_>) -> Result<Node<Option<Policies>>, AllocError> {
+        let policies = Policies(self.text.state.finish(builder)?);
         let place = match self.text.extent {
             Some(extent) => extent,
             None => Extent { start: 0, end: 0 },
         };
-        node_at(source, Some(place), policies)
+        builder.node_at(Some(place), policies)
     }
 }
 

@@ -19,10 +19,10 @@ use crate::expression::levels::begin::have;
 use crate::expression::state::{
     Call, Frame, Index, Operand, OperandMode, OperandPlace, Spanned, State,
 };
-use crate::node_builder::NodeBuilder;
 use cedar_expressions::Items;
 use cedar_grammar::never;
 use cedar_grammar::reading::extent::{Extent, join_extents};
+use cedar_grammar::reading::node_builder::NodeBuilder;
 use cedar_grammar::reading::place::token_extent;
 use cedar_grammar::reading::tokens::ident_node;
 use cedar_lexer::token::Token;
@@ -40,7 +40,7 @@ impl Operand {
         ensures { OnOk result (self.new ≡ with_access builder.entry.source.now self.old access) }
     {
         self.extent = join_extents(self.extent, access.extent);
-        self.member.access.push(builder.node_of(access)?)
+        self.member.access.push(access.into_node(builder)?)
     }
 }
 
@@ -49,7 +49,7 @@ impl Call {
     pub fn push(&mut self, builder: NodeBuilder<'_>, item: Spanned<Expr>) -> Result<(), AllocError>
         ensures { OnOk result (self.new ≡ call_more builder.entry.source.now self.old item) }
     {
-        self.items.push(builder.node_of(item)?)
+        self.items.push(item.into_node(builder)?)
     }
 }
 
@@ -138,7 +138,7 @@ impl State {
         ensures { OnOk result (Some self.new
             ≡ frame_ending builder.entry.source.now self.old.stack item closing.Bracket end) }
     {
-        let tree = MemAccess::Index(builder.node_of(item)?);
+        let tree = MemAccess::Index(item.into_node(builder)?);
         match self.stack.pop() {
             Some(Frame::Index(frame)) => {
                 let Index {
@@ -170,7 +170,7 @@ impl State {
         match &mut self.mode {
             OperandMode::Have { operand, dot } => {
                 let extent = join_extents(*dot, Some(token_extent(token)));
-                let field = ident_node(builder.alloc, builder.source, token)?;
+                let field = ident_node(builder, token)?;
                 let tree = MemAccess::Field(field);
                 operand.push(builder, Spanned { tree, extent })?;
                 *dot = None;

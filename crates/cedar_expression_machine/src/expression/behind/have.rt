@@ -13,10 +13,10 @@ ghost use Rattle.cedar_expression_machine.specs.machines.ExpressionStates.{state
 use crate::expression::levels::alone::{expr_alone, places_of, upper_places};
 use crate::expression::levels::close::close_branches;
 use crate::expression::state::{Frame, OperandPlace, OperatorAt, Spanned, State};
-use crate::node_builder::NodeBuilder;
 use cedar_grammar::never;
 use cedar_grammar::reading::class::{AccessStart, Closing, FollowClass};
 use cedar_grammar::reading::extent::{Extent, join_extents};
+use cedar_grammar::reading::node_builder::NodeBuilder;
 use cedar_grammar::reading::place::token_extent;
 use cedar_lexer::token::Token;
 use cedar_syntax::cst::Expr;
@@ -108,7 +108,7 @@ impl State {
         ensures after { OnOk result (self.new ≡ state self.old.stack (fresh []) (wants place)) }
     {
         let item = self.close(builder, place)?;
-        builder.node_of(item)
+        item.into_node(builder)
     }
 
     /// `,` behind an item: it is put where it stays, and the next is wanted.

@@ -1,17 +1,14 @@
 //! Closes a relation with its last sum: the left side is taken out of its slot.
 ghost use Rattle.std.specs.Prelude.{◌≡◌, None, Some, IfOk, OnOk, IsSome, IsTrue};
 ghost use Rattle.cedar_expression_machine.specs.declared.expression.state.PendingRelation.TheVariants as left;
-ghost use Rattle.cedar_expression_machine.specs.machines.Closing.{add_at, made_common, marked_chain, node_of, relation_with_sum};
-ghost use Rattle.cedar_expression_machine.specs.machines.ExpressionModes.{HasNoSum, IsCommon, IsSided, IsWithin};
+ghost use Rattle.cedar_expression_machine.specs.machines.Closing.{made_common, node_of, relation_with_sum};
+ghost use Rattle.cedar_expression_machine.specs.machines.ExpressionModes.{IsCommon, IsSided, IsWithin};
 
-use crate::expression::levels::alone::{add_with_places, places_of};
-use crate::expression::state::{
-    Chain, Operand, PendingChain, PendingOperators, PendingRelation, Spanned,
-};
-use crate::node_builder::NodeBuilder;
+use crate::expression::state::{Chain, PendingOperators, PendingRelation, Spanned};
 use cedar_expressions::{Boxed, Items};
 use cedar_grammar::never;
 use cedar_grammar::reading::extent::join_extents;
+use cedar_grammar::reading::node_builder::NodeBuilder;
 use cedar_syntax::cst::{Add, Relation};
 use cedar_syntax::node::Node;
 use std::alloc::AllocError;
@@ -24,7 +21,7 @@ fn boxed_node<T: Drop>(
 ) -> Result<Boxed<Node<Option<T>>>, AllocError>
     ensures { IfOk result (λ boxed. boxed ≡ node_of builder.entry.source.now item) }
 {
-    Boxed::new(builder.alloc, builder.node_of(item)?)
+    Boxed::new(builder.alloc, item.into_node(builder)?)
 }
 
 /// A node and a tree behind it, each in memory of its own, of any types too.
@@ -101,21 +98,14 @@ impl PendingOperators {
             ≡ relation_with_sum builder.entry.source.now self.old.relation item) }
         ensures after { OnOk result (self.new ≡ record self.old { relation = None }) }
     {
-        let loc = builder.loc_at(item.extent)?;
         match self.take_left() {
-            PendingRelation::Common(begun) => {
-                let PendingChain { chain, op } = begun;
+            PendingRelation::Common(mut begun) => {
+                begun.link(builder, item)?;
                 let Chain {
                     initial,
-                    mut extended,
+                    extended,
                     extent,
-                } = chain;
-                let node = Node {
-                    node: Some(item.tree),
-                    loc,
-                };
-                extended.push((op, node))?;
-                let extent = join_extents(extent, item.extent);
+                } = begun.chain;
                 Ok(Spanned {
                     tree: Relation::Common { initial, extended },
                     extent,

@@ -10,11 +10,11 @@ ghost use Rattle.cedar_expression_machine.specs.machines.Having.{before, side_of
 use crate::expression::levels::alone::{add_with_places, places_of};
 use crate::expression::levels::chain::begin_pending;
 use crate::expression::state::{OperandPlace, OperatorAt, PendingRelation, Spanned, State};
-use crate::node_builder::NodeBuilder;
 use cedar_expressions::Boxed;
 use cedar_grammar::never;
 use cedar_grammar::reading::class::SideWord;
 use cedar_grammar::reading::extent::{Extent, join_extents};
+use cedar_grammar::reading::node_builder::NodeBuilder;
 use cedar_grammar::reading::put::put;
 use cedar_syntax::cst::{Add, RelOp};
 use cedar_syntax::node::Node;
@@ -30,7 +30,7 @@ fn spanned_left(
 {
     let extent = join_extents(item.extent, Some(word));
     Ok(Spanned {
-        tree: builder.node_of(item)?,
+        tree: item.into_node(builder)?,
         extent,
     })
 }
@@ -113,7 +113,7 @@ impl State {
                 PendingRelation::Is(left) => {
                     let extent = join_extents(join_extents(left.extent, item.extent), Some(word));
                     let target = left.tree;
-                    let entity_type = builder.node_of(item)?;
+                    let entity_type = item.into_node(builder)?;
                     let left = PendingRelation::IsIn {
                         target,
                         entity_type,

@@ -5,9 +5,9 @@ ghost use Rattle.cedar_grammar.specs.declared.reading.class.FollowClass.TheVaria
 ghost use Rattle.cedar_expression_machine.specs.machines.ExpressionModes.{IsFollowed, followed};
 
 use crate::expression::state::{Branch, Frame, Guard, OperandPlace, State, Then};
-use crate::node_builder::NodeBuilder;
 use cedar_grammar::never;
 use cedar_grammar::reading::extent::{Extent, join_extents};
+use cedar_grammar::reading::node_builder::NodeBuilder;
 use cedar_grammar::reading::put::put;
 use std::alloc::AllocError;
 
@@ -23,7 +23,7 @@ impl State {
         match self.stack.pop() {
             Some(Frame::Guard(Guard { branches, opened })) => {
                 let extent = join_extents(join_extents(opened, item.extent), Some(word));
-                let guard = builder.node_of(item)?;
+                let guard = item.into_node(builder)?;
                 self.stack.push(Frame::Then(Then {
                     branches,
                     guard,
@@ -53,7 +53,7 @@ impl State {
                 ),
             ) => {
                 let extent = join_extents(join_extents(extent, item.extent), Some(word));
-                let yes = builder.node_of(item)?;
+                let yes = item.into_node(builder)?;
                 branches.push(Branch { guard, yes, extent })?;
                 put(&mut self.levels.branches, branches);
                 Ok(())

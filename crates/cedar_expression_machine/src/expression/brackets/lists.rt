@@ -4,9 +4,9 @@ ghost use Rattle.cedar_expression_machine.specs.machines.ExpressionModes.{MayEnd
 ghost use Rattle.cedar_expression_machine.specs.machines.Wanting.{list_ending};
 
 use crate::expression::state::{Frame, State};
-use crate::node_builder::NodeBuilder;
 use cedar_grammar::never;
 use cedar_grammar::reading::extent::Extent;
+use cedar_grammar::reading::node_builder::NodeBuilder;
 use std::alloc::AllocError;
 
 impl State {

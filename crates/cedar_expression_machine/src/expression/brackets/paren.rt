@@ -8,9 +8,9 @@ ghost use Rattle.cedar_expression_machine.specs.machines.Having.{frame_ending};
 ghost use Rattle.cedar_expression_machine.specs.machines.Wanting.{paren_opening};
 
 use crate::expression::state::{Frame, OperandPlace, Paren, Spanned, State};
-use crate::node_builder::NodeBuilder;
 use cedar_grammar::never;
 use cedar_grammar::reading::extent::{Extent, join_extents};
+use cedar_grammar::reading::node_builder::NodeBuilder;
 use cedar_syntax::cst::{Expr, Primary};
 use std::alloc::{AllocError, Global};
 
@@ -51,7 +51,7 @@ impl State {
         ensures { OnOk result (Some self.new
             ≡ frame_ending builder.entry.source.now self.old.stack item closing.Paren end) }
     {
-        let tree = Primary::Expr(builder.node_of(item)?);
+        let tree = Primary::Expr(item.into_node(builder)?);
         match self.stack.pop() {
             Some(Frame::Paren(frame)) => {
                 let Paren {

@@ -11,10 +11,10 @@ ghost use Rattle.cedar_expression_machine.specs.machines.Wanting.{list_ending, r
 
 use crate::expression::brackets::paren::bracket_extent;
 use crate::expression::state::{Frame, Key, OperandPlace, Record, Spanned, State};
-use crate::node_builder::NodeBuilder;
 use cedar_expressions::Items;
 use cedar_grammar::never;
 use cedar_grammar::reading::extent::{Extent, join_extents};
+use cedar_grammar::reading::node_builder::NodeBuilder;
 use cedar_grammar::reading::put::put;
 use cedar_syntax::cst::{Expr, Primary, RecInit};
 use cedar_syntax::node::Node;
@@ -30,7 +30,7 @@ impl Record {
         match self.key.take() {
             Some(Key { node, extent }) => {
                 let extent = join_extents(extent, item.extent);
-                let pair = RecInit(node, builder.node_of(item)?);
+                let pair = RecInit(node, item.into_node(builder)?);
                 self.items.push(builder.node_at(extent, pair)?)
             }
             None => never!(),
@@ -113,7 +113,7 @@ impl State {
     {
         let item = self.close(builder, OperandPlace::Expr)?;
         let extent = item.extent;
-        let tree = builder.node_of(item)?;
+        let tree = item.into_node(builder)?;
         self.begin_value(Spanned { tree, extent }, colon);
         Ok(())
     }

@@ -7,10 +7,10 @@ ghost use Rattle.cedar_expression_machine.specs.machines.Wanting.{list_ending, s
 
 use crate::expression::brackets::paren::bracket_extent;
 use crate::expression::state::{Frame, OperandPlace, Set, Spanned, State};
-use crate::node_builder::NodeBuilder;
 use cedar_expressions::Items;
 use cedar_grammar::never;
 use cedar_grammar::reading::extent::Extent;
+use cedar_grammar::reading::node_builder::NodeBuilder;
 use cedar_syntax::cst::{Expr, Primary};
 use std::alloc::{AllocError, Global};
 
@@ -19,7 +19,7 @@ impl Set {
     pub fn push(&mut self, builder: NodeBuilder<'_>, item: Spanned<Expr>) -> Result<(), AllocError>
         ensures { OnOk result (self.new ≡ set_more builder.entry.source.now self.old item) }
     {
-        self.items.push(builder.node_of(item)?)
+        self.items.push(item.into_node(builder)?)
     }
 }
 

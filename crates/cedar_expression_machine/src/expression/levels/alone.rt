@@ -2,15 +2,15 @@
 //! since memory can be refused to them; behind the last, each tree is made of the one below it and
 //! nothing is dropped, so that the compiler makes them all where they stay.
 ghost use Rattle.std.specs.Prelude.{◌≡◌, [], Some, IfOk};
-ghost use Rattle.cedar_syntax.specs.trees.Trees.{unary_of, mult_of, add_of, common_of, and_of, or_of};
+ghost use Rattle.cedar_syntax.specs.trees.Trees.{unary_of, mult_of, add_of, common_of, and_of, or_of, expr_of};
 ghost use Rattle.cedar_expression_machine.specs.machines.Closing.{fresh, mult_at, add_at, relation_at, or_at, made_expr};
 ghost use Rattle.cedar_grammar.specs.grammar.Place.{joint_extent};
 ghost use Rattle.cedar_expression_machine.specs.machines.AlonePlaces.{places_of, upper_places};
 
 use crate::expression::state::{Operand, Spanned};
-use crate::node_builder::NodeBuilder;
 use cedar_expressions::Items;
 use cedar_grammar::reading::extent::{Extent, join_extents};
+use cedar_grammar::reading::node_builder::NodeBuilder;
 use cedar_syntax::cst::{Add, And, Expr, ExprData, ExprImpl, Mult, Or, Relation, Unary};
 use cedar_syntax::loc::Loc;
 use cedar_syntax::node::Node;
@@ -95,6 +95,16 @@ pub fn or_of(alloc: Global, and: And, loc: Option<Loc>) -> Or
     }
 }
 
+/// The expression that is one disjunction.
+#[inline(always)]
+pub fn expr_of(alloc: Global, or: Or, loc: Option<Loc>, is_deep: bool) -> Result<Expr, AllocError>
+    ensures { IfOk result (λ expr. expr ≡ expr_of record { node = Some or; loc = loc }) }
+{
+    let node = Some(or);
+    let expr = ExprImpl::nested(alloc, ExprData::Or(Node { node, loc }), is_deep)?;
+    Ok(Expr::Expr(expr))
+}
+
 /// The places of the trees above an operand alone, up to its sum.
 #[derive(Drop)]
 pub struct Places {
@@ -152,15 +162,9 @@ pub fn alone_add(builder: NodeBuilder<'_>, operand: Operand) -> Result<Spanned<A
     ensures { IfOk result (λ sum. sum ≡ add_at builder.entry.source.now (fresh []) operand) }
 {
     let extent = join_extents(operand.signs.extent, operand.extent);
-    let of_member = builder.loc_at(operand.extent)?;
-    let of_unary = builder.loc_at(extent)?;
-    let of_mult = builder.loc_at(extent)?;
-    let unary = unary_of(operand, of_member);
-    let mult = mult_of(builder.alloc, unary, of_unary);
-    Ok(Spanned {
-        tree: add_of(builder.alloc, mult, of_mult),
-        extent,
-    })
+    let places = places_of(builder, &operand)?;
+    let tree = add_with_places(builder.alloc, operand, places);
+    Ok(Spanned { tree, extent })
 }
 
 /// The relation that is this operand alone.
@@ -173,13 +177,9 @@ pub fn alone_relation(
         ≡ relation_at builder.entry.source.now (fresh []) operand) }
 {
     let extent = join_extents(operand.signs.extent, operand.extent);
-    let of_member = builder.loc_at(operand.extent)?;
-    let of_unary = builder.loc_at(extent)?;
-    let of_mult = builder.loc_at(extent)?;
+    let places = places_of(builder, &operand)?;
     let of_add = builder.loc_at(extent)?;
-    let unary = unary_of(operand, of_member);
-    let mult = mult_of(builder.alloc, unary, of_unary);
-    let add = add_of(builder.alloc, mult, of_mult);
+    let add = add_with_places(builder.alloc, operand, places);
     Ok(Spanned {
         tree: common_of(builder.alloc, add, of_add),
         extent,
@@ -231,10 +231,8 @@ pub fn expr_alone(
     let add = add_with_places(alloc, operand, places);
     let relation = common_of(alloc, add, upper.of_add);
     let and = and_of(alloc, relation, upper.of_relation);
-    let node = Some(or_of(alloc, and, upper.of_and));
-    let loc = upper.of_or;
-    let expr = ExprImpl::nested(alloc, ExprData::Or(Node { node, loc }), is_deep)?;
-    Ok(Expr::Expr(expr))
+    let or = or_of(alloc, and, upper.of_and);
+    expr_of(alloc, or, upper.of_or, is_deep)
 }
 
 /// The expression that is this operand alone.

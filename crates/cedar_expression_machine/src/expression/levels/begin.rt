@@ -9,13 +9,13 @@ use crate::expression::state::{
     Branch, Operand, OperandMode, OperandPlace, OperandPrefix, PendingOperators, Signs, Spanned,
     State,
 };
-use crate::node_builder::NodeBuilder;
 use cedar_expressions::Items;
 use cedar_grammar::never;
+use cedar_grammar::reading::node_builder::NodeBuilder;
 use cedar_grammar::reading::put::put;
-use cedar_grammar::reading::stack::Stack;
 use cedar_syntax::cst::{Member, Primary};
 use cedar_syntax::node::Node;
+use cedar_syntax::stack::Stack;
 use std::alloc::{AllocError, Global};
 use std::mem;
 
@@ -66,7 +66,7 @@ pub fn operand_of(
     Ok(Operand {
         signs,
         member: Member {
-            item: builder.node_of(item)?,
+            item: item.into_node(builder)?,
             access: Items::new(builder.alloc),
         },
         extent,

@@ -3,9 +3,9 @@ ghost use Rattle.std.specs.Prelude.{◌≡◌, Some, None, IfOk, OnOk};
 ghost use Rattle.cedar_expression_machine.specs.machines.Closing.{begun_at, marked_chain, onward, pending, pending_with, plain_chain, plain_with};
 
 use crate::expression::state::{Chain, OperatorAt, PendingChain, Spanned};
-use crate::node_builder::NodeBuilder;
 use cedar_expressions::{Boxed, Items};
 use cedar_grammar::reading::extent::{Extent, join_extents};
+use cedar_grammar::reading::node_builder::NodeBuilder;
 use cedar_syntax::loc::Loc;
 use cedar_syntax::node::Node;
 use std::alloc::{AllocError, Global};
@@ -30,7 +30,7 @@ impl<T: Drop, I: Drop> Chain<T, I> {
 impl<T: Drop, O: Drop + Copy> PendingChain<T, O> {
     /// One more operand.
     #[inline(always)]
-    fn link(&mut self, builder: NodeBuilder<'_>, item: Spanned<T>) -> Result<(), AllocError>
+    pub fn link(&mut self, builder: NodeBuilder<'_>, item: Spanned<T>) -> Result<(), AllocError>
         ensures chain { OnOk result (self.new.chain ≡ marked_chain builder.entry.source.now
             (Some self.old) item) }
     {

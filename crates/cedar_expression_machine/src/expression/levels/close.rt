@@ -7,15 +7,13 @@ ghost use Rattle.cedar_expression_machine.specs.machines.Closing.{add_at, fresh,
 ghost use Rattle.cedar_expression_machine.specs.machines.ExpressionModes.{HasNoRelation, HasNoSum};
 
 use crate::expression::depth::branches_are_deep;
-use crate::expression::levels::alone::{alone_add, alone_relation};
+use crate::expression::levels::alone::{alone_add, alone_relation, and_of, expr_of, or_of};
 use crate::expression::levels::chain::close_pending;
 use crate::expression::state::{Branch, Chain, Operand, PendingOperators, Spanned};
-use crate::node_builder::NodeBuilder;
-use cedar_expressions::Items;
 use cedar_grammar::reading::extent::join_extents;
-use cedar_grammar::reading::stack::Stack;
-use cedar_syntax::cst::{Add, And, Expr, ExprData, ExprImpl, Mult, Or, Relation, Unary};
-use cedar_syntax::node::Node;
+use cedar_grammar::reading::node_builder::NodeBuilder;
+use cedar_syntax::cst::{Add, Expr, ExprData, ExprImpl, Mult, Relation, Unary};
+use cedar_syntax::stack::Stack;
 use std::alloc::AllocError;
 
 /// The operand with its signs and accesses.
@@ -52,29 +50,10 @@ pub fn expr_of_relation(
     let of_relation = builder.loc_at(extent)?;
     let of_and = builder.loc_at(extent)?;
     let loc = builder.loc_at(extent)?;
-    let and = And {
-        initial: Node {
-            node: Some(item.tree),
-            loc: of_relation,
-        },
-        extended: Items::new(builder.alloc),
-    };
-    let or = Or {
-        initial: Node {
-            node: Some(and),
-            loc: of_and,
-        },
-        extended: Items::new(builder.alloc),
-    };
-    let data = ExprData::Or(Node {
-        node: Some(or),
-        loc,
-    });
-    let expr = ExprImpl::nested(builder.alloc, data, is_deep)?;
-    Ok(Spanned {
-        tree: Expr::Expr(expr),
-        extent,
-    })
+    let and = and_of(builder.alloc, item.tree, of_relation);
+    let or = or_of(builder.alloc, and, of_and);
+    let tree = expr_of(builder.alloc, or, loc, is_deep)?;
+    Ok(Spanned { tree, extent })
 }
 
 /// A conditional whose last part this is.
@@ -89,7 +68,7 @@ fn close_branch(
 {
     let Branch { guard, yes, extent } = branch;
     let extent = join_extents(extent, item.extent);
-    let last = builder.node_of(item)?;
+    let last = item.into_node(builder)?;
     let expr = ExprImpl::nested(builder.alloc, ExprData::If(guard, yes, last), is_deep)?;
     Ok(Spanned {
         tree: Expr::Expr(expr),

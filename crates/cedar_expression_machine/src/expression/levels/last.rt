@@ -9,18 +9,18 @@ ghost use Rattle.cedar_expression_machine.specs.machines.ExpressionModes.{HasNoR
 ghost use Rattle.cedar_expression_machine.specs.machines.ExpressionStates.{going_on};
 
 use crate::expression::levels::alone::{
-    add_with_places, alone_expr, and_of, common_of, or_of, places_of,
+    add_with_places, alone_expr, and_of, common_of, expr_of, or_of, places_of,
 };
 use crate::expression::levels::chain::push_plain_node;
 use crate::expression::levels::close::expr_of_relation;
 use crate::expression::state::{
     Chain, OperandPlace, PendingOperators, PendingRelation, Spanned, State,
 };
-use crate::node_builder::NodeBuilder;
 use cedar_expressions::{Boxed, Items};
 use cedar_grammar::never;
 use cedar_grammar::reading::extent::{Extent, join_extents};
-use cedar_syntax::cst::{And, Expr, ExprData, ExprImpl, Or, Relation};
+use cedar_grammar::reading::node_builder::NodeBuilder;
+use cedar_syntax::cst::{And, Expr, Or, Relation};
 use cedar_syntax::node::Node;
 use std::alloc::AllocError;
 
@@ -175,7 +175,7 @@ impl State {
         push_plain_node(
             builder.alloc,
             &mut self.levels.and,
-            builder.node_of(item)?,
+            item.into_node(builder)?,
             extent,
         )
     }
@@ -365,16 +365,12 @@ impl State {
         let extent = chain_extent(&self.levels.or);
         let loc = builder.loc_at(extent)?;
         let chain = take_chain(&mut self.levels.or);
-        let node = Some(Or {
+        let or = Or {
             initial: chain.initial,
             extended: chain.extended,
-        });
-        let data = ExprData::Or(Node { node, loc });
-        let expr = ExprImpl::nested(builder.alloc, data, self.is_deep())?;
-        Ok(Spanned {
-            tree: Expr::Expr(expr),
-            extent,
-        })
+        };
+        let tree = expr_of(builder.alloc, or, loc, self.is_deep())?;
+        Ok(Spanned { tree, extent })
     }
 
     /// The same, where one of `&&` is, and none of `||`.
@@ -397,13 +393,9 @@ impl State {
             initial: chain.initial,
             extended: chain.extended,
         };
-        let node = Some(or_of(builder.alloc, and, of_and));
-        let data = ExprData::Or(Node { node, loc });
-        let expr = ExprImpl::nested(builder.alloc, data, self.is_deep())?;
-        Ok(Spanned {
-            tree: Expr::Expr(expr),
-            extent,
-        })
+        let or = or_of(builder.alloc, and, of_and);
+        let tree = expr_of(builder.alloc, or, loc, self.is_deep())?;
+        Ok(Spanned { tree, extent })
     }
 
     /// The same, where comparisons are all that is begun.
@@ -426,13 +418,9 @@ impl State {
         let loc = builder.loc_at(extent)?;
         let item = self.take_compared(builder)?;
         let and = and_of(builder.alloc, item.tree, of_relation);
-        let node = Some(or_of(builder.alloc, and, of_and));
-        let data = ExprData::Or(Node { node, loc });
-        let expr = ExprImpl::nested(builder.alloc, data, self.is_deep())?;
-        Ok(Spanned {
-            tree: Expr::Expr(expr),
-            extent,
-        })
+        let or = or_of(builder.alloc, and, of_and);
+        let tree = expr_of(builder.alloc, or, loc, self.is_deep())?;
+        Ok(Spanned { tree, extent })
     }
 
     /// The same, where no chain of either is.

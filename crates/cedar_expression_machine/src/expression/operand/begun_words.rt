@@ -11,11 +11,11 @@ ghost use Rattle.cedar_expression_machine.specs.machines.Words.{word_node, path_
 ghost use Rattle.cedar_expression_machine.specs.machines.WordShapes.{path_kind, words_shape};
 
 use crate::expression::state::SingleWord;
-use crate::node_builder::NodeBuilder;
 use crate::words::nodes::word_of;
 use crate::words::path::first_word;
 use crate::words::state::{Path, PathState, WordsState};
 use cedar_grammar::reading::extent::Extent;
+use cedar_grammar::reading::node_builder::NodeBuilder;
 use cedar_lexer::token::Token;
 use cedar_syntax::cst::Ident;
 use std::alloc::AllocError;

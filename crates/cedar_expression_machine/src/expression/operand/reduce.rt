@@ -26,17 +26,18 @@ use crate::expression::operand::begun_words::{path_extent, single_word};
 use crate::expression::state::{
     Frame, Guard, Operand, OperandMode, OperandPlace, Signs, SingleWord, Spanned, State,
 };
-use crate::node_builder::NodeBuilder;
 use crate::words::state::{Entity, Path, PathState, WordsAct, WordsState};
 use cedar_expressions::Items;
 use cedar_grammar::never;
 use cedar_grammar::reading::extent::Extent;
+use cedar_grammar::reading::node_builder::NodeBuilder;
 use cedar_grammar::reading::place::token_extent;
 use cedar_grammar::reading::put::put;
-use cedar_grammar::reading::stack::Stack;
+use cedar_grammar::reading::token_read::TokenRead;
 use cedar_lexer::token::Token;
 use cedar_syntax::cst::{Expr, Ident, Literal, Member, Name, Primary};
 use cedar_syntax::node::Node;
+use cedar_syntax::stack::Stack;
 use std::alloc::{AllocError, Global};
 use std::mem;
 
@@ -72,7 +73,7 @@ pub fn if_operand(builder: NodeBuilder<'_>, extent: Option<Extent>) -> Result<Op
     Ok(Operand {
         signs: no_signs(),
         member: Member {
-            item: builder.node_of(item)?,
+            item: item.into_node(builder)?,
             access: Items::new(builder.alloc),
         },
         extent,
@@ -89,7 +90,7 @@ fn if_key(
 {
     let item = if_primary(builder, extent)?;
     let operand = operand_of(builder, no_signs(), item)?;
-    builder.node_of(alone_expr(builder, operand, false)?)
+    alone_expr(builder, operand, false)?.into_node(builder)
 }
 
 impl State {
@@ -99,17 +100,15 @@ impl State {
         builder: NodeBuilder<'_>,
         act: WordsAct,
         token: &Token<'_>,
-    ) -> Result<bool, AllocError>
+    ) -> Result<TokenRead, AllocError>
         requires written { IsWritten (lexeme_of token.now) }
         requires is_planned { IsPlanned self.old token.now.kind (acts.Words act) }
-        ensures { IfOk result (λ fits. done_as fits self.new ≡ expression_act
+        ensures { IfOk result (λ read. done_as read self.new ≡ expression_act
             builder.entry.source.now named_reader self.old (acts.Words act)
             (lexeme_of token.now)) }
     {
         match &mut self.mode {
-            OperandMode::Word { words, .. } => {
-                words.act_words(builder.alloc, builder.source, act, token)
-            }
+            OperandMode::Word { words, .. } => { words.act_words(builder, act, token) }
             OperandMode::Want { .. } | OperandMode::Have { .. } => unreachable!(),
         }
     }

@@ -3,10 +3,10 @@ ghost use Rattle.std.specs.Prelude.{◌≡◌, IfOk};
 ghost use Rattle.cedar_expression_machine.specs.machines.Wanting.{slot_of_token, slot_at};
 
 use crate::expression::state::Spanned;
-use crate::node_builder::NodeBuilder;
 use cedar_expressions::Text;
 use cedar_grammar::reading::class::SlotToken;
 use cedar_grammar::reading::extent::Extent;
+use cedar_grammar::reading::node_builder::NodeBuilder;
 use cedar_syntax::cst::{Primary, Slot};
 use std::alloc::{AllocError, Global};
 

@@ -15,10 +15,11 @@ ghost use Rattle.cedar_expression_machine.specs.machines.Wanting.{slot_at, slot_
 use crate::expression::operand::begun_words;
 use crate::expression::operand::slot::slot_at;
 use crate::expression::state::{OperandMode, OperandPrefix, Spanned, StartAct, State};
-use crate::node_builder::NodeBuilder;
 use cedar_grammar::reading::class::SlotToken;
 use cedar_grammar::reading::literal::as_number;
+use cedar_grammar::reading::node_builder::NodeBuilder;
 use cedar_grammar::reading::place::token_extent;
+use cedar_grammar::reading::token_read::TokenRead;
 use cedar_grammar::reading::tokens::string_node;
 use cedar_lexer::token::Token;
 use cedar_syntax::cst::{Literal, Primary};
@@ -50,10 +51,10 @@ impl State {
         &mut self,
         builder: NodeBuilder<'_>,
         token: &Token<'_>,
-    ) -> Result<bool, AllocError>
+    ) -> Result<TokenRead, AllocError>
         requires written { IsWritten (lexeme_of token.now) }
         requires is_begun { IsBegun self.old token.now.kind begins.Number }
-        ensures { IfOk result (λ fits. done_as fits self.new
+        ensures { IfOk result (λ read. done_as read self.new
             ≡ expression_act builder.entry.source.now named_reader self.old
             (acts.Begin begins.Number) (lexeme_of token.now)) }
     {
@@ -67,9 +68,9 @@ impl State {
                     loc,
                 });
                 self.have_primary(builder, signs, Spanned { tree, extent })?;
-                Ok(true)
+                Ok(TokenRead::Done)
             }
-            None => Ok(false),
+            None => Ok(TokenRead::TooLarge),
         }
     }
 
@@ -83,7 +84,7 @@ impl State {
     {
         let signs = self.prefix().signs;
         let extent = Some(token_extent(token));
-        let string = string_node(builder.alloc, builder.source, token)?;
+        let string = string_node(builder, token)?;
         let loc = builder.loc_at(extent)?;
         let tree = Primary::Literal(Node {
             node: Some(Literal::Str(string)),
@@ -117,10 +118,10 @@ impl State {
         builder: NodeBuilder<'_>,
         begin: StartAct,
         token: &Token<'_>,
-    ) -> Result<bool, AllocError>
+    ) -> Result<TokenRead, AllocError>
         requires written { IsWritten (lexeme_of token.now) }
         requires is_begun { IsBegun self.old token.now.kind begin }
-        ensures { IfOk result (λ fits. done_as fits self.new
+        ensures { IfOk result (λ read. done_as read self.new
             ≡ expression_act builder.entry.source.now named_reader self.old (acts.Begin begin)
             (lexeme_of token.now)) }
     {
@@ -135,6 +136,6 @@ impl State {
             StartAct::Brace => self.open_record(builder.alloc, token_extent(token))?,
             StartAct::Ends(_) => self.end_list(builder, token_extent(token))?,
         }
-        Ok(true)
+        Ok(TokenRead::Done)
     }
 }

@@ -16,15 +16,15 @@ returns-in_default g c = stops_at_token _ _ c.in-Some-Ok.token c.refuse.result c
 pub act-requires-clause-written : goal.act-requires-clause-written
 act-requires-clause-written g c = token_written c.in-Some-Ok.token c.loop-token.invariant (given _ _ _ _ c.next.ensures.steps (c.in-Some-Ok.is ∙ ap Some (rw c.in-Some-Ok.is at c.in-Some-Ok.field-0-is)))
 
-pub returns-then-not-branch : goal.returns-then-not-branch
-returns-then-not-branch g c =
+pub returns-in-TooLarge : goal.returns-in-TooLarge
+returns-in-TooLarge g c =
     stops_at_token _ _ c.in-Some-Ok.token c.refuse_number.result c.loop-token.invariant (given _ _ _ _ c.next.ensures.steps (c.in-Some-Ok.is ∙ ap Some (rw c.in-Some-Ok.is at c.in-Some-Ok.field-0-is)))
-    (stops_at_number g.E.PushParser.reader _ c.args.source.now c.loop-token.state _ c.in-Some.act (lexeme_of c.in-Some-Ok.token) c.in_ok-act-in-Some-Ok.field-0 _ (sym c.plan.ensures ∙ c.in-Some.is) c.in_ok-act-in-Some-Ok.ensures c.if-not-branch.true c.refuse_number.ensures)
+    (stops_at_number g.E.PushParser.reader _ c.args.source.now c.loop-token.state _ c.in-Some.act (lexeme_of c.in-Some-Ok.token) c.in_ok-act-in-Some-Ok.field-0 _ (sym c.plan.ensures ∙ c.in-Some.is) c.in_ok-act-in-Some-Ok.ensures c.in-TooLarge.is c.refuse_number.ensures)
 
 pub loop-token-preserved : goal.loop-token-preserved
 loop-token-preserved g c =
     one_more c.in-Some-Ok.token c.loop-token.invariant (given _ _ _ _ c.next.ensures.steps (c.in-Some-Ok.is ∙ ap Some (rw c.in-Some-Ok.is at c.in-Some-Ok.field-0-is)))
-    (takes g.E.PushParser.reader c.args.source.now c.loop-token.state _ c.in-Some.act (lexeme_of c.in-Some-Ok.token) c.in_ok-act-in-Some-Ok.field-0 (sym c.plan.ensures ∙ c.in-Some.is) c.in_ok-act-in-Some-Ok.ensures c.if-not-branch.false)
+    (takes g.E.PushParser.reader c.args.source.now c.loop-token.state _ c.in-Some.act (lexeme_of c.in-Some-Ok.token) c.in_ok-act-in-Some-Ok.field-0 (sym c.plan.ensures ∙ c.in-Some.is) c.in_ok-act-in-Some-Ok.ensures c.in-Done.is)
 
 pub returns-in-Some-Err : goal.returns-in-Some-Err
 returns-in-Some-Err g c = stops_badly _ _ c.in-Some-Err.bad c.failure.result c.loop-token.invariant (given _ _ _ _ c.next.ensures.steps (c.in-Some-Err.is ∙ ap Some (rw c.in-Some-Err.is at c.in-Some-Err.field-0-is))) c.failure.ensures

@@ -1,5 +1,7 @@
+use Rattle.cedar_lexer.specs.Token.{lexeme_of}
+use Rattle.cedar_policy_machine.specs.machines.Policies.{sections}
 use Rattle.cedar_policy_machine.specs.machines.Scope.{readers_of}
-use Rattle.cedar_policy_machine.proofs.machines.PolicyActs.{annotation_planned, element_planned, condition_planned, annotations_end, scope_ends, conditions_end}
+use Rattle.cedar_policy_machine.proofs.machines.PolicyActs.{annotation_planned, element_planned, condition_planned, annotations_end, scope_ends, conditions_end, scope_closed}
 use Rattle.cedar_policy_machine.proofs.policy.PolicyStateAnnotationSequenceElementSequenceConditionSequencePushParserPolicy.act.Goals as goal
 
 pub act_many-requires-clause-is_planned : goal.act_many-requires-clause-is_planned
@@ -19,3 +21,6 @@ end_item-requires g c = scope_ends (readers_of g.N.PushParser.reader g.S.PushPar
 
 pub end_item-requires-in-Shut : goal.end_item-requires-in-Shut
 end_item-requires-in-Shut g c = conditions_end (readers_of g.N.PushParser.reader g.S.PushParser.reader g.E.PushParser.reader) c.args.self.now c.args.token.now.kind c.args.act c.requires.is_planned c.in-Shut.is
+
+pub returns-in_ok-end_item-in-Close : goal.returns-in_ok-end_item-in-Close
+returns-in_ok-end_item-in-Close g c = scope_closed (sections (readers_of g.N.PushParser.reader g.S.PushParser.reader g.E.PushParser.reader)) c.args.builder.source.now c.args.self.now c.end_item.new.self c.args.act (lexeme_of c.args.token.now) c.in-Close.is c.in_ok-end_item-in-Close.ensures

@@ -7,4 +7,4 @@ use Rattle.cedar_policy_machine.proofs.scope.ElementStatePushParserVariableDef.a
 pub returns-in_ok-ident_node-in-Variable : goal.returns-in_ok-ident_node-in-Variable
 returns-in_ok-ident_node-in-Variable g c =
     ap (λ x. Some x) c.name.ensures
-    ∙ variable_made c.args.source.now (readers_of g.N.PushParser.reader g.S.PushParser.reader g.E.PushParser.reader) c.args.self.now c.args.act (lexeme_of c.args.token.now) c.in_ok-ident_node-in-Variable.field-0 c.in-Variable.is c.requires.is_planned c.in_ok-ident_node-in-Variable.ensures
+    ∙ variable_made c.args.builder.source.now (readers_of g.N.PushParser.reader g.S.PushParser.reader g.E.PushParser.reader) c.args.self.now c.args.act (lexeme_of c.args.token.now) c.in_ok-ident_node-in-Variable.field-0 c.in-Variable.is c.requires.is_planned c.in_ok-ident_node-in-Variable.ensures

@@ -46,6 +46,6 @@ returns-in_ok-open_guard-in-Guard c =
     let q = c.begin-in-Guard.new.self in
     let i = words_guard s k c.in-Guard.begin (subst (λ (a : Act). IsPlanned s k a) c.in-Guard.is c.requires.is_planned) in
     if_ok c.begin-in-Guard.result
-    (λ fits h. guard_acted c.args.builder.source.now s c.open_guard.new.self c.args.act c.in-Guard.begin (lexeme_of c.args.token.now)
-    (done_as fits q) i.0 c.in-Guard.is c.in_ok-open_guard-in-Guard.ensures h)
+    (λ read h. guard_acted c.args.builder.source.now s c.open_guard.new.self c.args.act c.in-Guard.begin (lexeme_of c.args.token.now)
+    (done_as read q) i.0 c.in-Guard.is c.in_ok-open_guard-in-Guard.ensures h)
     c.begin-in-Guard.ensures

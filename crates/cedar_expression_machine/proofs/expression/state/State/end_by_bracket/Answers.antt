@@ -1,5 +1,5 @@
 use Rattle.std.proofs.Common.{ap, List}
-use Rattle.cedar_grammar.specs.machines.Stacks.{with_top}
+use Rattle.cedar_syntax.specs.Stacks.{with_top}
 use Rattle.cedar_expression_machine.specs.declared.expression.state.Frame.{Frame}
 use Rattle.cedar_expression_machine.specs.declared.expression.state.Frame.TheVariants as frame
 use Rattle.cedar_expression_machine.proofs.expression.state.State.end_by_bracket.Goals as goal

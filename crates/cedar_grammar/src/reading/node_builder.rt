@@ -1,17 +1,15 @@
-//! Makes nodes.
+//! What nodes are made with.
 ghost use Rattle.std.specs.Prelude.{◌≡◌, IfOk};
 ghost use Rattle.cedar_grammar.specs.grammar.Place.{loc_at, node_at};
-ghost use Rattle.cedar_expression_machine.specs.machines.Closing.{node_of};
 
-use crate::expression::state::Spanned;
+use crate::reading::extent::Extent;
+use crate::reading::place;
 use cedar_expressions::Source;
-use cedar_grammar::reading::extent::Extent;
-use cedar_grammar::reading::place;
 use cedar_syntax::loc::Loc;
 use cedar_syntax::node::Node;
 use std::alloc::{AllocError, Global};
 
-/// Makes nodes: where memory comes from, and the source that each place carries.
+/// What nodes are made with: where memory comes from, and the source that each place carries.
 #[derive(Drop, Clone, Copy)]
 pub struct NodeBuilder<'a> {
     pub alloc: Global,
@@ -37,14 +35,5 @@ impl NodeBuilder<'_> {
         ensures { IfOk result (λ node. node ≡ node_at self.entry.source.now extent tree) }
     {
         place::node_at(self.source, extent, tree)
-    }
-
-    /// A tree as a node, at its bytes.
-    #[inline(always)]
-    pub fn node_of<T: Drop>(self, item: Spanned<T>) -> Result<Node<Option<T>>, AllocError>
-        ensures { IfOk result (λ node. node ≡ node_of self.entry.source.now item) }
-    {
-        let Spanned { tree, extent } = item;
-        self.node_at(extent, tree)
     }
 }
