@@ -6,6 +6,7 @@ use Rattle.std.specs.Map.{keys_of}
 use Rattle.cedar_expressions.specs.Keys.{repeats_key}
 use Rattle.cedar_expressions.specs.Path.{Path}
 use Rattle.cedar_expressions.specs.Value.{Value}
+use Rattle.cedar_expressions.specs.declared.operators.UnaryOp.TheVariants as signs
 use Rattle.cedar_syntax.specs.declared.loc.Loc.{Loc}
 use Rattle.cedar_syntax.specs.declared.node.Node.{Node}
 use Rattle.cedar_syntax.specs.declared.cst.MultOp.TheVariants as mul
@@ -26,7 +27,8 @@ use Rattle.cedar_conversion.specs.outcome.Held.{Held, bare_name, as_expression, 
 use Rattle.cedar_conversion.specs.parts.Leaves.{name_leaf, variable_or_name}
 use Rattle.cedar_conversion.specs.parts.Members.{member_outcome}
 use Rattle.cedar_conversion.specs.parts.Names.{name_outcome, named_variable}
-use Rattle.cedar_conversion.specs.outcome.Outcome.{NamedFault, Outcome, fault_outcome, both, next, ambiguous_operators, invalid_single_eq, unary_op_limit, expression_construction_error, arbitrary_variable}
+use Rattle.cedar_conversion.specs.outcome.Detail as detail
+use Rattle.cedar_conversion.specs.outcome.Outcome.{NamedFault, Outcome, detailed_outcome, fault_outcome, both, next, ambiguous_operators, invalid_single_eq, unary_op_limit, expression_construction_error, arbitrary_variable}
 use Rattle.cedar_conversion.proofs.Inverted.{next_ok}
 
 -- ---- a node alone
@@ -169,18 +171,18 @@ single_eq_alone e tree place a b i h k = refused_alone e tree (at place (f.chain
 
 -- ---- signs
 
-pub bangs : (e : Extensions) (place : Option Loc) (a : Located) → outcome e (at place (f.unary (Some sign.OverBang) a)) ≡ fault_outcome unary_op_limit place
+pub bangs : (e : Extensions) (place : Option Loc) (a : Located) → outcome e (at place (f.unary (Some sign.OverBang) a)) ≡ detailed_outcome unary_op_limit place (detail.sign signs.Not)
 unfolding outcome form_outcome
 bangs e place a = refl
 
-pub dashes : (e : Extensions) (place : Option Loc) (a : Located) → outcome e (at place (f.unary (Some sign.OverDash) a)) ≡ fault_outcome unary_op_limit place
+pub dashes : (e : Extensions) (place : Option Loc) (a : Located) → outcome e (at place (f.unary (Some sign.OverDash) a)) ≡ detailed_outcome unary_op_limit place (detail.sign signs.Neg)
 unfolding outcome form_outcome
 dashes e place a = refl
 
-pub bangs_alone : (e : Extensions) (tree : Located) (place : Option Loc) (a : Located) → IsAlone tree (at place (f.unary (Some sign.OverBang) a)) → value_outcome e tree ≡ fault_outcome unary_op_limit place
+pub bangs_alone : (e : Extensions) (tree : Located) (place : Option Loc) (a : Located) → IsAlone tree (at place (f.unary (Some sign.OverBang) a)) → value_outcome e tree ≡ detailed_outcome unary_op_limit place (detail.sign signs.Not)
 bangs_alone e tree place a i = refused_alone e tree (at place (f.unary (Some sign.OverBang) a)) _ i (bangs e place a)
 
-pub dashes_alone : (e : Extensions) (tree : Located) (place : Option Loc) (a : Located) → IsAlone tree (at place (f.unary (Some sign.OverDash) a)) → value_outcome e tree ≡ fault_outcome unary_op_limit place
+pub dashes_alone : (e : Extensions) (tree : Located) (place : Option Loc) (a : Located) → IsAlone tree (at place (f.unary (Some sign.OverDash) a)) → value_outcome e tree ≡ detailed_outcome unary_op_limit place (detail.sign signs.Neg)
 dashes_alone e tree place a i = refused_alone e tree (at place (f.unary (Some sign.OverDash) a)) _ i (dashes e place a)
 
 -- ---- a record

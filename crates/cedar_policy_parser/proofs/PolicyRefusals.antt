@@ -16,6 +16,8 @@ use Rattle.cedar_syntax.specs.declared.cst.PolicyImpl.{PolicyImpl}
 use Rattle.cedar_syntax.specs.declared.cst.Ref.{Ref}
 use Rattle.cedar_syntax.specs.trees.Located.{Located}
 use Rattle.cedar_syntax.specs.declared.cst.VariableDef.{VariableDef}
+use Rattle.cedar_expressions.specs.declared.atoms.Var.{Var}
+use Rattle.cedar_expressions.specs.declared.atoms.Var.TheVariants as vars
 use Rattle.cedar_syntax.specs.declared.loc.Loc.{Loc}
 use Rattle.cedar_syntax.specs.declared.node.Node.{Node}
 use Rattle.cedar_syntax.specs.trees.Forms.{located, expr_form}
@@ -31,9 +33,9 @@ use Rattle.cedar_conversion.specs.strict.Extensions.{Extensions}
 use Rattle.cedar_conversion.specs.parts.Entities.{entity_outcome}
 use Rattle.cedar_conversion.specs.parts.Literals.{string_outcome}
 use Rattle.cedar_conversion.specs.parts.Names.{content_outcome, valid_ident}
-use Rattle.cedar_conversion.specs.outcome.Outcome.{Kind, NamedFault, Outcome, fault_outcome, both, next, invalid_effect, invalid_condition, empty_clause, missing_scope_variable, extra_scope_element, expected_static_policy, duplicate_policy_id, duplicate_template_id, membership_invariant_violation, faults_outcome}
-use Rattle.cedar_conversion.specs.outcome.Places.{place_within}
-use Rattle.cedar_policy_conversion.specs.Policies.{TemplateParts, effect_of, effect_outcome, template_outcome, scope_slots, unless_slots, is_slot_fault, slot_faults, only_static, static_outcome, side_outcome, either_outcome, policies_outcome}
+use Rattle.cedar_conversion.specs.outcome.Detail as detail
+use Rattle.cedar_conversion.specs.outcome.Outcome.{Kind, NamedFault, Outcome, detailed_outcome, both, next, invalid_effect, invalid_condition, empty_clause, missing_scope_variable, extra_scope_element, expected_static_policy, duplicate_policy_id, duplicate_template_id, membership_invariant_violation, faults_outcome}
+use Rattle.cedar_policy_conversion.specs.Policies.{TemplateParts, effect_of, effect_outcome, template_outcome, scope_slots, unless_slots, is_slot_fault, slot_faults, slot_place, only_static, static_outcome, side_outcome, either_outcome, policies_outcome}
 use Rattle.cedar_policy_conversion.specs.Scope.{principal_outcome, action_outcome, resource_outcome, place_behind, if_there, extra_element_fault, no_extra, scope_of, elements_outcome, scope_outcome}
 use Rattle.cedar_expressions.specs.Slots.{slots_of}
 use Rattle.cedar_policy_parser.proofs.ByHand.{any_annotation_stands, any_condition_stands, any_effect_stands, any_entity_stands, any_identifier_stands, any_policy_stands, any_scope_stands, any_set_stands, any_string_stands, any_value_stands}
@@ -46,12 +48,12 @@ use Rattle.cedar_policy_parser.proofs.tidy.TidyPolicies.{IfThere, ElementTidy, P
 
 -- ---- the effect
 
-effect_of_alone : (p : Option Loc) (word : Ident) (faults : List NamedFault) → effect_of p word ≡ Err faults → faults ≡ (invalid_effect, p) ∷ []
+effect_of_alone : (p : Option Loc) (word : Ident) (faults : List NamedFault) → effect_of p word ≡ Err faults → faults ≡ (invalid_effect, p, detail.word word) ∷ []
 effect_of_alone p words.Permit faults e = cc
 effect_of_alone p words.Forbid faults e = cc
 effect_of_alone p word faults e = cc
 
-effect_in : (w p : Option Loc) (c : Option Ident) (faults : List NamedFault) → Holding (parsed w) (IdentHeld (parsed w)) c → next (content_outcome p c) (effect_of p) ≡ Err faults → faults ≡ (invalid_effect, p) ∷ []
+effect_in : (w p : Option Loc) (c : Option Ident) (faults : List NamedFault) → Holding (parsed w) (IdentHeld (parsed w)) c → next (content_outcome p c) (effect_of p) ≡ Err faults → faults ≡ (invalid_effect, p, detail.word_there c) ∷ []
 effect_in w p None faults h e = absurd h
 effect_in w p (Some word) faults h e = effect_of_alone p word faults e
 
@@ -63,13 +65,13 @@ effect_told w p h faults = effect_in w p.effect.loc p.effect.node faults h.1.1
 pub condition_is : (e : Extensions) (n : Node (Option Cond)) (c : Cond) → n.node ≡ Some c → condition_outcome e n ≡ condition_of e n.loc c
 condition_is e n c h = ap (λ o. next (content_outcome n.loc o) (condition_of e n.loc)) h
 
-other_is_none : (p : Option Loc) (word : Ident) → ¬ (IsWhenOrUnless word) → is_when_of p word ≡ fault_outcome invalid_condition p
+other_is_none : (p : Option Loc) (word : Ident) → ¬ (IsWhenOrUnless word) → is_when_of p word ≡ detailed_outcome invalid_condition p (detail.word word)
 other_is_none p words.When h = absurd (h tt)
 other_is_none p words.Unless h = absurd (h tt)
 other_is_none p word h = refl
 
 pub other_word : (e : Extensions) (n : Node (Option Cond)) (word : Ident) (place : Option Loc) (expr : Option (Node (Option Expr))) → HoldsCondition n word place expr → ¬ (IsWhenOrUnless word)
-    → condition_outcome e n ≡ fault_outcome invalid_condition place
+    → condition_outcome e n ≡ detailed_outcome invalid_condition place (detail.word word)
 other_word e n word place expr i h = condition_is e n _ i ∙ rw (other_is_none place word h) refl
 
 pub one_is_given : (p : Option Loc) (word : Ident) → IsWhenOrUnless word → (b : Bool) × (is_when_of p word ≡ Ok b)
@@ -77,7 +79,7 @@ one_is_given p words.When h = (true, refl)
 one_is_given p words.Unless h = (false, refl)
 one_is_given p word h = absurd h
 
-pub no_clause : (e : Extensions) (n : Node (Option Cond)) (word : Ident) (place : Option Loc) → HoldsCondition n word place None → IsWhenOrUnless word → condition_outcome e n ≡ fault_outcome empty_clause n.loc
+pub no_clause : (e : Extensions) (n : Node (Option Cond)) (word : Ident) (place : Option Loc) → HoldsCondition n word place None → IsWhenOrUnless word → condition_outcome e n ≡ detailed_outcome empty_clause n.loc (detail.word word)
 no_clause e n word place i h = condition_is e n _ i ∙ rw ((one_is_given place word h).1) refl
 
 unless_is : (fs : List NamedFault) → faults_from (faults_outcome fs) ≡ fs
@@ -154,13 +156,13 @@ abbrev absent : Option Element → ℕ
 absent None = 1
 absent (Some n) = 0
 
-missing_there : {X : Type 0} (w : Option Loc) (g : Element → Outcome X) (before : Option Loc) (c : Option Element) → IfThere (Tidied w) c → ((n : Element) → Tidied w n → Stands IsPlain (parsed w) Anything (g n)) → count is_missing_variable (faults_from (if_there g before c)) ≡ absent c
-missing_there w g before None h s = refl
-missing_there w g before (Some n) h s = none_in is_missing_variable missing_not_plain w (g n) (s n h)
+missing_there : {X : Type 0} (w : Option Loc) (v : Var) (g : Element → Outcome X) (before : Option Loc) (c : Option Element) → IfThere (Tidied w) c → ((n : Element) → Tidied w n → Stands IsPlain (parsed w) Anything (g n)) → count is_missing_variable (faults_from (if_there v g before c)) ≡ absent c
+missing_there w v g before None h s = refl
+missing_there w v g before (Some n) h s = none_in is_missing_variable missing_not_plain w (g n) (s n h)
 
-extra_there : {X : Type 0} (w : Option Loc) (g : Element → Outcome X) (before : Option Loc) (c : Option Element) → IfThere (Tidied w) c → ((n : Element) → Tidied w n → Stands IsPlain (parsed w) Anything (g n)) → count is_extra_element (faults_from (if_there g before c)) ≡ 0
-extra_there w g before None h s = refl
-extra_there w g before (Some n) h s = none_in is_extra_element extra_not_plain w (g n) (s n h)
+extra_there : {X : Type 0} (w : Option Loc) (v : Var) (g : Element → Outcome X) (before : Option Loc) (c : Option Element) → IfThere (Tidied w) c → ((n : Element) → Tidied w n → Stands IsPlain (parsed w) Anything (g n)) → count is_extra_element (faults_from (if_there v g before c)) ≡ 0
+extra_there w v g before None h s = refl
+extra_there w v g before (Some n) h s = none_in is_extra_element extra_not_plain w (g n) (s n h)
 
 abbrev extras : List Element → List NamedFault
 extras ns = map (λ n. extra_element_fault n.loc n.node) ns
@@ -182,17 +184,17 @@ extra_extras w [] h = refl
 extra_extras w (n ∷ ns) h = extra_one w n.loc n.node (extras ns) h.0.1 ∙ ap suc (extra_extras w ns h.1)
 
 scope_told : (e : Extensions) (before : Option Loc) (a b c : Option Element) (ns : List Element) → faults_from (scope_of e before a b c ns)
-    ≡ faults_from (if_there (principal_outcome e) before a) ++ faults_from (if_there (action_outcome e) (place_behind before a) b) ++ faults_from (if_there (resource_outcome e) (place_behind (place_behind before a) b) c) ++ extras ns
+    ≡ faults_from (if_there vars.Principal (principal_outcome e) before a) ++ faults_from (if_there vars.Action (action_outcome e) (place_behind before a) b) ++ faults_from (if_there vars.Resource (resource_outcome e) (place_behind (place_behind before a) b) c) ++ extras ns
 scope_told e before a b c ns =
-    made_told (both (both (if_there (principal_outcome e) before a) (if_there (action_outcome e) (place_behind before a) b)) (both (if_there (resource_outcome e) (place_behind (place_behind before a) b) c) (no_extra ns))) (λ p. (p.0.0, p.0.1, p.1.0))
-    ∙ joined_told (if_there (principal_outcome e) before a) (if_there (action_outcome e) (place_behind before a) b) (if_there (resource_outcome e) (place_behind (place_behind before a) b) c) (no_extra ns)
-    ∙ ap (λ fs. faults_from (if_there (principal_outcome e) before a) ++ faults_from (if_there (action_outcome e) (place_behind before a) b) ++ faults_from (if_there (resource_outcome e) (place_behind (place_behind before a) b) c) ++ fs) (unless_is (extras ns))
+    made_told (both (both (if_there vars.Principal (principal_outcome e) before a) (if_there vars.Action (action_outcome e) (place_behind before a) b)) (both (if_there vars.Resource (resource_outcome e) (place_behind (place_behind before a) b) c) (no_extra ns))) (λ p. (p.0.0, p.0.1, p.1.0))
+    ∙ joined_told (if_there vars.Principal (principal_outcome e) before a) (if_there vars.Action (action_outcome e) (place_behind before a) b) (if_there vars.Resource (resource_outcome e) (place_behind (place_behind before a) b) c) (no_extra ns)
+    ∙ ap (λ fs. faults_from (if_there vars.Principal (principal_outcome e) before a) ++ faults_from (if_there vars.Action (action_outcome e) (place_behind before a) b) ++ faults_from (if_there vars.Resource (resource_outcome e) (place_behind (place_behind before a) b) c) ++ fs) (unless_is (extras ns))
 
 scope_counted : (is_one : Kind → Bool) (e : Extensions) (before : Option Loc) (a b c : Option Element) (ns : List Element) → count is_one (faults_from (scope_of e before a b c ns))
-    ≡ count is_one (faults_from (if_there (principal_outcome e) before a)) + count is_one (faults_from (if_there (action_outcome e) (place_behind before a) b)) + count is_one (faults_from (if_there (resource_outcome e) (place_behind (place_behind before a) b) c)) + count is_one (extras ns)
+    ≡ count is_one (faults_from (if_there vars.Principal (principal_outcome e) before a)) + count is_one (faults_from (if_there vars.Action (action_outcome e) (place_behind before a) b)) + count is_one (faults_from (if_there vars.Resource (resource_outcome e) (place_behind (place_behind before a) b) c)) + count is_one (extras ns)
 scope_counted is_one e before a b c ns =
     ap (count is_one) (scope_told e before a b c ns)
-    ∙ four_counted is_one (faults_from (if_there (principal_outcome e) before a)) (faults_from (if_there (action_outcome e) (place_behind before a) b)) (faults_from (if_there (resource_outcome e) (place_behind (place_behind before a) b) c)) (extras ns)
+    ∙ four_counted is_one (faults_from (if_there vars.Principal (principal_outcome e) before a)) (faults_from (if_there vars.Action (action_outcome e) (place_behind before a) b)) (faults_from (if_there vars.Resource (resource_outcome e) (place_behind (place_behind before a) b) c)) (extras ns)
 
 sums : (n m k l a b c d s : ℕ) → s ≡ n + m + k + l → n ≡ a → m ≡ b → k ≡ c → l ≡ d → s ≡ a + b + c + d
 sums n m k l a b c d s h i j o p = omega arith
@@ -200,14 +202,14 @@ sums n m k l a b c d s h i j o p = omega arith
 missing_of : (e : Extensions) (w before : Option Loc) (a b c : Option Element) (ns : List Element) → IfThere (Tidied w) a → IfThere (Tidied w) b → IfThere (Tidied w) c → Each (Tidied w) ns
     → count is_missing_variable (faults_from (scope_of e before a b c ns)) ≡ absent a + absent b + absent c + 0
 missing_of e w before a b c ns h i j k =
-    sums _ _ _ _ (absent a) (absent b) (absent c) 0 _ (scope_counted is_missing_variable e before a b c ns) (missing_there w (principal_outcome e) before a h (principal_stands e (parsed w))) (missing_there w (action_outcome e) (place_behind before a) b i (action_stands e (parsed w)))
-    (missing_there w (resource_outcome e) (place_behind (place_behind before a) b) c j (resource_stands e (parsed w))) (missing_extras w ns k)
+    sums _ _ _ _ (absent a) (absent b) (absent c) 0 _ (scope_counted is_missing_variable e before a b c ns) (missing_there w vars.Principal (principal_outcome e) before a h (principal_stands e (parsed w))) (missing_there w vars.Action (action_outcome e) (place_behind before a) b i (action_stands e (parsed w)))
+    (missing_there w vars.Resource (resource_outcome e) (place_behind (place_behind before a) b) c j (resource_stands e (parsed w))) (missing_extras w ns k)
 
 extra_of : (e : Extensions) (w before : Option Loc) (a b c : Option Element) (ns : List Element) → IfThere (Tidied w) a → IfThere (Tidied w) b → IfThere (Tidied w) c → Each (Tidied w) ns
     → count is_extra_element (faults_from (scope_of e before a b c ns)) ≡ 0 + 0 + 0 + length ns
 extra_of e w before a b c ns h i j k =
-    sums _ _ _ _ 0 0 0 (length ns) _ (scope_counted is_extra_element e before a b c ns) (extra_there w (principal_outcome e) before a h (principal_stands e (parsed w))) (extra_there w (action_outcome e) (place_behind before a) b i (action_stands e (parsed w)))
-    (extra_there w (resource_outcome e) (place_behind (place_behind before a) b) c j (resource_stands e (parsed w))) (extra_extras w ns k)
+    sums _ _ _ _ 0 0 0 (length ns) _ (scope_counted is_extra_element e before a b c ns) (extra_there w vars.Principal (principal_outcome e) before a h (principal_stands e (parsed w))) (extra_there w vars.Action (action_outcome e) (place_behind before a) b i (action_stands e (parsed w)))
+    (extra_there w vars.Resource (resource_outcome e) (place_behind (place_behind before a) b) c j (resource_stands e (parsed w))) (extra_extras w ns k)
 
 no_more : (s n : ℕ) → s ≡ 0 + 0 + 0 + 0 → s ≡ 3 - suc (suc (suc n))
 no_more s n h = omega arith
@@ -304,13 +306,13 @@ static_no_template e = cc
 static_no_text : expected_static_policy ≢ membership_invariant_violation
 static_no_text e = cc
 
-wanted_names : (faults : List NamedFault) → All IsTellable (map (λ f. (expected_static_policy, f.1)) faults)
+wanted_names : (faults : List NamedFault) → All IsTellable (map (λ f. (expected_static_policy, f.1, f.2)) faults)
 wanted_names [] = All-nil IsTellable
-wanted_names (f ∷ fs) = All-cons IsTellable (expected_static_policy, f.1) (map (λ f. (expected_static_policy, f.1)) fs) (static_no_policy, static_no_template, static_no_text) (wanted_names fs)
+wanted_names (f ∷ fs) = All-cons IsTellable (expected_static_policy, f.1, f.2) (map (λ f. (expected_static_policy, f.1, f.2)) fs) (static_no_policy, static_no_template, static_no_text) (wanted_names fs)
 
 unless_names : (p : Option Loc) (slots : List Slot) (t : TemplateParts) → All IsTellable (faults_from (unless_slots p slots t))
 unless_names p [] t = All-nil IsTellable
-unless_names p (s ∷ slots) t = All-cons IsTellable (expected_static_policy, place_within p s.place) [] (static_no_policy, static_no_template, static_no_text) (All-nil IsTellable)
+unless_names p (s ∷ slots) t = All-cons IsTellable (expected_static_policy, slot_place p s.place, detail.slot s) [] (static_no_policy, static_no_template, static_no_text) (All-nil IsTellable)
 
 only_names : (p : Option Loc) (o : Outcome TemplateParts) → All IsTellable (faults_from o) → All IsTellable (faults_from (only_static p o))
 only_names p (Ok t) h = unless_names p (scope_slots t) t

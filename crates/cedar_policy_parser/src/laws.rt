@@ -43,7 +43,9 @@ ghost use Rattle.cedar_conversion.specs.parts.Entities.{entity_outcome};
 ghost use Rattle.cedar_conversion.specs.strict.Extensions.{Extensions};
 ghost use Rattle.cedar_conversion.specs.parts.Literals.{string_outcome};
 ghost use Rattle.cedar_conversion.specs.parts.Names.{any_ident, valid_ident};
-ghost use Rattle.cedar_conversion.specs.outcome.Outcome.{Kind, outcome_value, fault_outcome, ambiguous_operators, arbitrary_variable, expression_construction_error, invalid_single_eq, unary_op_limit};
+ghost use Rattle.cedar_conversion.specs.outcome.Detail as detail;
+ghost use Rattle.cedar_expressions.specs.declared.operators.UnaryOp.TheVariants as signs;
+ghost use Rattle.cedar_conversion.specs.outcome.Outcome.{Kind, outcome_value, detailed_outcome, fault_outcome, ambiguous_operators, arbitrary_variable, expression_construction_error, invalid_single_eq, unary_op_limit};
 ghost use Rattle.cedar_policy_parser.specs.faults.Sites as sites;
 ghost use Rattle.cedar_policy_parser.specs.faults.Sites.{Site};
 ghost use Rattle.cedar_policy_parser.specs.faults.Standing.{AreTokensOf, StandWithin};
@@ -139,18 +141,20 @@ pub fn refused_alone()
         → value_outcome table tree ≡ Err (quotients place rest) }
     ensures bangs { (table : Extensions) (place : Option Loc) (a : Located)
         → outcome table (f.at place (f.unary (Some sign.OverBang) a))
-        ≡ fault_outcome unary_op_limit place }
+        ≡ detailed_outcome unary_op_limit place (detail.sign signs.Not) }
     ensures bangs_alone { (table : Extensions) (tree : Located) (place : Option Loc)
         (a : Located)
         → IsAlone tree (f.at place (f.unary (Some sign.OverBang) a))
-        → value_outcome table tree ≡ fault_outcome unary_op_limit place }
+        → value_outcome table tree ≡ detailed_outcome unary_op_limit place
+        (detail.sign signs.Not) }
     ensures dashes { (table : Extensions) (place : Option Loc) (a : Located)
         → outcome table (f.at place (f.unary (Some sign.OverDash) a))
-        ≡ fault_outcome unary_op_limit place }
+        ≡ detailed_outcome unary_op_limit place (detail.sign signs.Neg) }
     ensures dashes_alone { (table : Extensions) (tree : Located) (place : Option Loc)
         (a : Located)
         → IsAlone tree (f.at place (f.unary (Some sign.OverDash) a))
-        → value_outcome table tree ≡ fault_outcome unary_op_limit place }
+        → value_outcome table tree ≡ detailed_outcome unary_op_limit place
+        (detail.sign signs.Neg) }
     ensures repeated_key { (table : Extensions) (place : Option Loc) (inits : Parts)
         (pairs : List (List ℕ × Value))
         → ArePairs table inits pairs → repeats_key (keys_of pairs) ≡ true

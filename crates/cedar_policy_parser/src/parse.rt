@@ -6,6 +6,7 @@ ghost use Rattle.cedar_expressions.specs.Meaning.{expr_meaning};
 ghost use Rattle.cedar_expressions.specs.Value.{Value};
 ghost use Rattle.cedar_expressions.specs.WithoutPlaces.{without_places};
 ghost use Rattle.cedar_policy_store.specs.PlaceFree.{Policy, Policies, set_meaning};
+ghost use Rattle.cedar_policy_store.specs.PolicyMaps.{PolicyMaps};
 ghost use Rattle.cedar_policy_store.specs.declared.template.Template.{Template};
 ghost use Rattle.cedar_policy_conversion.specs.PolicyMeaning.{no_policies, policy_id, with_policy};
 ghost use Rattle.cedar_syntax.specs.faults.ParseErrors.{IsMemory};
@@ -19,7 +20,8 @@ ghost use Rattle.cedar_conversion.specs.strict.Strict.{Means, expression};
 ghost use Rattle.cedar_policy_parser.specs.meaning.StrictPolicy.{IsPolicySet};
 ghost use Rattle.cedar_conversion.specs.strict.Table.{table_of};
 ghost use Rattle.cedar_policy_parser.specs.meaning.VariedTexts.{SpacesKeep, ParenthesesKeep};
-ghost use Rattle.cedar_writer.specs.WrittenTexts.{IsTextOf, IsTextOfPolicy, IsTextOfAll, called, numbered};
+ghost use Rattle.cedar_writer.specs.NumberedSets.{IsNumberedSet};
+ghost use Rattle.cedar_writer.specs.WrittenTexts.{IsTextOf, IsTextOfPolicy, IsTextOfAll, IsTextOfSet, called, numbered};
 
 use crate::policy_laws::one_set;
 use cedar_expressions::{Expr, ExprBuilder};
@@ -80,7 +82,8 @@ pub fn parse_expression(alloc: Global, text: &str, styles: &ExtStyles) -> Result
 ///
 /// What `template_to_cedar` or `static_policy_to_cedar` wrote under the same table is read as the
 /// written policy, under the name `policy0`; what `policyset_to_cedar` wrote as the written
-/// policies, under `policy0`, `policy1` and so on.
+/// policies, under `policy0`, `policy1` and so on: as the very set, where they bear these names in
+/// their order and each template has a slot in its scope.
 pub fn parse_policyset(alloc: Global, text: &str, styles: &ExtStyles) -> Result<PolicySet, Failure>
     ensures value { IfOk result (λ set.
         (ts : List Lexeme) × Cuts text.now ts × IsPolicySet
@@ -95,6 +98,9 @@ pub fn parse_policyset(alloc: Global, text: &str, styles: &ExtStyles) -> Result<
     ensures written_policies { (all : List Template)
         → IsTextOfAll (table_of styles.now) sign_limit all text.now
         → MatchResult result (λ set. set_meaning set ≡ numbered all) IsMemory }
+    ensures written_set { (set : PolicyMaps) → IsNumberedSet set
+        → IsTextOfSet (table_of styles.now) sign_limit set text.now
+        → MatchResult result (λ read. set_meaning read ≡ set_meaning set) IsMemory }
     ensures refused { IfErr result (λ failure. RefusesSet
         (table_of styles.now) failure text.now) }
     ensures leftmost { (ts : List Lexeme) → Cuts text.now ts → NumbersFit ts

@@ -37,7 +37,8 @@ ghost use Rattle.cedar_conversion.specs.parts.Entities.{entity_outcome};
 ghost use Rattle.cedar_conversion.specs.parts.Literals.{string_outcome};
 ghost use Rattle.cedar_conversion.specs.parts.Names.{valid_ident};
 ghost use Rattle.cedar_conversion.specs.strict.Extensions.{Extensions};
-ghost use Rattle.cedar_conversion.specs.outcome.Outcome.{NamedFault, fault_outcome, next, outcome_value, empty_clause, invalid_condition};
+ghost use Rattle.cedar_conversion.specs.outcome.Detail as detail;
+ghost use Rattle.cedar_conversion.specs.outcome.Outcome.{NamedFault, detailed_outcome, next, outcome_value, empty_clause, invalid_condition};
 ghost use Rattle.cedar_policy_conversion.specs.Policies as k;
 ghost use Rattle.cedar_policy_conversion.specs.Policies.{TemplateParts, meaning_of};
 ghost use Rattle.cedar_policy_conversion.specs.PolicyMeaning.{IsStatic};
@@ -278,11 +279,13 @@ pub fn due()
     ensures other_word { (table : Extensions) (node : Node (Option Cond))
         (word : Ident) (place : Option Loc) (expr : Option (Node (Option Expr)))
         → HoldsCondition node word place expr → ¬ (IsWhenOrUnless word)
-        → condition_outcome table node ≡ fault_outcome invalid_condition place }
+        → condition_outcome table node
+        ≡ detailed_outcome invalid_condition place (detail.word word) }
     ensures no_clause { (table : Extensions) (node : Node (Option Cond))
         (word : Ident) (place : Option Loc)
         → HoldsCondition node word place None → IsWhenOrUnless word
-        → condition_outcome table node ≡ fault_outcome empty_clause node.loc }
+        → condition_outcome table node
+        ≡ detailed_outcome empty_clause node.loc (detail.word word) }
     ensures slots { (table : Extensions) (node : Node (Option Cond))
         (word : Ident) (place : Option Loc) (expr : Node (Option Expr)) (value : Value)
         → HoldsCondition node word place (Some expr) → IsWhenOrUnless word

@@ -60,7 +60,7 @@ module _ {X : Type 0} where
       let whole : entries (insert m x.0 x.1) ++ xs ≡ entries m ++ x ∷ xs = ap (λ es. es ++ xs) more ∙ split in
       filled (insert m x.0 x.1) xs (subst (λ es. T (is_sorted text_order es)) (sym whole) h) ∙ whole
 
-nothing_in : (X : Type 0) → entries (empty {X = X} {R = text_order}) ≡ []
+pub nothing_in : (X : Type 0) → entries (empty {X = X} {R = text_order}) ≡ []
 nothing_in X =
     let m : FinMap text_order X = from_sorted {R = text_order} [] in
     let none : entries m ≡ [] = entries-from_sorted text_order [] tt in

@@ -13,8 +13,10 @@ pub mod Leaves
 pub mod Levels
 pub mod Meant
 pub mod MeantPolicies
+pub mod NamesInOrder
 pub mod NamesWritten
 pub mod NumbersWritten
+pub mod NumberedSets
 pub mod OpenedParts
 pub mod Openings
 pub mod PlacesBlind
@@ -22,7 +24,10 @@ pub mod PoliciesAdded
 pub mod PoliciesWritten
 pub mod PolicyParts
 pub mod RecordsOpened
+pub mod RefilledMaps
 pub mod Refusals
+pub mod SameNumbers
+pub mod SetsOfTexts
 pub mod Shaped
 pub mod Spelled
 pub mod SpelledPolicies

@@ -1,4 +1,5 @@
 pub mod Fitness
+pub mod NumberedSets
 pub mod Parts
 pub mod Spacing
 pub mod machines

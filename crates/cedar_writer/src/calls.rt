@@ -147,7 +147,7 @@ fn open_method<'a>(
 fn named(name: &Name, styles: &ExtStyles) -> Result<Callee, AllocError>
     ensures { IfOk result (Names (table_of styles.now) name.now) }
 {
-    let Some(id) = lone_id(name)? else {
+    let Some(id) = unqualified_id(name)? else {
         return Ok(function_or_nothing(styles.is_function(name)));
     };
     if is_standard(id.as_str()) {
@@ -171,7 +171,7 @@ fn function_or_nothing(is_function: bool) -> Callee
 }
 
 /// The identifier of a name without a path.
-fn lone_id(name: &Name) -> Result<Option<UnreservedId>, AllocError>
+fn unqualified_id(name: &Name) -> Result<Option<UnreservedId>, AllocError>
     ensures { IfOk result (λ found. MatchOption found (name.now.path ≢ [])
         (λ id. (name.now.path ≡ []) × (id ≡ name.now.id))) }
 {

@@ -1,5 +1,5 @@
 //! Laws of what is written. Each is a function that does nothing: its contract is the law.
-ghost use Rattle.std.specs.Prelude.{◌≡◌, ℕ, List, [], ◌++◌};
+ghost use Rattle.std.specs.Prelude.{◌≡◌, ◌<◌, ◌^◌, ℕ, List, [], ◌++◌, length};
 ghost use Rattle.std.specs.List.{fold};
 ghost use Rattle.std.specs.Str.{IsUtf8};
 ghost use Rattle.cedar_lexer.specs.Cut.{Cuts};
@@ -15,16 +15,23 @@ ghost use Rattle.cedar_expressions.specs.declared.entity.EntityUID.{EntityUID};
 ghost use Rattle.cedar_conversion.specs.strict.Extensions.{Extensions};
 ghost use Rattle.cedar_conversion.specs.strict.Strict.{Sort, Means};
 ghost use Rattle.cedar_conversion.specs.strict.StrictWords.{IsEntity};
-ghost use Rattle.cedar_policy_store.specs.PlaceFree.{Policy};
+ghost use denote.Ref.{Bor};
+ghost use Rattle.either.specs.declared.Either.{Either};
+ghost use Rattle.cedar_policy_store.specs.declared.template.Template.{Template};
+ghost use Rattle.cedar_policy_store.specs.Listing.{IsListing};
+ghost use Rattle.cedar_policy_store.specs.PlaceFree.{Policy, set_meaning};
+ghost use Rattle.cedar_policy_store.specs.PolicyMaps.{PolicyMaps};
 ghost use Rattle.cedar_policy_conversion.specs.PolicyMeaning.{with_policy, no_policies};
 ghost use Rattle.cedar_policy_conversion.specs.StrictPolicy.{IsPolicy, IsPolicySet};
 ghost use Rattle.cedar_syntax.specs.strings.Pattern.{IsPattern, HasPatternFaults};
 ghost use Rattle.cedar_syntax.specs.strings.Piece.{IsUnescaped, HasEscapeFaults};
 ghost use Rattle.cedar_syntax.specs.tokens.Tokens.{between_quotes};
 ghost use Rattle.cedar_expressions.specs.Escapes.{escaped_text, escaped_pattern, quoted};
+ghost use Rattle.cedar_writer.specs.NumberedSets.{IsNumberedSet};
 ghost use Rattle.cedar_writer.specs.Spacing.{line_of};
 ghost use Rattle.cedar_writer.specs.Writable.{IsWritable, IsWritablePattern};
 ghost use Rattle.cedar_writer.specs.WrittenPolicies.{Parts, assembled, policy_words, IsWritableEntity, IsWritablePolicy, AreWritablePolicies, policies_words, numbered_policies};
+ghost use Rattle.cedar_writer.specs.WrittenTexts.{numbered, templates_lent};
 ghost use Rattle.cedar_writer.specs.WrittenWords.{entity_words};
 ghost use Rattle.cedar_writer.specs.Writing.{words, sort_of};
 
@@ -88,6 +95,24 @@ pub fn written_sets_mean()
         → AreWritablePolicies table limit all → (us : List Lexeme)
         → words_of us ≡ policies_words table all []
         → IsPolicySet table limit us (fold with_policy no_policies (numbered_policies 0 all)) }
+{}
+
+/// The policies of a set in their order, under `policy0`, `policy1` and so on, are the set itself
+/// where they bear these names there, and where each template has a slot in its scope, as a text
+/// tells a template from a static policy.
+pub fn numbered_sets_are_themselves()
+    ensures { (set : PolicyMaps) (all : List (Either (Bor Template) (Bor Template)))
+        → IsNumberedSet set → IsListing set all
+        → numbered (templates_lent all) ≡ set_meaning set }
+{}
+
+/// The set that tokens mean is such a set, so what is written of it is read back as it: the
+/// policies stand under the names that the tokens give them, in that order. The tokens are fewer
+/// than 2^64, as those of every text are that fits an address space.
+pub fn sets_of_texts_are_numbered()
+    ensures { (table : Extensions) (limit : ℕ) (ts : List Lexeme) (set : PolicyMaps)
+        → length ts < 2 ^ 64 → IsPolicySet table limit ts (set_meaning set)
+        → IsNumberedSet set }
 {}
 
 /// Spelled words in a line are cut as just these words.

@@ -13,7 +13,6 @@ mod sets;
 mod shape;
 mod sort;
 mod spacing;
-mod stack;
 mod todo;
 mod values;
 mod writer;

@@ -3,9 +3,9 @@ ghost use Rattle.std.specs.Prelude.{◌≡◌, ◌++◌, OnOk};
 ghost use Rattle.cedar_writer.specs.machines.Todos.{todos_seen};
 
 use crate::sort::Sort;
-use crate::stack::Stack;
 use cedar_expressions::{AddOp, Expr, Name, PatternElem, Text};
 use cedar_lexer::token::TokenKind;
+use cedar_syntax::stack::Stack;
 use std::alloc::AllocError;
 
 /// Something that is still to be written.

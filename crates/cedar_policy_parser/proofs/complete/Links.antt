@@ -2,6 +2,7 @@
 -- so far.
 use Rattle.std.proofs.Common.{◌≡◌, ℕ, List, [], ◌∷◌, ◌++◌, Option, Ok, Err, refl, sym, ap, ◌∙◌}
 use Rattle.cedar_expressions.specs.Path.{Path}
+use Rattle.cedar_expressions.specs.declared.atoms.Var.{Var}
 use Rattle.cedar_expressions.specs.Value as v
 use Rattle.cedar_expressions.specs.Value.{Value}
 use Rattle.cedar_syntax.specs.declared.loc.Loc.{Loc}
@@ -72,7 +73,7 @@ expression_more e place (Err fs) zs ws a n h = cc
 begun_by : (e : Extensions) (place : Option Loc) (o : Outcome Value) (ws : List Access) (a : Value) → o ≡ Ok a → next o (λ x. accesses_of e place x ws) ≡ accesses_of e place a ws
 begun_by e place o ws a h = rw h refl
 
-variable_more : (e : Extensions) (place : Option Loc) (x : Value) (ws : List Access) → NoCall ws → variable_accesses e place x ws ≡ accesses_of e place x ws
+variable_more : (e : Extensions) (place : Option Loc) (x : Var) (ws : List Access) → NoCall ws → variable_accesses e place x ws ≡ accesses_of e place (v.var x) ws
 variable_more e place x [] n = refl
 variable_more e place x (call args ∷ ws) n = absurd n
 variable_more e place x (field id ∷ ws) n = refl
@@ -80,7 +81,7 @@ variable_more e place x (index text ∷ ws) n = refl
 
 first_more : (e : Extensions) (place : Option Loc) (h : Held) (ws : List Access) (a : Value) → NoCall ws → as_expression h ≡ Ok a → some_accesses e place h ws ≡ accesses_of e place a ws
 first_more e place (expression own x) ws a n k = ap (λ y. accesses_of e place y ws) (ok_is k)
-first_more e place (variable own x) ws a n k = variable_more e place (v.var x) ws n ∙ ap (λ y. accesses_of e place y ws) (ok_is k)
+first_more e place (variable own x) ws a n k = variable_more e place x ws n ∙ ap (λ y. accesses_of e place y ws) (ok_is k)
 first_more e place (bare_name own name) ws a n k = cc
 first_more e place (bare_truth own b) ws a n k = ap (λ y. accesses_of e place y ws) (ok_is k)
 first_more e place (bare_string own raw) ws a n k = begun_by e place (as_expression (bare_string own raw)) ws a k

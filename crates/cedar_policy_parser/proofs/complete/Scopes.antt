@@ -18,7 +18,7 @@ use Rattle.cedar_conversion.specs.strict.Extensions.{Extensions}
 use Rattle.cedar_policy_conversion.specs.Scope as s
 use Rattle.cedar_policy_conversion.specs.Scope.{Scope}
 use Rattle.cedar_policy_parser.specs.meaning.StrictScope as z
-use Rattle.cedar_policy_parser.specs.meaning.StrictScope.{IsLastComma, IsScope}
+use Rattle.cedar_policy_parser.specs.meaning.StrictScope.{IsScope}
 use Rattle.cedar_policy_parser.proofs.complete.Elements.{ActionRead, ElementRead, action_read, element_read}
 use Rattle.cedar_policy_parser.proofs.sound.Referred.{principal, resource}
 

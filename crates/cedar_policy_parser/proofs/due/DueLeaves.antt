@@ -32,7 +32,7 @@ use Rattle.cedar_conversion.specs.parts.Leaves.{name_leaf, variable_or_name, slo
 use Rattle.cedar_conversion.specs.parts.Literals.{held_string, literal_outcome}
 use Rattle.cedar_conversion.specs.parts.Names.{content_outcome, all_of, valid_ident_of, valid_ident, unreserved_ident, identifiers, path_of, path_outcome, name_outcome, named_variable}
 use Rattle.cedar_conversion.specs.outcome.Outcome as k
-use Rattle.cedar_conversion.specs.outcome.Outcome.{NamedFault, Outcome, fault_outcome, both, next}
+use Rattle.cedar_conversion.specs.outcome.Outcome.{Outcome, fault_outcome, both, next}
 use Rattle.cedar_policy_parser.specs.faults.Sites as site
 use Rattle.cedar_policy_parser.specs.faults.Sites.{Site, IsPart, IsNameSite, IsNameNode, IsNamed, IsVariableSite, IsLiteral, IsTruth, IsTruthValue, IsQuoted, IsString, IsSiteOf}
 use Rattle.cedar_policy_parser.specs.faults.Standing.{LiesWithin}
@@ -40,7 +40,7 @@ use Rattle.cedar_conversion.specs.strict.Strict.{largest}
 use Rattle.cedar_conversion.specs.parts.Strings.{escape_faults}
 use Rattle.cedar_policy_parser.proofs.standing.Standing.{parsed, self_within, within_within, Anything, BothHold}
 use Rattle.cedar_policy_parser.proofs.tidy.Tidy.{Holding, NodeTidy, Each, IdentHeld, IdentTidy, NameTidy, LiteralTidy, RefTidy}
-use Rattle.cedar_policy_parser.proofs.Telling.{Tells, one, both_tell, next_tells, if_tells, Due, here, up, text_tells}
+use Rattle.cedar_policy_parser.proofs.Telling.{Sited, Tells, one, both_tell, next_tells, if_tells, Due, here, up, text_tells}
 
 -- ---- what a node is that gives this
 
@@ -90,11 +90,11 @@ moved m n w g h i = (within_within (tree_place m) (tree_place n) (place_held h) 
 
 -- ---- identifiers and names
 
-filled : {X Y : Type 0} (P : NamedFault → Type 0) (Q : Y → Type 0) (o : Option Loc) (H : X → Type 0) (p : Option Loc) (c : Option X) (g : X → Outcome Y) → Holding (parsed o) H c → ((x : X) → c ≡ Some x → H x → Tells P Q (g x)) → Tells P Q (next (content_outcome p c) g)
+filled : {X Y : Type 0} (P : Sited → Type 0) (Q : Y → Type 0) (o : Option Loc) (H : X → Type 0) (p : Option Loc) (c : Option X) (g : X → Outcome Y) → Holding (parsed o) H c → ((x : X) → c ≡ Some x → H x → Tells P Q (g x)) → Tells P Q (next (content_outcome p c) g)
 filled P Q o H p None g h t = absurd h
 filled P Q o H p (Some x) g h t = t x refl h
 
-ident_due : (P : NamedFault → Type 0) (p : Option Loc) (i : Ident) → (IsReservedIdent i → P (k.reserved_identifier, p)) → (IsMisspelled i → P (k.invalid_identifier, p)) → Tells P Anything (valid_ident_of p i)
+ident_due : (P : Sited → Type 0) (p : Option Loc) (i : Ident) → (IsReservedIdent i → P (k.reserved_identifier, p)) → (IsMisspelled i → P (k.invalid_identifier, p)) → Tells P Anything (valid_ident_of p i)
 ident_due P p words.Principal h g = tt
 ident_due P p words.Action h g = tt
 ident_due P p words.Resource h g = tt
@@ -103,9 +103,9 @@ ident_due P p words.Permit h g = tt
 ident_due P p words.Forbid h g = tt
 ident_due P p words.When h g = tt
 ident_due P p words.Unless h g = tt
-ident_due P p (words.Ident text) h g = if_tells P Anything (is_valid_identifier text) _ _ (λ e. tt) (λ e. one P k.invalid_identifier p (g e))
-ident_due P p (words.Invalid text) h g = one P k.invalid_identifier p (g tt)
-ident_due P p i h g = one P k.reserved_identifier p (h tt)
+ident_due P p (words.Ident text) h g = if_tells P Anything (is_valid_identifier text) _ _ (λ e. tt) (λ e. one P k.invalid_identifier p _ (g e))
+ident_due P p (words.Invalid text) h g = one P k.invalid_identifier p _ (g tt)
+ident_due P p i h g = one P k.reserved_identifier p _ (h tt)
 
 pub valid_due : (e : Extensions) (o : Option Loc) (n : Node (Option Ident)) → IdentTidy (parsed o) n → Tells (Due e (site.identifier n)) Anything (valid_ident n)
 valid_due e o n h =
@@ -119,7 +119,7 @@ pub unreserved_due : (e : Extensions) (p : Option Loc) (n : Node (Option Ident))
 unreserved_due e p n h =
     let s : Site = site.node (at p (f.field n)) in
     next_tells (Due e s) Anything Anything (valid_ident n) _ (up e (site.identifier n) s Anything (valid_ident n) site.its_identifier (valid_due e p n h))
-    (λ id c _. if_tells (Due e s) Anything (is_reserved_namespace id) _ _ (λ r. one (Due e s) k.reserved_namespace n.loc (here e s k.reserved_namespace n.loc (due.cedar_as_field c r) h.0)) (λ r. tt))
+    (λ id c _. if_tells (Due e s) Anything (is_reserved_namespace id) _ _ (λ r. one (Due e s) k.reserved_namespace n.loc _ (here e s k.reserved_namespace n.loc (due.cedar_as_field c r) h.0)) (λ r. tt))
 
 all_due : (e : Extensions) (s : Site) (o : Option Loc) (xs : List (Node (Option Ident))) → ((i : Node (Option Ident)) → Contains xs i → IsPart (site.identifier i) s) → Each (IdentTidy (parsed o)) xs → Tells (Due e s) Anything (all_of valid_ident xs)
 all_due e s o [] g h = tt
@@ -133,7 +133,7 @@ path_due e o n m w c h =
     let s : Site = site.name n in
     next_tells (Due e s) (BothHold Anything Anything) Anything (identifiers m) _
     (both_tell (Due e s) Anything Anything (valid_ident m.name) (all_of valid_ident m.path) (up e (site.identifier m.name) s Anything (valid_ident m.name) (site.last_identifier c) (valid_due e o m.name h.1)) (all_due e s o m.path (λ i r. site.before_last c r) h.0))
-    (λ q d _. if_tells (Due e s) Anything (has_reserved_namespace (path_of q)) _ _ (λ r. one (Due e s) k.reserved_namespace n.loc (here e s k.reserved_namespace n.loc (due.cedar_in_name c d r) (self_within o n.loc w))) (λ r. tt))
+    (λ q d _. if_tells (Due e s) Anything (has_reserved_namespace (path_of q)) _ _ (λ r. one (Due e s) k.reserved_namespace n.loc _ (here e s k.reserved_namespace n.loc (due.cedar_in_name c d r) (self_within o n.loc w))) (λ r. tt))
 
 pub name_due : (e : Extensions) (o : Option Loc) (n : Node (Option Name)) → NodeTidy (parsed o) (NameTidy (parsed o)) n → Tells (Due e (site.name n)) Anything (name_outcome n)
 name_due e o n h = filled (Due e (site.name n)) Anything o (NameTidy (parsed o)) n.loc n.node (path_outcome n.loc) h.1 (λ m c i. path_due e o n m h.0 c i)
@@ -153,7 +153,7 @@ quoted_due : (e : Extensions) (p : Option Loc) (m : Node (Option Literal)) (s : 
     → Tells (Due e (site.node (at p (f.literal m)))) (HeldAt (at p (f.literal m))) (held_string m.loc s.loc c)
 quoted_due e p m s None w d g v h = absurd h
 quoted_due e p m s (Some (str.String raw)) w d g v h = (w, (Some (lit.Str s), (m, p, way.itself, d), g, w))
-quoted_due e p m s (Some (str.Invalid raw)) w d g v h = let t : Site = site.node (at p (f.literal m)) in one (Due e t) k.invalid_string s.loc (here e t k.invalid_string s.loc (due.no_string d g) v)
+quoted_due e p m s (Some (str.Invalid raw)) w d g v h = let t : Site = site.node (at p (f.literal m)) in one (Due e t) k.invalid_string s.loc _ (here e t k.invalid_string s.loc (due.no_string d g) v)
 
 literal_is : (e : Extensions) (p : Option Loc) (m : Node (Option Literal)) (c : Option Literal) → LiesWithin p m.loc → m.node ≡ c → Holding (parsed p) (LiteralTidy (parsed p)) c → Tells (Due e (site.node (at p (f.literal m)))) (HeldAt (at p (f.literal m))) (literal_outcome m.loc c)
 literal_is e p m None w d h = absurd h
@@ -161,7 +161,7 @@ literal_is e p m (Some lit.True) w d h = (w, (Some lit.True, (m, p, way.itself, 
 literal_is e p m (Some lit.False) w d h = (w, (Some lit.False, (m, p, way.itself, d), tt))
 literal_is e p m (Some (lit.Num n)) w d h =
     let t : Site = site.node (at p (f.literal m)) in
-    if_tells (Due e t) (HeldAt (at p (f.literal m))) (nat_le largest n) _ _ (λ r. one (Due e t) k.integer_literal_too_large m.loc (here e t k.integer_literal_too_large m.loc (due.large_number d r) w)) (λ r. (w, tt))
+    if_tells (Due e t) (HeldAt (at p (f.literal m))) (nat_le largest n) _ _ (λ r. one (Due e t) k.integer_literal_too_large m.loc _ (here e t k.integer_literal_too_large m.loc (due.large_number d r) w)) (λ r. (w, tt))
 literal_is e p m (Some (lit.Str s)) w d h = quoted_due e p m s s.node w d refl h.0 h.1
 
 pub literal_due : (e : Extensions) (p : Option Loc) (m : Node (Option Literal)) → NodeTidy (parsed p) (LiteralTidy (parsed p)) m → Tells (Due e (site.node (at p (f.literal m)))) (HeldAt (at p (f.literal m))) (literal_outcome m.loc m.node)
@@ -175,7 +175,7 @@ id_due e p n path eid d w h None g i = absurd i
 id_due e p n path eid d w h (Some (str.String raw)) g i =
     let s : Site = site.node (at p (f.reference n)) in
     text_tells (Due e s) n.loc raw (λ faulty. here e s k.unescape n.loc (due.faulty_id d g faulty) w)
-id_due e p n path eid d w h (Some (str.Invalid raw)) g i = let s : Site = site.node (at p (f.reference n)) in one (Due e s) k.invalid_string eid.loc (here e s k.invalid_string eid.loc (due.no_id d g) h.0)
+id_due e p n path eid d w h (Some (str.Invalid raw)) g i = let s : Site = site.node (at p (f.reference n)) in one (Due e s) k.invalid_string eid.loc _ (here e s k.invalid_string eid.loc (due.no_id d g) h.0)
 
 reference_due : (e : Extensions) (p : Option Loc) (n : Node (Option Ref)) (r : Ref) → LiesWithin p n.loc → n.node ≡ Some r → RefTidy (parsed p) r → Tells (Due e (site.node (at p (f.reference n)))) Anything (reference_outcome n.loc r)
 reference_due e p n (refs.Uid path eid) w d h =
@@ -183,7 +183,7 @@ reference_due e p n (refs.Uid path eid) w d h =
     next_tells (Due e s) (BothHold Anything Anything) Anything _ _
     (both_tell (Due e s) Anything Anything (name_outcome path) (id_outcome n.loc eid) (up e (site.name path) s Anything (name_outcome path) (site.its_type d) (name_due e p path h.0)) (id_due e p n path eid d w h.1 eid.node refl h.1.1))
     (λ q c _. tt)
-reference_due e p n (refs.Ref path inits) w d h = let s : Site = site.node (at p (f.reference n)) in one (Due e s) k.invalid_entity_literal n.loc (here e s k.invalid_entity_literal n.loc (due.braces d) w)
+reference_due e p n (refs.Ref path inits) w d h = let s : Site = site.node (at p (f.reference n)) in one (Due e s) k.invalid_entity_literal n.loc _ (here e s k.invalid_entity_literal n.loc (due.braces d) w)
 
 pub entity_due : (e : Extensions) (p : Option Loc) (n : Node (Option Ref)) → NodeTidy (parsed p) (RefTidy (parsed p)) n → Tells (Due e (site.node (at p (f.reference n)))) (HeldAt (at p (f.reference n))) (entity_leaf n)
 entity_due e p n h =
@@ -193,7 +193,7 @@ entity_due e p n h =
 slot_is : (e : Extensions) (p : Option Loc) (n : Node (Option Slot)) (x : Slot) → LiesWithin p n.loc → n.node ≡ Some x → Tells (Due e (site.node (at p (f.slot n)))) Anything (slot_id n.loc x)
 slot_is e p n slots.Principal w d = tt
 slot_is e p n slots.Resource w d = tt
-slot_is e p n (slots.Other text) w d = let s : Site = site.node (at p (f.slot n)) in one (Due e s) k.invalid_slot n.loc (here e s k.invalid_slot n.loc (due.other_slot d) w)
+slot_is e p n (slots.Other text) w d = let s : Site = site.node (at p (f.slot n)) in one (Due e s) k.invalid_slot n.loc _ (here e s k.invalid_slot n.loc (due.other_slot d) w)
 
 pub slot_due : (e : Extensions) (p : Option Loc) (n : Node (Option Slot)) → NodeTidy (parsed p) Anything n → Tells (Due e (site.node (at p (f.slot n)))) (HeldAt (at p (f.slot n))) (slot_leaf n)
 slot_due e p n h =

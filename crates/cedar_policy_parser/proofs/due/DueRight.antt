@@ -23,8 +23,9 @@ use Rattle.cedar_conversion.specs.outcome.Held.{Held, expression, variable, bare
 use Rattle.cedar_conversion.specs.parts.Leaves.{name_leaf, variable_or_name}
 use Rattle.cedar_conversion.specs.parts.Literals.{held_string, literal_outcome}
 use Rattle.cedar_conversion.specs.parts.Names.{name_outcome, named_variable, unreserved_ident}
+use Rattle.cedar_conversion.specs.outcome.Detail.{number}
 use Rattle.cedar_conversion.specs.outcome.Outcome as k
-use Rattle.cedar_conversion.specs.outcome.Outcome.{Kind, NamedFault, Outcome, fault_outcome, both, next}
+use Rattle.cedar_conversion.specs.outcome.Outcome.{Kind, Outcome, detailed_outcome, both, next}
 use Rattle.cedar_policy_parser.specs.faults.Sites as site
 use Rattle.cedar_policy_parser.specs.faults.Sites.{Site, IsPart, IsAmong, IsBeginning, IsFieldForm, IsFieldNode, IsTruth, IsQuoted, one_member}
 use Rattle.cedar_policy_parser.specs.faults.Standing.{LiesWithin}
@@ -32,7 +33,7 @@ use Rattle.cedar_conversion.specs.parts.Strings.{text_outcome}
 use Rattle.cedar_conversion.proofs.Inverted.{ok_is}
 use Rattle.cedar_policy_parser.proofs.standing.Nested.{Nested, FormNested, AccessesNested, AccessNested, AccessFormNested}
 use Rattle.cedar_policy_parser.proofs.standing.Standing.{self_within, within_within, Anything}
-use Rattle.cedar_policy_parser.proofs.Telling.{Tells, one, next_tells, lift, if_tells, Due, in_part, here, text_tells}
+use Rattle.cedar_policy_parser.proofs.Telling.{Sited, Tells, one, next_tells, lift, if_tells, Due, here, text_tells}
 use Rattle.cedar_policy_parser.proofs.due.DueLeaves.{HeldAt, place_held, unreserved_due, literal_due, named_due}
 use Rattle.cedar_policy_parser.proofs.due.DueSides.{given, unqualified_due, no_error}
 
@@ -40,27 +41,27 @@ use Rattle.cedar_policy_parser.proofs.due.DueSides.{given, unqualified_due, no_e
 
 -- the fields behind the first attribute, of which none is another access
 
-field_form_due : (e : Extensions) (P : NamedFault → Type 0) (w p : Option Loc) (u : Form) → LiesWithin w p → AccessFormNested p u
-    → (IsFieldForm u → (fault : NamedFault) → Due e (site.node (at p u)) fault → P fault) → (¬ (IsFieldForm u) → (q : Option Loc) → LiesWithin w q → P (k.invalid_has_rhs, q)) → Tells P Anything (field_form p u)
+field_form_due : (e : Extensions) (P : Sited → Type 0) (w p : Option Loc) (u : Form) → LiesWithin w p → AccessFormNested p u
+    → (IsFieldForm u → (fault : Sited) → Due e (site.node (at p u)) fault → P fault) → (¬ (IsFieldForm u) → (q : Option Loc) → LiesWithin w q → P (k.invalid_has_rhs, q)) → Tells P Anything (field_form p u)
 field_form_due e P w p (f.field n) l h below other = lift (Due e (site.node (at p (f.field n)))) P Anything (unreserved_ident n) (below tt) (unreserved_due e p n h)
-field_form_due e P w p (f.call items) l h below other = one P k.invalid_has_rhs p (other (λ x. x) p l)
-field_form_due e P w p (f.index n) l h below other = one P k.invalid_has_rhs p (other (λ x. x) p l)
+field_form_due e P w p (f.call items) l h below other = one P k.invalid_has_rhs p _ (other (λ x. x) p l)
+field_form_due e P w p (f.index n) l h below other = one P k.invalid_has_rhs p _ (other (λ x. x) p l)
 field_form_due e P w p u l h below other = absurd h
 
-field_node_due : (e : Extensions) (P : NamedFault → Type 0) (w v : Option Loc) (n : Located) → LiesWithin w v → AccessNested v n
-    → (IsFieldNode n → (fault : NamedFault) → Due e (site.node n) fault → P fault) → (¬ (IsFieldNode n) → (q : Option Loc) → LiesWithin w q → P (k.invalid_has_rhs, q)) → Tells P Anything (field_of n)
+field_node_due : (e : Extensions) (P : Sited → Type 0) (w v : Option Loc) (n : Located) → LiesWithin w v → AccessNested v n
+    → (IsFieldNode n → (fault : Sited) → Due e (site.node n) fault → P fault) → (¬ (IsFieldNode n) → (q : Option Loc) → LiesWithin w q → P (k.invalid_has_rhs, q)) → Tells P Anything (field_of n)
 field_node_due e P w v (f.missing p) l h below other = absurd h
 field_node_due e P w v (f.at p u) l h below other = field_form_due e P w p u (within_within w v p l h.0) h.1 below other
 
-fields_due : (e : Extensions) (P : NamedFault → Type 0) (w v : Option Loc) (ps : Parts) → LiesWithin w v → AccessesNested v ps
-    → ((op : Operator) (n : Located) → IsAmong op n ps → IsFieldNode n → (fault : NamedFault) → Due e (site.node n) fault → P fault) → (¬ (AreFields ps) → (q : Option Loc) → LiesWithin w q → P (k.invalid_has_rhs, q)) → Tells P Anything (fields_of ps)
+fields_due : (e : Extensions) (P : Sited → Type 0) (w v : Option Loc) (ps : Parts) → LiesWithin w v → AccessesNested v ps
+    → ((op : Operator) (n : Located) → IsAmong op n ps → IsFieldNode n → (fault : Sited) → Due e (site.node n) fault → P fault) → (¬ (AreFields ps) → (q : Option Loc) → LiesWithin w q → P (k.invalid_has_rhs, q)) → Tells P Anything (fields_of ps)
 fields_due e P w v f.none l h below other = tt
 fields_due e P w v (f.more op n ps) l h below other =
     next_tells P Anything Anything (field_of n) _ (field_node_due e P w v n l h.0 (below op n site.first) (λ g. other (λ i. g i.0)))
     (λ id c _. next_tells P Anything Anything (fields_of ps) _ (fields_due e P w v ps l h.1 (λ oq m i. below oq m (site.later i)) (λ g. other (λ i. g i.1))) (λ ids d _. tt))
 
-behind_due : (e : Extensions) (P : NamedFault → Type 0) (w v : Option Loc) (ps : Parts) (first : List ℕ) → LiesWithin w v → AccessesNested v ps
-    → ((op : Operator) (n : Located) → IsAmong op n ps → IsFieldNode n → (fault : NamedFault) → Due e (site.node n) fault → P fault) → (¬ (AreFields ps) → (q : Option Loc) → LiesWithin w q → P (k.invalid_has_rhs, q)) → Tells P Anything (behind_first ps first)
+behind_due : (e : Extensions) (P : Sited → Type 0) (w v : Option Loc) (ps : Parts) (first : List ℕ) → LiesWithin w v → AccessesNested v ps
+    → ((op : Operator) (n : Located) → IsAmong op n ps → IsFieldNode n → (fault : Sited) → Due e (site.node n) fault → P fault) → (¬ (AreFields ps) → (q : Option Loc) → LiesWithin w q → P (k.invalid_has_rhs, q)) → Tells P Anything (behind_first ps first)
 behind_due e P w v ps first l h below other = next_tells P Anything Anything (fields_of ps) _ (fields_due e P w v ps l h below other) (λ ids c _. tt)
 
 -- ---- what begins it
@@ -86,7 +87,7 @@ string_held p s (Some (str.String raw)) h d e = subst (LiteralHeld (Some (lit.St
 string_held p s (Some (str.Invalid raw)) h d e = cc
 string_held p s None h d e = cc
 
-number_held : (p : Option Loc) (n : ℕ) (b : Bool) (h : Held) (x : Value) → cond b (fault_outcome k.integer_literal_too_large p) (given (expression p x)) ≡ Ok h → LiteralHeld (Some (lit.Num n)) h
+number_held : (p : Option Loc) (n : ℕ) (b : Bool) (h : Held) (x : Value) → cond b (detailed_outcome k.integer_literal_too_large p (number n)) (given (expression p x)) ≡ Ok h → LiteralHeld (Some (lit.Num n)) h
 number_held p n true h x e = cc
 number_held p n false h x e = subst (LiteralHeld (Some (lit.Num n))) (ok_is e) ((λ i. i.1), (λ i. i))
 
@@ -109,8 +110,8 @@ nothing_before : (q : Option Loc) (path : List (List ℕ)) (id y : List ℕ) →
 nothing_before q [] id y e = refl
 nothing_before q (x ∷ path) id y e = cc
 
-name_attributes : (e : Extensions) (P : NamedFault → Type 0) (w v p : Option Loc) (m : Node (Option Name)) (ps : Parts) (h : Held) → LiesWithin w v → LiesWithin w (place_held h) → AccessesNested v ps → NameHeld m h
-    → ((op : Operator) (n : Located) → IsAmong op n ps → IsFieldNode n → (fault : NamedFault) → Due e (site.node n) fault → P fault) → ((kind : Kind) (q : Option Loc) → IsDueRight kind (Some (at p (f.name m), ps)) → LiesWithin w q → P (kind, q)) → Tells P Anything (attributes_of w ps h)
+name_attributes : (e : Extensions) (P : Sited → Type 0) (w v p : Option Loc) (m : Node (Option Name)) (ps : Parts) (h : Held) → LiesWithin w v → LiesWithin w (place_held h) → AccessesNested v ps → NameHeld m h
+    → ((op : Operator) (n : Located) → IsAmong op n ps → IsFieldNode n → (fault : Sited) → Due e (site.node n) fault → P fault) → ((kind : Kind) (q : Option Loc) → IsDueRight kind (Some (at p (f.name m), ps)) → LiesWithin w q → P (kind, q)) → Tells P Anything (attributes_of w ps h)
 name_attributes e P w v p m ps (expression q x) l g h c below side = absurd c
 name_attributes e P w v p m ps (variable q x) l g h c below side =
     behind_due e P w v ps (var_text x) l h below (λ t r s. side k.invalid_has_rhs r (due.other (λ i. i) (λ i. variable_no_path (named_variable m.node) c i.0) t) s)
@@ -129,27 +130,27 @@ quoted_no_truth (Some (lit.Num n)) raw h i = h
 quoted_no_truth None raw h i = h
 
 -- a literal
-string_attributes : (e : Extensions) (P : NamedFault → Type 0) (w p q : Option Loc) (m : Node (Option Literal)) (raw : List ℕ) (ps : Parts) → LiesWithin w w → LiesWithin p q → IsQuoted m.node raw
-    → ((fault : NamedFault) → Due e (site.node (at p (f.literal m))) fault → P fault) → ((kind : Kind) (q : Option Loc) → IsDueRight kind (Some (at p (f.literal m), ps)) → LiesWithin w q → P (kind, q)) → Tells P Anything (string_alone w q raw ps)
+string_attributes : (e : Extensions) (P : Sited → Type 0) (w p q : Option Loc) (m : Node (Option Literal)) (raw : List ℕ) (ps : Parts) → LiesWithin w w → LiesWithin p q → IsQuoted m.node raw
+    → ((fault : Sited) → Due e (site.node (at p (f.literal m))) fault → P fault) → ((kind : Kind) (q : Option Loc) → IsDueRight kind (Some (at p (f.literal m), ps)) → LiesWithin w q → P (kind, q)) → Tells P Anything (string_alone w q raw ps)
 string_attributes e P w p q m raw f.none l g c head side = next_tells P Anything Anything (text_outcome q raw) _ (text_tells P q raw (λ t. head _ (here e (site.node (at p (f.literal m))) k.unescape q (due.faulty_string raw c t) g))) (λ text d _. tt)
-string_attributes e P w p q m raw (f.more op n ps) l g c head side = one P k.invalid_has_rhs w (side k.invalid_has_rhs w (due.other (quoted_no_truth m.node raw c) (λ x. x) (λ x. x)) l)
+string_attributes e P w p q m raw (f.more op n ps) l g c head side = one P k.invalid_has_rhs w _ (side k.invalid_has_rhs w (due.other (quoted_no_truth m.node raw c) (λ x. x) (λ x. x)) l)
 
-literal_attributes : (e : Extensions) (P : NamedFault → Type 0) (w p : Option Loc) (m : Node (Option Literal)) (ps : Parts) (h : Held) → LiesWithin w w → LiesWithin w (place_held h) → LiesWithin p (place_held h) → LiteralHeld m.node h
-    → ((fault : NamedFault) → Due e (site.node (at p (f.literal m))) fault → P fault) → ((kind : Kind) (q : Option Loc) → IsDueRight kind (Some (at p (f.literal m), ps)) → LiesWithin w q → P (kind, q)) → Tells P Anything (attributes_of w ps h)
-literal_attributes e P w p m f.none (expression q x) l g r c head side = one P k.invalid_has_rhs q (side k.invalid_has_rhs q (due.other c.1 (λ x. x) c.0) g)
-literal_attributes e P w p m (f.more op n ps) (expression q x) l g r c head side = one P k.invalid_has_rhs q (side k.invalid_has_rhs q (due.other c.1 (λ x. x) (λ x. x)) g)
+literal_attributes : (e : Extensions) (P : Sited → Type 0) (w p : Option Loc) (m : Node (Option Literal)) (ps : Parts) (h : Held) → LiesWithin w w → LiesWithin w (place_held h) → LiesWithin p (place_held h) → LiteralHeld m.node h
+    → ((fault : Sited) → Due e (site.node (at p (f.literal m))) fault → P fault) → ((kind : Kind) (q : Option Loc) → IsDueRight kind (Some (at p (f.literal m), ps)) → LiesWithin w q → P (kind, q)) → Tells P Anything (attributes_of w ps h)
+literal_attributes e P w p m f.none (expression q x) l g r c head side = one P k.invalid_has_rhs q _ (side k.invalid_has_rhs q (due.other c.1 (λ x. x) c.0) g)
+literal_attributes e P w p m (f.more op n ps) (expression q x) l g r c head side = one P k.invalid_has_rhs q _ (side k.invalid_has_rhs q (due.other c.1 (λ x. x) (λ x. x)) g)
 literal_attributes e P w p m ps (variable q x) l g r c head side = absurd c
 literal_attributes e P w p m ps (bare_name q x) l g r c head side = absurd c
-literal_attributes e P w p m ps (bare_truth q x) l g r c head side = one P k.reserved_identifier q (side k.reserved_identifier q (due.truth c) g)
+literal_attributes e P w p m ps (bare_truth q x) l g r c head side = one P k.reserved_identifier q _ (side k.reserved_identifier q (due.truth c) g)
 literal_attributes e P w p m ps (bare_string q raw) l g r c head side = string_attributes e P w p q m raw ps l r c head side
 
 -- the fields behind a name
-abbrev FieldsRead : Extensions → (NamedFault → Type 0) → Located → Parts → Type 0
-FieldsRead e P n ps = (p : Option Loc) (m : Node (Option Name)) → n ≡ at p (f.name m) → (op : Operator) (i : Located) → IsAmong op i ps → IsFieldNode i → (fault : NamedFault) → Due e (site.node i) fault → P fault
+abbrev FieldsRead : Extensions → (Sited → Type 0) → Located → Parts → Type 0
+FieldsRead e P n ps = (p : Option Loc) (m : Node (Option Name)) → n ≡ at p (f.name m) → (op : Operator) (i : Located) → IsAmong op i ps → IsFieldNode i → (fault : Sited) → Due e (site.node i) fault → P fault
 
 -- any primary
-begun_due : (e : Extensions) (P : NamedFault → Type 0) (w v p : Option Loc) (u : Form) (ps : Parts) → LiesWithin w w → LiesWithin w v → LiesWithin v p → FormNested p u → AccessesNested v ps
-    → (IsBeginning (at p u) → (fault : NamedFault) → Due e (site.node (at p u)) fault → P fault) → FieldsRead e P (at p u) ps
+begun_due : (e : Extensions) (P : Sited → Type 0) (w v p : Option Loc) (u : Form) (ps : Parts) → LiesWithin w w → LiesWithin w v → LiesWithin v p → FormNested p u → AccessesNested v ps
+    → (IsBeginning (at p u) → (fault : Sited) → Due e (site.node (at p u)) fault → P fault) → FieldsRead e P (at p u) ps
     → ((kind : Kind) (q : Option Loc) → IsDueRight kind (Some (at p u, ps)) → LiesWithin w q → P (kind, q)) → Tells P Anything (beginning_outcome w ps p u)
 begun_due e P w v p (f.literal m) ps s l g h t head below side =
     let i = within_within w v p l g in
@@ -159,10 +160,10 @@ begun_due e P w v p (f.name m) ps s l g h t head below side =
     let i = within_within w v p l g in
     next_tells P (HeldAt (at p (f.name m))) Anything (name_leaf p m) _ (lift (Due e (site.node (at p (f.name m)))) P (HeldAt (at p (f.name m))) (name_leaf p m) (head tt) (named_due e p m (self_within v p g) h))
     (λ x c r. name_attributes e P w v p m ps x l (within_within w p (place_held x) i r.0) t (name_held p (named_variable m.node) m (name_outcome m) x refl refl c) (below p m refl) side)
-begun_due e P w v p u ps s l g h t head below side = one P k.invalid_has_rhs p (side k.invalid_has_rhs p (due.other (λ x. x) (λ x. x) (λ x. x)) (within_within w v p l g))
+begun_due e P w v p u ps s l g h t head below side = one P k.invalid_has_rhs p _ (side k.invalid_has_rhs p (due.other (λ x. x) (λ x. x) (λ x. x)) (within_within w v p l g))
 
-begins_due : (e : Extensions) (P : NamedFault → Type 0) (w v : Option Loc) (n : Located) (ps : Parts) → LiesWithin w w → LiesWithin w v → Nested v n → AccessesNested v ps
-    → (IsBeginning n → (fault : NamedFault) → Due e (site.node n) fault → P fault) → FieldsRead e P n ps
+begins_due : (e : Extensions) (P : Sited → Type 0) (w v : Option Loc) (n : Located) (ps : Parts) → LiesWithin w w → LiesWithin w v → Nested v n → AccessesNested v ps
+    → (IsBeginning n → (fault : Sited) → Due e (site.node n) fault → P fault) → FieldsRead e P n ps
     → ((kind : Kind) (q : Option Loc) → IsDueRight kind (Some (n, ps)) → LiesWithin w q → P (kind, q)) → Tells P Anything (begins_with w ps n)
 begins_due e P w v (f.missing p) ps s l h t head below side = absurd h
 begins_due e P w v (f.at p u) ps s l h t head below side = begun_due e P w v p u ps s l h.0 h.1 t head below side
@@ -170,30 +171,30 @@ begins_due e P w v (f.at p u) ps s l h t head below side = begun_due e P w v p u
 -- ---- the whole of it
 
 -- what is read of the one member that a node is
-abbrev MemberRead : Extensions → (NamedFault → Type 0) → Option (Located × Parts) → Type 0
-MemberRead e P one = (n : Located) (ps : Parts) → one ≡ Some (n, ps) → (IsBeginning n → (fault : NamedFault) → Due e (site.node n) fault → P fault) × FieldsRead e P n ps
+abbrev MemberRead : Extensions → (Sited → Type 0) → Option (Located × Parts) → Type 0
+MemberRead e P one = (n : Located) (ps : Parts) → one ≡ Some (n, ps) → (IsBeginning n → (fault : Sited) → Due e (site.node n) fault → P fault) × FieldsRead e P n ps
 
 mutual
   unfolding right_side right_form
 
   -- w is the place of the whole, v that of a node around n
-  pub right_due : (e : Extensions) (P : NamedFault → Type 0) (w v : Option Loc) (n : Located) → LiesWithin w w → LiesWithin w v → Nested v n
+  pub right_due : (e : Extensions) (P : Sited → Type 0) (w v : Option Loc) (n : Located) → LiesWithin w w → LiesWithin w v → Nested v n
       → MemberRead e P (one_member n) → ((kind : Kind) (q : Option Loc) → IsDueRight kind (one_member n) → LiesWithin w q → P (kind, q)) → Tells P Anything (right_side w n)
   right_due e P w v (f.missing p) s l h read side = absurd h
   right_due e P w v (f.at p u) s l h read side = right_form_due e P w p u s (within_within w v p l h.0) h.1 read side
 
-  right_form_due : (e : Extensions) (P : NamedFault → Type 0) (w p : Option Loc) (u : Form) → LiesWithin w w → LiesWithin w p → FormNested p u
+  right_form_due : (e : Extensions) (P : Sited → Type 0) (w p : Option Loc) (u : Form) → LiesWithin w w → LiesWithin w p → FormNested p u
       → MemberRead e P (one_member (at p u)) → ((kind : Kind) (q : Option Loc) → IsDueRight kind (one_member (at p u)) → LiesWithin w q → P (kind, q)) → Tells P Anything (right_form w u)
   right_form_due e P w p (f.chain level n f.none) s l h read side = right_due e P w p n s l h.0 read side
   right_form_due e P w p (f.unary op n) s l h read side =
       if_tells P Anything (no_sign op) _ _
       (λ c. right_due e P w p n s l h (subst (λ b. MemberRead e P (cond b (one_member n) None)) c read) (λ kind q d i. side kind q (subst (λ b. IsDueRight kind (cond b (one_member n) None)) (sym c) d) i))
-      (λ c. one P k.invalid_has_rhs w (side k.invalid_has_rhs w (subst (λ b. IsDueRight k.invalid_has_rhs (cond b (one_member n) None)) (sym c) (due.other (λ x. x) (λ x. x) (λ x. x))) s))
+      (λ c. one P k.invalid_has_rhs w _ (side k.invalid_has_rhs w (subst (λ b. IsDueRight k.invalid_has_rhs (cond b (one_member n) None)) (sym c) (due.other (λ x. x) (λ x. x) (λ x. x))) s))
   right_form_due e P w p (f.member n ps) s l h read side = let r = read n ps refl in begins_due e P w p n ps s l h.0 h.1 r.0 r.1 side
-  right_form_due e P w p u s l h read side = one P k.invalid_has_rhs w (side k.invalid_has_rhs w (due.other (λ x. x) (λ x. x) (λ x. x)) s)
+  right_form_due e P w p u s l h read side = one P k.invalid_has_rhs w _ (side k.invalid_has_rhs w (due.other (λ x. x) (λ x. x) (λ x. x)) s)
 
 -- within its own place
-pub whole_due : (e : Extensions) (P : NamedFault → Type 0) (v : Option Loc) (n : Located) → Nested v n
+pub whole_due : (e : Extensions) (P : Sited → Type 0) (v : Option Loc) (n : Located) → Nested v n
     → MemberRead e P (one_member n) → ((kind : Kind) (q : Option Loc) → IsDueRight kind (one_member n) → LiesWithin (tree_place n) q → P (kind, q)) → Tells P Anything (right_side (tree_place n) n)
 unfolding right_side
 whole_due e P v (f.missing p) h read side = absurd h

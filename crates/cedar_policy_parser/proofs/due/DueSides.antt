@@ -30,7 +30,7 @@ use Rattle.cedar_conversion.specs.parts.Strings.{layout, text_outcome}
 use Rattle.cedar_policy_parser.proofs.Alone.{comes_to}
 use Rattle.cedar_conversion.proofs.Inverted.{ok_is}
 use Rattle.cedar_policy_parser.proofs.standing.Standing.{Anything}
-use Rattle.cedar_policy_parser.proofs.Telling.{Tells, one, next_tells, Due, in_part, here, up, text_tells, unless_tells}
+use Rattle.cedar_policy_parser.proofs.Telling.{Sited, Tells, one, next_tells, Due, in_part, here, up, text_tells, unless_tells}
 use Rattle.cedar_policy_parser.proofs.due.DueLeaves.{HeldAt, is_string, string_below}
 
 -- ---- what a name, a truth value and a string give
@@ -124,7 +124,7 @@ expression_part = site.itself refl
 pub expression_due : (e : Extensions) (n : Located) (h : Held) → HeldAt n h → Tells (Due e (site.wanted site.expression n)) Anything (as_expression h)
 expression_due e n (expression p x) i = tt
 expression_due e n (variable p x) i = tt
-expression_due e n (bare_name p x) i = let s : Site = site.wanted site.expression n in one (Due e s) k.arbitrary_variable p (here e s k.arbitrary_variable p (due.no_variable i.1) i.0)
+expression_due e n (bare_name p x) i = let s : Site = site.wanted site.expression n in one (Due e s) k.arbitrary_variable p _ (here e s k.arbitrary_variable p (due.no_variable i.1) i.0)
 expression_due e n (bare_truth p b) i = tt
 expression_due e n (bare_string p raw) i =
     let s : Site = site.wanted site.expression n in
@@ -139,10 +139,10 @@ no_string_due : (e : Extensions) (n : Located) (p : Option Loc) (h : Held) → o
 no_string_due e n p h c g w = here e (site.wanted site.pattern n) k.invalid_pattern p (due.no_pattern (of_string e n h c g)) w
 
 pub pattern_due : (e : Extensions) (n : Located) (h : Held) → outcome e n ≡ Ok h → HeldAt n h → Tells (Due e (site.wanted site.pattern n)) Anything (as_pattern h)
-pattern_due e n (expression p x) c i = one (Due e (site.wanted site.pattern n)) k.invalid_pattern p (no_string_due e n p _ c (λ x. x) i.0)
-pattern_due e n (variable p x) c i = one (Due e (site.wanted site.pattern n)) k.invalid_pattern p (no_string_due e n p _ c (λ x. x) i.0)
-pattern_due e n (bare_name p x) c i = one (Due e (site.wanted site.pattern n)) k.invalid_pattern p (no_string_due e n p _ c (λ x. x) i.0)
-pattern_due e n (bare_truth p x) c i = one (Due e (site.wanted site.pattern n)) k.invalid_pattern p (no_string_due e n p _ c (λ x. x) i.0)
+pattern_due e n (expression p x) c i = one (Due e (site.wanted site.pattern n)) k.invalid_pattern p _ (no_string_due e n p _ c (λ x. x) i.0)
+pattern_due e n (variable p x) c i = one (Due e (site.wanted site.pattern n)) k.invalid_pattern p _ (no_string_due e n p _ c (λ x. x) i.0)
+pattern_due e n (bare_name p x) c i = one (Due e (site.wanted site.pattern n)) k.invalid_pattern p _ (no_string_due e n p _ c (λ x. x) i.0)
+pattern_due e n (bare_truth p x) c i = one (Due e (site.wanted site.pattern n)) k.invalid_pattern p _ (no_string_due e n p _ c (λ x. x) i.0)
 pattern_due e n (bare_string p raw) c i =
     unless_tells (Due e (site.wanted site.pattern n)) p (pattern_faults raw (layout raw)) (pattern_pieces (layout raw)) (λ g. here e (site.wanted site.pattern n) k.unescape p (due.faulty_pattern raw (is_string n p raw i.1) g) i.0)
 
@@ -150,11 +150,11 @@ no_type_due : (e : Extensions) (n : Located) (p : Option Loc) (h : Held) → out
 no_type_due e n p h c g w = here e (site.wanted site.entity_type n) k.invalid_is_type p (due.no_type (of_name e n h c g)) w
 
 pub type_due : (e : Extensions) (n : Located) (h : Held) → outcome e n ≡ Ok h → HeldAt n h → Tells (Due e (site.wanted site.entity_type n)) Anything (as_entity_type h)
-type_due e n (expression p x) c i = one (Due e (site.wanted site.entity_type n)) k.invalid_is_type p (no_type_due e n p _ c (λ x. x) i.0)
+type_due e n (expression p x) c i = one (Due e (site.wanted site.entity_type n)) k.invalid_is_type p _ (no_type_due e n p _ c (λ x. x) i.0)
 type_due e n (variable p x) c i = tt
 type_due e n (bare_name p x) c i = tt
-type_due e n (bare_truth p x) c i = one (Due e (site.wanted site.entity_type n)) k.invalid_is_type p (no_type_due e n p _ c (λ x. x) i.0)
-type_due e n (bare_string p x) c i = one (Due e (site.wanted site.entity_type n)) k.invalid_is_type p (no_type_due e n p _ c (λ x. x) i.0)
+type_due e n (bare_truth p x) c i = one (Due e (site.wanted site.entity_type n)) k.invalid_is_type p _ (no_type_due e n p _ c (λ x. x) i.0)
+type_due e n (bare_string p x) c i = one (Due e (site.wanted site.entity_type n)) k.invalid_is_type p _ (no_type_due e n p _ c (λ x. x) i.0)
 
 pub text_part : {n : Located} → IsPart (site.node n) (site.wanted site.string n)
 text_part = site.itself refl
@@ -163,18 +163,18 @@ no_text_due : (e : Extensions) (n : Located) (p : Option Loc) (h : Held) → out
 no_text_due e n p h c g w = here e (site.wanted site.string n) k.invalid_string p (due.no_text (of_string e n h c g)) w
 
 pub string_due : (e : Extensions) (n : Located) (h : Held) → outcome e n ≡ Ok h → HeldAt n h → Tells (Due e (site.wanted site.string n)) Anything (as_string h)
-string_due e n (expression p x) c i = one (Due e (site.wanted site.string n)) k.invalid_string p (no_text_due e n p _ c (λ x. x) i.0)
-string_due e n (variable p x) c i = one (Due e (site.wanted site.string n)) k.invalid_string p (no_text_due e n p _ c (λ x. x) i.0)
-string_due e n (bare_name p x) c i = one (Due e (site.wanted site.string n)) k.invalid_string p (no_text_due e n p _ c (λ x. x) i.0)
-string_due e n (bare_truth p x) c i = one (Due e (site.wanted site.string n)) k.invalid_string p (no_text_due e n p _ c (λ x. x) i.0)
+string_due e n (expression p x) c i = one (Due e (site.wanted site.string n)) k.invalid_string p _ (no_text_due e n p _ c (λ x. x) i.0)
+string_due e n (variable p x) c i = one (Due e (site.wanted site.string n)) k.invalid_string p _ (no_text_due e n p _ c (λ x. x) i.0)
+string_due e n (bare_name p x) c i = one (Due e (site.wanted site.string n)) k.invalid_string p _ (no_text_due e n p _ c (λ x. x) i.0)
+string_due e n (bare_truth p x) c i = one (Due e (site.wanted site.string n)) k.invalid_string p _ (no_text_due e n p _ c (λ x. x) i.0)
 string_due e n (bare_string p raw) c i = text_tells (Due e (site.wanted site.string n)) p raw (λ g. in_part e (site.node n) (site.wanted site.string n) text_part _ (string_below e n p raw i.1 g))
 
 more : (x : List ℕ) (xs : List (List ℕ)) → (x ∷ xs) ≢ []
 more x xs e = cc
 
-pub unqualified_due : (P : NamedFault → Type 0) (p : Option Loc) (path : List (List ℕ)) (id : List ℕ) → (path ≢ [] → P (k.path_as_attribute, p)) → Tells P Anything (unqualified p path id)
+pub unqualified_due : (P : Sited → Type 0) (p : Option Loc) (path : List (List ℕ)) (id : List ℕ) → (path ≢ [] → P (k.path_as_attribute, p)) → Tells P Anything (unqualified p path id)
 unqualified_due P p [] id h = tt
-unqualified_due P p (x ∷ xs) id h = one P k.path_as_attribute p (h (more x xs))
+unqualified_due P p (x ∷ xs) id h = one P k.path_as_attribute p _ (h (more x xs))
 
 pub key_part : {n : Located} → IsPart (site.node n) (site.wanted site.key n)
 key_part = site.itself refl
@@ -182,10 +182,10 @@ key_part = site.itself refl
 pub key_due : (e : Extensions) (n : Located) (h : Held) → outcome e n ≡ Ok h → HeldAt n h → Tells (Due e (site.wanted site.key n)) Anything (as_attribute h)
 key_due e n (expression p x) c i =
     let s : Site = site.wanted site.key n in
-    one (Due e s) k.invalid_attribute p (here e s k.invalid_attribute p (due.no_key (of_name e n _ c (λ x. x)) (of_truth e n _ c (λ x. x)) (of_string e n _ c (λ x. x))) i.0)
+    one (Due e s) k.invalid_attribute p _ (here e s k.invalid_attribute p (due.no_key (of_name e n _ c (λ x. x)) (of_truth e n _ c (λ x. x)) (of_string e n _ c (λ x. x))) i.0)
 key_due e n (variable p x) c i = tt
 key_due e n (bare_name p x) c i = let s : Site = site.wanted site.key n in unqualified_due (Due e s) p x.path x.id (λ g. here e s k.path_as_attribute p (due.path_as_key i.1 g) i.0)
-key_due e n (bare_truth p x) c i = let s : Site = site.wanted site.key n in one (Due e s) k.reserved_identifier p (here e s k.reserved_identifier p (due.truth_as_key i.1) i.0)
+key_due e n (bare_truth p x) c i = let s : Site = site.wanted site.key n in one (Due e s) k.reserved_identifier p _ (here e s k.reserved_identifier p (due.truth_as_key i.1) i.0)
 key_due e n (bare_string p raw) c i = let s : Site = site.wanted site.key n in text_tells (Due e s) p raw (λ g. in_part e (site.node n) s key_part _ (string_below e n p raw i.1 g))
 
 -- a node that gives nothing is no string

@@ -26,7 +26,7 @@ use Rattle.cedar_conversion.specs.outcome.Held.{Held, as_expression, as_pattern,
 use Rattle.cedar_conversion.specs.parts.Members.{Access}
 use Rattle.cedar_conversion.specs.parts.Names.{unreserved_ident}
 use Rattle.cedar_conversion.specs.outcome.Outcome as k
-use Rattle.cedar_conversion.specs.outcome.Outcome.{NamedFault, Outcome, both, next}
+use Rattle.cedar_conversion.specs.outcome.Outcome.{Outcome, both, next}
 use Rattle.cedar_policy_parser.specs.faults.Sites as site
 use Rattle.cedar_policy_parser.specs.faults.Sites.{Site, IsPart, IsAmong, is_negated, IsNameSite}
 use Rattle.cedar_policy_parser.specs.faults.Standing.{LiesWithin}
@@ -34,7 +34,7 @@ use Rattle.cedar_conversion.specs.strict.Strict.{largest}
 use Rattle.cedar_policy_parser.proofs.Alone.{chain_alone, member_alone}
 use Rattle.cedar_policy_parser.proofs.standing.Nested.{IsOfLevel, IsBefore, Nested, FormNested, PartsNested, AccessesNested, AccessNested, AccessFormNested, PairsNested, PairNested, PairFormNested}
 use Rattle.cedar_policy_parser.proofs.standing.Standing.{self_within, Anything, BothHold}
-use Rattle.cedar_policy_parser.proofs.Telling.{Tells, one, both_tell, next_tells, forget, if_tells, Due, in_part, here, up, are_due}
+use Rattle.cedar_policy_parser.proofs.Telling.{Sited, Tells, one, both_tell, next_tells, forget, if_tells, Due, in_part, here, up, are_due}
 use Rattle.cedar_policy_parser.proofs.due.DueLeaves.{HeldAt, moved, unreserved_due, literal_due, named_due, slot_due, entity_due}
 use Rattle.cedar_policy_parser.proofs.due.DueSides.{expression_due, expression_part, wanted_due, pattern_due, type_due, string_due, text_part, key_due, key_part, no_string_failed}
 use Rattle.cedar_policy_parser.proofs.due.DueRight.{whole_due}
@@ -62,7 +62,7 @@ compared_due e p rel.Greater a b x y w = (w, tt)
 compared_due e p rel.NotEq a b x y w = (w, tt)
 compared_due e p rel.Eq a b x y w = (w, tt)
 compared_due e p rel.In a b x y w = (w, tt)
-compared_due e p rel.InvalidSingleEq a b x y w = let s : Site = site.node (at p (f.chain relation a (f.more (t.compare rel.InvalidSingleEq) b f.none))) in one (Due e s) k.invalid_single_eq p (here e s k.invalid_single_eq p due.single_eq w)
+compared_due e p rel.InvalidSingleEq a b x y w = let s : Site = site.node (at p (f.chain relation a (f.more (t.compare rel.InvalidSingleEq) b f.none))) in one (Due e s) k.invalid_single_eq p _ (here e s k.invalid_single_eq p due.single_eq w)
 
 related_due : (e : Extensions) (p : Option Loc) (op : Operator) (a b : Located) (x y : Value) → LiesWithin p p → IsOfLevel relation op
     → Tells (Due e (site.node (at p (f.chain relation a (f.more op b f.none))))) (HeldAt (at p (f.chain relation a (f.more op b f.none)))) (relation_outcome p op x y)
@@ -83,13 +83,13 @@ joined_due e relation p a b op (f.more oq d others) (q ∷ ps) x w h i u c = cc
 limit_due : (e : Extensions) (level : Level) (p : Option Loc) (a : Located) (ps : Parts) → LiesWithin p p → Tells (Due e (site.node (at p (f.chain level a ps)))) Anything (operator_limit level p ps)
 limit_due e relation p a f.none w = tt
 limit_due e relation p a (f.more op n f.none) w = tt
-limit_due e relation p a (f.more op n (f.more oq m ps)) w = let s : Site = site.node (at p (f.chain relation a (f.more op n (f.more oq m ps)))) in one (Due e s) k.ambiguous_operators p (here e s k.ambiguous_operators p due.two_operators w)
+limit_due e relation p a (f.more op n (f.more oq m ps)) w = let s : Site = site.node (at p (f.chain relation a (f.more op n (f.more oq m ps)))) in one (Due e s) k.ambiguous_operators p _ (here e s k.ambiguous_operators p due.two_operators w)
 limit_due e disjunction p a ps w = tt
 limit_due e conjunction p a ps w = tt
 limit_due e sum p a ps w = tt
 limit_due e product p a ps w = tt
 
-with_equation : {X : Type 0} (P : NamedFault → Type 0) (o : Outcome X) → Tells P Anything o → Tells P (λ u. o ≡ Ok u) o
+with_equation : {X : Type 0} (P : Sited → Type 0) (o : Outcome X) → Tells P Anything o → Tells P (λ u. o ≡ Ok u) o
 with_equation P (Ok u) h = refl
 with_equation P (Err fs) h = h
 
@@ -113,10 +113,10 @@ chained_due e level p a b op others x r w l h g =
     (λ q c i. behind_first e level p a b op others q.0.0 q.0.1 q.1 w l i.0.0 i.0.1 i.1)
 
 -- one operand more
-factor_due : (P : NamedFault → Type 0) (p : Option Loc) (op : Operator) (x : Value) → (op ≡ t.multiply mul.Divide → P (k.unsupported_division, p)) → (op ≡ t.multiply mul.Mod → P (k.unsupported_modulo, p)) → Tells P Anything (factor p op x)
+factor_due : (P : Sited → Type 0) (p : Option Loc) (op : Operator) (x : Value) → (op ≡ t.multiply mul.Divide → P (k.unsupported_division, p)) → (op ≡ t.multiply mul.Mod → P (k.unsupported_modulo, p)) → Tells P Anything (factor p op x)
 factor_due P p (t.multiply mul.Times) x h g = tt
-factor_due P p (t.multiply mul.Divide) x h g = one P k.unsupported_division p (h refl)
-factor_due P p (t.multiply mul.Mod) x h g = one P k.unsupported_modulo p (g refl)
+factor_due P p (t.multiply mul.Divide) x h g = one P k.unsupported_division p _ (h refl)
+factor_due P p (t.multiply mul.Mod) x h g = one P k.unsupported_modulo p _ (g refl)
 factor_due P p op x h g = tt
 
 -- ---- signs
@@ -136,17 +136,17 @@ dashed_due : (e : Extensions) (p : Option Loc) (n : Located) (count : ℕ) (bare
 dashed_due e p n count None x w c h = applied_due e p (Some (sign.Dash (suc count))) n count v.neg x w refl (ap (λ b. is_negated (Some (sign.Dash (suc count))) b) c) h
 dashed_due e p n count (Some number) x w c h =
     let s : Site = site.node (at p (f.unary (Some (sign.Dash (suc count))) n)) in
-    if_tells (Due e s) (HeldAt (at p (f.unary (Some (sign.Dash (suc count))) n))) (nat_le number largest) _ _ (λ i. (w, tt)) (λ i. one (Due e s) k.integer_literal_too_large p (here e s k.integer_literal_too_large p (due.large_negative c i) w))
+    if_tells (Due e s) (HeldAt (at p (f.unary (Some (sign.Dash (suc count))) n))) (nat_le number largest) _ _ (λ i. (w, tt)) (λ i. one (Due e s) k.integer_literal_too_large p _ (here e s k.integer_literal_too_large p (due.large_negative c i) w))
 
 signed_due : (e : Extensions) (p : Option Loc) (op : Option NegOp) (n : Located) (x : Outcome Held) → LiesWithin p p → LiesWithin p (tree_place n) → Tells (Due e (site.node n)) (HeldAt n) x
     → Tells (Due e (site.node (at p (f.unary op n)))) (HeldAt (at p (f.unary op n))) (signs_outcome p op (number_in (lone_literal n)) x)
 signed_due e p None n x w l h = plain_due e p None n x l refl h
 signed_due e p (Some (sign.Bang zero)) n x w l h = plain_due e p (Some (sign.Bang zero)) n x l refl h
 signed_due e p (Some (sign.Bang (suc count))) n x w l h = applied_due e p (Some (sign.Bang (suc count))) n count v.not x w refl refl h
-signed_due e p (Some sign.OverBang) n x w l h = let s : Site = site.node (at p (f.unary (Some sign.OverBang) n)) in one (Due e s) k.unary_op_limit p (here e s k.unary_op_limit p due.bangs w)
+signed_due e p (Some sign.OverBang) n x w l h = let s : Site = site.node (at p (f.unary (Some sign.OverBang) n)) in one (Due e s) k.unary_op_limit p _ (here e s k.unary_op_limit p due.bangs w)
 signed_due e p (Some (sign.Dash zero)) n x w l h = plain_due e p (Some (sign.Dash zero)) n x l refl h
 signed_due e p (Some (sign.Dash (suc count))) n x w l h = dashed_due e p n count (number_in (lone_literal n)) x w refl h
-signed_due e p (Some sign.OverDash) n x w l h = let s : Site = site.node (at p (f.unary (Some sign.OverDash) n)) in one (Due e s) k.unary_op_limit p (here e s k.unary_op_limit p due.dashes w)
+signed_due e p (Some sign.OverDash) n x w l h = let s : Site = site.node (at p (f.unary (Some sign.OverDash) n)) in one (Due e s) k.unary_op_limit p _ (here e s k.unary_op_limit p due.dashes w)
 
 -- ---- lists
 
@@ -182,12 +182,12 @@ as_many (f.more op n ps) (q ∷ qs) h = ap suc (as_many ps qs h.1)
 
 -- ---- trees
 
-also : {X : Type 0} (P : NamedFault → Type 0) (Q S : X → Type 0) (x : Outcome X) → ((y : X) → Q y → S y) → Tells P Q x → Tells P S x
+also : {X : Type 0} (P : Sited → Type 0) (Q S : X → Type 0) (x : Outcome X) → ((y : X) → Q y → S y) → Tells P Q x → Tells P S x
 also P Q S (Ok x) g a = g x a
 also P Q S (Err fs) g a = a
 
 -- and that it is given
-keep : {X : Type 0} (P : NamedFault → Type 0) (Q : X → Type 0) (o : Outcome X) → Tells P Q o → Tells P (λ y. (o ≡ Ok y) × Q y) o
+keep : {X : Type 0} (P : Sited → Type 0) (Q : X → Type 0) (o : Outcome X) → Tells P Q o → Tells P (λ y. (o ≡ Ok y) × Q y) o
 keep P Q (Ok x) h = (refl, h)
 keep P Q (Err fs) h = h
 
@@ -224,7 +224,7 @@ GivesOne n a = (op : Operator) (others : Parts) (rest : List Access) → Gives o
 repeated_due : (e : Extensions) (p : Option Loc) (ps : Parts) (fs : List (List ℕ × Value)) → LiesWithin p p → ArePairs e ps fs → Tells (Due e (site.node (at p (f.record_of ps)))) (HeldAt (at p (f.record_of ps))) (record_outcome p fs)
 repeated_due e p ps fs w h =
     let s : Site = site.node (at p (f.record_of ps)) in
-    if_tells (Due e s) (HeldAt (at p (f.record_of ps))) (repeats_key (keys_of fs)) _ _ (λ c. one (Due e s) k.expression_construction_error p (here e s k.expression_construction_error p (due.repeated_key fs h c) w)) (λ c. (w, tt))
+    if_tells (Due e s) (HeldAt (at p (f.record_of ps))) (repeats_key (keys_of fs)) _ _ (λ c. one (Due e s) k.expression_construction_error p _ (here e s k.expression_construction_error p (due.repeated_key fs h c) w)) (λ c. (w, tt))
 
 mutual
   unfolding outcome form_outcome operands accesses_outcome access_outcome access_form_outcome pairs_outcome pair_outcome pair_form_outcome

@@ -88,7 +88,7 @@ name_accesses_alike e p q name (field id ∷ call args ∷ rest) = tt
 name_accesses_alike e p q name (field id ∷ field other ∷ rest) = tt
 name_accesses_alike e p q name (field id ∷ index text ∷ rest) = tt
 
-variable_accesses_alike : (e : Extensions) (p q : Option Loc) (x : Var) (all : List Access) → Alike Same (variable_accesses e p (v.var x) all) (variable_accesses e q (v.var x) (map access_aside all))
+variable_accesses_alike : (e : Extensions) (p q : Option Loc) (x : Var) (all : List Access) → Alike Same (variable_accesses e p x all) (variable_accesses e q x (map access_aside all))
 unfolding without_places
 variable_accesses_alike e p q x [] = refl
 variable_accesses_alike e p q x (call args ∷ rest) = tt

@@ -25,7 +25,8 @@ use Rattle.cedar_conversion.specs.parts.Entities.{id_text, id_outcome}
 use Rattle.cedar_conversion.specs.strict.Extensions.{Extensions}
 use Rattle.cedar_conversion.specs.parts.Names.{content_outcome, spelling_outcome, any_ident_of}
 use Rattle.cedar_expressions.specs.Path.{is_identifier}
-use Rattle.cedar_conversion.specs.outcome.Outcome.{Outcome, fault_outcome, next, invalid_identifier, duplicate_annotation, faults_outcome}
+use Rattle.cedar_conversion.specs.outcome.Detail.{spelling}
+use Rattle.cedar_conversion.specs.outcome.Outcome.{Outcome, detailed_outcome, next, invalid_identifier, duplicate_annotation, faults_outcome}
 use Rattle.cedar_policy_conversion.specs.Policies.{effect_of, effect_outcome}
 use Rattle.cedar_policy_parser.proofs.independent.Independent.{outcome_alike}
 use Rattle.cedar_policy_parser.proofs.independent.IndependentLeaves.{Equal, Pairs, Aside, both_alike, next_alike, then_alike, if_alike, value_alike, text_alike}
@@ -99,7 +100,7 @@ pub effect_same : (n m : Cell Ident) → unlocated_node n ≡ unlocated_node m �
 effect_same n m e = word_same effect_of effect_word n m e
 
 spelled : (p q : Option Loc) (t : List ℕ) → Alike Equal (spelling_outcome p t) (spelling_outcome q t)
-spelled p q t = if_alike Equal (is_identifier t) (Ok t) (Ok t) (fault_outcome invalid_identifier p) (fault_outcome invalid_identifier q) refl tt
+spelled p q t = if_alike Equal (is_identifier t) (Ok t) (Ok t) (detailed_outcome invalid_identifier p (spelling t)) (detailed_outcome invalid_identifier q (spelling t)) refl tt
 
 any_word : (p q : Option Loc) (i : Ident) → Alike Equal (any_ident_of p i) (any_ident_of q i)
 any_word p q words.True = refl
@@ -193,7 +194,7 @@ snoc_same xs ys x y e g = over xs x ∙ ap₂ (λ a b. a ++ b ∷ []) e g ∙ sy
 new_key_same : (ks ls : List (List ℕ)) (x y : AnnotationContent) → ks ≡ ls → SameContent x y → Alike SameContent (with_new_key ks x) (with_new_key ls y)
 new_key_same ks ls x y e g =
     let same : has_key ks x.key ≡ has_key ls y.key = ap₂ has_key e (ap (λ (p : KeyText). p.0) g) in
-    subst (λ b. Alike SameContent (with_new_key ks x) (cond b (fault_outcome duplicate_annotation y.place) (Ok y))) same (if_alike SameContent (has_key ks x.key) _ _ _ _ tt g)
+    subst (λ b. Alike SameContent (with_new_key ks x) (cond b (detailed_outcome duplicate_annotation y.place (spelling y.key)) (Ok y))) same (if_alike SameContent (has_key ks x.key) _ _ _ _ tt g)
 
 more_same : (g h : Gathering) (a b : Outcome AnnotationContent) → SameGathering g h → Alike SameContent a b → SameGathering (gathering_with g a) (gathering_with h b)
 more_same g h a b s e = record {
@@ -235,16 +236,16 @@ bare_same p q when x y e = go (slots_of x) (slots_of y) refl refl
     go (s ∷ ss) [] h k = let none = sym h ∙ slots_go y x (sym e) k in absurd (cc)
     go (s ∷ ss) (t ∷ ts) h k = tt
 
-clause_same : (e : Extensions) (p q : Option Loc) (o r : Option (Cell Expr)) → option_map (λ n. bare_cell unlocated_expr n) o ≡ option_map (λ n. bare_cell unlocated_expr n) r → Alike Both (clause e p o) (clause e q r)
-clause_same e p q None None h = tt
-clause_same e p q None (Some m) h = absurd (none_some h)
-clause_same e p q (Some n) None h = absurd (none_some (sym h))
-clause_same e p q (Some n) (Some m) h = expr_same e n m (some_same h)
+clause_same : (e : Extensions) (p q : Option Loc) (v w : Option Ident) (o r : Option (Cell Expr)) → option_map (λ n. bare_cell unlocated_expr n) o ≡ option_map (λ n. bare_cell unlocated_expr n) r → Alike Both (clause e p v o) (clause e q w r)
+clause_same e p q v w None None h = tt
+clause_same e p q v w None (Some m) h = absurd (none_some h)
+clause_same e p q v w (Some n) None h = absurd (none_some (sym h))
+clause_same e p q v w (Some n) (Some m) h = expr_same e n m (some_same h)
 
 cond_same : (e : Extensions) (p q : Option Loc) (c d : Cond) → unlocated_clause c ≡ unlocated_clause d → Alike Equal (condition_of e p c) (condition_of e q d)
 cond_same e p q c d h =
     then_alike Equal _ _ _ _ (word_same is_when_of when_word c.cond d.cond (ap (λ (x : BareCondition). x.word) h))
-    (λ when. next_alike Both Equal _ _ _ _ (clause_same e p q c.expr d.expr (ap (λ (x : BareCondition). x.body) h)) (λ x y k. bare_same p q when x y k))
+    (λ when. next_alike Both Equal _ _ _ _ (clause_same e p q c.cond.node d.cond.node c.expr d.expr (ap (λ (x : BareCondition). x.body) h)) (λ x y k. bare_same p q when x y k))
 
 condition_same : (e : Extensions) (n m : Cell Cond) → bare_cell unlocated_clause n ≡ bare_cell unlocated_clause m → Alike Equal (condition_outcome e n) (condition_outcome e m)
 condition_same e n m h = content_same Equal unlocated_clause (condition_of e) n.loc m.loc (cond_same e n.loc m.loc) n.node m.node (ap (λ (c : Cell BareCondition). c.node) h)

@@ -34,7 +34,8 @@ use Rattle.cedar_policy_parser.proofs.Alike.{Alike, Same}
 use Rattle.cedar_conversion.specs.outcome.Conversion.{outcome}
 use Rattle.cedar_conversion.specs.strict.Extensions.{Extensions}
 use Rattle.cedar_conversion.specs.outcome.Held.{as_entity_type}
-use Rattle.cedar_conversion.specs.outcome.Outcome.{Outcome, fault_outcome, next, incorrect_variable}
+use Rattle.cedar_conversion.specs.outcome.Detail.{variables}
+use Rattle.cedar_conversion.specs.outcome.Outcome.{Outcome, detailed_outcome, next, incorrect_variable}
 use Rattle.cedar_policy_conversion.specs.References.{single_entity, entity_or_slot, one_or_multiple}
 use Rattle.cedar_policy_conversion.specs.Scope.{scope_variable_of, scope_variable, type_name, no_type_name, element_variable, made_by_is, is_made_by_is, is_inverted, type_outcome, operator_outcome, asked_type, constraint_outcome, stands_there, in_its_place, element_of, element_outcome, principal_outcome, resource_outcome, action_alone, no_entity_type, action_by, unless_others, asked_action, action_of, action_outcome, Scope, place_behind, if_there, no_extra, scope_of, scope_outcome}
 use Rattle.cedar_policy_parser.proofs.independent.Independent.{outcome_alike}
@@ -155,7 +156,7 @@ constraint_same e p q x o r h (Some n) (Some m) k = sides (some_same k)
         (λ a b i. subst (λ y. Alike SameConstraint (operator_outcome e p n.0 o a) (operator_outcome e q y r b)) op (operator_same e p q n.0 o r h a b i)))
 
 place_same : (p q : Option Loc) (w x : Var) (a b : PrincipalOrResourceConstraint) → SameConstraint a b → Alike SameConstraint (in_its_place p w x a) (in_its_place q w x b)
-place_same p q w x a b h = if_alike SameConstraint (stands_there w x) (Ok a) (Ok b) (fault_outcome incorrect_variable p) (fault_outcome incorrect_variable q) h tt
+place_same p q w x a b h = if_alike SameConstraint (stands_there w x) (Ok a) (Ok b) (detailed_outcome incorrect_variable p (variables w x)) (detailed_outcome incorrect_variable q (variables w x)) h tt
 
 element_of_same : (e : Extensions) (w : Var) (p q : Option Loc) (c d : VariableDef) → unlocated_element c ≡ unlocated_element d → Alike SameConstraint (element_of e w p c) (element_of e w q d)
 element_of_same e w p q c d h =
@@ -242,11 +243,11 @@ SameLists ns ms = bare_cells unlocated_element ns ≡ bare_cells unlocated_eleme
 abbrev SameOptions : Option (Cell VariableDef) → Option (Cell VariableDef) → Type 0
 SameOptions o r = option_map (λ c. bare_cell unlocated_element c) o ≡ option_map (λ c. bare_cell unlocated_element c) r
 
-there_same : {X : Type 0} (S : X → X → Type 0) (g : Cell VariableDef → Outcome X) (p q : Option Loc) → ((n m : Cell VariableDef) → SameElements n m → Alike S (g n) (g m)) → (o r : Option (Cell VariableDef)) → SameOptions o r → Alike S (if_there g p o) (if_there g q r)
-there_same S g p q k None None h = tt
-there_same S g p q k None (Some m) h = absurd (none_some h)
-there_same S g p q k (Some n) None h = absurd (none_some (sym h))
-there_same S g p q k (Some n) (Some m) h = k n m (some_same h)
+there_same : {X : Type 0} (S : X → X → Type 0) (v : Var) (g : Cell VariableDef → Outcome X) (p q : Option Loc) → ((n m : Cell VariableDef) → SameElements n m → Alike S (g n) (g m)) → (o r : Option (Cell VariableDef)) → SameOptions o r → Alike S (if_there v g p o) (if_there v g q r)
+there_same S v g p q k None None h = tt
+there_same S v g p q k None (Some m) h = absurd (none_some h)
+there_same S v g p q k (Some n) None h = absurd (none_some (sym h))
+there_same S v g p q k (Some n) (Some m) h = k n m (some_same h)
 
 extra_same : (ns ms : List (Cell VariableDef)) → SameLists ns ms → Alike Equal (no_extra ns) (no_extra ms)
 extra_same [] [] h = refl
@@ -258,8 +259,8 @@ scope_of_same : (e : Extensions) (p q : Option Loc) (a b c x y z : Option (Cell 
 scope_of_same e p q a b c x y z ns ms h i j k =
     next_alike (Pairs (Pairs SamePrincipal Equal) (Pairs SameResource Equal)) SameScope _ _ _ _
     (both_alike (Pairs SamePrincipal Equal) (Pairs SameResource Equal) _ _ _ _
-    (both_alike SamePrincipal Equal _ _ _ _ (there_same SamePrincipal (principal_outcome e) p q (principal_same e) a x h) (there_same Equal (action_outcome e) (place_behind p a) (place_behind q x) (action_same e) b y i))
-    (both_alike SameResource Equal _ _ _ _ (there_same SameResource (resource_outcome e) (place_behind (place_behind p a) b) (place_behind (place_behind q x) y) (resource_same e) c z j) (extra_same ns ms k)))
+    (both_alike SamePrincipal Equal _ _ _ _ (there_same SamePrincipal vars.Principal (principal_outcome e) p q (principal_same e) a x h) (there_same Equal vars.Action (action_outcome e) (place_behind p a) (place_behind q x) (action_same e) b y i))
+    (both_alike SameResource Equal _ _ _ _ (there_same SameResource vars.Resource (resource_outcome e) (place_behind (place_behind p a) b) (place_behind (place_behind q x) y) (resource_same e) c z j) (extra_same ns ms k)))
     (λ s u r. (r.0.0, r.0.1, r.1.0))
 
 get_same : (i : ℕ) (ns ms : List (Cell VariableDef)) → SameLists ns ms → SameOptions (slice_get ns i) (slice_get ms i)

@@ -22,7 +22,8 @@ use Rattle.cedar_grammar.specs.grammar.Place.{placed, placed_or_start}
 use Rattle.cedar_syntax.specs.tokens.Tokens.{one, any_of}
 use Rattle.cedar_syntax.specs.trees.Trees.{Cell}
 use Rattle.cedar_conversion.specs.parts.Names.{spelling_outcome as spelled_text, any_ident_of, any_ident}
-use Rattle.cedar_conversion.specs.outcome.Outcome.{Outcome, fault_outcome, invalid_identifier}
+use Rattle.cedar_conversion.specs.outcome.Detail.{spelling}
+use Rattle.cedar_conversion.specs.outcome.Outcome.{Outcome, detailed_outcome, invalid_identifier}
 use Rattle.cedar_policy_parser.proofs.standing.Fitting.{Spelled, laid_spelled}
 
 abbrev given_text : List ℕ → Outcome (List ℕ)
@@ -87,7 +88,7 @@ AnyGiven p text None = Unit {0}
 AnyGiven p text (Some i) = any_ident_of p i ≡ given_text text
 
 spelled_given : (p : Option Loc) (text : List ℕ) → is_identifier text ≡ true → spelled_text p text ≡ given_text text
-spelled_given p text h = ap (λ b. cond b (given_text text) (fault_outcome invalid_identifier p)) h
+spelled_given p text h = ap (λ b. cond b (given_text text) (detailed_outcome invalid_identifier p (spelling text))) h
 
 given_word : (p : Option Loc) (k : TokenKind) (text : List ℕ) → Spells k text → AnyGiven p text (any_of k text)
 given_word p kind.True text h = ap given_text (some_is h)

@@ -53,13 +53,13 @@ clause_meant e _ x c p a z unless_clause h i none same = rw (h, ← same) (m.unl
 condition_meant : {src : List ℕ} {ts : List Lexeme} {x : Cond} (e : Extensions) (place : Option Loc) (c : Value) → ReadsCond src ts x → condition_of e place x ≡ Ok c → IsCondition e sign_limit ts c
 condition_meant {src = src} e place c (l.cond {ts = ts} {us = us} {i = i} a z r (l.body {x = x} b)) h =
     let f = next_ok (is_when (placed src ts i)) _ c h in
-    let g = next_ok (clause e place (Some (placed src us x))) (without_slots place f.0) c f.2 in
+    let g = next_ok (clause e place (placed src ts i).node (Some (placed src us x))) (without_slots place f.0) c f.2 in
     let n = next_ok (slots_outcome place g.0) _ c g.2 in
     let word = clause_word src f.0 r f.1 in
     clause_meant e f.0 g.0 c word.1 a z word.2 word.3 (sound_value e (placed src us x).loc g.0 b g.1) (no_slots place (slots_of g.0) n.0 n.1) (ok_is n.2)
 condition_meant {src = src} e place c (l.cond {ts = ts} {i = i} a z r l.no_body) h =
     let f = next_ok (is_when (placed src ts i)) _ c h in
-    let g = next_ok (clause e place None) (without_slots place f.0) c f.2 in
+    let g = next_ok (clause e place (placed src ts i).node None) (without_slots place f.0) c f.2 in
     let impossible = g.1 in cc
 
 -- ---- all of a policy

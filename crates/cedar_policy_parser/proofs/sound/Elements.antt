@@ -39,6 +39,7 @@ use Rattle.cedar_conversion.specs.outcome.Conversion.{outcome}
 use Rattle.cedar_conversion.specs.strict.Extensions.{Extensions}
 use Rattle.cedar_conversion.specs.outcome.Held.{as_entity_type}
 use Rattle.cedar_conversion.specs.parts.Names.{content_outcome}
+use Rattle.cedar_conversion.specs.outcome.Detail.{nothing}
 use Rattle.cedar_conversion.specs.outcome.Outcome.{next, is_in_action_scope}
 use Rattle.cedar_policy_conversion.specs.References.{entity_or_slot, one_or_multiple, referent_outcome, single_entity}
 use Rattle.cedar_policy_conversion.specs.Scope as s
@@ -194,7 +195,7 @@ asks_action_as c d h g i = rw (← h, ← g) i
 
 action_in_meant : {src : List ℕ} {ts : List Lexeme} {x : Expr} (e : Extensions) (place at : Option Loc) (c d : ActionConstraint) (p : Spot) → ReadsExpr src ts x → s.action_in e place (placed src ts x) ≡ Ok c → s.only_actions at c ≡ Ok d → AsksAction (one kind.In p ++ ts) d
 action_in_meant {src = src} {ts = ts} {x = x} e place at c d p r h g =
-    let a = unless_ok (s.is_inverted e rel.In (placed src ts x)) (next (referent_outcome one_or_multiple vars.Action (placed src ts x)) (λ all. Ok (s.within all))) ((is_in_action_scope, place) ∷ []) c h in
+    let a = unless_ok (s.is_inverted e rel.In (placed src ts x)) (next (referent_outcome one_or_multiple vars.Action (placed src ts x)) (λ all. Ok (s.within all))) ((is_in_action_scope, place, nothing) ∷ []) c h in
     let b = next_ok (referent_outcome one_or_multiple vars.Action (placed src ts x)) (λ all. Ok (s.within all)) c a.1 in
     let same : c ≡ action.In (uids_of b.0) = sym (ok_is b.2) ∙ within_is b.0 in
     let o = others_none at c d (but_actions (named_entities c)) g in

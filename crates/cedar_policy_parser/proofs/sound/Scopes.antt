@@ -22,7 +22,7 @@ use Rattle.cedar_conversion.specs.outcome.Outcome.{NamedFault, Outcome, both, ne
 use Rattle.cedar_policy_conversion.specs.Scope as s
 use Rattle.cedar_policy_conversion.specs.Scope.{Scope}
 use Rattle.cedar_policy_parser.specs.meaning.StrictScope as z
-use Rattle.cedar_policy_parser.specs.meaning.StrictScope.{Asks, AsksAction, IsLastComma, IsScope}
+use Rattle.cedar_policy_parser.specs.meaning.StrictScope.{IsLastComma, IsScope}
 use Rattle.cedar_conversion.proofs.Inverted.{ok_is, next_ok, both_ok}
 use Rattle.cedar_policy_parser.proofs.Lists.{no_snoc, snoc_one}
 use Rattle.cedar_policy_parser.proofs.sound.Elements.{ActionMeant, ElementMeant, WordOf, principal_word, resource_word, action_meant, element_meant}
@@ -50,13 +50,13 @@ pub record ThreeGiven (e : Extensions) (ns : List (Cell VariableDef)) (t : Scope
   pub resource : s.resource_outcome e third ≡ Ok t.2
 
 abbrev first_of : Extensions → Option Loc → List (Cell VariableDef) → Outcome PrincipalConstraint
-first_of e before ns = s.if_there (s.principal_outcome e) before (slice_get ns 0)
+first_of e before ns = s.if_there vars.Principal (s.principal_outcome e) before (slice_get ns 0)
 
 abbrev second_of : Extensions → Option Loc → List (Cell VariableDef) → Outcome ActionConstraint
-second_of e before ns = s.if_there (s.action_outcome e) (s.place_behind before (slice_get ns 0)) (slice_get ns 1)
+second_of e before ns = s.if_there vars.Action (s.action_outcome e) (s.place_behind before (slice_get ns 0)) (slice_get ns 1)
 
 abbrev third_of : Extensions → Option Loc → List (Cell VariableDef) → Outcome ResourceConstraint
-third_of e before ns = s.if_there (s.resource_outcome e) (s.place_behind (s.place_behind before (slice_get ns 0)) (slice_get ns 1)) (slice_get ns 2)
+third_of e before ns = s.if_there vars.Resource (s.resource_outcome e) (s.place_behind (s.place_behind before (slice_get ns 0)) (slice_get ns 1)) (slice_get ns 2)
 
 elements_ok : (e : Extensions) (before : Option Loc) (ns : List (Cell VariableDef)) (t : Scope) → s.elements_outcome e before ns ≡ Ok t
     → (first_of e before ns ≡ Ok t.0) × (second_of e before ns ≡ Ok t.1) × (third_of e before ns ≡ Ok t.2) × (u : Unit {0}) × (s.no_extra (drop 3 ns) ≡ Ok u)

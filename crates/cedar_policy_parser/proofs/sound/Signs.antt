@@ -15,6 +15,7 @@ use Rattle.cedar_syntax.specs.tokens.Signs.{sign_limit}
 use Rattle.cedar_conversion.specs.outcome.Conversion.{application_outcome, dashes_outcome, signs_outcome, expression_at, negative}
 use Rattle.cedar_conversion.specs.strict.Extensions.{Extensions}
 use Rattle.cedar_conversion.specs.outcome.Held.{Held, expression, as_expression}
+use Rattle.cedar_conversion.specs.outcome.Detail as detail
 use Rattle.cedar_conversion.specs.outcome.Outcome.{Outcome, next, integer_literal_too_large}
 use Rattle.cedar_conversion.specs.strict.Strict as m
 use Rattle.cedar_conversion.specs.strict.Strict.{largest}
@@ -51,7 +52,7 @@ banged_held e ts us place n bare x h r operand_is k =
 
 negative_made : (place : Option Loc) (n k : ℕ) (h : Held) → negative place n k ≡ Ok h → (w : Value) × (expression place w ≡ h)
 negative_made place n k h g =
-    let d = if_ok (nat_le k largest) (expression_at place (literal_of n k)) ((integer_literal_too_large, place) ∷ []) h g in
+    let d = if_ok (nat_le k largest) (expression_at place (literal_of n k)) ((integer_literal_too_large, place, detail.number k) ∷ []) h g in
     (_, ok_is d.1)
 
 dashed_made : (place : Option Loc) (n : ℕ) (bare : Option ℕ) (x : Outcome Held) (h : Held) → dashes_outcome place (suc n) bare x ≡ Ok h → (w : Value) × (expression place w ≡ h)

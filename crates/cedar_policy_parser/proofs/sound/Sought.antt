@@ -32,6 +32,7 @@ use Rattle.cedar_conversion.specs.parts.HasSide.{Attributes, right_side, right_f
 use Rattle.cedar_conversion.specs.outcome.Held.{Held, expression, variable, bare_name, bare_truth, bare_string, unqualified, as_string}
 use Rattle.cedar_conversion.specs.parts.Leaves.{name_leaf}
 use Rattle.cedar_conversion.specs.parts.Literals.{literal_outcome}
+use Rattle.cedar_conversion.specs.outcome.Detail.{nothing}
 use Rattle.cedar_conversion.specs.outcome.Outcome.{Outcome, NamedFault, fault_outcome, invalid_has_rhs}
 use Rattle.cedar_conversion.specs.strict.Strict as m
 use Rattle.cedar_conversion.specs.strict.StrictWords as w
@@ -136,11 +137,11 @@ begun_meant {src = src} {xs = ys} whole place r (l.literally {ts = ts} {x = x} p
 begun_meant {src = src} {xs = ys} whole place r (l.named {ts = ts} {x = x} p) q h =
     let d = next_ok (name_leaf place (placed src ts x)) _ r (sym (begins_at whole (parts_of (map listed_access ys)) place _ _ (primary_name (placed src ts x))) ∙ h) in
     attributes_meant ts no_extensions whole d.0 r (name_held no_extensions place d.0 p d.1) q d.2
-begun_meant {src = src} {xs = ys} whole place r (l.referred {ts = ts} {x = x} p) q h = absurd (never ((invalid_has_rhs, place) ∷ []) r _ (begins_at whole (parts_of (map listed_access ys)) place _ _ (primary_ref (placed src ts x))) h)
-begun_meant {src = src} {xs = ys} whole place r (l.slotted {k = k} {x = x} p i) q h = absurd (never ((invalid_has_rhs, place) ∷ []) r _ (begins_at whole (parts_of (map listed_access ys)) place _ _ (primary_slot (placed src (one k p) x))) h)
-begun_meant {src = src} {xs = ys} whole place r (l.paren {ts = ts} {x = x} a b p) q h = absurd (never ((invalid_has_rhs, place) ∷ []) r _ (begins_at whole (parts_of (map listed_access ys)) place _ _ (primary_expr (placed src ts x))) h)
-begun_meant {xs = ys} whole place r (l.set {xs = xs} a b p) q h = absurd (never ((invalid_has_rhs, place) ∷ []) r _ (begins_at whole (parts_of (map listed_access ys)) place _ _ (primary_list xs)) h)
-begun_meant {xs = ys} whole place r (l.in_braces {xs = xs} a b p) q h = absurd (never ((invalid_has_rhs, place) ∷ []) r _ (begins_at whole (parts_of (map listed_access ys)) place _ _ (primary_inits xs)) h)
+begun_meant {src = src} {xs = ys} whole place r (l.referred {ts = ts} {x = x} p) q h = absurd (never ((invalid_has_rhs, place, nothing) ∷ []) r _ (begins_at whole (parts_of (map listed_access ys)) place _ _ (primary_ref (placed src ts x))) h)
+begun_meant {src = src} {xs = ys} whole place r (l.slotted {k = k} {x = x} p i) q h = absurd (never ((invalid_has_rhs, place, nothing) ∷ []) r _ (begins_at whole (parts_of (map listed_access ys)) place _ _ (primary_slot (placed src (one k p) x))) h)
+begun_meant {src = src} {xs = ys} whole place r (l.paren {ts = ts} {x = x} a b p) q h = absurd (never ((invalid_has_rhs, place, nothing) ∷ []) r _ (begins_at whole (parts_of (map listed_access ys)) place _ _ (primary_expr (placed src ts x))) h)
+begun_meant {xs = ys} whole place r (l.set {xs = xs} a b p) q h = absurd (never ((invalid_has_rhs, place, nothing) ∷ []) r _ (begins_at whole (parts_of (map listed_access ys)) place _ _ (primary_list xs)) h)
+begun_meant {xs = ys} whole place r (l.in_braces {xs = xs} a b p) q h = absurd (never ((invalid_has_rhs, place, nothing) ∷ []) r _ (begins_at whole (parts_of (map listed_access ys)) place _ _ (primary_inits xs)) h)
 
 right_at : (whole p : Option Loc) (t u : Form) → t ≡ u → right_side whole (at p t) ≡ right_form whole u
 unfolding right_side

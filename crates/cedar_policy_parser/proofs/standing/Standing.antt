@@ -3,6 +3,7 @@ use Rattle.std.proofs.Common.{◌≡◌, ◌≢◌, Bool, true, false, cond, Lis
 use Rattle.std.specs.List.{All}
 use Rattle.std.proofs.lemmas.List.Elements.{All-nil, All-cons, All-append, All-weaker}
 use Rattle.cedar_syntax.specs.declared.loc.Loc.{Loc}
+use Rattle.cedar_conversion.specs.outcome.Detail.{Detail}
 use Rattle.cedar_conversion.specs.outcome.Outcome.{Kind, NamedFault, Outcome, both, next, empty_node, invalid_identifier, duplicate_policy_id, duplicate_template_id, membership_invariant_violation, missing_scope_variable, extra_scope_element}
 use Rattle.cedar_policy_parser.specs.faults.Standing.{LiesWithin, FaultWithin, StandWithin}
 
@@ -114,12 +115,12 @@ no_text_fault o kind h e = subst (IsTold o) e h
 more_faults : (f : NamedFault) (fs : List NamedFault) → (f ∷ fs) ≢ []
 more_faults f fs e = cc
 
-pub alone : (K : Kinds) (o : Origin) (kind : Kind) (place : Option Loc) → K o kind → LiesIn o place → FaultsWithin K o ((kind, place) ∷ [])
-alone K o kind place k h = (more_faults _ _, All-cons (KindWithin K o) (kind, place) [] (k, h) (All-nil (KindWithin K o)))
+pub alone : (K : Kinds) (o : Origin) (kind : Kind) (place : Option Loc) {d : Detail} → K o kind → LiesIn o place → FaultsWithin K o ((kind, place, d) ∷ [])
+alone K o kind place {d} k h = (more_faults _ _, All-cons (KindWithin K o) (kind, place, d) [] (k, h) (All-nil (KindWithin K o)))
 
 -- one fault before others
-pub one_before : (K : Kinds) (o : Origin) (kind : Kind) (place : Option Loc) (fs : List NamedFault) → K o kind → LiesIn o place → All (KindWithin K o) fs → All (KindWithin K o) ((kind, place) ∷ fs)
-one_before K o kind place fs k h all = All-cons (KindWithin K o) (kind, place) fs (k, h) all
+pub one_before : (K : Kinds) (o : Origin) (kind : Kind) (place : Option Loc) (d : Detail) (fs : List NamedFault) → K o kind → LiesIn o place → All (KindWithin K o) fs → All (KindWithin K o) ((kind, place, d) ∷ fs)
+one_before K o kind place d fs k h all = All-cons (KindWithin K o) (kind, place, d) fs (k, h) all
 
 pub some_faults : (K : Kinds) (o : Origin) (f : NamedFault) (fs : List NamedFault) → All (KindWithin K o) (f ∷ fs) → FaultsWithin K o (f ∷ fs)
 some_faults K o f fs all = (more_faults f fs, all)

@@ -23,7 +23,8 @@ use Rattle.cedar_conversion.specs.outcome.Held.{Held, expression, variable, bare
 use Rattle.cedar_conversion.specs.parts.Leaves.{name_leaf, variable_or_name, slot_leaf, entity_leaf}
 use Rattle.cedar_conversion.specs.parts.Literals.{held_string, literal_outcome}
 use Rattle.cedar_conversion.specs.parts.Names.{content_outcome, all_of, spelling_outcome, valid_text, valid_ident_of, valid_ident, any_ident_of, any_ident, unreserved_ident, path_outcome, name_outcome, named_variable}
-use Rattle.cedar_conversion.specs.outcome.Outcome.{Outcome, fault_outcome, next, empty_node, arbitrary_variable, invalid_pattern, invalid_is_type, invalid_string, invalid_attribute, path_as_attribute, reserved_identifier, invalid_identifier, reserved_namespace, integer_literal_too_large, invalid_entity_literal, invalid_slot, unescape}
+use Rattle.cedar_conversion.specs.outcome.Detail.{escape, spelling}
+use Rattle.cedar_conversion.specs.outcome.Outcome.{Outcome, detailed_outcome, next, empty_node, arbitrary_variable, invalid_pattern, invalid_is_type, invalid_string, invalid_attribute, path_as_attribute, reserved_identifier, invalid_identifier, reserved_namespace, integer_literal_too_large, invalid_entity_literal, invalid_slot, unescape}
 use Rattle.cedar_conversion.specs.strict.Strict.{largest}
 use Rattle.cedar_conversion.specs.parts.Strings.{layout, escape_faults, unescaped, string_faults, unless_faulty, text_outcome, pattern_outcome}
 use Rattle.cedar_policy_parser.proofs.standing.Standing.{Origin, by_hand, parsed, ByHand, LiesIn, Kinds, IsPlain, KindWithin, Stands, Anything, alone, one_before, some_faults, no_faults, both_any, next_stands, then_stands, if_stands}
@@ -33,11 +34,11 @@ use Rattle.cedar_policy_parser.proofs.tidy.Tidy.{Holding, NodeTidy, Each, IsVali
 
 told_within : (o : Origin) (p : Option Loc) (faults : List UnescapeError) → LiesIn o p → All (KindWithin IsPlain o) (string_faults p faults)
 told_within o p [] h = no_faults IsPlain o
-told_within o p (fault ∷ faults) h = one_before IsPlain o unescape p (string_faults p faults) tt h (told_within o p faults h)
+told_within o p (fault ∷ faults) h = one_before IsPlain o unescape p _ (string_faults p faults) tt h (told_within o p faults h)
 
 unless_stands : {X : Type 0} (o : Origin) (p : Option Loc) (faults : List UnescapeError) (x : X) → LiesIn o p → Stands IsPlain o Anything (unless_faulty p faults x)
 unless_stands o p [] x h = tt
-unless_stands o p (fault ∷ faults) x h = some_faults IsPlain o (unescape, p) (string_faults p faults) (told_within o p (fault ∷ faults) h)
+unless_stands o p (fault ∷ faults) x h = some_faults IsPlain o (unescape, p, escape fault) (string_faults p faults) (told_within o p (fault ∷ faults) h)
 
 pub text_stands : (o : Origin) (p : Option Loc) (raw : List ℕ) → LiesIn o p → Stands IsPlain o Anything (text_outcome p raw)
 text_stands o p raw h = unless_stands o p (escape_faults raw) (unescaped raw) h
@@ -116,11 +117,11 @@ first_holds false b e = e
 
 valid_text_stands : (o : Origin) (p : Option Loc) (text : List ℕ) → LiesIn o p → IsValid o text → Stands IsPlain o Anything (valid_text p text)
 valid_text_stands by_hand p text h k = if_stands IsPlain by_hand Anything (is_valid_identifier text) _ _ tt (alone IsPlain by_hand invalid_identifier p tt h)
-valid_text_stands (parsed outer) p text h k = subst (λ b. Stands IsPlain (parsed outer) Anything (cond b (given_text text) (fault_outcome invalid_identifier p))) (sym k) tt
+valid_text_stands (parsed outer) p text h k = subst (λ b. Stands IsPlain (parsed outer) Anything (cond b (given_text text) (detailed_outcome invalid_identifier p (spelling text)))) (sym k) tt
 
 spelled_stands : (o : Origin) (p : Option Loc) (text : List ℕ) → LiesIn o p → IsValid o text → Stands IsPlain o Anything (spelling_outcome p text)
 spelled_stands by_hand p text h k = if_stands IsPlain by_hand Anything (is_identifier text) _ _ tt (alone IsPlain by_hand invalid_identifier p tt h)
-spelled_stands (parsed outer) p text h k = subst (λ b. Stands IsPlain (parsed outer) Anything (cond b (given_text text) (fault_outcome invalid_identifier p))) (sym (first_holds (is_identifier text) (not (is_reserved_word text)) k)) tt
+spelled_stands (parsed outer) p text h k = subst (λ b. Stands IsPlain (parsed outer) Anything (cond b (given_text text) (detailed_outcome invalid_identifier p (spelling text)))) (sym (first_holds (is_identifier text) (not (is_reserved_word text)) k)) tt
 
 valid_of : (o : Origin) (p : Option Loc) (i : Ident) → LiesIn o p → IdentHeld o i → Stands IsPlain o Anything (valid_ident_of p i)
 valid_of o p words.Principal h k = tt

@@ -5,6 +5,7 @@ use Rattle.cedar_expressions.specs.Path.{Path}
 use Rattle.cedar_expressions.specs.Value as v
 use Rattle.cedar_expressions.specs.Value.{Value}
 use Rattle.cedar_expressions.specs.Written.{var_text}
+use Rattle.cedar_expressions.specs.declared.atoms.Var.{Var}
 use Rattle.cedar_syntax.specs.declared.loc.Loc.{Loc}
 use Rattle.cedar_syntax.specs.trees.Located as f
 use Rattle.cedar_syntax.specs.trees.Located.{Located, Form, Parts}
@@ -64,15 +65,15 @@ name_accesses_stand e o p name (field id ∷ call args ∷ rest) h = alone IsPla
 name_accesses_stand e o p name (field id ∷ field other ∷ rest) h = alone IsPlain o invalid_access p tt h
 name_accesses_stand e o p name (field id ∷ index text ∷ rest) h = alone IsPlain o invalid_access p tt h
 
-variable_accesses_stand : (e : Extensions) (o : Origin) (p : Option Loc) (x : Value) (all : List Access) → LiesIn o p → Stands IsPlain o (HeldWithin o) (variable_accesses e p x all)
+variable_accesses_stand : (e : Extensions) (o : Origin) (p : Option Loc) (x : Var) (all : List Access) → LiesIn o p → Stands IsPlain o (HeldWithin o) (variable_accesses e p x all)
 variable_accesses_stand e o p x [] h = h
 variable_accesses_stand e o p x (call args ∷ rest) h = alone IsPlain o variable_call p tt h
-variable_accesses_stand e o p x (index text ∷ rest) h = accesses_stand e o p x (index text ∷ rest) h
-variable_accesses_stand e o p x (field id ∷ rest) h = accesses_stand e o p x (field id ∷ rest) h
+variable_accesses_stand e o p x (index text ∷ rest) h = accesses_stand e o p (v.var x) (index text ∷ rest) h
+variable_accesses_stand e o p x (field id ∷ rest) h = accesses_stand e o p (v.var x) (field id ∷ rest) h
 
 some_stand : (e : Extensions) (o : Origin) (p : Option Loc) (all : List Access) (h : Held) → LiesIn o p → HeldWithin o h → Stands IsPlain o (HeldWithin o) (some_accesses e p h all)
 some_stand e o p all (expression own x) w k = accesses_stand e o p x all w
-some_stand e o p all (variable own x) w k = variable_accesses_stand e o p (v.var x) all w
+some_stand e o p all (variable own x) w k = variable_accesses_stand e o p x all w
 some_stand e o p all (bare_name own name) w k = name_accesses_stand e o p name all w
 some_stand e o p all (bare_truth own b) w k = accesses_stand e o p (v.val (literals.Bool b)) all w
 some_stand e o p all (bare_string own raw) w k = then_stands IsPlain o (HeldWithin o) (as_expression (bare_string own raw)) _ (as_value o (bare_string own raw) k) (λ x. accesses_stand e o p x all w)

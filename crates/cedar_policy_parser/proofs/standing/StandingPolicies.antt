@@ -100,7 +100,7 @@ found_in (parsed outer) p q h = found_within outer p q h
 
 slots_within : (w : Origin) (p : Option Loc) (slots : List Slot) → LiesIn w p → All (KindWithin IsTold w) (map (condition_slot_fault p) slots)
 slots_within w p [] h = no_faults IsTold w
-slots_within w p (s ∷ slots) h = one_before IsTold w slots_in_condition_clause (place_within p s.place) _ tt (found_in w p s.place h) (slots_within w p slots h)
+slots_within w p (s ∷ slots) h = one_before IsTold w slots_in_condition_clause (place_within p s.place) _ _ tt (found_in w p s.place h) (slots_within w p slots h)
 
 when_of_stands : (w : Origin) (p : Option Loc) (i : Ident) → LiesIn w p → Stands IsTold w Anything (is_when_of p i)
 when_of_stands w p words.When h = tt
@@ -110,14 +110,14 @@ when_of_stands w p i h = alone IsTold w invalid_condition p tt h
 when_stands : (w : Origin) (n : Node (Option Ident)) → IdentTidy w n → Stands IsTold w Anything (is_when n)
 when_stands w n h = filled_then IsTold w n.loc (IdentHeld w) Anything n.node (is_when_of n.loc) h (λ e. e) (λ i _. when_of_stands w n.loc i h.0)
 
-clause_stands : (e : Extensions) (w : Origin) (p : Option Loc) (c : Option (Node (Option Expr))) → LiesIn w p → IfThere (ExprTidy w) c → Stands IsTold w Anything (clause e p c)
-clause_stands e w p (Some n) k h = weaker w Anything (value_outcome e (located expr_form n)) (wanted_stands e w (located expr_form n) h)
-clause_stands e w p None k h = alone IsTold w empty_clause p tt k
+clause_stands : (e : Extensions) (w : Origin) (p : Option Loc) (i : Option Ident) (c : Option (Node (Option Expr))) → LiesIn w p → IfThere (ExprTidy w) c → Stands IsTold w Anything (clause e p i c)
+clause_stands e w p i (Some n) k h = weaker w Anything (value_outcome e (located expr_form n)) (wanted_stands e w (located expr_form n) h)
+clause_stands e w p i None k h = alone IsTold w empty_clause p tt k
 
 condition_of_stands : (e : Extensions) (w : Origin) (p : Option Loc) (c : Cond) → LiesIn w p → CondTidy w c → Stands IsTold w Anything (condition_of e p c)
 condition_of_stands e w p c k h =
     then_stands IsTold w Anything (is_when c.cond) _ (when_stands w c.cond h.0)
-    (λ when. then_stands IsTold w Anything (clause e p c.expr) _ (clause_stands e w p c.expr k h.1)
+    (λ when. then_stands IsTold w Anything (clause e p c.cond.node c.expr) _ (clause_stands e w p c.cond.node c.expr k h.1)
     (λ x. then_stands IsTold w Anything (slots_outcome p x) _ (unless_told_stands w _ (slots_within w p (slots_of x) k)) (λ _. tt)))
 
 pub condition_stands : (e : Extensions) (w : Origin) (n : Node (Option Cond)) → NodeTidy w (CondTidy w) n → Stands IsTold w Anything (condition_outcome e n)

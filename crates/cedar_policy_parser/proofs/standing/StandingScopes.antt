@@ -65,12 +65,12 @@ mutual
   lone_form_stands w p u k h = alone IsPlain w wrong_node p tt k
 
 literal_within : (w : Origin) (p q : Option Loc) (c : Option Literal) → LiesIn w p → Holding w (LiteralTidy w) c → All (KindWithin IsPlain w) (literal_fault p q c ∷ [])
-literal_within w p q None k h = one_before IsPlain w empty_node q [] h (anywhere w q h) (no_faults IsPlain w)
-literal_within w p q (Some x) k h = one_before IsPlain w wrong_node p [] tt k (no_faults IsPlain w)
+literal_within w p q None k h = one_before IsPlain w empty_node q _ [] h (anywhere w q h) (no_faults IsPlain w)
+literal_within w p q (Some x) k h = one_before IsPlain w wrong_node p _ [] tt k (no_faults IsPlain w)
 
 form_within : (w : Origin) (p : Option Loc) (u : Form) → LiesIn w p → FormTidy w u → All (KindWithin IsPlain w) (form_fault p u ∷ [])
 form_within w p (f.literal n) k h = literal_within w p n.loc n.node k h.1
-form_within w p u k h = one_before IsPlain w wrong_node p [] tt k (no_faults IsPlain w)
+form_within w p u k h = one_before IsPlain w wrong_node p _ [] tt k (no_faults IsPlain w)
 
 entity_form_stands : (w : Origin) (p : Option Loc) (u : Form) → LiesIn w p → FormTidy w u → Stands IsPlain w Anything (entity_form p u)
 entity_form_stands w p (f.reference n) k h = entity_stands w n h
@@ -253,14 +253,14 @@ behind_within : (w : Origin) (before : Option Loc) (c : Option (Node (Option Var
 behind_within w before (Some n) h k = or_within w before n.loc h k.0
 behind_within w before None h k = h
 
-there_stands : {X : Type 0} (w : Origin) (g : Node (Option VariableDef) → Outcome X) (before : Option Loc) (c : Option (Node (Option VariableDef))) → LiesIn w before → IfThere (NodeTidy w (ElementTidy w)) c
-    → ((n : Node (Option VariableDef)) → NodeTidy w (ElementTidy w) n → Stands IsPlain w Anything (g n)) → Stands IsTold w Anything (if_there g before c)
-there_stands w g before (Some n) h k s = weaker w Anything (g n) (s n k)
-there_stands w g before None h k s = alone IsTold w missing_scope_variable (end_place before) tt (end_in w before h)
+there_stands : {X : Type 0} (w : Origin) (v : Var) (g : Node (Option VariableDef) → Outcome X) (before : Option Loc) (c : Option (Node (Option VariableDef))) → LiesIn w before → IfThere (NodeTidy w (ElementTidy w)) c
+    → ((n : Node (Option VariableDef)) → NodeTidy w (ElementTidy w) n → Stands IsPlain w Anything (g n)) → Stands IsTold w Anything (if_there v g before c)
+there_stands w v g before (Some n) h k s = weaker w Anything (g n) (s n k)
+there_stands w v g before None h k s = alone IsTold w missing_scope_variable (end_place before) tt (end_in w before h)
 
 extra_within : (w : Origin) (p : Option Loc) (c : Option VariableDef) (fs : List NamedFault) → LiesIn w p → Holding w (ElementTidy w) c → All (KindWithin IsTold w) fs → All (KindWithin IsTold w) (extra_element_fault p c ∷ fs)
-extra_within w p (Some d) fs k h all = one_before IsTold w extra_scope_element p fs tt k all
-extra_within w p None fs k h all = one_before IsTold w empty_node p fs h k all
+extra_within w p (Some d) fs k h all = one_before IsTold w extra_scope_element p _ fs tt k all
+extra_within w p None fs k h all = one_before IsTold w empty_node p _ fs h k all
 
 extras_within : (w : Origin) (ns : List (Node (Option VariableDef))) → Each (NodeTidy w (ElementTidy w)) ns → All (KindWithin IsTold w) (map (λ n. extra_element_fault n.loc n.node) ns)
 extras_within w [] h = no_faults IsTold w
@@ -286,8 +286,8 @@ scope_of_stands e w before a b c ns k h i j all =
     let p = behind_within w before a k h in
     then_stands IsTold w Anything _ _
     (both_any IsTold w _ _
-    (both_any IsTold w (if_there (principal_outcome e) before a) (if_there (action_outcome e) (place_behind before a) b) (there_stands w (principal_outcome e) before a k h (principal_stands e w)) (there_stands w (action_outcome e) (place_behind before a) b p i (action_stands e w)))
-    (both_any IsTold w (if_there (resource_outcome e) (place_behind (place_behind before a) b) c) (no_extra ns) (there_stands w (resource_outcome e) (place_behind (place_behind before a) b) c (behind_within w (place_behind before a) b p i) j (resource_stands e w))
+    (both_any IsTold w (if_there vars.Principal (principal_outcome e) before a) (if_there vars.Action (action_outcome e) (place_behind before a) b) (there_stands w vars.Principal (principal_outcome e) before a k h (principal_stands e w)) (there_stands w vars.Action (action_outcome e) (place_behind before a) b p i (action_stands e w)))
+    (both_any IsTold w (if_there vars.Resource (resource_outcome e) (place_behind (place_behind before a) b) c) (no_extra ns) (there_stands w vars.Resource (resource_outcome e) (place_behind (place_behind before a) b) c (behind_within w (place_behind before a) b p i) j (resource_stands e w))
     (unless_told_stands w _ (extras_within w ns all)))) (λ q. tt)
 
 pub scope_stands : (e : Extensions) (w : Origin) (p : PolicyImpl) → LiesIn w p.effect.loc → Each (NodeTidy w (ElementTidy w)) p.variables → Stands IsTold w Anything (scope_outcome e p)

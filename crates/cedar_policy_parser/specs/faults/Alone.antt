@@ -16,6 +16,7 @@ use Rattle.cedar_conversion.specs.strict.Extensions.{Extensions}
 use Rattle.cedar_conversion.specs.parts.HasSide.{no_sign}
 use Rattle.cedar_conversion.specs.outcome.Held.{as_attribute}
 use Rattle.cedar_conversion.specs.parts.Names.{name_outcome, named_variable}
+use Rattle.cedar_conversion.specs.outcome.Detail.{nothing}
 use Rattle.cedar_conversion.specs.outcome.Outcome.{NamedFault, next, unsupported_division, unsupported_modulo}
 
 abbrev pub HasValue : Extensions → Located → Type 0
@@ -32,8 +33,8 @@ OperandsHaveValues e (more op n others) = HasValue e n × OperandsHaveValues e o
 
 -- what an operator of a product is refused with: a division and a remainder have no value
 abbrev pub quotient : Option Loc → Operator → List NamedFault
-quotient place (multiply mul.Divide) = (unsupported_division, place) ∷ []
-quotient place (multiply mul.Mod) = (unsupported_modulo, place) ∷ []
+quotient place (multiply mul.Divide) = (unsupported_division, place, nothing) ∷ []
+quotient place (multiply mul.Mod) = (unsupported_modulo, place, nothing) ∷ []
 quotient place _ = []
 
 -- each `/` and `%` in order, at the product's place

@@ -16,6 +16,7 @@ use Rattle.cedar_policy_conversion.specs.Conditions.{condition_outcome}
 use Rattle.cedar_conversion.specs.outcome.Conversion.{value_outcome}
 use Rattle.cedar_policy_parser.specs.faults.DueKinds.{IsDueIn}
 use Rattle.cedar_conversion.specs.strict.Extensions.{Extensions}
+use Rattle.cedar_conversion.specs.outcome.Detail.{word_there}
 use Rattle.cedar_conversion.specs.outcome.Outcome.{Kind, NamedFault, invalid_effect, missing_scope_variable, extra_scope_element, duplicate_policy_id, duplicate_template_id, membership_invariant_violation}
 use Rattle.cedar_policy_conversion.specs.Policies.{effect_outcome}
 use Rattle.cedar_policy_conversion.specs.Scope.{scope_outcome}
@@ -52,11 +53,11 @@ count is_one faults = length (filter (λ f. is_one f.0) faults)
 abbrev pub OfParts : (PolicyImpl → Type 0) → Node (Option Policy) → Type 0
 OfParts P n = (parts : PolicyImpl) → n.node ≡ Some (trees.Policy parts) → P parts
 
--- an effect that is refused is so as one that is none, alone and at its own place
+-- an effect that is refused is so as one that is none, alone, with its word and at its own place
 abbrev pub RefusesEffect : PolicyImpl → Type 0
 RefusesEffect parts =
     (faults : List NamedFault) → effect_outcome parts.effect ≡ Err faults
-    → faults ≡ (invalid_effect, parts.effect.loc) ∷ []
+    → faults ≡ (invalid_effect, parts.effect.loc, word_there parts.effect.node) ∷ []
 
 -- as many missing elements are told as there are fewer than three
 abbrev pub TellsMissing : Extensions → PolicyImpl → Type 0

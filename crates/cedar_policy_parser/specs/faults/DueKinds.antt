@@ -2,7 +2,7 @@
 -- Cedar's conversion refuses a site of this form, whatever its parts give. A case for each case of
 -- the rules that names a kind; of faults that are joined, and of their order, nothing is said. At
 -- one site no two kinds are due, but at a product that has both a `/` and a `%`.
-use Rattle.std.specs.Prelude.{◌≡◌, ◌≢◌, ℕ, suc, nat_le, true, false, List, [], ◌∷◌, Option, Some, None, Ok, Err, if◌then◌else◌}
+use Rattle.std.specs.Prelude.{◌≡◌, ◌≢◌, ℕ, suc, nat_le, true, false, List, [], ◌∷◌, Option, Some, None, Ok, Err}
 use Rattle.std.specs.List.{All}
 use Rattle.std.specs.Map.{keys_of}
 use Rattle.cedar_expressions.specs.Keys.{repeats_key}
@@ -32,9 +32,8 @@ use Rattle.cedar_syntax.specs.trees.Tree.{Operator, relation, product, compare, 
 use Rattle.cedar_conversion.specs.declared.primaries.methods.Standard.{Standard}
 use Rattle.cedar_policy_parser.specs.faults.Alone.{ArePairs}
 use Rattle.cedar_conversion.specs.strict.Extensions.{Extensions}
-use Rattle.cedar_conversion.specs.parts.HasSide.{no_sign}
 use Rattle.cedar_conversion.specs.parts.Literals.{number_in, lone_literal}
-use Rattle.cedar_conversion.specs.parts.Members.{takes_one, plain_name}
+use Rattle.cedar_conversion.specs.parts.Members.{arity, takes_one, plain_name}
 use Rattle.cedar_conversion.specs.parts.Names.{name_outcome, named_variable, valid_ident, unreserved_ident, identifiers, path_of}
 use Rattle.cedar_conversion.specs.outcome.Outcome as k
 use Rattle.cedar_conversion.specs.outcome.Outcome.{Kind, NamedFault, Outcome}
@@ -103,11 +102,6 @@ pub data IsDueRight : Kind → Option (Located × Parts) → Type 0 where
 abbrev pub count : Parts → ℕ
 count none = 0
 count (more op n others) = suc (count others)
-
--- how many arguments a method takes, by what it makes of one
-abbrev pub arity : {X : Type 0} → Option X → ℕ
-arity (Some make) = 1
-arity None = 0
 
 -- due for a method's name with so many arguments
 pub data IsDueMethod (e : Extensions) (id : List ℕ) (arguments : ℕ) : Kind → Type 0 where

@@ -13,7 +13,7 @@ returns c =
     let table = table_of c.args.styles.now in
     let value = expr_meaning c.args.expr.now in
     let alone : todos_seen c.push.new.self ≡ p.operand s.expression value ∷ [] =
-    ap todos_seen c.in_ok-push.ensures
+    ap todos_seen c.in_ok-push.ensures.ok
     ∙ ap (λ (ts : List p.Todo). p.operand s.expression value ∷ ts) (ap todos_seen c.new-todo.ensures) in
     value_written table value c.write_all.result c.args.out.now c.write_all.new.out
     (subst (λ ts. WritesAll table ts c.write_all.result c.args.out.now c.write_all.new.out) alone c.write_all.ensures)
