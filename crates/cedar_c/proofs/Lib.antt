@@ -1,0 +1,12 @@
+mod Annotating
+mod Answering
+mod Counting
+mod Numbering
+mod Placing
+mod Printing
+mod Reading
+mod Rewritten
+mod Telling
+mod WantOfMemory
+mod Writable
+mod Zipping

@@ -1,0 +1,143 @@
+//! The calls, as a user of the crate makes them.
+
+use cedar_proved::{
+    format_policies, layout_policies, parse_expression, position_of, write_policies, Effect, Error,
+    Faults, Layout, Operator, PolicySet,
+};
+use std::thread;
+
+const TWO: &str = "@note @id(\"a\")
+permit(principal == ?principal, action, resource in (?resource)); // one
+forbid(principal is A::U in G::\"g\", action in [Action::\"x\", A::Action::\"y\"], resource,);";
+
+#[test]
+fn policies_have_their_parts() {
+    let set = PolicySet::parse(TWO).unwrap();
+    assert_eq!(set.len(), 2);
+    let first = set.get("policy0").unwrap();
+    assert_eq!(first.effect(), Effect::Permit);
+    assert_eq!(
+        first.annotations().collect::<Vec<_>>(),
+        [("id", "a"), ("note", "")]
+    );
+    assert_eq!(
+        (first.annotation("id"), first.annotation("other")),
+        (Some("a"), None)
+    );
+    assert_eq!(
+        first.slots().collect::<Vec<_>>(),
+        ["?principal", "?resource"]
+    );
+    assert_eq!(&TWO[first.range()], &TWO[..TWO.find(" // one").unwrap()]);
+    let second = set.get("policy1").unwrap();
+    assert_eq!(second.effect(), Effect::Forbid);
+    assert!(!second.is_template() && second.slots().next().is_none());
+    assert_eq!(second.principal().operator(), Operator::Is);
+    assert_eq!(second.principal().entity_type(), Some("A::U"));
+    let actions: Vec<_> = second
+        .action()
+        .entities()
+        .map(|it| (it.entity_type(), it.id()))
+        .collect();
+    assert_eq!(actions, [("Action", "x"), ("A::Action", "y")]);
+    assert_eq!(second.resource().operator(), Operator::All);
+    assert_eq!(second.place().from.line, 3);
+    assert!(set.get("policy2").is_none() && set.get("policy01").is_none());
+    assert!("".parse::<PolicySet>().unwrap().is_empty());
+}
+
+#[test]
+fn faults_have_their_places() {
+    let text = "permit(principal, action, resource) when { \"\u{1f600}\u{e9}\" == foo(1) };";
+    let faults = PolicySet::parse(text).unwrap_err();
+    assert_eq!(faults.len(), 1);
+    let fault = faults.iter().next().unwrap();
+    assert_eq!(
+        (fault.kind(), fault.message()),
+        ("UnknownFunction", "`foo` is not a valid function")
+    );
+    let place = fault.place().unwrap();
+    assert_eq!(place.from, position_of(text, place.bytes.start));
+    assert_eq!((place.from.column, place.from.utf16_column), (52, 53));
+    assert_eq!(faults.to_string(), "1:52: `foo` is not a valid function");
+    assert!(faults
+        .shown("a.cedar", text)
+        .starts_with("a.cedar:1:52: `foo` is not a valid function\n"));
+    let faults = parse_expression("(1 ,").unwrap_err();
+    assert!(faults.iter().all(|fault| fault.expected().len() > 0));
+    let error: Box<dyn std::error::Error + Send + Sync> = Box::new(Error::from(faults));
+    assert!(error.to_string().starts_with("1:4: unexpected token `,`"));
+}
+
+#[test]
+fn texts_are_written_anew() {
+    assert_eq!(
+        parse_expression("ip(\"::1\").isIpv4()").unwrap(),
+        "ip ( \"::1\" ) . isIpv4 ( )"
+    );
+    let text = "// all\npermit(principal,action,resource);";
+    assert_eq!(
+        format_policies(text).unwrap(),
+        "permit ( principal , action , resource ) ;\n"
+    );
+    assert_eq!(
+        write_policies("@a permit(principal,action,resource) when { ((1) < 2) };").unwrap(),
+        "@a(\"\") permit (principal, action, resource) when { 1 < 2 };\n"
+    );
+    assert!(write_policies("permit(a);").is_err());
+    let laid = layout_policies(text, Layout::default()).unwrap();
+    assert_eq!(laid, "// all\npermit (principal, action, resource);\n");
+    let narrow = layout_policies(
+        text,
+        Layout {
+            width: 20,
+            indent: 4,
+        },
+    )
+    .unwrap();
+    assert!(narrow.starts_with("// all\npermit (\n    principal,\n"));
+}
+
+#[test]
+fn answers_move_between_threads() {
+    fn asked<T: Send + Sync>(value: T) -> T {
+        value
+    }
+    let threads: Vec<_> = (0..8)
+        .map(|_| {
+            thread::spawn(|| {
+                let sets: Vec<PolicySet> = (0..100)
+                    .map(|_| asked(PolicySet::parse(TWO).unwrap()))
+                    .collect();
+                let faults: Vec<Faults> = (0..100)
+                    .map(|_| asked(PolicySet::parse("permit(").unwrap_err()))
+                    .collect();
+                (sets, faults)
+            })
+        })
+        .collect();
+    for thread in threads {
+        let (sets, faults) = thread.join().unwrap();
+        assert!(sets
+            .iter()
+            .all(|set| set.len() == 2 && set.iter().len() == 2));
+        assert!(faults.iter().all(|faults| faults.len() == 1));
+    }
+}
+
+#[test]
+fn deep_texts_take_a_small_stack() {
+    let run = || {
+        let levels = 1 << 19;
+        let text = "(".repeat(levels) + "1" + &")".repeat(levels);
+        assert!(parse_expression(&text).is_ok());
+        let text = "principal".to_owned() + &".a".repeat(levels);
+        assert!(parse_expression(&text).is_ok());
+    };
+    thread::Builder::new()
+        .stack_size(256 << 10)
+        .spawn(run)
+        .unwrap()
+        .join()
+        .unwrap();
+}
