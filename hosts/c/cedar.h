@@ -9,7 +9,7 @@
  * process with threads.
  *
  * Trusted, beside what the repository's README names: that this header says what
- * crates/cedar_c/src/answer.rt says; cedar.c; that the caller keeps what the types say (a text that
+ * crates/cedar_answers/src/answer.rt says; cedar.c; that the caller keeps what the types say (a text that
  * nothing writes during a call; an answer that is freed once and not read after); the heap of the
  * process behind malloc, realloc and free; and that one library of this name is linked. */
 #ifndef CEDAR_H

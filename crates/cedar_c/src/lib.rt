@@ -8,29 +8,11 @@
 
 ghost use Rattle.std.specs.Prelude.{◌≡◌};
 ghost use Rattle.cedar_conversion.specs.strict.CedarExtensions.{cedar_extensions};
-ghost use Rattle.cedar_c.specs.Answers.{AnswersExpression, AnswersLayout, AnswersLines, AnswersPolicies, AnswersWritten};
-ghost use Rattle.cedar_c.specs.Places.{IsPlaced};
+ghost use Rattle.cedar_answers.specs.Answers.{AnswersExpression, AnswersLayout, AnswersLines, AnswersPolicies, AnswersWritten};
+ghost use Rattle.cedar_answers.specs.Places.{IsPlaced};
 
-mod annotations;
-mod answer;
-mod entities;
-mod expressions;
-mod faults;
-mod layouts;
-mod lines;
-mod made;
-mod places;
-mod policies;
-mod policy;
-mod refusals;
-mod scope;
-mod sets;
-mod texts;
-mod written;
-
-pub use crate::answer::{
-    CedarAnnotation, CedarAnswer, CedarEntity, CedarFault, CedarPolicy, CedarPosition, CedarRange,
-    CedarRelated, CedarScope,
+use cedar_answers::{
+    CedarAnswer, CedarPosition, expressions, layouts, lines, places, policies, written,
 };
 use std::alloc::Global;
 

@@ -1,0 +1,9 @@
+use Rattle.std.proofs.Common.{subst}
+use Rattle.cedar_answers.specs.Answers.{AnswersHost, AnswersExpression}
+use Rattle.cedar_answers.proofs.expressions.answer_text.Goals as goal
+
+pub returns-in-Ok : goal.returns-in-Ok
+returns-in-Ok c = subst (λ table. AnswersExpression table c.args.text.now c.answer_under.result) c.in-Ok.ensures c.answer_under.ensures
+
+pub returns-in-Err : goal.returns-in-Err
+returns-in-Err c = AnswersHost.no_memory c.bare.ensures.status c.utf8.text c.bare.ensures.nothing
