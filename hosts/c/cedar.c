@@ -37,24 +37,43 @@ static cedar_answer blank(void) {
     return (cedar_answer){ (const void *)&none, 0, (const void *)&none, 0, none, CEDAR_OK };
 }
 
-/* The pointer of a list without items says nothing, and may be of a stack that is gone: it is null. */
+/* The pointer of a text or a list without items says nothing, and may be of a stack that is gone, or
+ * a small number, at which Go's collector ends the process. A text's is one that C's functions take;
+ * a list's is null. */
+static void clear_text(cedar_text *text) {
+    if (!text->len) *text = none;
+}
+
 static void clear_scope(cedar_scope *scope) {
+    clear_text(&scope->type);
     if (!scope->entity_count) scope->entities = 0;
+    for (size_t i = 0; i < scope->entity_count; i++) {
+        clear_text((cedar_text *)&scope->entities[i].type);
+        clear_text((cedar_text *)&scope->entities[i].id);
+    }
 }
 
 static void clear_policy(cedar_policy *policy) {
+    clear_text(&policy->printed);
     if (!policy->annotation_count) policy->annotations = 0;
+    for (size_t i = 0; i < policy->annotation_count; i++)
+        clear_text((cedar_text *)&policy->annotations[i].value);
     clear_scope(&policy->principal);
     clear_scope(&policy->action);
     clear_scope(&policy->resource);
 }
 
 static void clear_fault(cedar_fault *fault) {
+    clear_text(&fault->message);
+    clear_text(&fault->label);
+    clear_text(&fault->help);
     if (!fault->expected_count) fault->expected = 0;
     if (!fault->related_count) fault->related = 0;
+    for (size_t i = 0; i < fault->related_count; i++) clear_text((cedar_text *)&fault->related[i].text);
 }
 
 static void clear(cedar_answer *answer) {
+    clear_text(&answer->text);
     if (!answer->policy_count) answer->policies = 0;
     if (!answer->fault_count) answer->faults = 0;
     for (size_t i = 0; i < answer->policy_count; i++) clear_policy((cedar_policy *)&answer->policies[i]);
@@ -101,7 +120,8 @@ uint32_t cedar_position_of(const char *text, size_t len, size_t offset, cedar_po
     return cedar_c_position(slice.at, slice.len, offset, out);
 }
 
-bool cedar_is_abi(void) { return cedar_c_abi() == 1; }
+/* The halves of the library belong together, or no header belongs to it. */
+uint32_t cedar_abi(void) { return cedar_c_abi() == CEDAR_ABI ? CEDAR_ABI : 0; }
 
 /* A list or a text without items has no block. */
 static void free_at(const void *block, size_t count) {

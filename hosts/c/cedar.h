@@ -21,7 +21,11 @@
 extern "C" {
 #endif
 
-/* Bytes of UTF-8, not ended by a 0. Where len is 0 there is no block, and `at` is not to be read. */
+/* The layout of these structs; another layout has another number. */
+#define CEDAR_ABI 1
+
+/* Bytes of UTF-8, not ended by a 0; a 0 may be among them. Where len is 0 there is no block, and
+ * nothing to read; `at` isn't null all the same, so that C's functions take it. */
 typedef struct {
     const uint8_t *at;
     size_t len;
@@ -134,8 +138,10 @@ void cedar_answer_free(cedar_answer *answer);
  * CEDAR_OK, CEDAR_NOT_UTF8 or CEDAR_NO_MEMORY, with zeros. One pass over the text. */
 uint32_t cedar_position_of(const char *text, size_t len, size_t offset, cedar_position *out);
 
-/* Whether this header's structs are those of the library. */
-bool cedar_is_abi(void);
+/* The CEDAR_ABI that the library was built with. */
+uint32_t cedar_abi(void);
+/* Whether this header's structs are those of the library: a program asks once, before it calls. */
+static inline bool cedar_is_abi(void) { return cedar_abi() == CEDAR_ABI; }
 
 #ifdef __cplusplus
 }

@@ -1,5 +1,5 @@
-/* show [policies|expression|format|layout] FILE: policies with their parts, or each fault with its
- * line and carets. Without a file, or with -, it reads standard input. */
+/* show [policies|expression|format|write|layout] FILE: policies with their parts, or each fault with
+ * its line and carets. Without a file, or with -, it reads standard input. */
 #include "cedar.h"
 #include <stdio.h>
 #include <stdlib.h>
@@ -25,11 +25,13 @@ static void show_line(const char *text, size_t len, const cedar_range *place) {
 
 static void show_fault(const char *file, const char *text, size_t len, const cedar_fault *fault) {
     const cedar_position *at = &fault->cause.from;
-    printf("%s:%zu:%zu: %.*s: %.*s\n", file, at->line, at->column, TEXT(fault->kind), TEXT(fault->message));
-    if (!fault->has_place) return;
-    show_line(text, len, &fault->cause);
-    if (fault->label.len) printf(" %.*s", TEXT(fault->label));
-    printf("\n");
+    if (fault->has_place) printf("%s:%zu:%zu: ", file, at->line, at->column);
+    else printf("%s: ", file);
+    printf("%.*s: %.*s\n", TEXT(fault->kind), TEXT(fault->message));
+    if (fault->has_place) {
+        show_line(text, len, &fault->cause);
+        printf(" %.*s\n", TEXT(fault->label));
+    }
     if (fault->help.len) printf("  = help: %.*s\n", TEXT(fault->help));
     for (size_t i = 0; i < fault->related_count; i++) {
         const cedar_related *other = &fault->related[i];
@@ -57,7 +59,7 @@ static void show_policy(const cedar_policy *policy) {
     printf("  %.*s\n", TEXT(policy->printed));
 }
 
-/* All of a stream, or null for want of memory. */
+/* All of a stream, or null where it fails, or for want of memory. */
 static char *read_all(FILE *in, size_t *len) {
     size_t room = 1 << 16, got;
     char *text = malloc(room);
@@ -68,6 +70,10 @@ static char *read_all(FILE *in, size_t *len) {
         if (!larger) free(text);
         text = larger;
     }
+    if (text && ferror(in)) {
+        free(text);
+        text = 0;
+    }
     return text;
 }
 
@@ -76,16 +82,20 @@ int main(int argc, char **argv) {
     const char *what = argc > 2 ? argv[1] : "policies", *file = argc > 1 ? argv[argc - 1] : "-";
     FILE *in = strcmp(file, "-") ? fopen(file, "rb") : stdin;
     size_t len;
-    char *text = in && cedar_is_abi() ? read_all(in, &len) : 0;
-    if (!text) return 4;
+    if (!in) return perror(file), 4;
+    if (!cedar_is_abi()) return fputs("libcedar is of another version than cedar.h\n", stderr), 4;
+    char *text = read_all(in, &len);
+    if (!text) return perror(file), 4;
     cedar_answer answer = CEDAR_ANSWER_INIT;
-    if (!strcmp(what, "expression")) cedar_parse_expression(text, len, &answer);
+    if (!strcmp(what, "policies")) cedar_parse_policies(text, len, &answer);
+    else if (!strcmp(what, "expression")) cedar_parse_expression(text, len, &answer);
     else if (!strcmp(what, "format")) cedar_format_policies(text, len, &answer);
+    else if (!strcmp(what, "write")) cedar_write_policies(text, len, &answer);
     else if (!strcmp(what, "layout")) cedar_layout_policies(text, len, 80, 2, &answer);
-    else cedar_parse_policies(text, len, &answer);
+    else return free(text), fprintf(stderr, "%s: policies, expression, format, write or layout\n", what), 4;
     for (size_t i = 0; i < answer.policy_count; i++) show_policy(&answer.policies[i]);
     for (size_t i = 0; i < answer.fault_count; i++) show_fault(file, text, len, &answer.faults[i]);
-    if (answer.text.len) printf("%.*s", TEXT(answer.text));
+    fwrite(answer.text.at, 1, answer.text.len, stdout);
     int status = (int)answer.status;
     fprintf(stderr, "%s: %zu policies, %zu faults\n", ends[status], answer.policy_count, answer.fault_count);
     cedar_answer_free(&answer);

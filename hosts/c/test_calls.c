@@ -10,15 +10,15 @@ static void policies(void) {
     cedar_answer answer = CEDAR_ANSWER_INIT;
     cedar_parse_policies(two, strlen(two), &answer);
     WANT(answer.status == CEDAR_OK && answer.policy_count == 2);
-    WANT(!answer.fault_count && !answer.faults && !answer.text.len);
+    WANT(!answer.fault_count && !answer.faults && !answer.text.len && answer.text.at);
     const cedar_policy *first = answer.policies, *second = first + 1;
     WANT(is(first->id, "policy0") && first->is_template && !first->is_forbid);
     WANT(first->annotation_count == 2 && is(first->annotations[0].key, "id"));
     WANT(is(first->annotations[0].value, "a\xC3\xA9"));
-    WANT(is(first->annotations[1].key, "note") && !first->annotations[1].value.len);
+    WANT(is(first->annotations[1].key, "note") && is(first->annotations[1].value, ""));
     WANT(is(first->principal.op, "==") && first->principal.is_slot && !first->principal.entity_count);
     WANT(is(first->action.op, "All") && !first->action.is_slot && !first->action.entities);
-    WANT(is(first->resource.op, "in") && first->resource.is_slot && !first->resource.type.len);
+    WANT(is(first->resource.op, "in") && first->resource.is_slot && is(first->resource.type, ""));
     WANT(first->place.start == 0 && first->place.end == (size_t)(strchr(two, '/') - two) - 1);
     WANT(first->place.from.line == 1 && first->place.from.column == 1 && first->place.to.line == 2);
     WANT(is(second->id, "policy1") && !second->is_template && second->is_forbid);
@@ -35,6 +35,24 @@ static void policies(void) {
     cedar_answer_free(&answer);
     WANT(!answer.policies && !answer.policy_count);
     cedar_answer_free(&answer); /* an answer that holds nothing */
+}
+
+/* A 0 in a text neither ends it nor what is told of it. */
+static void zeros(void) {
+    cedar_answer answer = CEDAR_ANSWER_INIT;
+    const char *text = "permit(principal == A::\"a\\0b\", action, resource);";
+    cedar_parse_policies(text, strlen(text), &answer);
+    WANT(answer.status == CEDAR_OK && answer.policies[0].principal.entity_count == 1);
+    cedar_text id = answer.policies[0].principal.entities[0].id;
+    WANT(id.len == 3 && !memcmp(id.at, "a\0b", 3));
+    cedar_answer_free(&answer);
+    static const char with_zero[] = "// a\0b\npermit(principal,action,resource);";
+    cedar_layout_policies(with_zero, sizeof with_zero - 1, 80, 2, &answer);
+    WANT(answer.status == CEDAR_OK && answer.text.len > 8 && !memcmp(answer.text.at, with_zero, 8));
+    cedar_answer_free(&answer);
+    cedar_parse_expression("1\0", 2, &answer);
+    WANT(answer.status == CEDAR_FAULTS && answer.fault_count == 1 && answer.faults[0].place.start == 1);
+    cedar_answer_free(&answer);
 }
 
 static void faults(void) {
@@ -58,7 +76,7 @@ static void faults(void) {
     cedar_answer_free(&answer);
     text = "permit(principal = User::\"a\", action, resource);";
     cedar_parse_policies(text, strlen(text), &answer);
-    WANT(answer.fault_count == 1 && is(answer.faults[0].help, "write `==`") && !answer.faults[0].label.len);
+    WANT(answer.fault_count == 1 && is(answer.faults[0].help, "write `==`") && is(answer.faults[0].label, ""));
     WANT(answer.faults[0].cause.start == 17 && answer.faults[0].cause.end == 18);
     cedar_answer_free(&answer);
     text = "permit(principal, action, resource) when { (1 };";
@@ -141,8 +159,9 @@ static void positions(void) {
 }
 
 int main(void) {
-    WANT(cedar_is_abi());
+    WANT(cedar_is_abi() && cedar_abi() == CEDAR_ABI);
     policies();
+    zeros();
     faults();
     texts();
     what_may_be_passed();

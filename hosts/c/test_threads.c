@@ -1,5 +1,5 @@
-/* test_threads [ROUNDS]: eight threads, each with texts made by edits of a few policies; what is told
- * keeps its promises to a reader. */
+/* test_threads [ROUNDS [SEED]]: eight threads, each with texts made by edits of a few policies; what is
+ * told keeps its promises to a reader. A seed makes the same texts each time. */
 #include "testing.h"
 #include <pthread.h>
 
@@ -94,10 +94,13 @@ static void try_one(const char *text, size_t len) {
     }
 }
 
-static void *run(void *rounds) {
+static long rounds = 100;
+
+/* A thread's texts; they begin with its seed. */
+static void *run(void *seed) {
     static _Thread_local char text[4096];
-    uint64_t state = (uint64_t)(size_t)&state | 1;
-    for (long n = *(long *)rounds; n > 0; n--) {
+    uint64_t state = *(uint64_t *)seed;
+    for (long n = rounds; n > 0; n--) {
         size_t len = made(text, &state);
         char *copy = malloc(len ? len : 1); /* a block of its own, so that a byte behind it is seen */
         WANT(copy);
@@ -109,9 +112,13 @@ static void *run(void *rounds) {
 }
 
 int main(int argc, char **argv) {
-    long rounds = argc > 1 ? atol(argv[1]) : 100;
     pthread_t threads[8];
-    for (int i = 0; i < 8; i++) WANT(!pthread_create(&threads[i], 0, run, &rounds));
+    uint64_t seeds_of[8];
+    if (argc > 1) rounds = atol(argv[1]);
+    for (int i = 0; i < 8; i++) {
+        seeds_of[i] = (uint64_t)(argc > 2 ? atol(argv[2]) : 1) * 8 + (uint64_t)i;
+        WANT(!pthread_create(&threads[i], 0, run, &seeds_of[i]));
+    }
     for (int i = 0; i < 8; i++) WANT(!pthread_join(threads[i], 0));
     printf("%ld texts in 8 threads\n", 8 * rounds);
     return 0;
