@@ -42,8 +42,8 @@ pub struct Faults(pub(crate) Answer);
 
 impl Faults {
     /// Each fault. They don't stand in the order of the text: the fault of its end comes first.
-    pub fn iter(&self) -> impl ExactSizeIterator<Item = Fault<'_>> {
-        self.0.faults().iter().map(Fault)
+    pub fn iter(&self) -> FaultsIter<'_> {
+        FaultsIter(self.0.faults().iter())
     }
 
     /// How many there are: at least one.
@@ -56,7 +56,7 @@ impl Faults {
     /// what to write instead.
     pub fn shown(&self, name: &str, text: &str) -> String {
         let mut out = String::new();
-        for fault in self.iter() {
+        for fault in self {
             fault
                 .show(&mut out, name, text)
                 .expect("a string takes all");
@@ -84,6 +84,33 @@ impl fmt::Debug for Faults {
 }
 
 impl std::error::Error for Faults {}
+
+impl<'a> IntoIterator for &'a Faults {
+    type Item = Fault<'a>;
+    type IntoIter = FaultsIter<'a>;
+
+    fn into_iter(self) -> FaultsIter<'a> {
+        self.iter()
+    }
+}
+
+/// The faults of a text, as the parser tells them.
+#[derive(Clone)]
+pub struct FaultsIter<'a>(std::slice::Iter<'a, RawFault>);
+
+impl<'a> Iterator for FaultsIter<'a> {
+    type Item = Fault<'a>;
+
+    fn next(&mut self) -> Option<Fault<'a>> {
+        self.0.next().map(Fault)
+    }
+
+    fn size_hint(&self) -> (usize, Option<usize>) {
+        self.0.size_hint()
+    }
+}
+
+impl ExactSizeIterator for FaultsIter<'_> {}
 
 /// A fault, lent by its list.
 #[derive(Clone, Copy)]
@@ -154,23 +181,26 @@ impl<'a> Fault<'a> {
         Ok(())
     }
 
+    /// The line of a cause, found from there, so that many faults take no longer than their lines.
     fn show_line(self, out: &mut String, text: &str, cause: &Place) -> fmt::Result {
-        let line = text.split('\n').nth(cause.from.line - 1).unwrap_or("");
-        let before = cause.from.column - 1;
-        let all = line.chars().count().saturating_sub(before);
-        let long = text
-            .get(cause.bytes.clone())
-            .map_or(1, |bytes| bytes.chars().count());
-        let blank: String = line
+        let Range { start, end } = cause.bytes;
+        let (Some(before), Some(behind)) = (text.get(..start), text.get(start..)) else {
+            return Ok(()); // another text than that which was parsed
+        };
+        let before = &before[before.rfind('\n').map_or(0, |at| at + 1)..];
+        let behind = &behind[..behind.find('\n').unwrap_or(behind.len())];
+        let long = end.saturating_sub(start);
+        let marks = behind.char_indices().take_while(|(at, _)| *at < long);
+        let blank: String = before
             .chars()
-            .take(before)
             .map(|c| if c == '\t' { c } else { ' ' })
             .collect();
-        let carets = "^".repeat(long.min(all).max(1));
+        let carets = "^".repeat(marks.count().max(1));
+        let label = self.label().unwrap_or("");
         writeln!(
             out,
-            "  | {line}\n  | {blank}{carets} {}",
-            self.label().unwrap_or("")
+            "  | {before}{}\n  | {blank}{carets} {label}",
+            behind.trim_end_matches('\r')
         )
     }
 }

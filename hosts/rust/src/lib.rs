@@ -21,16 +21,20 @@
 //! into the text. Where memory is refused, the calls end the process as Rust's own collections do;
 //! [`PolicySet::try_parse`] tells it instead.
 //!
-//! All `unsafe` stands in `raw.rs`. Nothing compares its declarations with the library's: their
-//! layout is asserted, and each call asks the library for its version.
+//! All `unsafe` stands in `raw.rs`. Its declarations are trusted to be the library's: their sizes are
+//! asserted, and each call asks the library for its version, and panics where it has another.
 #![deny(unsafe_code)]
+
+#[cfg(doctest)]
+#[doc = include_str!("../README.md")]
+struct Readme;
 
 mod faults;
 mod policy;
 #[allow(unsafe_code)]
 mod raw;
 
-pub use faults::{Fault, Faults, Place, Position, Related};
+pub use faults::{Fault, Faults, FaultsIter, Place, Position, Related};
 pub use policy::{Effect, Entity, Operator, Policies, Policy, PolicySet, Scope};
 
 use std::fmt;

@@ -88,6 +88,15 @@ struct RawAnswer {
     status: u32,
 }
 
+// SAFETY, of all that holds pointers: plain data that nothing writes while it is lent.
+unsafe impl Sync for Text {}
+unsafe impl Sync for RawScope {}
+unsafe impl Sync for RawPolicy {}
+unsafe impl Sync for RawFault {}
+
+/// Which `cedar.h` this file says.
+const ABI: u32 = 1;
+
 const _: () = assert!(size_of::<Position>() == 24 && size_of::<RawRange>() == 64);
 const _: () = assert!(size_of::<RawScope>() == 56 && size_of::<RawPolicy>() == 288);
 const _: () = assert!(size_of::<RawRelated>() == 80 && size_of::<RawFault>() == 232);
@@ -107,7 +116,7 @@ extern "C" {
     );
     fn cedar_answer_free(answer: *mut RawAnswer);
     fn cedar_position_of(text: *const u8, len: usize, offset: usize, out: *mut Position) -> u32;
-    fn cedar_is_abi() -> bool;
+    fn cedar_abi() -> u32;
 }
 
 /// # Safety
@@ -257,11 +266,16 @@ impl RawFault {
     }
 }
 
+/// Panics where the library has other structs than this file.
+fn ask_for_abi() {
+    // SAFETY: it only answers.
+    let abi = unsafe { cedar_abi() };
+    assert_eq!(abi, ABI, "libcedar.a is of another version");
+}
+
 /// The answer of a call, which writes the answer that it is given.
 fn ask(call: impl FnOnce(&mut RawAnswer)) -> Result<Answer, Error> {
-    // SAFETY: it only answers.
-    let is_abi = unsafe { cedar_is_abi() };
-    assert!(is_abi, "libcedar.a is of another version");
+    ask_for_abi();
     let mut answer = Answer::new();
     call(&mut answer.0);
     answer.told()
@@ -291,7 +305,9 @@ pub(crate) fn layout_policies(text: &str, width: usize, indent: usize) -> Result
 
 /// Where a byte stands, or `None` for want of memory.
 pub(crate) fn position_of(text: &str, offset: usize) -> Option<Position> {
+    ask_for_abi();
     let mut position = Position::default();
+    // SAFETY: as of the calls above.
     let status = unsafe { cedar_position_of(text.as_ptr(), text.len(), offset, &mut position) };
     (status == 0).then_some(position)
 }

@@ -1,8 +1,8 @@
 //! The calls, as a user of the crate makes them.
 
 use cedar_proved::{
-    format_policies, layout_policies, parse_expression, position_of, write_policies, Effect, Error,
-    Faults, Layout, Operator, PolicySet,
+    format_policies, layout_policies, parse_expression, position_of, write_policies, Effect,
+    Entity, Error, Fault, Faults, Layout, Operator, Policy, PolicySet, Related, Scope,
 };
 use std::thread;
 
@@ -99,10 +99,44 @@ fn texts_are_written_anew() {
 }
 
 #[test]
+fn faults_are_shown_at_their_lines() {
+    let text = "permit(principal, action, resource);\r\n\tpermit(principal \u{e9}, action);\r\n";
+    let faults = PolicySet::parse(text).unwrap_err();
+    let shown = faults.shown("a.cedar", text);
+    assert!(shown.contains("\n  | \tpermit(principal \u{e9}, action);\n  | \t                 ^ "));
+    for other in ["", "\u{1f600}".repeat(9).as_str()] {
+        assert!(!faults.shown("a.cedar", other).is_empty()); // it isn't the text that was parsed
+    }
+    let text = "permit(";
+    let faults = PolicySet::parse(text).unwrap_err();
+    assert!(faults.shown("", text).contains("\n  | permit(\n"));
+    let many = "permit(a);\n".repeat(20_000);
+    let faults = PolicySet::parse(&many).unwrap_err();
+    assert!(faults.len() >= 20_000);
+    assert!(faults.shown("", &many).lines().count() >= 60_000);
+    assert_eq!((&faults).into_iter().len(), faults.len());
+}
+
+#[test]
+fn a_zero_ends_no_text() {
+    let set = PolicySet::parse("permit(principal == A::\"a\\0b\", action, resource);").unwrap();
+    let policy = set.iter().next().unwrap();
+    assert_eq!(policy.principal().entities().next().unwrap().id(), "a\0b");
+    let text = "// a\0b\npermit(a);";
+    assert!(layout_policies(text, Layout::default())
+        .unwrap()
+        .starts_with("// a\0b\n"));
+    assert_eq!(position_of("a\0b", 2).column, 3);
+    assert_eq!(position_of("", usize::MAX).column, 1);
+}
+
+#[test]
 fn answers_move_between_threads() {
     fn asked<T: Send + Sync>(value: T) -> T {
         value
     }
+    // What answers lend moves too.
+    let _ = asked::<[Option<(Policy, Scope, Entity, Fault, Related)>; 0]>;
     let threads: Vec<_> = (0..8)
         .map(|_| {
             thread::spawn(|| {
