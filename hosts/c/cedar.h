@@ -129,7 +129,8 @@ void cedar_format_policies(const char *text, size_t len, cedar_answer *out);
 void cedar_write_policies(const char *text, size_t len, cedar_answer *out);
 /* The text laid out over lines of `width` characters where its words let them be so short, the
  * content of a bracket `indent` spaces deeper, with all comments. Cedar's own command takes 80 and
- * 2. It needs a text that parses, and not one that means something. */
+ * 2. Each space is written, so a huge indent takes memory as long as there is any. It needs a text
+ * that parses, and not one that means something. */
 void cedar_layout_policies(const char *text, size_t len, size_t width, size_t indent, cedar_answer *out);
 
 void cedar_answer_free(cedar_answer *answer);

@@ -1,8 +1,14 @@
 """The calls, as a user of the module makes them."""
 
+import copy
 import doctest
+import os
+import pickle
+import subprocess
+import sys
 import threading
 import unittest
+from typing import Dict, List
 
 import cedar
 
@@ -44,6 +50,58 @@ class Calls(unittest.TestCase):
         self.assertEqual([other.text for other in fault.related], ["`(` opened here"])
         self.assertEqual(len(fault.expected), 1)
 
+    def test_faults_are_shown_at_their_lines(self) -> None:
+        text = "permit(principal, action, resource);\r\n\tpermit(principal é, action);\r\n"
+        with self.assertRaises(cedar.CedarError) as raised:
+            cedar.parse_policies(text)
+        line = "\n  | \tpermit(principal é, action);\n  | \t" + " " * 17 + "^"
+        self.assertIn(line, raised.exception.shown())
+        [fault] = raised.exception.faults
+        self.assertEqual(fault.shown(text, "a"), raised.exception.shown("a"))
+        fault.shown("", "it isn't the text that was parsed")
+        many = "permit(a);\n" * 20000
+        with self.assertRaises(cedar.CedarError) as raised:
+            cedar.parse_policies(many)
+        self.assertGreaterEqual(len(raised.exception.shown().split("\n")), 60000)
+
+    def test_errors_are_copied(self) -> None:
+        with self.assertRaises(cedar.CedarError) as raised:
+            cedar.parse_policies("permit(")
+        error = raised.exception
+        for other in (pickle.loads(pickle.dumps(error)), copy.deepcopy(error)):
+            self.assertEqual((other.faults, str(other)), (error.faults, str(error)))
+            self.assertEqual(other.shown("a"), error.shown("a"))
+
+    def test_what_may_be_passed(self) -> None:
+        [policy] = cedar.parse_policies('permit(principal == A::"a\\0b", action, resource);')
+        self.assertEqual(policy.principal.entities, (cedar.Entity("A", "a\0b"),))
+        text = "// a\0b\npermit(a);\n"
+        self.assertTrue(cedar.layout_policies(text).startswith("// a\0b\n"))
+        self.assertEqual(cedar.position_of("a\0b", 2).column, 3)
+        for offset in (3, 99, 1 << 64, (1 << 64) + 1):
+            self.assertEqual(cedar.position_of("a\nb", offset), cedar.Position(2, 2, 2))
+        wide = cedar.layout_policies("permit(a,b);", width=(1 << 64) + 1)
+        self.assertEqual(wide, "permit (a, b);\n")
+        wrong: List[Dict[str, int]] = [{"width": -1}, {"indent": -1}]
+        for numbers in wrong:
+            with self.assertRaises(ValueError):
+                cedar.layout_policies("", **numbers)
+        with self.assertRaises(ValueError):
+            cedar.position_of("", -1)
+        with self.assertRaises(UnicodeEncodeError):
+            cedar.parse_policies("\ud800")
+
+    def test_other_libraries_are_refused(self) -> None:
+        here = os.path.dirname(os.path.abspath(cedar.__file__))
+        for other in (os.path.join(here, "nothing.so"), "libc.so.6"):
+            ran = subprocess.run(
+                [sys.executable, "-B", "-c", "import cedar"],
+                cwd=os.path.dirname(here),
+                env={**os.environ, "CEDAR_LIBRARY": other},
+                stderr=subprocess.PIPE,
+            )
+            self.assertIn(b"ImportError", ran.stderr)
+
     def test_texts_are_written_anew(self) -> None:
         self.assertEqual(cedar.parse_expression("principal.a+1"), "principal . a + 1")
         text = "// all\npermit(principal,action,resource);"
@@ -60,7 +118,7 @@ class Calls(unittest.TestCase):
         self.assertTrue(narrow.startswith("// all\npermit (\n    principal,\n"))
 
     def test_threads_call_at_once(self) -> None:
-        found = []
+        found: List[int] = []
 
         def run() -> None:
             found.extend(len(cedar.parse_policies(TWO)) for _ in range(100))
@@ -73,7 +131,7 @@ class Calls(unittest.TestCase):
         self.assertEqual(found, [2] * 800)
 
     def test_deep_texts_take_a_small_stack(self) -> None:
-        found = []
+        found: List[int] = []
 
         def run() -> None:
             levels = 1 << 19

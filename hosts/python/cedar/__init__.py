@@ -14,9 +14,10 @@ once; a call lets other threads of Python run. Offsets are bytes of the text in 
 characters, as Python counts, and units of UTF-16, as editors do; both begin with 1.
 """
 
+import sys
 from ctypes import byref
 from dataclasses import dataclass
-from typing import Callable, Dict, List, Tuple, TypeVar
+from typing import Any, Callable, Dict, List, Tuple, TypeVar
 
 from . import _library
 
@@ -128,26 +129,13 @@ class Fault:
     place: Place
     cause: Place
     has_place: bool
+    """where it is false, both are zeros"""
     follows: bool
     """whether it may come of the fault before it"""
 
     def shown(self, text: str, name: str = "") -> str:
         """The fault as people read it: with its line of the text, carets and help."""
-        begins = self.cause.begins
-        line = text.split("\n")[max(begins.line - 1, 0)]
-        blank = "".join(c if c == "\t" else " " for c in line[: max(begins.column - 1, 0)])
-        within = text.encode()[self.cause.start : self.cause.end].decode(errors="replace")
-        carets = "^" * max(1, min(len(within), len(line) - len(blank)))
-        head = f"{name}:" if name else ""
-        lines = [f"{head}{begins.line}:{begins.column}: {self.message}"]
-        if self.has_place:
-            lines += [f"  | {line}", f"  | {blank}{carets} {self.label}".rstrip()]
-        if self.help:
-            lines.append(f"  = help: {self.help}")
-        for other in self.related:
-            at = other.place.begins
-            lines.append(f"  = {at.line}:{at.column}: {other.text}")
-        return "\n".join(lines)
+        return _shown(self, text.encode(), name)
 
 
 class CedarError(ValueError):
@@ -156,13 +144,18 @@ class CedarError(ValueError):
     faults: List[Fault]
 
     def __init__(self, faults: List[Fault], text: str) -> None:
-        super().__init__("\n".join(map(_summary, faults)))
+        super().__init__("\n".join(_head(fault, "") for fault in faults))
         self.faults = faults
         self._text = text
 
+    def __reduce__(self) -> Tuple[Any, ...]:
+        """So that it can be copied, and sent by another process."""
+        return type(self), (self.faults, self._text)
+
     def shown(self, name: str = "") -> str:
         """All faults as people read them."""
-        return "\n".join(fault.shown(self._text, name) for fault in self.faults)
+        raw = self._text.encode()
+        return "\n".join(_shown(fault, raw, name) for fault in self.faults)
 
 
 def parse_policies(text: str) -> List[Policy]:
@@ -193,7 +186,8 @@ def layout_policies(text: str, width: int = 80, indent: int = 2) -> str:
     parse; it needn't mean something."""
     if width < 0 or indent < 0:
         raise ValueError("width and indent are from 0 on")
-    return _asked("layout_policies", text, (width, indent), _text)
+    numbers = (min(width, sys.maxsize), min(indent, sys.maxsize))
+    return _asked("layout_policies", text, numbers, _text)
 
 
 def position_of(text: str, offset: int) -> Position:
@@ -201,7 +195,7 @@ def position_of(text: str, offset: int) -> Position:
     if offset < 0:
         raise ValueError("an offset is from 0 on")
     raw, out = text.encode(), _library.Position()
-    if _library.LIBRARY.cedar_position_of(raw, len(raw), offset, byref(out)):
+    if _library.LIBRARY.cedar_position_of(raw, len(raw), min(offset, len(raw)), byref(out)):
         raise MemoryError
     return _position(out)
 
@@ -211,8 +205,8 @@ def _asked(
 ) -> T:
     """What is read of a call's answer, which is freed."""
     raw, answer = text.encode(), _library.Answer()
-    getattr(_library.LIBRARY, "cedar_" + name)(raw, len(raw), *numbers, byref(answer))
-    try:
+    try:  # a signal may raise behind the call; an answer that holds nothing may be freed
+        getattr(_library.LIBRARY, "cedar_" + name)(raw, len(raw), *numbers, byref(answer))
         if answer.status == 1:
             raise CedarError([_fault(answer.faults[i]) for i in range(answer.fault_count)], text)
         if answer.status:
@@ -223,7 +217,8 @@ def _asked(
 
 
 def _text(answer: _library.Answer) -> str:
-    return answer.text.read()
+    text: str = answer.text.read()
+    return text
 
 
 def _policies(answer: _library.Answer) -> List[Policy]:
@@ -275,6 +270,31 @@ def _fault(raw: _library.Fault) -> Fault:
     )
 
 
-def _summary(fault: Fault) -> str:
+def _head(fault: Fault, name: str) -> str:
+    """Where a fault stands, if that is known, and what it is."""
     begins = fault.cause.begins
-    return f"{begins.line}:{begins.column}: {fault.message}"
+    parts = [name] if name else []
+    if fault.has_place:
+        parts.append(f"{begins.line}:{begins.column}")
+    return ": ".join([":".join(parts), fault.message] if parts else [fault.message])
+
+
+def _shown(fault: Fault, raw: bytes, name: str) -> str:
+    """A fault over the bytes of its text. Its line is looked for from its place, so that many faults
+    take no longer than their lines."""
+    lines = [_head(fault, name)]
+    if fault.has_place:
+        start, end = fault.cause.start, fault.cause.end
+        ends = raw.find(b"\n", start)
+        ends = len(raw) if ends < 0 else ends
+        before = raw[raw.rfind(b"\n", 0, start) + 1 : start].decode(errors="replace")
+        behind = raw[start:ends].decode(errors="replace").rstrip("\r")
+        blank = "".join(c if c == "\t" else " " for c in before)
+        carets = "^" * max(1, len(raw[start : min(end, ends)].decode(errors="replace")))
+        lines += [f"  | {before}{behind}", f"  | {blank}{carets} {fault.label}".rstrip()]
+    if fault.help:
+        lines.append(f"  = help: {fault.help}")
+    for other in fault.related:
+        at = other.place.begins
+        lines.append(f"  = {at.line}:{at.column}: {other.text}")
+    return "\n".join(lines)

@@ -1,4 +1,5 @@
-"""python3 -m cedar FILE: the policies of a file, or its faults with their lines."""
+"""python3 -m cedar [FILE]: the policies of a file, or its faults with their lines. Without a file it
+reads standard input."""
 
 import sys
 
@@ -6,15 +7,24 @@ import cedar
 
 
 def main() -> int:
-    with open(sys.argv[1], encoding="utf-8", newline="") as file:
-        text = file.read()
+    if len(sys.argv) > 2:
+        print("usage: python3 -m cedar [FILE]", file=sys.stderr)
+        return 2
+    name = sys.argv[1] if len(sys.argv) == 2 else "-"
+    try:
+        with open(0 if name == "-" else name, encoding="utf-8", newline="") as file:
+            text = file.read()
+    except (OSError, UnicodeDecodeError) as error:
+        print(f"{name}: {error}", file=sys.stderr)
+        return 2
     try:
         for policy in cedar.parse_policies(text):
             print(policy)
         return 0
     except cedar.CedarError as error:
-        print(error.shown(sys.argv[1]), file=sys.stderr)
+        print(error.shown(name), file=sys.stderr)
         return 1
 
 
-sys.exit(main())
+if __name__ == "__main__":
+    sys.exit(main())

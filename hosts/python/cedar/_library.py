@@ -3,14 +3,21 @@
 import ctypes
 import os
 from ctypes import POINTER, Structure, c_bool, c_char_p, c_size_t, c_uint32, c_void_p
-from typing import Any
+from typing import Any, Dict, List
+
+# Which cedar.h this file says.
+_ABI = 1
 
 
 class Text(Structure):
     _fields_ = [("at", c_void_p), ("len", c_size_t)]
 
     def read(self) -> str:
-        return ctypes.string_at(self.at, self.len).decode() if self.len else ""
+        if not self.len:
+            return ""
+        if self.len >= 1 << 31:  # string_at takes an int of C
+            return bytes((ctypes.c_char * self.len).from_address(self.at)).decode()
+        return ctypes.string_at(self.at, self.len).decode()
 
 
 class Position(Structure):
@@ -89,7 +96,7 @@ class Answer(Structure):
 _SIZES = {Range: 64, Scope: 56, Policy: 288, Related: 80, Fault: 232, Answer: 56}
 
 # The calls that answer policies or a text, each with the numbers that it takes behind its text.
-_CALLS = {
+_CALLS: Dict[str, List[Any]] = {
     "parse_policies": [],
     "parse_expression": [],
     "format_policies": [],
@@ -101,11 +108,16 @@ _CALLS = {
 def _loaded() -> Any:
     """The shared library: that which CEDAR_LIBRARY names, else the one beside this file."""
     here = os.path.dirname(os.path.abspath(__file__))
-    library = ctypes.CDLL(os.environ.get("CEDAR_LIBRARY", os.path.join(here, "libcedar.so")))
-    library.cedar_is_abi.restype = c_bool
-    fits = all(ctypes.sizeof(struct) == size for struct, size in _SIZES.items())
-    if not (fits and library.cedar_is_abi()):
-        raise ImportError("libcedar.so is of another version, or of another machine")
+    path = os.environ.get("CEDAR_LIBRARY") or os.path.join(here, "libcedar.so")
+    try:
+        library = ctypes.CDLL(path)
+        library.cedar_abi.restype = c_uint32
+        abi = library.cedar_abi()
+    except (OSError, AttributeError) as error:
+        told = "hosts/build makes libcedar.so, for the module's folder or for CEDAR_LIBRARY to name"
+        raise ImportError(f"{error} ({told})") from error
+    if abi != _ABI or any(ctypes.sizeof(struct) != size for struct, size in _SIZES.items()):
+        raise ImportError(f"{path} is of another version, or of another machine")
     for name, numbers in _CALLS.items():
         call = getattr(library, "cedar_" + name)
         call.argtypes = [c_char_p, c_size_t, *numbers, POINTER(Answer)]
