@@ -14,6 +14,7 @@ import (
 	"errors"
 	"fmt"
 	"strings"
+	"unicode/utf8"
 	"unsafe"
 )
 
@@ -43,8 +44,21 @@ type Policy struct {
 	Printed                     string // its tokens with one space between two
 	Annotations                 map[string]string
 	Principal, Action, Resource Scope
-	Place                       Place
-	IsTemplate, IsForbid        bool
+	Place                       Place // its annotations too
+	IsTemplate                  bool  // a slot stands in its scope
+	IsForbid                    bool  // else it is a permit
+}
+
+// Slots returns the slots of a policy's scope: ?principal before ?resource.
+func (p *Policy) Slots() []string {
+	var slots []string
+	if p.Principal.IsSlot {
+		slots = append(slots, "?principal")
+	}
+	if p.Resource.IsSlot {
+		slots = append(slots, "?resource")
+	}
+	return slots
 }
 
 // Related is another place that belongs to a fault, and what it is.
@@ -62,8 +76,8 @@ type Fault struct {
 	Related       []Related
 	Place         Place // where the parser saw it
 	Cause         Place // where its cause stands, as far as the help tells
-	HasPlace      bool
-	Follows       bool // it may come of the fault before it
+	HasPlace      bool  // where it is false both are zeros
+	Follows       bool  // it may come of the fault before it
 }
 
 // Faults is why a text is refused: one fault or more, as the parser tells them.
@@ -72,11 +86,59 @@ type Faults struct{ List []Fault }
 // Error tells each fault on a line.
 func (f *Faults) Error() string {
 	var all []string
-	for _, fault := range f.List {
-		at := fault.Cause.Begins
-		all = append(all, fmt.Sprintf("%d:%d: %s", at.Line, at.Column, fault.Message))
+	for i := range f.List {
+		all = append(all, f.List[i].head(""))
 	}
 	return strings.Join(all, "\n")
+}
+
+// Shown tells the faults as people read them: each with its line of the text under this name, carets,
+// and what to write instead.
+func (f *Faults) Shown(name, text string) string {
+	var out strings.Builder
+	for i := range f.List {
+		f.List[i].show(&out, name, text)
+	}
+	return out.String()
+}
+
+// head is where a fault stands, if that is known, and what it is.
+func (f *Fault) head(name string) string {
+	var parts []string
+	if name != "" {
+		parts = append(parts, name)
+	}
+	if f.HasPlace {
+		parts = append(parts, fmt.Sprintf("%d:%d", f.Cause.Begins.Line, f.Cause.Begins.Column))
+	}
+	if parts == nil {
+		return f.Message
+	}
+	return strings.Join(parts, ":") + ": " + f.Message
+}
+
+func (f *Fault) show(out *strings.Builder, name, text string) {
+	fmt.Fprintln(out, f.head(name))
+	if start, end := f.Cause.Start, f.Cause.End; f.HasPlace && start <= end && end <= len(text) {
+		before := text[strings.LastIndexByte(text[:start], '\n')+1 : start]
+		behind, _, _ := strings.Cut(text[start:], "\n")
+		marks := utf8.RuneCountInString(behind[:min(end-start, len(behind))])
+		blank := strings.Map(func(c rune) rune {
+			if c == '\t' {
+				return c
+			}
+			return ' '
+		}, before)
+		carets := strings.Repeat("^", max(marks, 1))
+		fmt.Fprintf(out, "  | %s%s\n  | %s%s %s\n", before, strings.TrimRight(behind, "\r"), blank, carets, f.Label)
+	}
+	if f.Help != "" {
+		fmt.Fprintf(out, "  = help: %s\n", f.Help)
+	}
+	for _, other := range f.Related {
+		at := other.Place.Begins
+		fmt.Fprintf(out, "  = %d:%d: %s\n", at.Line, at.Column, other.Text)
+	}
 }
 
 // ErrMemory is the heap's refusal; nothing is lost.
@@ -84,6 +146,9 @@ var ErrMemory = errors.New("cedar: want of memory")
 
 // ErrNotUTF8 is the refusal of a text that isn't UTF-8.
 var ErrNotUTF8 = errors.New("cedar: the text isn't UTF-8")
+
+// ErrNegative is the refusal of a width, an indent or an offset below 0.
+var ErrNegative = errors.New("cedar: a number below 0")
 
 // ParsePolicies returns the policies that a text means, in its order; or a *Faults, ErrMemory or
 // ErrNotUTF8.
@@ -130,8 +195,12 @@ func WritePolicies(text string) (string, error) {
 }
 
 // LayoutPolicies returns a text of policies over lines of a width, the content of brackets so many
-// spaces deeper, with all its comments. Neither number may be below 0.
+// spaces deeper, with all its comments. Neither number may be below 0. The text has to parse, and
+// needn't mean something.
 func LayoutPolicies(text string, width, indent int) (string, error) {
+	if width < 0 || indent < 0 {
+		return "", ErrNegative
+	}
 	var answer C.cedar_answer
 	at, length := bytesOf(text)
 	C.cedar_layout_policies(at, length, C.size_t(width), C.size_t(indent), &answer)
@@ -140,6 +209,9 @@ func LayoutPolicies(text string, width, indent int) (string, error) {
 
 // PositionOf returns where a byte of a text stands; its end, where the byte lies behind it.
 func PositionOf(text string, offset int) (Position, error) {
+	if offset < 0 {
+		return Position{}, ErrNegative
+	}
 	var position C.cedar_position
 	at, length := bytesOf(text)
 	switch C.cedar_position_of(at, length, C.size_t(offset), &position) {
