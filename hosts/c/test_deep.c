@@ -1,4 +1,5 @@
-/* Texts of 1 MB that nest as deep as they are long, each on a thread with 256 KB of stack. */
+/* test_deep [KB]: texts of 1 MB that nest as deep as they are long, each on a thread with so much stack,
+ * or with 256 KB. */
 #include "testing.h"
 #include <pthread.h>
 
@@ -66,10 +67,11 @@ static void *run(void *argument) {
     return 0;
 }
 
-int main(void) {
+int main(int argc, char **argv) {
+    size_t stack = (size_t)(argc > 1 ? atol(argv[1]) : 256) << 10;
     pthread_attr_t small;
     setvbuf(stdout, NULL, _IOLBF, BUFSIZ); /* so that a nest that doesn't end is seen */
-    WANT(!pthread_attr_init(&small) && !pthread_attr_setstacksize(&small, 256 << 10));
+    WANT(!pthread_attr_init(&small) && !pthread_attr_setstacksize(&small, stack));
     for (size_t i = 0; i < sizeof nests / sizeof *nests; i++) {
         pthread_t thread;
         WANT(!pthread_create(&thread, &small, run, (void *)&nests[i]));
