@@ -23,7 +23,7 @@ class Calls(unittest.TestCase):
         self.assertEqual((first.id, first.effect, first.is_template), ("policy0", "permit", True))
         self.assertEqual(first.annotations, {"id": "a", "note": ""})
         self.assertEqual(first.slots, ("?principal", "?resource"))
-        self.assertEqual(TWO[first.place.start : first.place.end], TWO[: TWO.index(" // one")])
+        self.assertEqual(first.place.within(TWO), TWO[: TWO.index(" // one")])
         self.assertEqual((second.id, second.effect, second.slots), ("policy1", "forbid", ()))
         group = cedar.Entity("G", "g")
         self.assertEqual(second.principal, cedar.Scope("is", "A::U", (group,), False))
@@ -39,6 +39,7 @@ class Calls(unittest.TestCase):
             cedar.parse_policies(text)
         [fault] = raised.exception.faults
         self.assertEqual(fault.kind, "UnknownFunction")
+        self.assertTrue(fault.place.within(text).startswith("foo"))
         self.assertEqual(fault.place.begins, cedar.Position(1, 52, 53))
         self.assertEqual(cedar.position_of(text, fault.place.start), fault.place.begins)
         self.assertEqual(str(raised.exception), "1:52: `foo` is not a valid function")

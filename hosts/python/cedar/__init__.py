@@ -59,6 +59,10 @@ class Place:
     begins: Position
     ends: Position
 
+    def within(self, text: str) -> str:
+        """What of the text stands there: start and end count bytes, and a str counts characters."""
+        return text.encode()[self.start : self.end].decode(errors="replace")
+
 
 @dataclass(frozen=True)
 class Entity:
