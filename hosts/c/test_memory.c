@@ -6,8 +6,8 @@
 extern long refuse_at, requests, live;
 
 static const char *const texts[] = {
-    "@note @id(\"a\") permit(principal == ?principal, action in [Action::\"v\"], resource is A in A::\"x\");\n"
-    "forbid(principal, action, resource) when { context.ip.isInRange(ip(\"::1\")) };",
+    ("@note @id(\"a\") permit(principal == ?principal, action in [Action::\"v\"], resource is A in A::\"x\");\n"
+     "forbid(principal, action, resource) when { context.ip.isInRange(ip(\"::1\")) };"),
     "permit(a);\nforbid(principal, action, resource) when { foo(\"\\q\") };",
     "1 + principal.a[\"b\"] == {a: ip(\"1\")}",
     "permit(principal, action, resource) when { (1 ,",
