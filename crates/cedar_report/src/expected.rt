@@ -13,7 +13,8 @@ pub fn by_class(alloc: Global, kinds: &[TokenKind]) -> Result<Option<String>, Al
         return Ok(None);
     }
     let begins = kinds.contains(&TokenKind::StringLit) && kinds.contains(&TokenKind::Bang);
-    if !begins && !kinds.contains(&TokenKind::EqEq) {
+    let goes_on = kinds.contains(&TokenKind::EqEq) || kinds.contains(&TokenKind::AndAnd);
+    if !begins && !goes_on {
         return Ok(None);
     }
     let mut parts = Vec::new(alloc);

@@ -113,10 +113,7 @@ fn write_follower<W: fmt::Write>(
         write!(out, ":{}:{}", cause.from.line, cause.from.column)?;
     }
     let message = Escaped(finding.message.as_str());
-    writeln!(
-        out,
-        ": {message}, which may only follow from the fault before\n"
-    )
+    writeln!(out, ": {message}, which may follow from the fault before\n")
 }
 
 // The help, and an empty line.

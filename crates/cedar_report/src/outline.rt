@@ -42,12 +42,9 @@ pub fn closing(word: &str) -> &'static str {
     }
 }
 
-// Whether a policy begins at a token, as far as words tell: behind `;`, at its effect before a `(`,
-// or at an annotation with a value.
+// Whether a policy begins at a token, as far as words tell: at its effect before a `(`, or at an
+// annotation with a value.
 fn begins_policy(tokens: &Tokens<'_>, index: usize) -> bool {
-    if tokens.word_before(index, 1) == ";" {
-        return true;
-    }
     match tokens.word(index) {
         "permit" | "forbid" => tokens.word(index.saturating_add(1)) == "(",
         "@" => tokens.word(index.saturating_add(2)) == "(",
@@ -101,10 +98,14 @@ fn open_before_each(alloc: Global, tokens: &Tokens<'_>) -> Result<Vec<Option<usi
     let mut open = Vec::new(alloc);
     let mut stack = Vec::new(alloc);
     for index in 0..tokens.len() {
-        if begins_policy(tokens, index) {
+        if tokens.word_before(index, 1) == ";" {
             stack.clear();
         }
         open.push(stack.last().copied())?;
+        // What the policy before has left open stands open before this one's first word, too.
+        if begins_policy(tokens, index) {
+            stack.clear();
+        }
         let word = tokens.word(index);
         if opens(word) {
             stack.push(index)?;

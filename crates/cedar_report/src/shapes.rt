@@ -13,6 +13,13 @@ use std::alloc::{AllocError, Global};
 const ESCAPES: &str =
     "escapes are `\\n`, `\\r`, `\\t`, `\\\\`, `\\0`, `\\'`, `\\\"`, `\\x41`, `\\u{1F600}`, and `\\*` in a pattern";
 
+const ENDED_HELP: &str = "`;` belongs behind the `}`: delete it here, and end the policy with `};`";
+
+const ACCESS_HELP: &str =
+    "an attribute stands behind one of `principal`, `action`, `resource` and `context`";
+
+const UNICODE_HELP: &str = "write the digits in braces: `\\u{1234}`";
+
 /// A hint at these bytes. Only want of memory refuses it.
 pub fn said(
     alloc: Global,
@@ -86,8 +93,21 @@ fn of_closing(
         )?;
         return said(alloc, sight.start, sight.end, help.as_str());
     }
+    if let Some(end) = early_end(tokens, outline, sight) {
+        return said(alloc, tokens.start(end), tokens.end(end), ENDED_HELP);
+    }
     let help = format!(in alloc; "this `{word}` closes nothing: delete it, or open it before")?;
     said(alloc, sight.start, sight.end, help.as_str())
+}
+
+// The `;` straight before a `}`, where that closes the `{` that stood open before the `;`.
+fn early_end(tokens: &Tokens<'_>, outline: &Outline, sight: &Sight<'_>) -> Option<usize> {
+    let end = sight.first.checked_sub(1)?;
+    let open = outline.open_before(end)?;
+    let is_early = tokens.word(sight.first) == "}"
+        && tokens.word(end) == ";"
+        && tokens.word(open) == "{";
+    if is_early { Some(end) } else { None }
 }
 
 // A `=` between a key and its value, where a `:` could have stood.
@@ -135,12 +155,7 @@ fn of_open(
     let word = tokens.word(index);
     let opened = tokens.word(open);
     if word == ";" && opened == "{" && tokens.word(index.saturating_add(1)) == "}" {
-        return said(
-            alloc,
-            sight.start,
-            sight.end,
-            "`;` belongs behind the `}`: delete it here, and end the policy with `};`",
-        );
+        return said(alloc, sight.start, sight.end, ENDED_HELP);
     }
     if word == "," && opened == "(" && tokens.word_before(open, 1) == "in" {
         return said(
@@ -177,12 +192,32 @@ fn of_tree(
         "UnknownMethod" => near_name(alloc, tokens, sight, METHODS),
         "UnknownFunction" => near_name(alloc, tokens, sight, FUNCTIONS),
         "WrongArity" => placed(alloc, tokens, sight.named),
-        "ArbitraryVariable" | "InvalidAccess" => near_word(alloc, tokens, sight.first, VARIABLES),
+        "ArbitraryVariable" | "InvalidAccess" => of_variable(alloc, tokens, sight),
         "InvalidEffect" => near_word(alloc, tokens, sight.first, EFFECTS),
         "InvalidCondition" => near_word(alloc, tokens, sight.first, CONDITIONS),
         "Unescape" => of_escape(alloc, tokens, sight),
         _ => Ok(None),
     }
+}
+
+// The variable to which a name is nearest, else what could have been meant by it.
+fn of_variable(
+    alloc: Global,
+    tokens: &Tokens<'_>,
+    sight: &Sight<'_>,
+) -> Result<Option<Hint>, AllocError> {
+    if let Some(hint) = near_word(alloc, tokens, sight.first, VARIABLES)? {
+        return Ok(Some(hint));
+    }
+    let (start, end) = (tokens.start(sight.first), tokens.end(sight.first));
+    if sight.code == "InvalidAccess" {
+        return said(alloc, start, end, ACCESS_HELP);
+    }
+    let word = tokens.word(sight.first);
+    let help = format!(in alloc;
+        "a text stands in quotes, `\"{word}\"`, an attribute behind its owner, as `principal.{word}`"
+    )?;
+    said(alloc, start, end, help.as_str())
 }
 
 // A fault at its name, with nothing more to say.
@@ -250,6 +285,9 @@ fn of_escape(
         .saturating_add(front)
         .saturating_add(escape.range.start);
     let end = start.saturating_add(raw.len());
+    if raw.starts_with("\\u") && !raw.starts_with("\\u{") {
+        return said(alloc, start, end, UNICODE_HELP);
+    }
     let help = format!(in alloc; "write `\\{raw}` for a backslash; {ESCAPES}")?;
     said(alloc, start, end, help.as_str())
 }
