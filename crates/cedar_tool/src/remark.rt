@@ -17,7 +17,8 @@ pub(crate) fn not_laid_out<'a>(
     let at = Extent::of(&lines, byte, byte);
     let line = at.from.line;
     let message = format!(in alloc; "line {line} isn't laid out as `cedar format` lays it out")?;
-    let help = "`cedar format --write` lays the file out";
+    let help =
+        "`cedar format`, with the same `-l` and `-i`, lays it out; with `-w` in the file itself";
     let finding = finding(alloc, "NotFormatted", Some(at), message, help)?;
     report(alloc, name, lines, finding)
 }
