@@ -1,6 +1,7 @@
 pub mod Fitness
 pub mod NumberedSets
 pub mod Parts
+pub mod Refusals
 pub mod Spacing
 pub mod machines
 pub mod Writable

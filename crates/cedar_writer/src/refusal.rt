@@ -1,4 +1,7 @@
 //! Why a value isn't written.
+ghost use Rattle.std.specs.Prelude.{Some};
+ghost use Rattle.cedar_writer.specs.Refusals.{refusal_text, unwritable_text};
+
 use std::alloc::AllocError;
 use std::error::Error;
 use std::fmt;
@@ -45,6 +48,8 @@ impl From<AllocError> for NotWritten {
 }
 
 impl fmt::Display for NotWritable {
+    ghost output = { λ part. Some (unwritable_text part) };
+
     fn fmt<W: fmt::Write>(&self, f: &mut fmt::Formatter<W>) -> fmt::Result {
         f.write_str(match self {
             NotWritable::Conjunction => "an `and` of two outside of a policy's conditions",
@@ -59,6 +64,8 @@ impl fmt::Display for NotWritable {
 }
 
 impl fmt::Display for NotWritten {
+    ghost output = { λ refusal. Some (refusal_text refusal) };
+
     fn fmt<W: fmt::Write>(&self, f: &mut fmt::Formatter<W>) -> fmt::Result {
         match self {
             NotWritten::Memory => f.write_str("want of memory"),
