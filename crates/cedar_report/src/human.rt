@@ -211,10 +211,17 @@ fn write_cause<W: fmt::Write>(
     }
 }
 
-// Where the parser stopped, if that isn't at the cause.
+// Where the parser stopped, if that isn't at the cause. A cause that is a gap is where the token
+// straight behind it stopped the parser.
 fn stopped_elsewhere<'a>(finding: &'a Finding, cause: &Extent) -> Option<&'a Extent> {
     let extent = finding.extent.as_ref()?;
-    if extent.start > cause.end.saturating_add(1) || extent.end < cause.start {
+    let is_gap = cause.start == cause.end;
+    let is_behind = if is_gap {
+        extent.start > cause.end.saturating_add(1)
+    } else {
+        extent.start >= cause.end
+    };
+    if is_behind || extent.end < cause.start {
         Some(extent)
     } else {
         None
