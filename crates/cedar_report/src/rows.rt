@@ -3,6 +3,7 @@
 //! A row is data. To add one, put it before the rows of its kind that are wider, and a case into
 //! `cedar_report_cases`.
 
+mod calls;
 mod invalid;
 mod names;
 mod operators;
@@ -11,6 +12,7 @@ mod scope;
 
 use crate::fit::Clues;
 use crate::sign::Sign;
+use calls::in_calls;
 use cedar_lexer::token::TokenKind;
 use invalid::in_invalid;
 use names::in_names;
@@ -76,6 +78,9 @@ pub fn first_row(clues: &Clues<'_, '_>) -> Option<&'static Row> {
         return Some(row);
     }
     if let Some(row) = in_names(clues) {
+        return Some(row);
+    }
+    if let Some(row) = in_calls(clues) {
         return Some(row);
     }
     in_scope(clues)
