@@ -6,6 +6,7 @@ ghost use Rattle.cedar_lexer.specs.Spelling.{is_identifier_start as begins, is_i
 ghost use Rattle.cedar_lexer.specs.Scan as spec;
 
 use crate::token::TokenKind;
+use memchr::memchr2;
 
 /// A kind, and how many bytes its spelling has.
 type Found = (TokenKind, usize);
@@ -114,16 +115,25 @@ fn slot(text: &[u8]) -> Option<Found>
     Some((slot_kind(&text[..len]), len))
 }
 
+/// How many bytes of a string are looked at one by one before its next mark is searched for, which
+/// costs as much as some of them.
+const NEAR: usize = 16;
+
 /// A string, behind its opening quote. A backslash takes the next byte with it, whichever that is.
 fn string(text: &[u8]) -> Option<Found>
     ensures { result ≡ spec.string_of (spec.string_len false text.now 1) }
 {
     let mut at = 0;
+    let mut near = NEAR;
     while let Some(byte) = text.get(at) {
         match *byte {
             b'"' => return Some((TokenKind::StringLit, at + 2)),
-            b'\\' => at += 2,
-            _ => at += 1,
+            b'\\' => {
+                at += 2;
+                near = at + NEAR;
+            }
+            _ if at < near => at += 1,
+            _ => at += memchr2(b'"', b'\\', &text[at..])?,
         }
     }
     None
