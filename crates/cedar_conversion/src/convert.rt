@@ -13,7 +13,7 @@ ghost use Rattle.cedar_conversion.specs.machines.Nested.{lent_nodes};
 ghost use Rattle.cedar_conversion.specs.machines.Taking.{Waits};
 ghost use Rattle.cedar_conversion.specs.machines.Views.{plain};
 
-use crate::answer::failure::BoxedFailure;
+use crate::answer::failure::{BoxedFailure, go_on};
 use crate::answer::{Converted, put, take};
 use crate::levels;
 use crate::listing::order::ordered;
@@ -46,6 +46,7 @@ fn answers_of<B: ExprBuilderInfallibleBuild>(
     let mut order = ordered(alloc, nested)?;
     while let Some(node) = order.pop() {
         levels::expression::<B, Waiting>(alloc, &mut answers, styles, node);
+        go_on(&answers.answer)?;
         answers.keep()?;
     }
     Ok(answers)

@@ -44,7 +44,6 @@ use crate::primaries::methods::CallSite;
 use crate::styles::ExtStyles;
 use cedar_expressions::ExprBuilderInfallibleBuild;
 use cedar_syntax::cst;
-use cedar_syntax::loc::Loc;
 use cedar_syntax::node::Node;
 use std::alloc::Global;
 
@@ -59,40 +58,38 @@ pub(crate) fn member<B: ExprBuilderInfallibleBuild, N: Nests<B>>(
     ensures { AnswersNode B.meaning (table_of styles.now) N.waits answers.old answers.new
         (located member_form node.now) }
 {
+    let loc = &node.loc;
     match &node.node {
         Some(tree) => match tree.single_child() {
             Some(item) => primary::<B, N>(alloc, answers, styles, item),
-            None => member_chain::<B, N>(alloc, answers, styles, &node.loc, tree),
+            None => member_chain::<B, N>(CallSite { alloc, styles, loc }, answers, tree),
         },
-        None => empty_node_in::<B>(alloc, &node.loc, &mut answers.answer),
+        None => empty_node_in::<B>(alloc, loc, &mut answers.answer),
     }
 }
 
 /// A primary and its accesses.
 #[inline(never)]
 fn member_chain<B: ExprBuilderInfallibleBuild, N: Nests<B>>(
-    alloc: Global,
+    site: CallSite<'_>,
     answers: &mut Answers<B::Expr>,
-    styles: &ExtStyles,
-    loc: &Option<Loc>,
     member: &cst::Member,
 )
-    ensures { AnswersForm B.meaning (table_of styles.now) N.waits
-        answers.old answers.new loc.now (member_form member.now) }
+    ensures { AnswersForm B.meaning (table_of site.entry.styles.now) N.waits
+        answers.old answers.new site.entry.loc.now (member_form member.now) }
 {
-    primary::<B, N>(alloc, answers, styles, &member.item);
+    primary::<B, N>(site.alloc, answers, site.styles, &member.item);
     let mut item = take(&mut answers.answer);
-    let site = CallSite { alloc, styles, loc };
     let mut given = placeholder();
     match only_one(member.access.as_slice()) {
         Some(part) => {
-            access::<B, N>(alloc, answers, styles, part, &mut given);
+            access::<B, N>(site.alloc, answers, site.styles, part, &mut given);
             lone_access_in::<B>(site, &mut item, &mut given, &mut answers.answer)
         }
         None => {
-            let mut all: Accesses<B::Expr> = with_room(alloc, member.access.len());
+            let mut all: Accesses<B::Expr> = with_room(site.alloc, member.access.len());
             for part in member.access.as_slice() {
-                access::<B, N>(alloc, answers, styles, part, &mut given);
+                access::<B, N>(site.alloc, answers, site.styles, part, &mut given);
                 add_access::<B>(&mut all, &mut given);
             }
             member_in::<B>(site, &mut item, &mut all, &mut answers.answer)

@@ -28,7 +28,7 @@ pub enum Standard {
     HasTag,
 }
 
-/// Where a member stands and what may be called there.
+/// Where a form stands, which calls have a meaning there, and what answers are made with.
 #[derive(Clone, Copy)]
 pub struct CallSite<'a> {
     pub alloc: Global,

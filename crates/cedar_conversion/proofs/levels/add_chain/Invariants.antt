@@ -13,7 +13,7 @@ use Rattle.cedar_conversion.proofs.levels.add_chain.Given as goal
 
 abbrev pub invariant-loop-op : goal.invariant-loop-op
 invariant-loop-op g l =
-    Taking (g.N.Nests.waits (table_of l.styles)) l.fn.answers.nested
+    Taking (g.N.Nests.waits (table_of l.site.styles.now)) l.fn.answers.nested
     (nested (located mult_form (out-Add l.fn.add).initial) ++ flat_map (λ p. nested (located mult_form p.1)) (take l.op-index l.op-items)) l.answers.nested
-    (Gives (plain g.B.ExprBuilderInfallibleBuild.meaning) l.first (outcome (table_of l.styles) (located mult_form (out-Add l.fn.add).initial))
-    × Gives (rest_view add g.B.ExprBuilderInfallibleBuild.meaning) l.rest (operands (table_of l.styles) l.loc (parts_of (map add_operand (take l.op-index l.op-items)))))
+    (Gives (plain g.B.ExprBuilderInfallibleBuild.meaning) l.first (outcome (table_of l.site.styles.now) (located mult_form (out-Add l.fn.add).initial))
+    × Gives (rest_view add g.B.ExprBuilderInfallibleBuild.meaning) l.rest (operands (table_of l.site.styles.now) l.site.loc.now (parts_of (map add_operand (take l.op-index l.op-items)))))

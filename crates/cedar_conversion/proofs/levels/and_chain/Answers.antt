@@ -13,15 +13,15 @@ use Rattle.cedar_conversion.proofs.levels.and_chain.Goals as goal
 pub loop-part-init : goal.loop-part-init
 loop-part-init g c =
     made (append-nil _) c.relation.ensures
-    (λ h. (given_in _ _ _ _ c.take-first.ensures h, gives_at _ c.with_room-rest.result _ _ (none_yet (table_of c.args.styles.now) c.args.loc.now) (empty_gives (λ e. (and_and, g.B.ExprBuilderInfallibleBuild.meaning e)) c.with_room-rest.result c.with_room-rest.ensures)))
+    (λ h. (given_in _ _ _ _ c.take-first.ensures h, gives_at _ c.with_room-rest.result _ _ (none_yet (table_of c.args.site.styles.now) c.args.site.loc.now) (empty_gives (λ e. (and_and, g.B.ExprBuilderInfallibleBuild.meaning e)) c.with_room-rest.result c.with_room-rest.ensures)))
 
 pub loop-part-preserved : goal.loop-part-preserved
 loop-part-preserved g c =
-    let whole = plain_more (table_of c.args.styles.now) c.args.loc.now and_operand c.as_slice-part-items.result.now c.loop-part.part-index c.part-item.result c.loop-part-test.true c.part-item.is (λ v. refl) in
+    let whole = plain_more (table_of c.args.site.styles.now) c.args.site.loc.now and_operand c.as_slice-part-items.result.now c.loop-part.part-index c.part-item.result c.loop-part-test.true c.part-item.is (λ v. refl) in
     made (more_nested (nested (located relation_form c.args.and.now.initial)) (λ n. nested (located relation_form n)) c.as_slice-part-items.result.now c.loop-part.part-index c.part-item.result c.loop-part-test.true c.part-item.is) (next_taken c.loop-part.invariant (λ p. c.relation-in-loop-part.ensures))
     (λ p. (p.0.0, rw whole (c.gather_value.ensures and_and _ _ p.0.1 p.1)))
 
 pub returns : goal.returns
 returns g c =
     let all = rw (take_whole c.as_slice-part-items.result.now c.loop-part.part-index c.loop-part-test.false, c.as_slice-part-items.ensures) at c.loop-part.invariant in
-    made (inner.and_level _) all (λ p. gives_at _ c.alike_in.new.answer _ _ (node.and_alike (table_of c.args.styles.now) c.args.loc.now c.args.and.now) (c.alike_in.ensures _ _ p.0 p.1))
+    made (inner.and_level _) all (λ p. gives_at _ c.alike_in.new.answer _ _ (node.and_alike (table_of c.args.site.styles.now) c.args.site.loc.now c.args.and.now) (c.alike_in.ensures _ _ p.0 p.1))

@@ -12,7 +12,7 @@ use Rattle.cedar_conversion.proofs.levels.and_chain.Given as goal
 
 abbrev pub invariant-loop-part : goal.invariant-loop-part
 invariant-loop-part g l =
-    Taking (g.N.Nests.waits (table_of l.styles)) l.fn.answers.nested
+    Taking (g.N.Nests.waits (table_of l.site.styles.now)) l.fn.answers.nested
     (nested (located relation_form l.fn.and.initial) ++ flat_map (λ n. nested (located relation_form n)) (take l.part-index l.part-items)) l.answers.nested
-    (Gives (plain g.B.ExprBuilderInfallibleBuild.meaning) l.first (outcome (table_of l.styles) (located relation_form l.fn.and.initial))
-    × Gives (alike_view and_and g.B.ExprBuilderInfallibleBuild.meaning) l.rest (operands (table_of l.styles) l.loc (parts_of (map and_operand (take l.part-index l.part-items)))))
+    (Gives (plain g.B.ExprBuilderInfallibleBuild.meaning) l.first (outcome (table_of l.site.styles.now) (located relation_form l.fn.and.initial))
+    × Gives (alike_view and_and g.B.ExprBuilderInfallibleBuild.meaning) l.rest (operands (table_of l.site.styles.now) l.site.loc.now (parts_of (map and_operand (take l.part-index l.part-items)))))

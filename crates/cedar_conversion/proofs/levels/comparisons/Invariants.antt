@@ -13,7 +13,7 @@ use Rattle.cedar_conversion.proofs.levels.comparisons.Given as goal
 
 abbrev pub invariant-loop-op : goal.invariant-loop-op
 invariant-loop-op g l =
-    Taking (g.N.Nests.waits (table_of l.styles)) l.fn.answers.nested
+    Taking (g.N.Nests.waits (table_of l.site.styles.now)) l.fn.answers.nested
     (nested (first_in (relation_form l.fn.relation)) ++ flat_map (λ p. nested (located add_form p.1)) (take l.op-index l.op-items)) l.answers.nested
-    (Gives (plain g.B.ExprBuilderInfallibleBuild.meaning) l.first (outcome (table_of l.styles) (first_in (relation_form l.fn.relation)))
-    × Gives (rest_view compare g.B.ExprBuilderInfallibleBuild.meaning) l.rest (operands (table_of l.styles) l.loc (parts_of (map relation_operand (take l.op-index l.op-items)))))
+    (Gives (plain g.B.ExprBuilderInfallibleBuild.meaning) l.first (outcome (table_of l.site.styles.now) (first_in (relation_form l.fn.relation)))
+    × Gives (rest_view compare g.B.ExprBuilderInfallibleBuild.meaning) l.rest (operands (table_of l.site.styles.now) l.site.loc.now (parts_of (map relation_operand (take l.op-index l.op-items)))))

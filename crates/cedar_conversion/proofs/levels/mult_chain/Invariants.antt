@@ -13,7 +13,7 @@ use Rattle.cedar_conversion.proofs.levels.mult_chain.Given as goal
 
 abbrev pub invariant-loop-op : goal.invariant-loop-op
 invariant-loop-op g l =
-    Taking (g.N.Nests.waits (table_of l.styles)) l.fn.answers.nested
+    Taking (g.N.Nests.waits (table_of l.site.styles.now)) l.fn.answers.nested
     (nested (located unary_form (out-Mult l.fn.mult).initial) ++ flat_map (λ p. nested (located unary_form p.1)) (take l.op-index l.op-items)) l.answers.nested
-    (Gives (plain g.B.ExprBuilderInfallibleBuild.meaning) l.first (outcome (table_of l.styles) (located unary_form (out-Mult l.fn.mult).initial))
-    × Gives (rest_view multiply g.B.ExprBuilderInfallibleBuild.meaning) l.rest (operands (table_of l.styles) l.loc (parts_of (map mult_operand (take l.op-index l.op-items)))))
+    (Gives (plain g.B.ExprBuilderInfallibleBuild.meaning) l.first (outcome (table_of l.site.styles.now) (located unary_form (out-Mult l.fn.mult).initial))
+    × Gives (rest_view multiply g.B.ExprBuilderInfallibleBuild.meaning) l.rest (operands (table_of l.site.styles.now) l.site.loc.now (parts_of (map mult_operand (take l.op-index l.op-items)))))

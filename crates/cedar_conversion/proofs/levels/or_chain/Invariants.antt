@@ -13,7 +13,7 @@ use Rattle.cedar_conversion.proofs.levels.or_chain.Given as goal
 
 abbrev pub invariant-loop-part : goal.invariant-loop-part
 invariant-loop-part g l =
-    Taking (g.N.Nests.waits (table_of l.styles)) l.fn.answers.nested
+    Taking (g.N.Nests.waits (table_of l.site.styles.now)) l.fn.answers.nested
     (nested (located and_form (out-Or l.fn.or).initial) ++ flat_map (λ n. nested (located and_form n)) (take l.part-index l.part-items)) l.answers.nested
-    (Gives (plain g.B.ExprBuilderInfallibleBuild.meaning) l.first (outcome (table_of l.styles) (located and_form (out-Or l.fn.or).initial))
-    × Gives (alike_view or_or g.B.ExprBuilderInfallibleBuild.meaning) l.rest (operands (table_of l.styles) l.loc (parts_of (map or_operand (take l.part-index l.part-items)))))
+    (Gives (plain g.B.ExprBuilderInfallibleBuild.meaning) l.first (outcome (table_of l.site.styles.now) (located and_form (out-Or l.fn.or).initial))
+    × Gives (alike_view or_or g.B.ExprBuilderInfallibleBuild.meaning) l.rest (operands (table_of l.site.styles.now) l.site.loc.now (parts_of (map or_operand (take l.part-index l.part-items)))))

@@ -16,7 +16,7 @@ pub returns-in-Some : goal.returns-in-Some
 returns-in-Some g c =
     let alone = rw (c.as_slice.ensures, c.in-Some.is) at c.only_one.ensures in
     made (inner.common _ _ _ c.in-Common.is ∙ lone_behind _ (λ p. nested (located add_form p.1)) _ _ alone) (next_taken c.add.ensures (λ p. c.add-in-Some.ensures))
-    (λ p. gives_at _ _ _ _ (node.common_node (table_of c.args.styles.now) c.args.loc.now c.args.relation.now _ _ c.in-Common.is ∙ lone_side _ _ _ _ _ alone)
+    (λ p. gives_at _ _ _ _ (node.common_node (table_of c.args.site.styles.now) c.args.site.loc.now c.args.relation.now _ _ c.in-Common.is ∙ lone_side _ _ _ _ _ alone)
     (c.comparison_in.ensures _ _ (given_in _ _ _ _ c.take-first.ensures p.0) p.1))
 
 pub returns-in-Has : goal.returns-in-Has

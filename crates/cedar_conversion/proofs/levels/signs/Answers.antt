@@ -11,10 +11,10 @@ use Rattle.cedar_conversion.proofs.levels.signs.Goals as goal
 pub returns-in-Some : goal.returns-in-Some
 returns-in-Some g c =
     made (inner.unasked c.args.unary.now (rw c.bare_number-bare.ensures at c.in-Some.ensures.unasked)) (untaken {X = Unit {0}} tt)
-    (λ p. gives_left _ _ _ _ _ c.put.ensures (node.unary_node (table_of c.args.styles.now) c.args.loc.now c.args.unary.now)
-    (rw c.bare_number-bare.ensures at (c.in-Some.ensures.given (outcome (table_of c.args.styles.now) (located member_form (out-Unary c.args.unary.now).item)))))
+    (λ p. gives_left _ _ _ _ _ c.put.ensures (node.unary_node (table_of c.args.site.styles.now) c.args.site.loc.now c.args.unary.now)
+    (rw c.bare_number-bare.ensures at (c.in-Some.ensures.given (outcome (table_of c.args.site.styles.now) (located member_form (out-Unary c.args.unary.now).item)))))
 
 pub returns-in-None : goal.returns-in-None
 returns-in-None g c =
     made (inner.counted c.args.unary.now c.in-None.ensures.given) c.member.ensures
-    (λ p. gives_left _ _ _ _ _ c.put-in-None.ensures (node.unary_node (table_of c.args.styles.now) c.args.loc.now c.args.unary.now) (rw c.bare_number-bare.ensures at (c.signed_from.ensures _ (given_in _ _ _ _ c.take-item.ensures p))))
+    (λ p. gives_left _ _ _ _ _ c.put-in-None.ensures (node.unary_node (table_of c.args.site.styles.now) c.args.site.loc.now c.args.unary.now) (rw c.bare_number-bare.ensures at (c.signed_from.ensures _ (given_in _ _ _ _ c.take-item.ensures p))))

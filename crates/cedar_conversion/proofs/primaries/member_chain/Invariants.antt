@@ -12,7 +12,7 @@ use Rattle.cedar_conversion.proofs.primaries.member_chain.Given as goal
 
 abbrev pub invariant-loop-part : goal.invariant-loop-part
 invariant-loop-part g l =
-    Taking (g.N.Nests.waits (table_of l.styles)) l.fn.answers.nested
+    Taking (g.N.Nests.waits (table_of l.site.styles.now)) l.fn.answers.nested
     (nested (located primary_form l.fn.member.item) ++ flat_map (λ n. nested (located access_form n)) (take l.part-index l.part-items)) l.answers.nested
-    (Gives (plain g.B.ExprBuilderInfallibleBuild.meaning) l.item (outcome (table_of l.styles) (located primary_form l.fn.member.item))
-    × Gives (seen_accesses g.B.ExprBuilderInfallibleBuild.meaning) l.all (accesses_outcome (table_of l.styles) (parts_of (map listed_access (take l.part-index l.part-items)))))
+    (Gives (plain g.B.ExprBuilderInfallibleBuild.meaning) l.item (outcome (table_of l.site.styles.now) (located primary_form l.fn.member.item))
+    × Gives (seen_accesses g.B.ExprBuilderInfallibleBuild.meaning) l.all (accesses_outcome (table_of l.site.styles.now) (parts_of (map listed_access (take l.part-index l.part-items)))))
