@@ -164,6 +164,7 @@ static void free_fault(const cedar_fault *fault) {
 }
 
 void cedar_answer_free(cedar_answer *answer) {
+    if (!answer) return;
     for (size_t i = 0; i < answer->policy_count; i++) free_policy(&answer->policies[i]);
     for (size_t i = 0; i < answer->fault_count; i++) free_fault(&answer->faults[i]);
     free_at(answer->policies, answer->policy_count);

@@ -1,8 +1,8 @@
-/* Cedar policies for C: a text in, its policies or its faults out. ABI 1.
+/* Cedar policies for C: a text in, its policies or its faults out. Version 0.1.0, ABI 1.
  *
- * Every call returns, on every text, in time linear in it and with a small stack (64 KB do): none
- * aborts, blocks, opens, prints or keeps anything. An answer is plain data: read it in place, then
- * free it by cedar_answer_free, once. Nothing of an answer points into the text.
+ * Every call returns, on every text, in time linear in it and with a small stack (256 KB are what
+ * is tested): none aborts, blocks, opens, prints or keeps anything. An answer is plain data: read
+ * it in place, then free it by cedar_answer_free, once. Nothing of an answer points into the text.
  *
  * Threads: any may call at once, each with an answer of its own; an answer may move between them,
  * and any of them may free it. Don't call from a signal handler, nor in the forked child of a
@@ -21,6 +21,8 @@
 extern "C" {
 #endif
 
+/* The version that this header is of. */
+#define CEDAR_VERSION "0.1.0"
 /* The layout of these structs; another layout has another number. */
 #define CEDAR_ABI 1
 
@@ -133,6 +135,8 @@ void cedar_write_policies(const char *text, size_t len, cedar_answer *out);
  * that parses, and not one that means something. */
 void cedar_layout_policies(const char *text, size_t len, size_t width, size_t indent, cedar_answer *out);
 
+/* Frees what an answer holds, and leaves one that holds nothing. A null pointer is no answer: it
+ * returns. */
 void cedar_answer_free(cedar_answer *answer);
 
 /* The line and the columns of a byte of the text, of its end where the byte lies behind it. Returns

@@ -35,6 +35,7 @@ static void policies(void) {
     cedar_answer_free(&answer);
     WANT(!answer.policies && !answer.policy_count);
     cedar_answer_free(&answer); /* an answer that holds nothing */
+    cedar_answer_free(NULL);    /* no answer */
 }
 
 /* A 0 in a text neither ends it nor what is told of it. */

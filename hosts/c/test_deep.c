@@ -1,19 +1,27 @@
-/* test_deep [KB]: texts of 1 MB that nest as deep as they are long, each on a thread with so much stack,
- * or with 256 KB. */
+/* test_deep [KB]: texts of 1 MB that nest as deep as they are long, or again and again as deep as
+ * calls go down a tree; each on a thread with so much stack, or with 256 KB. */
 #include "testing.h"
 #include <pthread.h>
 
 #define SIZE ((size_t)1 << 20)
 
-/* A text: its begin, a middle that repeats, the innermost, an end that repeats as often, the rest. */
+/* A text: its begin, a middle that repeats, the innermost, an end that repeats as often, the rest;
+ * and the status of its answer. */
 typedef struct {
     const char *name;
     int which;
     const char *begin, *open, *inner, *close, *end;
+    unsigned status;
 } Nest;
 
 #define POLICY "permit(principal, action, resource)"
-#define IN_POLICY(open, inner, close) POLICY " when { ", open, inner, close, " };"
+#define IN_POLICY(open, inner, close) POLICY " when { ", open, inner, close, " };", CEDAR_OK
+/* What is shallow goes by calls: eight brackets, four `if`s before each. `if` is a bracket up to
+ * its `else`, so with one more in the innermost bracket all would go by loops. */
+#define IF "if true then 1 else "
+#define EIGHT(it) it it it it it it it it
+#define SHALLOW(open, inner, close) EIGHT(IF IF IF IF open) inner EIGHT(close)
+#define POLICIES(condition) "", POLICY " when { " condition " };\n", "", "", "", CEDAR_OK
 static const Nest nests[] = {
     { "brackets", PARSE_POLICIES, IN_POLICY("(", "1", ")") },
     { "operators", PARSE_POLICIES, IN_POLICY("(1 * 2 + 3 < ", "1", " && true || true)") },
@@ -29,18 +37,24 @@ static const Nest nests[] = {
     { "products", PARSE_POLICIES, IN_POLICY("1 * ", "1", "") },
     { "conjunctions", PARSE_POLICIES, IN_POLICY("true && ", "true", "") },
     { "disjunctions", PARSE_POLICIES, IN_POLICY("true || ", "true", "") },
-    { "conditions", PARSE_POLICIES, POLICY, " when{true}", "", " unless{true}", ";" },
+    { "conditions", PARSE_POLICIES, POLICY, " when{true}", "", " unless{true}", ";", CEDAR_OK },
     { "names", PARSE_POLICIES, IN_POLICY("A::", "A::\"x\"", "") },
     { "attributes", PARSE_POLICIES, IN_POLICY("", "principal has a", ".a") },
-    { "expression", PARSE_EXPRESSION, "", "(", "1", ")", "" },
-    { "unclosed", PARSE_EXPRESSION, "", "(", "1", "", "" },
-    { "faults", PARSE_POLICIES, "", "permit(a);\n", "", "", "" },
+    { "expression", PARSE_EXPRESSION, "", "(", "1", ")", "", CEDAR_OK },
+    { "unclosed", PARSE_EXPRESSION, "", "(", "1", "", "", CEDAR_FAULTS },
+    { "faults", PARSE_POLICIES, "", "permit(a);\n", "", "", "", CEDAR_FAULTS },
     { "format", FORMAT, IN_POLICY("(", "1", ")") },
     { "writing", WRITE, IN_POLICY("(", "1", ")") },
     { "writing accesses", WRITE, IN_POLICY("", "principal", ".a") },
     { "writing operators", WRITE, IN_POLICY("(1 * 2 + 3 < ", "1", " && true || true)") },
     { "layout", LAYOUT, IN_POLICY("(", "1", ")") },
     { "layout of accesses", LAYOUT, IN_POLICY("", "principal", ".a") },
+    { "shallow brackets", PARSE_POLICIES, POLICIES(SHALLOW("(", "1", ")")) },
+    { "shallow sets", PARSE_POLICIES, POLICIES(SHALLOW("[", "1", "]")) },
+    { "shallow records", PARSE_POLICIES, POLICIES(SHALLOW("{a: ", "1", "}")) },
+    { "shallow arguments", PARSE_POLICIES, POLICIES(SHALLOW("ip(", "1", ")")) },
+    { "shallow, formatted", FORMAT, POLICIES(SHALLOW("(", "1", ")")) },
+    { "shallow, written", WRITE, POLICIES(SHALLOW("(", "1", ")")) },
 };
 
 static char *put(char *to, const char *text) {
@@ -53,15 +67,15 @@ static void *run(void *argument) {
     const Nest *nest = argument;
     char *text = malloc(SIZE + 4096), *to = put(text, nest->begin);
     WANT(text);
-    size_t levels = SIZE / (strlen(nest->open) + strlen(nest->close));
-    for (size_t i = 0; i < levels; i++) to = put(to, nest->open);
+    size_t times = SIZE / (strlen(nest->open) + strlen(nest->close));
+    for (size_t i = 0; i < times; i++) to = put(to, nest->open);
     to = put(to, nest->inner);
-    for (size_t i = 0; i < levels; i++) to = put(to, nest->close);
+    for (size_t i = 0; i < times; i++) to = put(to, nest->close);
     to = put(to, nest->end);
     cedar_answer answer = CEDAR_ANSWER_INIT;
     call(nest->which, text, (size_t)(to - text), &answer);
-    WANT(answer.status <= CEDAR_FAULTS);
-    printf("%s: %zu levels, status %u, %zu faults\n", nest->name, levels, answer.status, answer.fault_count);
+    printf("%s: %zu times, %zu faults\n", nest->name, times, answer.fault_count);
+    WANT(answer.status == nest->status);
     cedar_answer_free(&answer);
     free(text);
     return 0;

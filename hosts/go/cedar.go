@@ -122,14 +122,21 @@ func (f *Fault) show(out *strings.Builder, name, text string) {
 	if start, end := f.Cause.Start, f.Cause.End; f.HasPlace && start <= end && end <= len(text) {
 		before := text[strings.LastIndexByte(text[:start], '\n')+1 : start]
 		behind, _, _ := strings.Cut(text[start:], "\n")
-		marks := utf8.RuneCountInString(behind[:min(end-start, len(behind))])
+		marked := behind
+		if end-start < len(behind) {
+			marked = behind[:end-start]
+		}
+		marks := utf8.RuneCountInString(marked)
+		if marks == 0 {
+			marks = 1
+		}
 		blank := strings.Map(func(c rune) rune {
 			if c == '\t' {
 				return c
 			}
 			return ' '
 		}, before)
-		carets := strings.Repeat("^", max(marks, 1))
+		carets := strings.Repeat("^", marks)
 		fmt.Fprintf(out, "  | %s%s\n  | %s%s %s\n", before, strings.TrimRight(behind, "\r"), blank, carets, f.Label)
 	}
 	if f.Help != "" {
@@ -233,7 +240,8 @@ func bytesOf(text string) (*C.char, C.size_t) {
 	if len(text) == 0 {
 		return nil, 0
 	}
-	return (*C.char)(unsafe.Pointer(unsafe.StringData(text))), C.size_t(len(text))
+	// A string begins with its pointer; unsafe.StringData is of Go 1.20.
+	return *(**C.char)(unsafe.Pointer(&text)), C.size_t(len(text))
 }
 
 // list is a block of the library as a slice; without items there is none.

@@ -8,7 +8,7 @@ import subprocess
 import sys
 import threading
 import unittest
-from typing import Dict, List
+from typing import Any, Dict, List
 
 import cedar
 
@@ -91,6 +91,21 @@ class Calls(unittest.TestCase):
             cedar.position_of("", -1)
         with self.assertRaises(UnicodeEncodeError):
             cedar.parse_policies("\ud800")
+
+    def test_texts_are_strs(self) -> None:
+        others: List[Any] = [b"1", None, 1]
+        for other in others:
+            for call in (
+                cedar.parse_policies,
+                cedar.parse_expression,
+                cedar.format_policies,
+                cedar.write_policies,
+                cedar.layout_policies,
+            ):
+                with self.assertRaises(TypeError):
+                    call(other)
+            with self.assertRaises(TypeError):
+                cedar.position_of(other, 0)
 
     def test_other_libraries_are_refused(self) -> None:
         here = os.path.dirname(os.path.abspath(cedar.__file__))

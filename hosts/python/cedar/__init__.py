@@ -198,17 +198,24 @@ def position_of(text: str, offset: int) -> Position:
     """Where a byte of the text in UTF-8 stands; the text's end, where it lies behind that."""
     if offset < 0:
         raise ValueError("an offset is from 0 on")
-    raw, out = text.encode(), _library.Position()
+    raw, out = _bytes(text), _library.Position()
     if _library.LIBRARY.cedar_position_of(raw, len(raw), min(offset, len(raw)), byref(out)):
         raise MemoryError
     return _position(out)
+
+
+def _bytes(text: str) -> bytes:
+    """A text in UTF-8."""
+    if not isinstance(text, str):
+        raise TypeError(f"a text is a str, not {type(text).__name__}")
+    return text.encode()
 
 
 def _asked(
     name: str, text: str, numbers: Tuple[int, ...], read: Callable[[_library.Answer], T]
 ) -> T:
     """What is read of a call's answer, which is freed."""
-    raw, answer = text.encode(), _library.Answer()
+    raw, answer = _bytes(text), _library.Answer()
     try:  # a signal may raise behind the call; an answer that holds nothing may be freed
         getattr(_library.LIBRARY, "cedar_" + name)(raw, len(raw), *numbers, byref(answer))
         if answer.status == 1:

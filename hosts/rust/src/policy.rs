@@ -13,7 +13,7 @@ pub struct PolicySet(Answer);
 impl PolicySet {
     /// The policies that a text means, or all its faults. Want of memory ends the process.
     pub fn parse(text: &str) -> Result<PolicySet, Faults> {
-        or_end(raw::parse_policies(text)).map(PolicySet)
+        or_end(PolicySet::try_parse(text))
     }
 
     /// The same, where want of memory is told.
@@ -202,13 +202,14 @@ pub enum Operator {
 pub struct Scope<'a>(&'a RawScope);
 
 impl<'a> Scope<'a> {
-    /// How it asks.
+    /// How it asks. The library has no other words than these; it would panic at another.
     pub fn operator(self) -> Operator {
         match self.0.operator() {
+            "All" => Operator::All,
             "==" => Operator::Eq,
             "in" => Operator::In,
             "is" => Operator::Is,
-            _ => Operator::All,
+            other => unreachable!("the library has no operator {other}"),
         }
     }
 

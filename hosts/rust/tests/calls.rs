@@ -1,8 +1,9 @@
 //! The calls, as a user of the crate makes them.
 
 use cedar_proved::{
-    format_policies, layout_policies, parse_expression, position_of, write_policies, Effect,
-    Entity, Error, Fault, Faults, Layout, Operator, Policy, PolicySet, Related, Scope,
+    format_policies, layout_policies, parse_expression, position_of, try_format_policies,
+    try_layout_policies, try_parse_expression, try_position_of, try_write_policies, write_policies,
+    Effect, Entity, Error, Fault, Faults, Layout, Operator, Policy, PolicySet, Related, Scope,
 };
 use std::thread;
 
@@ -96,6 +97,33 @@ fn texts_are_written_anew() {
     )
     .unwrap();
     assert!(narrow.starts_with("// all\npermit (\n    principal,\n"));
+}
+
+#[test]
+fn calls_that_tell_want_of_memory_answer_the_same() {
+    let layout = Layout::default();
+    for text in ["permit(principal,action,resource);", "1 + 2", "permit("] {
+        let set = PolicySet::try_parse(text).map(|set| set.len());
+        assert_eq!(set.ok(), PolicySet::parse(text).map(|set| set.len()).ok());
+        let both = [
+            (try_parse_expression(text), parse_expression(text)),
+            (try_format_policies(text), format_policies(text)),
+            (try_write_policies(text), write_policies(text)),
+            (
+                try_layout_policies(text, layout),
+                layout_policies(text, layout),
+            ),
+        ];
+        for (tried, called) in both {
+            match (tried, called) {
+                (Err(Error::Faults(tried)), Err(called)) => {
+                    assert_eq!(tried.to_string(), called.to_string())
+                }
+                (tried, called) => assert_eq!(tried.unwrap(), called.unwrap()),
+            }
+        }
+        assert_eq!(try_position_of(text, 3).unwrap(), position_of(text, 3));
+    }
 }
 
 #[test]
