@@ -240,15 +240,6 @@ const INVALID_PLACES: &[Row] = &[
     Row {
         codes: INVALID,
         look: Look::Start,
-        near: &[Any, Any, Any, Any, Starts("\u{a0}"), Any, Any, Any],
-        expects: None,
-        lacks: None,
-        cause: Cause::Fault,
-        help: "a space that doesn't break stands here: write a plain one",
-    },
-    Row {
-        codes: INVALID,
-        look: Look::Start,
         near: &[Any, Any, Quoted, Word, Starts("\""), Any, Any, Any],
         expects: None,
         lacks: None,
