@@ -24,6 +24,8 @@ enum Escape {
 }
 
 /// Writes a text as it stands between the quotes of a string that means it.
+///
+///     push_escaped(&mut out, "a\"b")?; // writes a\"b
 pub fn push_escaped(out: &mut String, text: &str) -> Result<(), AllocError>
     ensures { IfOk result (λ _.
         string_bytes out.new ≡ string_bytes out.old ++ escaped_text text.now) }

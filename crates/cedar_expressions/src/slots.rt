@@ -54,6 +54,12 @@ impl Expr {
 
     /// The expression and all expressions in it, each before those in it, and these from the left,
     /// however deep they are. (`kind` and `place` tell what each is, and where it stands.)
+    ///
+    ///     for part in value.subexpressions(alloc)? {
+    ///         if let ExprKind::Unary(UnaryCall::GetAttr(name), _) = part.kind() {
+    ///             writeln!(out, "{name}")?;
+    ///         }
+    ///     }
     pub fn subexpressions<'a>(&'a self, alloc: Global) -> Result<Subexpressions<'a>, AllocError>
         ensures { IfOk result (λ all. map (λ e. e.now) (into_iter_items all)
             ≡ subexpressions self.now) }

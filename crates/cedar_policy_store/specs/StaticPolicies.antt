@@ -10,7 +10,8 @@ use Rattle.cedar_policy_store.specs.TemplateSlots.{template_slots}
 -- the first slot of a template, as a refusal names it; want of memory says nothing of slots
 abbrev pub IsReason : Template → NotStatic → Type 0
 IsReason template (Memory _) = Unit {0}
-IsReason template (UnexpectedSlot (FoundSlot slot)) = slice_get (template_slots template) 0 ≡ Some slot
+IsReason template (UnexpectedSlot (FoundSlot slot)) =
+    slice_get (template_slots template) 0 ≡ Some slot
 
 -- the same template, where it has no slot; else its first slot, and the template as it was
 abbrev pub AnswersStatic : Template → Result Template RefusedTemplate → Type 0

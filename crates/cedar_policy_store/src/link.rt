@@ -49,6 +49,9 @@ impl PolicySet {
     /// template of the name; else with `Occupied` where it has a policy or a template of the new
     /// one; else with `NoEntity` or `NoSlot` where the slots aren't those that have an entity,
     /// that of the principal first. After a refusal, want of memory too, the set is as it was.
+    ///
+    ///     let entities = SlotEntities { principal: Some(user), resource: None };
+    ///     set.link(&template, policy, &entities)?;
     pub fn link(
         &mut self,
         template: &PolicyID,

@@ -18,6 +18,11 @@ impl PolicySet {
     /// The static policies and the templates, each once, in the order of their names: behind a
     /// common word by the number at the end, by value, so that `policy9` stands before `policy10`;
     /// else as texts.
+    ///
+    ///     for policy in set.iter(alloc)? {
+    ///         let policy = policy.either(|policy| policy.as_template(), |template| template);
+    ///         writeln!(out, "{}", policy.id())?;
+    ///     }
     pub fn iter<'a>(&'a self, alloc: Global) -> Result<Policies<'a>, AllocError>
         ensures { IfOk result (λ all. IsListing self.now (into_iter_items all)) }
     {

@@ -162,6 +162,8 @@ impl PolicySet {
     }
 
     /// Adds a static policy or a template under its name, as `add_static` and `add_template` do.
+    ///
+    ///     set.add(Either::Left(policy))?;
     pub fn add(&mut self, policy: Either<StaticPolicy, Template>) -> Result<(), PolicySetError>
         ensures added { OnOk result (self.new ≡ maps_with self.old policy) }
         ensures free { OnOk result (holds_id self.old (either_id policy) ≡ false) }

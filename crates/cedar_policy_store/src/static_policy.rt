@@ -72,6 +72,11 @@ impl From<StaticPolicy> for Template {
 
 /// Succeeds exactly for a template without slots, want of memory aside; else the refusal has its
 /// first slot, and hands the template back as it was.
+///
+///     match StaticPolicy::try_from(template) {
+///         Ok(policy) => set.add_static(policy)?,
+///         Err(refused) => set.add_template(refused.into_template())?,
+///     }
 impl TryFrom<Template> for StaticPolicy {
     type Error = RefusedTemplate;
 
@@ -119,7 +124,8 @@ pub enum NotStatic {
 
 impl RefusedTemplate {
     fn with_slot(template: Template, slot: Slot) -> RefusedTemplate
-        ensures { result ≡ record { template = template; reason = UnexpectedSlot (FoundSlot slot) } }
+        ensures { result
+            ≡ record { template = template; reason = UnexpectedSlot (FoundSlot slot) } }
     {
         RefusedTemplate {
             template,
