@@ -180,13 +180,7 @@ impl<T: Drop, S: PushParser<T>> Sequence<S, T> {
             Some(item) => match item.plan(kind) {
                 Some(act) => Some(SequenceAct::On(act)),
                 None => match kind {
-                    TokenKind::Comma => {
-                        if item.ends() {
-                            Some(SequenceAct::Comma)
-                        } else {
-                            None
-                        }
-                    }
+                    TokenKind::Comma if item.ends() => Some(SequenceAct::Comma),
                     _ => None,
                 },
             },

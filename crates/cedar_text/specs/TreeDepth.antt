@@ -1,5 +1,5 @@
 -- How deep a tree nests: the most brackets and `if`s, together, that an expression of it stands
--- in. Each is one call deeper where a tree is converted, printed, copied or dropped.
+-- in. It is a figure that bounds a text; what is done with a tree takes no more stack for it.
 use Rattle.std.specs.Prelude.{ℕ, ◌+◌, ◌≤◌, max, List}
 use Rattle.cedar_grammar.specs.grammar.Grammar.{Rule, IsTreeOf}
 use Rattle.cedar_syntax.specs.trees.Tree.{Tree, Rest, ite, chain, has, like, is, is_in, unary, member, call, index, parens, set, record_of, init, variable_def, condition, policy, policies, none, more}
