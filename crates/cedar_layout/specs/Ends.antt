@@ -1,4 +1,5 @@
--- No line ends with white space, but within a word.
+-- No line ends with a space, a tab, a vertical tab or a form feed, but within a word. Other white
+-- space of Unicode, as at a comment's end, isn't asked about.
 use Rattle.std.specs.Prelude.{ℕ, Bool, true, false, not, ◌&&◌, ◌==◌, IsTrue, List, [], ◌∷◌, drop, slice_range}
 use Rattle.cedar_lexer.specs.Token.{Lexeme}
 use Rattle.cedar_layout.specs.Pieces.{is_blank_byte}

@@ -1,4 +1,5 @@
--- How far lines reach: a word passes the width only where its line could not have ended before it.
+-- How far words reach: one passes the width only where its line could not have ended before it.
+-- Comments aren't counted.
 use Rattle.std.specs.Prelude.{◌≡◌, ◌≤◌, ℕ, nat_lt, Bool, false, ◌||◌, IsTrue, List, [], ◌∷◌}
 use Rattle.cedar_layout.specs.declared.levels.Level.{Level}
 use Rattle.cedar_layout.specs.declared.levels.Level.TheVariants.{Fixed}

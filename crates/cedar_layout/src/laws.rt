@@ -38,7 +38,8 @@ pub fn laid_items_are_read()
 
 /// Whatever a layout decides by a text's words and comments: the text that it makes cuts, has the
 /// same words, and the same comments between them; laid out again it is the same, byte for byte.
-/// No line of it ends with white space, but within a word, and a line feed ends it.
+/// No line of it ends with a space, a tab, a vertical tab or a form feed, but within a word, and a
+/// line feed ends it.
 pub fn layouts_keep()
     ensures cuts { (layout : LayoutRule) (source : List ℕ) (ps : List SpacedItem)
         → IsReadAs source ps
@@ -61,7 +62,8 @@ pub fn layouts_keep()
 {}
 
 /// In a text that the style lays out no word passes the width behind a gap of its line at which
-/// that may end: a line is longer only where it could not have ended before.
+/// that may end: one does only where its line could not have ended before it. Of comments nothing
+/// is said: one beside a word may pass the width.
 pub fn lines_keep_the_width()
     ensures { (options : LayoutOptions) (source : List ℕ) (ps : List SpacedItem)
         → IsReadAs source ps

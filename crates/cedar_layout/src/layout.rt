@@ -19,8 +19,10 @@ use std::alloc::Global;
 /// A text's words and comments over lines, as the style of these options has them.
 ///
 /// The answer has the same words and, between the same words, the same comments, and a call on it
-/// gives the same bytes. A line is longer than the width only where it could not have ended
-/// before; none ends with white space but within a word, and a line feed ends the last.
+/// gives the same bytes. No word passes the width where its line could have ended before it;
+/// comments aren't counted, so a comment beside a word may pass it. No line ends with a space, a
+/// tab, a vertical tab or a form feed, but within a word; other white space of Unicode may stay at
+/// a comment's end. A line feed ends the last line.
 ///
 /// It needs no grammar: each text that cuts into tokens is laid out. Any other is refused with its
 /// bad place, or it is `LayoutError::Memory`.

@@ -3,7 +3,8 @@
 /// How long lines may be, and how much deeper the content of a bracket stands.
 #[derive(Debug, Clone, Copy, PartialEq, Eq)]
 pub struct LayoutOptions {
-    /// How many characters a line may have where its words leave a choice: 80 by default.
+    /// How many characters a line's words may take where they leave a choice: 80 by default.
+    /// Comments aren't counted.
     pub width: usize,
     /// How many spaces deeper the content of a bracket stands: 2 by default.
     pub indent: usize,

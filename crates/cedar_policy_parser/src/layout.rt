@@ -18,9 +18,14 @@ use std::alloc::Global;
 /// The text laid out over lines, as wide and as far indented as the options say: the same words,
 /// and between the same words the same comments. So it has the same tree, places aside, and under
 /// every table it means what `text` means, or nothing where `text` means nothing. A call on the
-/// answer under the same options gives the same bytes. A line of the answer is longer than the
-/// width only where it could not have ended before; none ends with white space, but within a
-/// string; and the answer is empty or ends with a line feed.
+/// answer under the same options gives the same bytes.
+///
+///     let lines = layout_policies(alloc, text, &LayoutOptions { width: 80, indent: 2 })?;
+///
+/// No word of the answer passes the width where its line could have ended before it; comments
+/// aren't counted, so a comment beside a word may pass it. No line ends with a space, a tab, a
+/// vertical tab or a form feed, but within a string; other white space of Unicode may stay at a
+/// comment's end. The answer is empty or ends with a line feed.
 ///
 /// It answers a text exactly where `parse_policies` answers a tree, whether that means something
 /// or not. Any other text is refused with the faults of `parse_policies`, each at its bytes of the

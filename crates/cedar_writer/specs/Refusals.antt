@@ -17,4 +17,5 @@ unwritable_text part.NoAction = codes "an action whose type isn't an action's"
 
 abbrev pub refusal_text : NotWritten → List ℕ
 refusal_text refusal.Memory = codes "want of memory"
-refusal_text (refusal.NotWritable unwritable) = codes "no text means " ++ unwritable_text unwritable
+refusal_text (refusal.NotWritable unwritable) =
+    codes "no text means " ++ unwritable_text unwritable

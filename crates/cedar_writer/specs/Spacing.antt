@@ -1,6 +1,7 @@
--- How words stand: one space between two, but none behind `(`, `[`, `.`, `::`, `@`, `!` and a sign,
--- none before `)`, `]`, `,`, `;`, `.` and `::`, none before the `(` of a call or the `[` of an
--- access. Where the two would run together there is a space all the same. Behind a `;` a line ends.
+-- How words stand: one space between two, but none behind `(`, `[`, `.`, `::`, `@`, `!` and a
+-- sign, none before `)`, `]`, `,`, `;`, `.` and `::`, none before the `(` of a call or the `[` of
+-- an access. Where the two would run together there is a space all the same. Behind a `;` a line
+-- ends.
 use Rattle.std.specs.Prelude.{ℕ, Bool, true, false, cond, not, ◌&&◌, ◌||◌, ◌==◌, List, [], ◌∷◌, ◌++◌, codes, slice_index}
 use Rattle.std.specs.Char.{is_ascii_digit}
 use Rattle.std.specs.Str.{byte}

@@ -1,5 +1,5 @@
--- The words of a value, level by level as in the strict grammar: an operand that stands looser than
--- its place wants is put in parentheses.
+-- The words of a value, level by level as in the strict grammar: an operand that stands looser
+-- than its place wants is put in parentheses.
 use Rattle.std.specs.Prelude.{ℕ, suc, Bool, true, false, ◌&&◌, nat_le, List, [], ◌∷◌, ◌++◌, codes, pos, negsuc, if◌then◌else◌}
 use Rattle.std.specs.Option.{is_none}
 use Rattle.cedar_lexer.specs.declared.token.TokenKind.{TokenKind}

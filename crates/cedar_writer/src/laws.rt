@@ -121,7 +121,8 @@ pub fn lines_are_cut()
         → (ts : List Lexeme) × Cuts (line_of all) ts × (words_of ts ≡ all) }
 {}
 
-/// What is written of an entity is what is shown of it; it is cut into tokens that are that entity.
+/// What is written of an entity is what is shown of it; it is cut into tokens that are that
+/// entity.
 pub fn entity_texts_stand()
     ensures shown { (uid : EntityUID) → line_of (entity_words uid) ≡ entity_text uid }
     ensures cut { (uid : EntityUID) → IsWritableEntity uid

@@ -336,7 +336,8 @@ fn open_method_of<'a>(
     todo: &mut Pending<'a>,
 ) -> Result<(), NotWritten>
     ensures { Stacks (method_todo (expr_meaning a.now) id.now
-        (whole_todo (expr_meaning b.now) ∷ [])) result (todos_seen todo.old) (todos_seen todo.new) }
+        (whole_todo (expr_meaning b.now) ∷ [])) result
+        (todos_seen todo.old) (todos_seen todo.new) }
 {
     let items = [
         Todo::Operand(Sort::Member, a),

@@ -302,9 +302,9 @@ fn write_condition_parts(
     ensures { Writes (conditions_words (table_of styles.now) (conditions_of
         (option_map unplaced (option_copied condition.entry))) []) (AreWritableConditions
         (table_of styles.now) sign_limit (conditions_of
-        (option_map unplaced (option_copied condition.entry)))) (AreUnwritable (table_of styles.now)
-        sign_limit (conditions_of (option_map unplaced (option_copied condition.entry)))) result
-        out.old out.new }
+        (option_map unplaced (option_copied condition.entry))))
+        (AreUnwritable (table_of styles.now) sign_limit (conditions_of
+        (option_map unplaced (option_copied condition.entry)))) result out.old out.new }
 {
     match condition {
         None => Ok(()),

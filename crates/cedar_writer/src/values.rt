@@ -76,6 +76,8 @@ pub fn template_to_cedar(
 }
 
 /// The same of a policy without slots.
+///
+///     let line = static_policy_to_cedar(alloc, policy, &ExtStyles::cedar(alloc)?)?;
 pub fn static_policy_to_cedar(
     alloc: Global,
     policy: &StaticPolicy,
@@ -91,8 +93,8 @@ pub fn static_policy_to_cedar(
     template_to_cedar(alloc, policy.as_template(), styles)
 }
 
-/// The policies and templates of a set as Cedar text, each on a line with a line feed behind it, in
-/// the order of `PolicySet::iter`: `policy10` stands behind `policy9`.
+/// The policies and templates of a set as Cedar text, each on a line with a line feed behind it,
+/// in the order of `PolicySet::iter`: `policy10` stands behind `policy9`.
 ///
 ///     let text = policyset_to_cedar(alloc, &set, &ExtStyles::cedar(alloc)?)?;
 ///

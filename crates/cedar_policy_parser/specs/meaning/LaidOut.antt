@@ -57,8 +57,8 @@ pub record Keeps (text other : List ℕ) : Type 0 where
   pub tree : KeepsTree text other
   pub meaning : KeepsMeaning text other
 
--- no line ends with white space, but within a word, and a line feed ends the text where it isn't
--- empty
+-- no line ends with a space, a tab, a vertical tab or a form feed, but within a word, and a line
+-- feed ends the text where it isn't empty
 pub record EndsItsLines (text : List ℕ) : Type 0 where
   pub cleanly : (ts : List Lexeme) → Cuts text ts → EndCleanly text 0 ts
   pub last : (text ≡ []) ⊎ ((front : List ℕ) × (text ≡ front ++ codes "\n"))
