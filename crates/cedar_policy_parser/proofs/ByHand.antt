@@ -1,9 +1,11 @@
 -- Any tree is tidy by hand, where nothing is asked of it; so its faults are of the kinds of a
 -- policy, and there are some.
 use Rattle.std.proofs.Common.{ℕ, List, [], ◌∷◌, Option, Some, None}
+use Rattle.cedar_expressions.specs.declared.atoms.Var.{Var}
 use Rattle.cedar_syntax.specs.declared.node.Node.{Node}
 use Rattle.cedar_syntax.specs.declared.cst.Annotation.{Annotation}
 use Rattle.cedar_syntax.specs.declared.cst.Cond.{Cond}
+use Rattle.cedar_syntax.specs.declared.cst.Expr.{Expr}
 use Rattle.cedar_syntax.specs.declared.cst.Ident.{Ident}
 use Rattle.cedar_syntax.specs.declared.cst.Ident.TheVariants as words
 use Rattle.cedar_syntax.specs.declared.cst.Literal.{Literal}
@@ -18,21 +20,22 @@ use Rattle.cedar_syntax.specs.declared.cst.Ref.TheVariants as refs
 use Rattle.cedar_syntax.specs.declared.cst.VariableDef.{VariableDef}
 use Rattle.cedar_syntax.specs.trees.Forms.{located, add_form, expr_form}
 use Rattle.cedar_syntax.specs.trees.Located.{Located, Form, Parts, missing, at, only, ite, chain, has, like, is, is_in, unary, member, field, call, index, literal, name, slot, reference, parens, set, record_of, init, none, more}
-use Rattle.cedar_policy_conversion.specs.AnnotationKeys.{annotation_outcome, with_new_key}
+use Rattle.cedar_policy_conversion.specs.AnnotationKeys.{annotation_outcome, annotations_outcome, with_new_key}
 use Rattle.cedar_policy_conversion.specs.Conditions.{condition_outcome}
 use Rattle.cedar_conversion.specs.strict.Extensions.{Extensions}
 use Rattle.cedar_conversion.specs.outcome.Conversion.{value_outcome}
 use Rattle.cedar_conversion.specs.outcome.Outcome.{next}
 use Rattle.cedar_conversion.specs.parts.Entities.{entity_outcome}
 use Rattle.cedar_conversion.specs.parts.Literals.{string_outcome}
-use Rattle.cedar_conversion.specs.parts.Names.{valid_ident}
+use Rattle.cedar_conversion.specs.parts.Names.{valid_ident, any_ident as any_outcome}
 use Rattle.cedar_policy_conversion.specs.Policies.{effect_outcome, template_outcome, policies_outcome}
+use Rattle.cedar_policy_conversion.specs.References.{referent_outcome, single_entity, entity_or_slot, one_or_multiple}
 use Rattle.cedar_policy_conversion.specs.Scope.{scope_outcome}
 use Rattle.cedar_policy_parser.proofs.standing.Standing.{by_hand, IsTold, Stands, Anything, weaker}
 use Rattle.cedar_policy_parser.proofs.standing.StandingAlone.{string_stands}
-use Rattle.cedar_policy_parser.proofs.standing.StandingLeaves.{entity_stands, valid_stands}
-use Rattle.cedar_policy_parser.proofs.standing.StandingPolicies.{condition_stands, effect_stands, new_annotation_stands, template_stands, policies_stand}
-use Rattle.cedar_policy_parser.proofs.standing.StandingScopes.{scope_stands}
+use Rattle.cedar_policy_parser.proofs.standing.StandingLeaves.{entity_stands, valid_stands, any_stands}
+use Rattle.cedar_policy_parser.proofs.standing.StandingPolicies.{annotations_stand, condition_stands, effect_stands, new_annotation_stands, template_stands, policies_stand}
+use Rattle.cedar_policy_parser.proofs.standing.StandingScopes.{referred_stands, single_refuses, slot_refuses, multiple_refuses, scope_stands}
 use Rattle.cedar_policy_parser.proofs.standing.StandingTrees.{expression_stands}
 use Rattle.cedar_policy_parser.proofs.tidy.Tidy.{Holding, NodeTidy, Each, IdentHeld, IdentTidy, NameTidy, LiteralTidy, RefTidy, Tidy, FormTidy, PartsTidy, AccessesTidy, AccessTidy, AccessFormTidy, PairsTidy, PairTidy, PairFormTidy}
 use Rattle.cedar_policy_parser.proofs.tidy.TidyPolicies.{IfThere, AddTidy, ConstraintTidy, ExprTidy, AnnotationTidy, ElementTidy, CondTidy, PolicyTidy, PoliciesTidy}
@@ -172,11 +175,26 @@ any_entity_stands n = weaker by_hand Anything (entity_outcome n) (entity_stands 
 pub any_identifier_stands : (n : Node (Option Ident)) → Stands IsTold by_hand Anything (valid_ident n)
 any_identifier_stands n = weaker by_hand Anything (valid_ident n) (valid_stands by_hand n (any_ident n))
 
+pub any_word_stands : (n : Node (Option Ident)) → Stands IsTold by_hand Anything (any_outcome n)
+any_word_stands n = weaker by_hand Anything (any_outcome n) (any_stands by_hand n (any_ident n))
+
+pub any_single_stands : (x : Var) (n : Node (Option Expr)) → Stands IsTold by_hand Anything (referent_outcome single_entity x n)
+any_single_stands x n = weaker by_hand Anything (referent_outcome single_entity x n) (referred_stands by_hand single_entity x n (single_refuses by_hand) (any_tree (located expr_form n)))
+
+pub any_reference_stands : (x : Var) (n : Node (Option Expr)) → Stands IsTold by_hand Anything (referent_outcome entity_or_slot x n)
+any_reference_stands x n = weaker by_hand Anything (referent_outcome entity_or_slot x n) (referred_stands by_hand entity_or_slot x n (slot_refuses by_hand) (any_tree (located expr_form n)))
+
+pub any_multiple_stands : (x : Var) (n : Node (Option Expr)) → Stands IsTold by_hand Anything (referent_outcome one_or_multiple x n)
+any_multiple_stands x n = weaker by_hand Anything (referent_outcome one_or_multiple x n) (referred_stands by_hand one_or_multiple x n (multiple_refuses by_hand) (any_tree (located expr_form n)))
+
 pub any_effect_stands : (n : Node (Option Ident)) → Stands IsTold by_hand Anything (effect_outcome n)
 any_effect_stands n = effect_stands by_hand n (any_ident n)
 
 pub any_annotation_stands : (keys : List (List ℕ)) (n : Node (Option Annotation)) → Stands IsTold by_hand Anything (next (annotation_outcome n) (with_new_key keys))
 any_annotation_stands keys n = new_annotation_stands by_hand keys n (any_node (AnnotationTidy by_hand) any_annotation n)
+
+pub any_annotations_stand : (ns : List (Node (Option Annotation))) → Stands IsTold by_hand Anything (annotations_outcome ns)
+any_annotations_stand ns = annotations_stand by_hand ns (any_each (NodeTidy by_hand (AnnotationTidy by_hand)) (any_node (AnnotationTidy by_hand) any_annotation) ns)
 
 pub any_scope_stands : (e : Extensions) (p : PolicyImpl) → Stands IsTold by_hand Anything (scope_outcome e p)
 any_scope_stands e p = let h = any_policy (trees.Policy p) in scope_stands e by_hand p h.1.0 h.2

@@ -15,7 +15,7 @@ use Rattle.cedar_grammar.specs.grammar.Sentences.{HasTree}
 use Rattle.cedar_syntax.specs.trees.Trees.{Cell}
 use Rattle.cedar_conversion.specs.strict.Extensions.{Extensions}
 use Rattle.cedar_conversion.specs.outcome.Outcome.{Outcome}
-use Rattle.cedar_policy_conversion.specs.Policies.{policies_outcome}
+use Rattle.cedar_policy_conversion.specs.Policies.{PlacedPolicies, policies_outcome, placed_outcome}
 use Rattle.cedar_policy_parser.specs.faults.Refused.{RefusesSet}
 use Rattle.cedar_conversion.specs.outcome.Seen.{Gives, Refuses}
 use Rattle.cedar_policy_parser.specs.meaning.StrictPolicy.{IsPolicySet}
@@ -78,6 +78,12 @@ pub told_tree : {S : Type 0} (e : Extensions) (meaning : S → free.Policies) (s
     → Gives meaning r (policies_outcome e n) → IfErr r (λ f. RefusesSet e f src)
 told_tree e meaning src n (Ok x) g h = tt
 told_tree e meaning src n (Err f) g h = inr (n, g, h)
+
+-- a set's parts are those of the text's tree, with their places
+pub parts_placed : {S : Type 0} (e : Extensions) (parts : S → PlacedPolicies) (src : List ℕ) (n : Cell Policies) (r : Result S Failure) → IsTreeOf ReadsPolicies src n
+    → Gives parts r (placed_outcome e n) → IfOk r (λ x. (tree : Cell Policies) × IsTreeOf ReadsPolicies src tree × (placed_outcome e tree ≡ Ok (parts x)))
+parts_placed e parts src n (Ok x) g h = (n, g, h)
+parts_placed e parts src n (Err f) g h = tt
 
 -- a text has at most one cut
 abbrev pub OneCut : Type 0

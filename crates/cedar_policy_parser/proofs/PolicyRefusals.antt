@@ -24,7 +24,7 @@ use Rattle.cedar_syntax.specs.trees.Forms.{located, expr_form}
 use Rattle.cedar_grammar.specs.grammar.Grammar.{IsTreeOf}
 use Rattle.cedar_grammar.specs.grammar.LoosePolicies.{ReadsPolicies, ReadsPolicy}
 use Rattle.cedar_syntax.specs.trees.Trees.{Cell}
-use Rattle.cedar_policy_conversion.specs.AnnotationKeys.{annotation_outcome, with_new_key}
+use Rattle.cedar_policy_conversion.specs.AnnotationKeys.{annotation_outcome, annotations_outcome, with_new_key}
 use Rattle.cedar_policy_parser.specs.faults.Blocks.{faults_from}
 use Rattle.cedar_policy_conversion.specs.Conditions.{is_when_of, condition_value, condition_slot_fault, slots_outcome, without_slots, condition_of, condition_outcome}
 use Rattle.cedar_conversion.specs.outcome.Conversion.{Converts, value_outcome}
@@ -32,13 +32,14 @@ use Rattle.cedar_policy_parser.specs.faults.Due.{HoldsCondition, IsWhenOrUnless,
 use Rattle.cedar_conversion.specs.strict.Extensions.{Extensions}
 use Rattle.cedar_conversion.specs.parts.Entities.{entity_outcome}
 use Rattle.cedar_conversion.specs.parts.Literals.{string_outcome}
-use Rattle.cedar_conversion.specs.parts.Names.{content_outcome, valid_ident}
+use Rattle.cedar_conversion.specs.parts.Names.{content_outcome, valid_ident, any_ident}
 use Rattle.cedar_conversion.specs.outcome.Detail as detail
 use Rattle.cedar_conversion.specs.outcome.Outcome.{Kind, NamedFault, Outcome, detailed_outcome, both, next, invalid_effect, invalid_condition, empty_clause, missing_scope_variable, extra_scope_element, expected_static_policy, duplicate_policy_id, duplicate_template_id, membership_invariant_violation, faults_outcome}
 use Rattle.cedar_policy_conversion.specs.Policies.{TemplateParts, effect_of, effect_outcome, template_outcome, scope_slots, unless_slots, is_slot_fault, slot_faults, slot_place, only_static, static_outcome, side_outcome, either_outcome, policies_outcome}
+use Rattle.cedar_policy_conversion.specs.References.{referent_outcome, single_entity, entity_or_slot, one_or_multiple}
 use Rattle.cedar_policy_conversion.specs.Scope.{principal_outcome, action_outcome, resource_outcome, place_behind, if_there, extra_element_fault, no_extra, scope_of, elements_outcome, scope_outcome}
 use Rattle.cedar_expressions.specs.Slots.{slots_of}
-use Rattle.cedar_policy_parser.proofs.ByHand.{any_annotation_stands, any_condition_stands, any_effect_stands, any_entity_stands, any_identifier_stands, any_policy_stands, any_scope_stands, any_set_stands, any_string_stands, any_value_stands}
+use Rattle.cedar_policy_parser.proofs.ByHand.{any_annotation_stands, any_annotations_stand, any_condition_stands, any_effect_stands, any_entity_stands, any_identifier_stands, any_multiple_stands, any_policy_stands, any_reference_stands, any_scope_stands, any_set_stands, any_single_stands, any_string_stands, any_value_stands, any_word_stands}
 use Rattle.cedar_policy_parser.proofs.standing.InBlocks.{made_told, joined_told}
 use Rattle.cedar_policy_parser.proofs.standing.Standing.{Origin, by_hand, parsed, IsTold, IsPlain, KindWithin, Stands, Anything, no_policy_name, no_template_name, no_text_fault, some_told}
 use Rattle.cedar_policy_parser.proofs.standing.StandingScopes.{principal_stands, action_stands, resource_stands}
@@ -285,11 +286,26 @@ entity_names n = no_names by_hand (entity_outcome n) (any_entity_stands n)
 pub identifier_names : (n : Node (Option Ident)) → All IsTellable (faults_from (valid_ident n))
 identifier_names n = no_names by_hand (valid_ident n) (any_identifier_stands n)
 
+pub word_names : (n : Node (Option Ident)) → All IsTellable (faults_from (any_ident n))
+word_names n = no_names by_hand (any_ident n) (any_word_stands n)
+
+pub single_names : (x : Var) (n : Node (Option Expr)) → All IsTellable (faults_from (referent_outcome single_entity x n))
+single_names x n = no_names by_hand (referent_outcome single_entity x n) (any_single_stands x n)
+
+pub reference_names : (x : Var) (n : Node (Option Expr)) → All IsTellable (faults_from (referent_outcome entity_or_slot x n))
+reference_names x n = no_names by_hand (referent_outcome entity_or_slot x n) (any_reference_stands x n)
+
+pub multiple_names : (x : Var) (n : Node (Option Expr)) → All IsTellable (faults_from (referent_outcome one_or_multiple x n))
+multiple_names x n = no_names by_hand (referent_outcome one_or_multiple x n) (any_multiple_stands x n)
+
 pub effect_names : (n : Node (Option Ident)) → All IsTellable (faults_from (effect_outcome n))
 effect_names n = no_names by_hand (effect_outcome n) (any_effect_stands n)
 
 pub annotation_names : (keys : List (List ℕ)) (n : Node (Option Annotation)) → All IsTellable (faults_from (next (annotation_outcome n) (with_new_key keys)))
 annotation_names keys n = no_names by_hand (next (annotation_outcome n) (with_new_key keys)) (any_annotation_stands keys n)
+
+pub annotations_names : (ns : List (Node (Option Annotation))) → All IsTellable (faults_from (annotations_outcome ns))
+annotations_names ns = no_names by_hand (annotations_outcome ns) (any_annotations_stand ns)
 
 pub scope_names : (e : Extensions) (p : PolicyImpl) → All IsTellable (faults_from (scope_outcome e p))
 scope_names e p = no_names by_hand (scope_outcome e p) (any_scope_stands e p)

@@ -14,11 +14,11 @@ mod parse;
 pub mod policy_laws;
 
 pub use cedar_expressions::{
-    AddOp, AnyId, BinaryCall, BinaryOp, Boxed, Eid, EntityType, EntityUID, Expr, ExprBuilder,
-    ExprBuilderInfallibleBuild, ExprKind, ExpressionConstructionError, Id, InternalName, Items,
-    ListCall, Literal, Name, NaryOp, OwnedText, PatternElem, Place, RecordError, ReservedNameError,
-    Slot, SlotEntities, SlotId, Source, Subexpressions, Text, TryClone, UnaryCall, UnaryOp,
-    UnreservedId, Var, push_escaped,
+    AddOp, AnyId, BinaryCall, BinaryOp, Boxed, Eid, EntityType, EntityUID, EscapedText, Expr,
+    ExprBuilder, ExprBuilderInfallibleBuild, ExprKind, ExpressionConstructionError, Id,
+    InternalName, Items, ListCall, Literal, Name, NaryOp, OwnedText, PatternElem, Place,
+    RecordError, ReservedNameError, Slot, SlotEntities, SlotId, Source, Subexpressions, Text,
+    TryClone, UnaryCall, UnaryOp, UnreservedId, Var, push_escaped,
 };
 pub use cedar_layout::LayoutOptions;
 pub use cedar_policy_conversion::cst_to_ast::{
@@ -35,8 +35,8 @@ pub use cedar_policy_store::{
 pub use cedar_syntax::{cst, err, loc, node, position, unescape, util};
 pub use cedar_text::{nesting, text_to_cst};
 pub use cedar_writer::{
-    NotWritable, NotWritten, expr_to_cedar, policyset_to_cedar, static_policy_to_cedar,
-    template_to_cedar,
+    NotWritable, NotWritten, expr_to_cedar, laws as writer_laws, policyset_to_cedar,
+    static_policy_to_cedar, template_to_cedar,
 };
 pub use formatter::format_policies;
 pub use layout::layout_policies;

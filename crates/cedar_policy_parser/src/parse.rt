@@ -1,5 +1,5 @@
 //! From a text to what it means.
-ghost use Rattle.std.specs.Prelude.{◌≡◌, List, MatchResult, IfErr, IfOk};
+ghost use Rattle.std.specs.Prelude.{◌≡◌, List, Ok, MatchResult, IfErr, IfOk};
 ghost use Rattle.cedar_lexer.specs.Token.{Lexeme};
 ghost use Rattle.cedar_lexer.specs.Cut.{Cuts};
 ghost use Rattle.cedar_expressions.specs.Meaning.{expr_meaning};
@@ -8,9 +8,13 @@ ghost use Rattle.cedar_expressions.specs.WithoutPlaces.{without_places};
 ghost use Rattle.cedar_policy_store.specs.PlaceFree.{Policy, Policies, set_meaning};
 ghost use Rattle.cedar_policy_store.specs.PolicyMaps.{PolicyMaps};
 ghost use Rattle.cedar_policy_store.specs.declared.template.Template.{Template};
+ghost use Rattle.cedar_syntax.specs.declared.cst.Policies.{Policies as SetTree};
+ghost use Rattle.cedar_syntax.specs.trees.Trees.{Cell};
+ghost use Rattle.cedar_policy_conversion.specs.Policies.{placed_outcome, set_parts};
 ghost use Rattle.cedar_policy_conversion.specs.PolicyMeaning.{no_policies, policy_id, with_policy};
 ghost use Rattle.cedar_syntax.specs.faults.ParseErrors.{IsMemory};
 ghost use Rattle.cedar_grammar.specs.faults.Leftmost.{HasLeftmost, NumbersFit};
+ghost use Rattle.cedar_grammar.specs.grammar.Grammar.{IsTreeOf};
 ghost use Rattle.cedar_grammar.specs.grammar.LoosePolicies.{ReadsPolicies};
 ghost use Rattle.cedar_grammar.specs.grammar.Sentences.{HasTree};
 ghost use Rattle.cedar_syntax.specs.tokens.Signs.{sign_limit};
@@ -69,11 +73,12 @@ pub fn parse_expression(alloc: Global, text: &str, styles: &ExtStyles) -> Result
 ///
 /// It answers a set exactly if the tokens that the text cuts into have a meaning in the strict
 /// grammar of policy sets under this table, and then that set, the only one, places aside: its
-/// policies and templates under `policy0`, `policy1` and so on. Any other text is refused with one
-/// or more faults, each at its bytes of the text: those of `parse_policies`, all that there are,
-/// or those of `to_policyset`, all that there are. Of a text whose tokens the loose grammar has no
-/// tree for and whose numbers fit 64 bits, one fault starts before all others: at the first token,
-/// or the end, that no sentence of it allows. Or it is `Failure::Memory`.
+/// policies and templates under `policy0`, `policy1` and so on, each with the places of its parts
+/// in the text's tree, as `to_policyset` has them. Any other text is refused with one or more
+/// faults, each at its bytes of the text: those of `parse_policies`, all that there are, or those
+/// of `to_policyset`, all that there are. Of a text whose tokens the loose grammar has no tree for
+/// and whose numbers fit 64 bits, one fault starts before all others: at the first token, or the
+/// end, that no sentence of it allows. Or it is `Failure::Memory`.
 ///
 /// A text that meant a set while no more than four signs in a row were counted means that set.
 /// What a text means stays what it means where a white space character, or a comment with its line
@@ -91,6 +96,9 @@ pub fn parse_policyset(alloc: Global, text: &str, styles: &ExtStyles) -> Result<
     ensures only { (ts : List Lexeme) (meant : Policies) → Cuts text.now ts
         → IsPolicySet (table_of styles.now) sign_limit ts meant
         → MatchResult result (λ set. set_meaning set ≡ meant) IsMemory }
+    ensures placed { IfOk result (λ set. (tree : Cell SetTree)
+        × IsTreeOf ReadsPolicies text.now tree
+        × (placed_outcome (table_of styles.now) tree ≡ Ok (set_parts set))) }
     ensures written_policy { (policy : Policy)
         → IsTextOfPolicy (table_of styles.now) sign_limit policy text.now
         → MatchResult result (λ set. set_meaning set

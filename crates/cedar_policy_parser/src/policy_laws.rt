@@ -4,6 +4,7 @@ ghost use Rattle.std.specs.Prelude.{◌≡◌, ◌≢◌, ◌↔◌, ◌≤◌, 
 ghost use Rattle.std.specs.List.{All};
 ghost use Rattle.either.specs.declared.Either.TheVariants.{Left, Right};
 ghost use Rattle.cedar_expressions.specs.Value.{Value};
+ghost use Rattle.cedar_expressions.specs.declared.atoms.Var.{Var};
 ghost use Rattle.cedar_lexer.specs.Cut.{Cuts};
 ghost use Rattle.cedar_lexer.specs.Token.{Lexeme};
 ghost use Rattle.cedar_lexer.specs.Words.{words_of};
@@ -28,20 +29,21 @@ ghost use Rattle.cedar_grammar.specs.grammar.Place.{placed};
 ghost use Rattle.cedar_grammar.specs.printing.PrintLaw.{SameUpToPlaces};
 ghost use Rattle.cedar_syntax.specs.trees.Trees.{Cell};
 ghost use Rattle.cedar_syntax.specs.trees.UnlocatedTrees.{unlocated_policies};
-ghost use Rattle.cedar_policy_conversion.specs.AnnotationKeys.{annotation_outcome, with_new_key};
+ghost use Rattle.cedar_policy_conversion.specs.AnnotationKeys.{annotation_outcome, annotations_outcome, with_new_key};
 ghost use Rattle.cedar_policy_parser.specs.faults.Blocks.{PartsStandWithin, faults_from, policy_faults, set_faults};
 ghost use Rattle.cedar_policy_conversion.specs.Conditions.{condition_outcome, condition_slot_fault};
 ghost use Rattle.cedar_conversion.specs.outcome.Conversion.{Converts, value_outcome};
 ghost use Rattle.cedar_policy_parser.specs.faults.Due.{HoldsCondition, IsWhenOrUnless, IsTellable, OfParts, RefusesEffect, TellsExtra, TellsMissing};
 ghost use Rattle.cedar_conversion.specs.parts.Entities.{entity_outcome};
 ghost use Rattle.cedar_conversion.specs.parts.Literals.{string_outcome};
-ghost use Rattle.cedar_conversion.specs.parts.Names.{valid_ident};
+ghost use Rattle.cedar_conversion.specs.parts.Names.{any_ident, valid_ident};
 ghost use Rattle.cedar_conversion.specs.strict.Extensions.{Extensions};
 ghost use Rattle.cedar_conversion.specs.outcome.Detail as detail;
 ghost use Rattle.cedar_conversion.specs.outcome.Outcome.{NamedFault, detailed_outcome, next, outcome_value, empty_clause, invalid_condition};
 ghost use Rattle.cedar_policy_conversion.specs.Policies as k;
 ghost use Rattle.cedar_policy_conversion.specs.Policies.{TemplateParts, meaning_of};
 ghost use Rattle.cedar_policy_conversion.specs.PolicyMeaning.{IsStatic};
+ghost use Rattle.cedar_policy_conversion.specs.References.{referent_outcome, single_entity, entity_or_slot, one_or_multiple};
 ghost use Rattle.cedar_policy_conversion.specs.Scope.{scope_outcome};
 ghost use Rattle.cedar_policy_parser.specs.faults.Standing.{StandWithin};
 ghost use Rattle.cedar_policy_parser.specs.meaning.LaidOut.{HaveSameWords, KeepsTree, KeepsMeaning};
@@ -212,9 +214,10 @@ pub fn blocks()
 /// expression, and, if its expression converts, just a `SlotsInConditionClause` for each slot, in
 /// order, where the slot stands within the condition. No fault of a policy's or a set's tree, by
 /// hand too, is of a name that two policies have, nor a text's own, whatever of the two kinds of
-/// policy is wanted; nor is one of the tree of an expression, of a string, of an entity or of an
-/// identifier, nor of an effect, an annotation, a scope or a condition; and where a policy's or a
-/// set's tree, or a part of a policy, is refused there is a fault.
+/// policy is wanted; nor is one of the tree of an expression, also where an entity, a slot or a set
+/// of entities is wanted, of a string, of an entity, of an identifier, where a name is to hold it
+/// or not, nor of an effect, of one or more annotations, of a scope or of a condition. Where a
+/// policy's or a set's tree, or a part of a policy, is refused there is a fault.
 pub fn due()
     ensures effect { (text : List ℕ) (tree : Cell PolicyTree)
         → IsTreeOf ReadsPolicy text tree → OfParts RefusesEffect tree }
@@ -252,10 +255,20 @@ pub fn due()
         → All IsTellable (faults_from (entity_outcome node)) }
     ensures identifier_names { (node : Node (Option Ident))
         → All IsTellable (faults_from (valid_ident node)) }
+    ensures word_names { (node : Node (Option Ident))
+        → All IsTellable (faults_from (any_ident node)) }
+    ensures single_names { (var : Var) (node : Node (Option Expr))
+        → All IsTellable (faults_from (referent_outcome single_entity var node)) }
+    ensures reference_names { (var : Var) (node : Node (Option Expr))
+        → All IsTellable (faults_from (referent_outcome entity_or_slot var node)) }
+    ensures multiple_names { (var : Var) (node : Node (Option Expr))
+        → All IsTellable (faults_from (referent_outcome one_or_multiple var node)) }
     ensures effect_names { (node : Node (Option Ident))
         → All IsTellable (faults_from (k.effect_outcome node)) }
     ensures annotation_names { (keys : List (List ℕ)) (node : Node (Option Annotation))
         → All IsTellable (faults_from (next (annotation_outcome node) (with_new_key keys))) }
+    ensures annotations_names { (nodes : List (Node (Option Annotation)))
+        → All IsTellable (faults_from (annotations_outcome nodes)) }
     ensures scope_names { (table : Extensions) (parts : PolicyImpl)
         → All IsTellable (faults_from (scope_outcome table parts)) }
     ensures condition_names { (table : Extensions) (node : Node (Option Cond))

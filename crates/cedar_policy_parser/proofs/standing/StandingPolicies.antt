@@ -67,8 +67,11 @@ gathered_stand w g (n ∷ ns) h k =
     gathered_stand w (gathering_with g (annotation_outcome n)) ns
     (item_stands w g.all (next (annotation_outcome n) (with_new_key g.keys)) h (new_annotation_stands w g.keys n k.0)) k.1
 
+pub annotations_stand : (w : Origin) (ns : List (Node (Option Annotation))) → Each (NodeTidy w (AnnotationTidy w)) ns → Stands IsTold w Anything (annotations_outcome ns)
+annotations_stand w ns h = gathered_stand w empty_gathering ns tt h
+
 kept_stand : (w : Origin) (ns : List (Node (Option Annotation))) → Each (NodeTidy w (AnnotationTidy w)) ns → Stands IsTold w Anything (kept_outcome ns)
-kept_stand w ns h = then_stands IsTold w Anything (annotations_outcome ns) _ (gathered_stand w empty_gathering ns tt h) (λ all. tt)
+kept_stand w ns h = then_stands IsTold w Anything (annotations_outcome ns) _ (annotations_stand w ns h) (λ all. tt)
 
 -- ---- conditions
 

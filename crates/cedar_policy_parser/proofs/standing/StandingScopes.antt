@@ -88,7 +88,7 @@ entities_stand w (f.more op n ps) h =
     then_stands IsPlain w Anything _ _ (both_any IsPlain w (lone_entity n) (entities ps) (next_stands IsPlain w (Tidy w) Anything (lone n) entity_at (lone_stands w n h.0) (entity_at_stands w)) (entities_stand w ps h.1)) (λ p. tt)
 
 -- a kind refuses a slot at its place, if it does
-abbrev RefusesThere : {T : Type 0} → Origin → RefKind T → Type 0
+abbrev pub RefusesThere : {T : Type 0} → Origin → RefKind T → Type 0
 RefusesThere w k = (p : Option Loc) → LiesIn w p → Stands IsPlain w Anything (k.slot p)
 
 of_variable_stands : {T : Type 0} (w : Origin) (p : Option Loc) (x : Var) (made : T) (s : Slot) → LiesIn w p → Stands IsPlain w Anything (of_variable p x made s)
@@ -109,16 +109,16 @@ referred_at_stands : {T : Type 0} (w : Origin) (k : RefKind T) (x : Var) (n : Lo
 referred_at_stands w k x (f.missing p) r h = alone IsPlain w empty_node p h (anywhere w p h)
 referred_at_stands w k x (f.at p u) r h = referred_form_stands w k x p u r h.0 h.1
 
-referred_stands : {T : Type 0} (w : Origin) (k : RefKind T) (x : Var) (n : Node (Option Expr)) → RefusesThere w k → ExprTidy w n → Stands IsPlain w Anything (referent_outcome k x n)
+pub referred_stands : {T : Type 0} (w : Origin) (k : RefKind T) (x : Var) (n : Node (Option Expr)) → RefusesThere w k → ExprTidy w n → Stands IsPlain w Anything (referent_outcome k x n)
 referred_stands w k x n r h = next_stands IsPlain w (Tidy w) Anything (lone (located expr_form n)) (referent_at k x) (lone_stands w (located expr_form n) h) (λ m i. referred_at_stands w k x m r i)
 
-single_refuses : (w : Origin) → RefusesThere w single_entity
+pub single_refuses : (w : Origin) → RefusesThere w single_entity
 single_refuses w p h = alone IsPlain w wrong_entity_argument p tt h
 
-slot_refuses : (w : Origin) → RefusesThere w entity_or_slot
+pub slot_refuses : (w : Origin) → RefusesThere w entity_or_slot
 slot_refuses w p h = tt
 
-multiple_refuses : (w : Origin) → RefusesThere w one_or_multiple
+pub multiple_refuses : (w : Origin) → RefusesThere w one_or_multiple
 multiple_refuses w p h = alone IsPlain w wrong_entity_argument p tt h
 
 -- ---- an element's variable

@@ -3,10 +3,11 @@ use Rattle.cedar_policy_store.specs.PlaceFree.{set_meaning}
 use Rattle.cedar_grammar.specs.faults.Leftmost.{HasLeftmost}
 use Rattle.cedar_grammar.specs.grammar.LoosePolicies.{ReadsPolicies}
 use Rattle.cedar_syntax.specs.faults.ParseErrors.{IsMemory}
+use Rattle.cedar_policy_conversion.specs.Policies.{set_parts}
 use Rattle.cedar_policy_parser.specs.faults.Refused.{RefusesSet}
 use Rattle.cedar_conversion.specs.strict.Table.{table_of}
 use Rattle.cedar_policy_parser.proofs.Parsed.{err_on, passed_on}
-use Rattle.cedar_policy_parser.proofs.ParsedSets.{tree_found, read_value, read_only, told_tree, has_tree}
+use Rattle.cedar_policy_parser.proofs.ParsedSets.{tree_found, read_value, read_only, parts_placed, told_tree, has_tree}
 use Rattle.cedar_policy_parser.proofs.meaning.RaisedLimit.{old_set}
 use Rattle.cedar_policy_parser.proofs.meaning.VariedTexts.{spaces_clause, parentheses_clause}
 use Rattle.cedar_policy_parser.proofs.Written.{policy_written, policies_written, set_written}
@@ -27,6 +28,10 @@ pub returns-clause-only : goal.returns-clause-only
 returns-clause-only c ts set cut means =
     let d = tree_found (table_of c.args.styles.now) c.args.text.now ts set cut means in
     read_only (table_of c.args.styles.now) set_meaning c.in_ok-tree.tree d.tree set c.into_policyset.result (c.in_ok-tree.ensures.only d.tree d.stands) c.into_policyset.ensures.meant d.gives
+
+pub returns-clause-placed : goal.returns-clause-placed
+returns-clause-placed c =
+    parts_placed (table_of c.args.styles.now) set_parts c.args.text.now c.in_ok-tree.tree c.into_policyset.result c.in_ok-tree.ensures.found c.into_policyset.ensures.placed
 
 pub returns-in_err-tree-clause-refused : goal.returns-in_err-tree-clause-refused
 returns-in_err-tree-clause-refused c = err_on c.from_residual.result c.in_err-tree.field-0.0 (λ f. RefusesSet (table_of c.args.styles.now) f c.args.text.now) c.from_residual.ensures.1 (inl c.in_err-tree.ensures.refused)

@@ -81,3 +81,18 @@ returns-clause-entity_names c = told.entity_names
 
 pub returns-clause-identifier_names : goal.returns-clause-identifier_names
 returns-clause-identifier_names c = told.identifier_names
+
+pub returns-clause-word_names : goal.returns-clause-word_names
+returns-clause-word_names c = told.word_names
+
+pub returns-clause-single_names : goal.returns-clause-single_names
+returns-clause-single_names c = told.single_names
+
+pub returns-clause-reference_names : goal.returns-clause-reference_names
+returns-clause-reference_names c = told.reference_names
+
+pub returns-clause-multiple_names : goal.returns-clause-multiple_names
+returns-clause-multiple_names c = told.multiple_names
+
+pub returns-clause-annotations_names : goal.returns-clause-annotations_names
+returns-clause-annotations_names c = told.annotations_names
