@@ -134,15 +134,27 @@ fn add_comments(
 ) -> Result<(), AllocError> {
     let mut is_below = start == 0;
     for line in gap.split('\n') {
-        for part in line.split('\r') {
-            if let Some((_, comment)) = part.split_once("//") {
-                let place = if is_below { "below" } else { "beside" };
-                let comment = comment.trim_end_matches(is_blank);
-                add(lines, format!(in alloc; "{place} //{comment}")?.as_str())?;
-                is_below = true;
-            }
-        }
+        add_comments_of(alloc, lines, line, is_below)?;
         is_below = true;
+    }
+    Ok(())
+}
+
+/// Puts the comments of a gap's line behind the lines that are there. The first is told as below
+/// where a line ended before, and each later one is.
+fn add_comments_of(
+    alloc: Global,
+    lines: &mut String,
+    line: &str,
+    mut is_below: bool,
+) -> Result<(), AllocError> {
+    for part in line.split('\r') {
+        if let Some((_, comment)) = part.split_once("//") {
+            let place = if is_below { "below" } else { "beside" };
+            let comment = comment.trim_end_matches(is_blank);
+            add(lines, format!(in alloc; "{place} //{comment}")?.as_str())?;
+            is_below = true;
+        }
     }
     Ok(())
 }

@@ -1,5 +1,5 @@
 //! Tests of the writer: operands of each level, deep values, values that no text means; and the
-//! programs of docs/USING.md.
+//! programs of docs/LIBRARY.md.
 mod assertions;
 mod deep;
 mod levels;

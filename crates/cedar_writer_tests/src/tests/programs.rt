@@ -1,4 +1,4 @@
-//! The programs of docs/USING.md, as they stand there.
+//! The programs of docs/LIBRARY.md, as they stand there.
 mod linking;
 mod linting;
 mod listing;

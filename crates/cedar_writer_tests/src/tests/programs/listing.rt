@@ -2,9 +2,7 @@
 use super::super::assertions::{holds_for, made};
 use cedar_policy_parser::err::Failure;
 use cedar_policy_parser::position::Position;
-use cedar_policy_parser::{
-    EntityReference, ExtStyles, PrincipalOrResourceConstraint, Template, parse_policyset,
-};
+use cedar_policy_parser::{ExtStyles, Template, parse_policyset};
 use std::alloc::Global;
 use std::fmt;
 use std::process::Abort;
@@ -23,39 +21,52 @@ fn report<W: fmt::Write>(alloc: Global, text: &str, out: &mut W) -> fmt::Result 
     Ok(())
 }
 
-/// Writes where a policy stands, its name, its effect, its annotations, and whom it is for.
+/// Writes where a policy stands, its name, its effect, its annotations and its scope.
 fn tell<W: fmt::Write>(text: &str, policy: &Template, out: &mut W) -> fmt::Result {
     if let Some(place) = policy.place() {
         let at = Position::of(text, place.offset);
         write!(out, "{}:{}: ", at.line, at.column)?;
     }
-    write!(out, "{} {} ", policy.id(), policy.effect())?;
-    for (key, annotation) in policy.annotations().iter() {
-        write!(out, "@{key} {} ", annotation.as_str())?;
-    }
-    match policy.principal_constraint().as_inner() {
-        PrincipalOrResourceConstraint::Any => writeln!(out, "for all"),
-        PrincipalOrResourceConstraint::Eq(EntityReference::EUID(one)) => writeln!(out, "for {one}"),
-        PrincipalOrResourceConstraint::In(EntityReference::EUID(group)) => {
-            writeln!(out, "for those in {group}")
-        }
-        PrincipalOrResourceConstraint::Is(kind) => writeln!(out, "for each {kind}"),
-        PrincipalOrResourceConstraint::IsIn(kind, EntityReference::EUID(group)) => {
-            writeln!(out, "for each {kind} in {group}")
-        }
-        _ => writeln!(out, "for whom it is linked to"),
-    }
+    write!(
+        out,
+        "{} {} {}",
+        policy.id(),
+        policy.effect(),
+        policy.annotations()
+    )?;
+    let principal = policy.principal_constraint();
+    let action = policy.action_constraint();
+    let resource = policy.resource_constraint();
+    writeln!(out, "{principal}, {action}, {resource}")
 }
 
 /// Texts of policies, and what is told of them.
 const ROWS: [(&str, &str); 3] = [
     (
-        "// whom we trust\n@id(\"edit\") @note(\"all\")\npermit(principal in Group::\"editors\", action, resource);\n  forbid(principal == ?principal, action, resource is Draft);",
-        "2:1: policy0 permit @id edit @note all for those in Group::\"editors\"\n4:3: policy1 forbid for whom it is linked to\n",
+        "// whom we trust\n\
+         @id(\"edit\") @note(\"all\")\n\
+         permit(principal in Group::\"editors\", action, resource);\n  \
+         forbid(principal == ?principal, action, resource is Draft);",
+        "2:1: policy0 permit @id(\"edit\") @note(\"all\") \
+         principal in Group::\"editors\", action, resource\n\
+         4:3: policy1 forbid principal == ?principal, action, resource is Draft\n",
     ),
     (
-        "permit(principal == User::\"\\u{202e}a\\\"b\", action, resource); permit(principal, action, resource); permit(principal is User, action, resource); permit(principal is User in Group::\"g\", action, resource);",
-        "1:1: policy0 permit for User::\"\\u{202e}a\\\"b\"\n1:62: policy1 permit for all\n1:99: policy2 permit for each User\n1:144: policy3 permit for each User in Group::\"g\"\n",
+        "@note(\"\\u{202e}a\\\"b\\n\") \
+         permit(principal == User::\"\\u{202e}a\\\"b\", action, resource);\n\
+         permit(principal is User in Group::\"g\", action == Action::\"a\", \
+         resource in Album::\"b\");\n\
+         permit(principal is App::User, action in [Action::\"a\", Action::\"b\"], \
+         resource == ?resource);\n\
+         permit(principal, action in Action::\"a\", resource is Photo in ?resource);",
+        "1:1: policy0 permit @note(\"\\u{202e}a\\\"b\\n\") \
+         principal == User::\"\\u{202e}a\\\"b\", action, resource\n\
+         2:1: policy1 permit principal is User in Group::\"g\", action == Action::\"a\", \
+         resource in Album::\"b\"\n\
+         3:1: policy2 permit principal is App::User, action in [Action::\"a\", Action::\"b\"], \
+         resource == ?resource\n\
+         4:1: policy3 permit principal, action in [Action::\"a\"], \
+         resource is Photo in ?resource\n",
     ),
     ("", ""),
 ];

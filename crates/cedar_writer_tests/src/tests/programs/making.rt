@@ -8,7 +8,22 @@ use cedar_policy_parser::{
 };
 use std::alloc::{AllocError, Global};
 use std::collections::BTreeMap;
+use std::fmt;
 use std::process::Abort;
+
+/// Writes for each line of a text a policy by which the user of this identifier may read the
+/// document `7`.
+fn report<W: fmt::Write>(alloc: Global, text: &str, out: &mut W) -> fmt::Result {
+    for user in text.lines() {
+        match share(alloc, ("User", user), ("Document", "7")) {
+            Ok(Some(line)) => writeln!(out, "{line}")?,
+            Ok(None) => writeln!(out, "a type isn't a name")?,
+            Err(NotWritten::Memory) => return Err(fmt::Error),
+            Err(refusal) => writeln!(out, "{refusal}")?,
+        }
+    }
+    Ok(())
+}
 
 /// A policy by which a user may read a document that is the user's own, whatever characters their
 /// names have; `None` where one of the types isn't a name.
@@ -72,7 +87,8 @@ const ROWS: [((&str, &str), (&str, &str), &str); 2] = [
     (
         ("User", "alice"),
         ("Document", "7"),
-        "permit (principal == User::\"alice\", action == Action::\"read\", resource == Document::\"7\") when { resource.owner == principal };",
+        "permit (principal == User::\"alice\", action == Action::\"read\", \
+         resource == Document::\"7\") when { resource.owner == principal };",
     ),
     (
         (
@@ -80,7 +96,9 @@ const ROWS: [((&str, &str), (&str, &str), &str); 2] = [
             "eve\", action, resource); permit(principal, action, resource); //",
         ),
         ("Document", "\\\n"),
-        "permit (principal == User::\"eve\\\", action, resource); permit(principal, action, resource); //\", action == Action::\"read\", resource == Document::\"\\\\\\n\") when { resource.owner == principal };",
+        "permit (principal == User::\"eve\\\", action, resource); \
+         permit(principal, action, resource); //\", action == Action::\"read\", \
+         resource == Document::\"\\\\\\n\") when { resource.owner == principal };",
     ),
 ];
 
@@ -105,4 +123,18 @@ fn shares_nothing_of_no_type(rt: HostRuntime) {
         holds_for(&rt, line.is_none(), kind);
         drop(line);
     }
+}
+
+/// What is written of two users.
+const LINES: &str = "permit (principal == User::\"alice\", action == Action::\"read\", \
+    resource == Document::\"7\") when { resource.owner == principal };\n\
+    permit (principal == User::\"\\\"\", action == Action::\"read\", \
+    resource == Document::\"7\") when { resource.owner == principal };\n";
+
+#[test]
+fn shares_with_the_user_of_each_line(rt: HostRuntime) {
+    let mut out = String::new(rt.alloc());
+    made(&rt, report(rt.alloc(), "alice\n\"\n", &mut out));
+    holds_for(&rt, out.as_str() == LINES, &out);
+    drop(out);
 }

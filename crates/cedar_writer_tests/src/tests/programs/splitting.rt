@@ -24,10 +24,11 @@ fn report<W: fmt::Write>(alloc: Global, text: &str, out: &mut W) -> fmt::Result 
         writeln!(out, "-- {id}\n{source}")?;
     }
     match load(alloc, stored.as_slice(), &styles) {
-        Ok(again) => {
+        Ok(Some(again)) => {
             let told = if again == set { "the same" } else { "another" };
             writeln!(out, "-- {told}")
         }
+        Ok(None) => writeln!(out, "-- a name stands twice"),
         Err(Failure::Memory(_)) => Err(fmt::Error),
         Err(Failure::Errors(faults)) => writeln!(out, "{faults}"),
     }
@@ -54,33 +55,54 @@ fn split(
     Ok(stored)
 }
 
-/// The set of the policies that were stored.
+/// The set of the policies that were stored; `None` where a name stands twice, so that no policy
+/// is lost.
 fn load(
     alloc: Global,
     stored: &[(PolicyID, String)],
     styles: &ExtStyles,
-) -> Result<PolicySet, Failure> {
+) -> Result<Option<PolicySet>, Failure> {
     let mut set = PolicySet::new(alloc);
     for (id, source) in stored {
         let tree = parse_policy(alloc, source.as_str())?;
         let policy = tree.to_policy_or_template(alloc, id.try_clone()?, styles)?;
         match set.add(policy) {
+            Ok(()) => {}
             Err(PolicySetError::Memory(error)) => return Err(Failure::Memory(error)),
-            Ok(()) | Err(PolicySetError::Occupied { .. }) => {}
+            Err(PolicySetError::Occupied { .. }) => return Ok(None),
         }
     }
-    Ok(set)
+    Ok(Some(set))
 }
 
 /// Texts of policies, and their pieces.
 const ROWS: [(&str, &str); 3] = [
     (
-        "// first\npermit(principal, action, resource); // behind\n\n// second\n@id(\"b\")\nforbid(principal == ?principal, action, resource) // inside\nwhen { true };\n// last\n",
-        "-- policy0\n// first\npermit(principal, action, resource);\n-- policy1\n// behind\n\n// second\n@id(\"b\")\nforbid(principal == ?principal, action, resource) // inside\nwhen { true };\n-- the same\n",
+        "// first\n\
+         permit(principal, action, resource); // behind\n\n\
+         // second\n\
+         @id(\"b\")\n\
+         forbid(principal == ?principal, action, resource) // inside\n\
+         when { true };\n\
+         // last\n",
+        "-- policy0\n\
+         // first\n\
+         permit(principal, action, resource);\n\
+         -- policy1\n\
+         // behind\n\n\
+         // second\n\
+         @id(\"b\")\n\
+         forbid(principal == ?principal, action, resource) // inside\n\
+         when { true };\n\
+         -- the same\n",
     ),
     (
         "permit(principal, action, resource);permit(principal, action, resource);",
-        "-- policy0\npermit(principal, action, resource);\n-- policy1\npermit(principal, action, resource);\n-- the same\n",
+        "-- policy0\n\
+         permit(principal, action, resource);\n\
+         -- policy1\n\
+         permit(principal, action, resource);\n\
+         -- the same\n",
     ),
     ("// nothing", "-- the same\n"),
 ];
@@ -93,4 +115,25 @@ fn splits_texts(rt: HostRuntime) {
         holds_for(&rt, out.as_str() == *wanted, &out);
         drop(out);
     }
+}
+
+/// Two policies, stored under one name.
+const OF_ONE_NAME: [&str; 2] = [
+    "permit(principal, action, resource);",
+    "forbid(principal, action, resource);",
+];
+
+#[test]
+fn loads_no_name_twice(rt: HostRuntime) {
+    let styles = made(&rt, ExtStyles::cedar(rt.alloc()));
+    let mut stored = Vec::new(rt.alloc());
+    for source in &OF_ONE_NAME {
+        let id = PolicyID::new(made(&rt, String::from_str(rt.alloc(), "a")));
+        let source = made(&rt, String::from_str(rt.alloc(), source));
+        made(&rt, stored.push((id, source)));
+    }
+    let set = made(&rt, load(rt.alloc(), stored.as_slice(), &styles));
+    holds_for(&rt, set.is_none(), &"a");
+    drop((set, stored));
+    drop(styles);
 }
