@@ -1,6 +1,6 @@
 -- Where people and editors see a byte of a text: the line and the column of `Position`, and the
 -- column in UTF-16 units, as the protocol between editors and language servers counts.
-use Rattle.std.specs.Prelude.{◌≡◌, ◌≤◌, ℕ, List, ◌+◌, ◌*◌, ◌==◌, nat_le, if◌then◌else◌, take, length}
+use Rattle.std.specs.Prelude.{◌≡◌, ◌≢◌, ◌≤◌, ◌⊎◌, ℕ, List, [], ◌∷◌, ◌++◌, Option, Some, None, ◌+◌, ◌*◌, ◌==◌, nat_le, if◌then◌else◌, take, length}
 use Rattle.std.specs.List.{sum_by, slice_split}
 use Rattle.cedar_syntax.specs.places.Position.{begins_character, last_line, line_behind, column_behind}
 use Rattle.cedar_report.specs.declared.lines.Spot.{Spot}
@@ -27,6 +27,16 @@ spot_of text offset = spot_behind (take offset text)
 -- the lines of a text, without the line feeds that part them
 abbrev pub lines_of : List ℕ → List (List ℕ)
 lines_of text = slice_split (λ byte. byte == 10) text
+
+-- a line as people are shown it, without the return that may end it
+abbrev pub IsShownFor : List ℕ → List ℕ → Type 0
+IsShownFor line shown = (line ≡ shown ++ 13 ∷ [])
+    ⊎ ((shown ≡ line) × ((front : List ℕ) → line ≢ front ++ 13 ∷ []))
+
+-- the same, where there is such a line; else nothing
+abbrev pub IsShownLine : Option (List ℕ) → List ℕ → Type 0
+IsShownLine (Some line) shown = IsShownFor line shown
+IsShownLine None shown = shown ≡ []
 
 -- a byte of a text with its spot, whose numbers are no larger than it lets them be
 abbrev pub IsStation : List ℕ → Station → Type 0

@@ -1,4 +1,6 @@
 //! Lines of a text with their numbers, and marks under them.
+ghost use Rattle.std.specs.Prelude.{◌≡◌, ◌-◌, slice_get};
+ghost use Rattle.cedar_report.specs.Spots.{spot_of, lines_of, IsShownLine};
 
 use crate::finding::Extent;
 use crate::glyph::{Escaped, column_behind, columns, repeat, write_shown};
@@ -108,12 +110,17 @@ impl<'l, 'a> Frame<'l, 'a> {
         self.write_marked(out, last, mark, mark.text)
     }
 
-    // What of a line stands from one of its bytes up to another.
-    fn span(&self, start: usize, end: usize) -> Span<'a> {
+    // What of a line stands from one of its bytes up to another: the line is that in which people
+    // see the first.
+    fn span(&self, start: usize, end: usize) -> Span<'a>
+        ensures number { result.number
+            ≡ (spot_of self.now.lines.now.text.now start).line - 1 }
+        ensures source { IsShownLine (slice_get (lines_of self.now.lines.now.text.now)
+            result.number) result.source.now }
+    {
         let station = self.lines.station(start);
         let number = station.spot.line.saturating_sub(1);
-        let line = self.lines.line(number).unwrap_or("");
-        let source = line.strip_suffix('\r').unwrap_or(line);
+        let source = self.lines.shown(number);
         let from = start.saturating_sub(station.line_start).min(source.len());
         let to = end
             .saturating_sub(station.line_start)
@@ -128,7 +135,12 @@ impl<'l, 'a> Frame<'l, 'a> {
     }
 
     // What of a line stands before one of its bytes, without the space that it begins with.
-    fn last_span(&self, end: usize) -> Span<'a> {
+    fn last_span(&self, end: usize) -> Span<'a>
+        ensures number { result.number
+            ≡ (spot_of self.now.lines.now.text.now end).line - 1 }
+        ensures source { IsShownLine (slice_get (lines_of self.now.lines.now.text.now)
+            result.number) result.source.now }
+    {
         let whole = self.span(end, end);
         let indent = whole
             .source

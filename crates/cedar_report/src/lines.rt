@@ -3,7 +3,7 @@ ghost use Rattle.std.specs.Prelude.{◌≡◌, ◌≤◌, ◌<◌, ◌+◌, ◌-
 ghost use Rattle.std.specs.Option.{option_map};
 ghost use Rattle.std.specs.List.{All};
 ghost use Rattle.cedar_syntax.specs.places.Position.{is_line_feed, begins_character};
-ghost use Rattle.cedar_report.specs.Spots.{utf16_units, spot_behind, spot_of, lines_of, IsStation};
+ghost use Rattle.cedar_report.specs.Spots.{utf16_units, spot_behind, spot_of, lines_of, IsShownFor, IsShownLine, IsStation};
 
 use std::alloc::{AllocError, Global};
 
@@ -129,6 +129,17 @@ impl<'a> Lines<'a> {
         self.lines.get(number).copied()
     }
 
+    /// A line by its number, counted from 0, as people are shown it: without its line feed, and
+    /// without a return before that; the empty text past the last.
+    pub fn shown(&self, number: usize) -> &'a str
+        ensures { IsShownLine (slice_get (lines_of self.now.text.now) number) result.now }
+    {
+        match self.line(number) {
+            Some(line) => without_return(line),
+            None => "",
+        }
+    }
+
     /// Where a byte stands. Within a character it is the place behind that one, behind the text
     /// the text's end.
     pub fn spot(&self, offset: usize) -> Spot
@@ -170,6 +181,16 @@ impl Station {
         } else {
             Station::first()
         }
+    }
+}
+
+// A line without the return that may end it.
+fn without_return(line: &str) -> &str
+    ensures { IsShownFor line.now result.now }
+{
+    match line.strip_suffix('\r') {
+        Some(rest) => rest,
+        None => line,
     }
 }
 

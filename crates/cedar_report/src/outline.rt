@@ -1,6 +1,6 @@
 //! The brackets of a text and the annotations of its policies, told from its tokens in one pass.
 
-use crate::tokens::Tokens;
+use crate::tokens::{Tokens, closes, opens};
 use std::alloc::{AllocError, Global};
 use std::collections::HashMap;
 
@@ -21,16 +21,6 @@ struct Repeat {
 pub struct Outline {
     open: Vec<Option<usize>>,
     repeats: Vec<Repeat>,
-}
-
-// Whether a token opens a bracket.
-fn opens(word: &str) -> bool {
-    matches!(word, "(" | "[" | "{")
-}
-
-/// Whether a token closes a bracket.
-pub fn closes(word: &str) -> bool {
-    matches!(word, ")" | "]" | "}")
 }
 
 /// The bracket that closes another.

@@ -6,6 +6,7 @@ ghost use Rattle.cedar_report.specs.Findings.{AreTold};
 use crate::finding::Finding;
 use crate::lines::Lines;
 use crate::told::{Before, Sources, tell};
+use cedar_policy_parser::ExtStyles;
 use cedar_syntax::err::ParseErrors;
 use std::alloc::{AllocError, Global};
 
@@ -19,7 +20,8 @@ pub struct Report<'a> {
 
 impl<'a> Report<'a> {
     /// What is told of a text's faults: a finding for each, in their order, with its kind's name,
-    /// its bytes, its message, and what could have stood there. Only want of memory refuses it.
+    /// its bytes, its message, and what could have stood there. What it may call isn't known: so
+    /// hints offer all of Cedar's own names. Only want of memory refuses it.
     pub fn of(
         alloc: Global,
         name: &'a str,
@@ -31,7 +33,23 @@ impl<'a> Report<'a> {
         ensures told { IfOk result (λ report.
             AreTold text.now (faults_of faults.now) report.findings.items) }
     {
-        let sources = Sources::of(alloc, text)?;
+        Report::under(alloc, name, text, faults, None)
+    }
+
+    /// As `of`, and hints offer no name that these styles don't have.
+    pub(crate) fn under(
+        alloc: Global,
+        name: &'a str,
+        text: &'a str,
+        faults: &ParseErrors,
+        styles: Option<&ExtStyles>,
+    ) -> Result<Report<'a>, AllocError>
+        ensures name { IfOk result (λ report. report.name.now ≡ name.now) }
+        ensures text { IfOk result (λ report. report.lines.text.now ≡ text.now) }
+        ensures told { IfOk result (λ report.
+            AreTold text.now (faults_of faults.now) report.findings.items) }
+    {
+        let sources = Sources::of(alloc, text, styles)?;
         let findings = findings(alloc, &sources, faults)?;
         Ok(Report {
             name,
@@ -50,7 +68,7 @@ impl<'a> Report<'a> {
 
 fn findings(
     alloc: Global,
-    sources: &Sources<'_>,
+    sources: &Sources<'_, '_>,
     faults: &ParseErrors,
 ) -> Result<Vec<Finding>, AllocError>
     ensures { IfOk result (λ findings. AreTold sources.now.lines.text.now

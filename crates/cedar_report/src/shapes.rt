@@ -1,12 +1,13 @@
 //! Mistakes that are told by more than the words beside a token: brackets, strings that are never
 //! closed, names near to another one, escapes.
 
-use crate::names::{CONDITIONS, EFFECTS, FUNCTIONS, METHODS, VARIABLES, nearest};
-use crate::outline::{Outline, closes, closing, sign_before};
+use crate::names::{CONDITIONS, EFFECTS, VARIABLES, functions_of, methods_of, nearest};
+use crate::outline::{Outline, closing, sign_before};
 use crate::search::Hint;
 use crate::sight::Sight;
-use crate::tokens::{Tokens, first_line, part};
+use crate::tokens::{Tokens, closes, first_line, part};
 use cedar_lexer::token::TokenKind;
+use cedar_policy_parser::ExtStyles;
 use cedar_syntax::err::{ParseError, ToASTErrorKind, UnescapeError};
 use std::alloc::{AllocError, Global};
 
@@ -37,6 +38,7 @@ pub fn look_at_shape(
     alloc: Global,
     tokens: &Tokens<'_>,
     outline: &Outline,
+    styles: Option<&ExtStyles>,
     sight: &Sight<'_>,
 ) -> Result<Option<Hint>, AllocError> {
     if sight.is_invalid() {
@@ -44,7 +46,7 @@ pub fn look_at_shape(
     } else if sight.is_of_text() {
         of_text(alloc, tokens, outline, sight)
     } else {
-        of_tree(alloc, tokens, sight)
+        of_tree(alloc, tokens, styles, sight)
     }
 }
 
@@ -186,11 +188,12 @@ pub fn ends_something(word: &str) -> bool {
 fn of_tree(
     alloc: Global,
     tokens: &Tokens<'_>,
+    styles: Option<&ExtStyles>,
     sight: &Sight<'_>,
 ) -> Result<Option<Hint>, AllocError> {
     match sight.code {
-        "UnknownMethod" => near_name(alloc, tokens, sight, METHODS),
-        "UnknownFunction" => near_name(alloc, tokens, sight, FUNCTIONS),
+        "UnknownMethod" => near_name(alloc, tokens, sight, methods_of(alloc, styles)?),
+        "UnknownFunction" => near_name(alloc, tokens, sight, functions_of(alloc, styles)?),
         "WrongArity" => placed(alloc, tokens, sight.named),
         "ArbitraryVariable" | "InvalidAccess" => of_variable(alloc, tokens, sight),
         "InvalidEffect" => near_word(alloc, tokens, sight.first, EFFECTS),
@@ -237,12 +240,12 @@ fn near_name(
     alloc: Global,
     tokens: &Tokens<'_>,
     sight: &Sight<'_>,
-    names: &[&'static str],
+    names: Vec<&'static str>,
 ) -> Result<Option<Hint>, AllocError> {
     let Some(index) = sight.named else {
         return Ok(None);
     };
-    match near_word(alloc, tokens, index, names)? {
+    match near_word(alloc, tokens, index, names.as_slice())? {
         Some(hint) => Ok(Some(hint)),
         None => placed(alloc, tokens, Some(index)),
     }

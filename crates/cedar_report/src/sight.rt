@@ -90,16 +90,16 @@ impl<'a> Sight<'a> {
     }
 }
 
-// The token of the name that a fault speaks of: called by it, from a token up to a byte.
+// The token of the name that a fault speaks of: called by it, from a token up to a byte, and not in
+// another call's arguments.
 fn named(tokens: &Tokens<'_>, fault: &ParseError, from: usize, end: usize) -> Option<usize> {
     let (name, is_method) = name_of(fault)?;
-    for index in from..tokens.len() {
-        if tokens.start(index) >= end {
-            return None;
-        }
-        let is_called = tokens.word(index.saturating_add(1)) == "(";
+    let mut at = from;
+    for _ in from..tokens.len() {
+        let index = tokens.find(at, end, name)?;
+        at = index.saturating_add(1);
         let is_behind_dot = tokens.word_before(index, 1) == ".";
-        if is_called && is_behind_dot == is_method && tokens.word(index) == name {
+        if tokens.word(at) == "(" && is_behind_dot == is_method {
             return Some(index);
         }
     }

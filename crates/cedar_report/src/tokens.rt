@@ -75,18 +75,34 @@ impl<'a> Tokens<'a> {
         }
     }
 
-    /// The first token from `from` up to the byte `end` that is spelled so.
+    /// The first token from `from` up to the byte `end` that is spelled so, in no brackets that open
+    /// between the two.
     pub fn find(&self, from: usize, end: usize, word: &str) -> Option<usize> {
+        let mut depth = 0usize;
         for index in from..self.tokens.len() {
+            let here = self.word(index);
             if self.start(index) >= end {
                 return None;
-            }
-            if self.word(index) == word {
+            } else if opens(here) {
+                depth = depth.saturating_add(1);
+            } else if closes(here) {
+                depth = depth.saturating_sub(1);
+            } else if depth == 0 && here == word {
                 return Some(index);
             }
         }
         None
     }
+}
+
+/// Whether a token opens a bracket.
+pub fn opens(word: &str) -> bool {
+    matches!(word, "(" | "[" | "{")
+}
+
+/// Whether a token closes a bracket.
+pub fn closes(word: &str) -> bool {
+    matches!(word, ")" | "]" | "}")
 }
 
 /// What stands from one byte up to another; nothing where that is no range of the text.

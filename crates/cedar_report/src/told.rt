@@ -15,20 +15,27 @@ use crate::sight::{Sight, kinds_of};
 use crate::spelling::look_at_spelling;
 use crate::tokens::Tokens;
 use cedar_lexer::token::TokenKind;
+use cedar_policy_parser::ExtStyles;
 use cedar_syntax::err::ParseError;
 use std::alloc::{AllocError, Global};
 
 /// A text with what is told from it.
 #[derive(Drop)]
-pub struct Sources<'a> {
+pub struct Sources<'a, 's> {
     pub lines: Lines<'a>,
     pub tokens: Tokens<'a>,
     pub outline: Outline,
+    /// what the text may call, where it is known
+    pub styles: Option<&'s ExtStyles>,
 }
 
-impl<'a> Sources<'a> {
-    /// A text, read in a few passes. Only want of memory refuses it.
-    pub fn of(alloc: Global, text: &'a str) -> Result<Sources<'a>, AllocError>
+impl<'a, 's> Sources<'a, 's> {
+    /// A text, read in a few passes, and what it may call. Only want of memory refuses it.
+    pub fn of(
+        alloc: Global,
+        text: &'a str,
+        styles: Option<&'s ExtStyles>,
+    ) -> Result<Sources<'a, 's>, AllocError>
         ensures { IfOk result (λ sources. sources.lines.text.now ≡ text.now) }
     {
         let lines = Lines::of(alloc, text)?;
@@ -38,6 +45,7 @@ impl<'a> Sources<'a> {
             lines,
             tokens,
             outline,
+            styles,
         })
     }
 
@@ -49,6 +57,7 @@ impl<'a> Sources<'a> {
             lines,
             tokens: _,
             outline: _,
+            styles: _,
         } = self;
         lines
     }
@@ -76,7 +85,7 @@ struct Standing {
 /// What is told of a fault. Only want of memory refuses it.
 pub fn tell(
     alloc: Global,
-    sources: &Sources<'_>,
+    sources: &Sources<'_, '_>,
     fault: &ParseError,
     before: &mut Before,
 ) -> Result<Finding, AllocError>
@@ -120,7 +129,7 @@ fn expected_kinds(alloc: Global, fault: &ParseError) -> Result<Vec<TokenKind>, A
 
 fn places(
     alloc: Global,
-    sources: &Sources<'_>,
+    sources: &Sources<'_, '_>,
     fault: &ParseError,
     before: &mut Before,
 ) -> Result<Standing, AllocError>
@@ -160,7 +169,7 @@ fn unplaced(alloc: Global, fault: &ParseError) -> Result<Standing, AllocError>
 // What is told of a fault at its place.
 fn placed(
     alloc: Global,
-    sources: &Sources<'_>,
+    sources: &Sources<'_, '_>,
     sight: &Sight<'_>,
     follows: bool,
 ) -> Result<Standing, AllocError>
@@ -208,7 +217,7 @@ fn help_of(
 // text's shape says; nothing of a fault that follows.
 fn hint_of(
     alloc: Global,
-    sources: &Sources<'_>,
+    sources: &Sources<'_, '_>,
     sight: &Sight<'_>,
     follows: bool,
 ) -> Result<Option<Hint>, AllocError> {
@@ -221,12 +230,18 @@ fn hint_of(
     if let Some(hint) = told_by_table(alloc, &sources.tokens, sight)? {
         return Ok(Some(hint));
     }
-    look_at_shape(alloc, &sources.tokens, &sources.outline, sight)
+    look_at_shape(
+        alloc,
+        &sources.tokens,
+        &sources.outline,
+        sources.styles,
+        sight,
+    )
 }
 
 fn spelling_hint(
     alloc: Global,
-    sources: &Sources<'_>,
+    sources: &Sources<'_, '_>,
     sight: &Sight<'_>,
 ) -> Result<Option<Hint>, AllocError> {
     if sight.is_of_text() {

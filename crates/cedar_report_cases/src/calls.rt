@@ -4,14 +4,15 @@ use cedar_policy_parser::err::{Failure, ParseErrors};
 use cedar_policy_parser::{ExtStyles, parse_policyset};
 use cedar_report::{Palette, Report};
 use std::alloc::{AllocError, Global};
+use std::collections::BTreeSet;
 use std::fmt;
 
 /// The name under which texts are told.
 const NAME: &str = "case";
 
 /// What is written of a text: `human`, `colour`, `plain` or `json` of its faults; behind `beyond `
-/// of what is told behind a bad place too, behind `encoding ` of the bytes that the text has in hex
-/// digits. `ok` where there is nothing to tell.
+/// of what is told behind a bad place too, behind `bare ` without extensions, behind `encoding ` of
+/// the bytes that the text has in hex digits. `ok` where there is nothing to tell.
 pub(crate) fn written(alloc: Global, call: &str, text: &str) -> Result<String, AllocError> {
     match call.strip_prefix("encoding ") {
         Some(way) => of_bytes(alloc, way, text),
@@ -20,7 +21,10 @@ pub(crate) fn written(alloc: Global, call: &str, text: &str) -> Result<String, A
 }
 
 fn of_text(alloc: Global, call: &str, text: &str) -> Result<String, AllocError> {
-    let styles = ExtStyles::cedar(alloc)?;
+    let (call, styles) = match call.strip_prefix("bare ") {
+        Some(call) => (call, bare(alloc)),
+        None => (call, ExtStyles::cedar(alloc)?),
+    };
     let faults = match parse_policyset(alloc, text, &styles) {
         Ok(_) => return String::from_str(alloc, "ok"),
         Err(Failure::Memory(error)) => return Err(error),
@@ -29,6 +33,11 @@ fn of_text(alloc: Global, call: &str, text: &str) -> Result<String, AllocError> 
     let report = told(alloc, call, text, &faults, &styles)?;
     let way = call.strip_prefix("beyond ").unwrap_or(call);
     in_way(alloc, way, &report)
+}
+
+/// The table without extensions.
+fn bare(alloc: Global) -> ExtStyles {
+    ExtStyles::new(BTreeSet::new(alloc), BTreeSet::new(alloc))
 }
 
 fn told<'a>(
