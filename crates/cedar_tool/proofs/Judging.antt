@@ -1,5 +1,5 @@
 -- What is judged of a text, from what the calls say that judge it.
-use Rattle.std.proofs.Common.{◌≡◌, ℕ, List, [], Option, Result, Ok, Err, IfOk, IfErr, OnOk, MatchResult, refl, sym, ap, ◌∙◌}
+use Rattle.std.proofs.Common.{◌≡◌, ℕ, List, [], Option, Result, Ok, Err, IfOk, IfErr, OnOk, MatchResult, refl, ap}
 use Rattle.std.specs.declared.io.Error.{Error}
 use Rattle.cedar_command.specs.Streams.{Writing, AreBytesWritten}
 use Rattle.cedar_lexer.specs.Cut.{Cuts}
@@ -22,7 +22,7 @@ use Rattle.cedar_tool.specs.declared.streams.Console.{Console}
 use Rattle.cedar_tool.specs.Answers.{Meets, Denies, Judges, IsJudged, HasMeaning}
 use Rattle.cedar_tool.specs.Listed.{listed_data, AreJsonLines}
 use Rattle.cedar_tool.specs.Streams.{IsToldOn, MayHold, output_writing, output_writer}
-use Rattle.cedar_tool.proofs.Bytes.{unchanged, nothing_written}
+use Rattle.cedar_tool.proofs.Bytes.{nothing_written}
 
 -- a set that is answered is what the text means under the table
 pub set_meant : {S : Type 0} (table : Extensions) (src : List ℕ) (meaning : S → Policies) (r : Result S Failure)
@@ -41,8 +41,8 @@ set_only table src meaning (Err f) only (set, (ts, cut, means)) = only ts set cu
 pub told_bytes : {O E : Type 0} (contents : O → Option (List ℕ)) (format : Format) (old new : Console O E) → IsToldOn contents format old new
     → (told : List ℕ) × MayHold format told × AreBytesWritten told (output_writing contents old.output new.output)
 told_bytes contents Json old new (same, (told, wrote)) = (told, tt, wrote)
-told_bytes contents Plain old new same = ([], refl, nothing_written _ _ (ap (λ o. contents (output_writer o)) same))
-told_bytes contents (Human colours) old new same = ([], refl, nothing_written _ _ (ap (λ o. contents (output_writer o)) same))
+told_bytes contents Plain old new (same, said) = ([], refl, nothing_written _ _ (ap (λ o. contents (output_writer o)) same))
+told_bytes contents (Human colours) old new (same, said) = ([], refl, nothing_written _ _ (ap (λ o. contents (output_writer o)) same))
 
 -- a text is refused whose faults were told
 pub refused : {O E : Type 0} (contents : O → Option (List ℕ)) (t : Task) (format : Format) (table : Extensions) (name text : List ℕ) (old new : Console O E) → Denies t table text
@@ -58,11 +58,6 @@ refused_by contents t format table name text old new failure (Ok v) denied is to
     rw is.0 (refused contents t format table name text old new (denied is.1) told)
 refused_by contents t format table name text old new failure (Err e) denied is told = tt
 
--- and it says nothing of a text that is accepted
-pub unquiet : (P : Type 0) (failure : Failure) (r : Result Verdict Error) → IfOk r (λ v. (v ≡ Refused) × ¬ IsMemory failure) → IfOk r (λ v. v ≡ Accepted → P)
-unquiet P failure (Ok v) is = λ same. let bad : Refused ≡ Accepted = sym is.0 ∙ same in cc
-unquiet P failure (Err e) is = tt
-
 -- a text is accepted of which nothing is written
 pub silent : (t : Task) (format : Format) (table : Extensions) (name text : List ℕ) (a b : Option (List ℕ)) → b ≡ a → Meets t table name text [] → IsJudged t format table name text Accepted (record { before = a; after = b })
 silent t format table name text a b same answers = ([], Judges.accepted [] answers, nothing_written a b same)
@@ -72,12 +67,6 @@ pub listed_by : (format : Format) (table : Extensions) (name text : List ℕ) (s
     → IfOk r (λ v. (lines : List ℕ) × AreJsonLines (listed_data name text set) lines × AreBytesWritten lines w) → IfOk r (λ v. IsJudged task.List format table name text v w)
 listed_by format table name text set (Ok v) w means is (lines, are, wrote) = rw is (lines, Judges.accepted lines (set, means, are), wrote)
 listed_by format table name text set (Err e) w means is wrote = tt
-
--- nothing is told where nothing is written
-pub untold : {O E : Type 0} (contents : O → Option (List ℕ)) (format : Format) (console : Console O E) → IsToldOn contents format console console
-untold contents Json console = (refl, ([], unchanged _))
-untold contents Plain console = refl
-untold contents (Human colours) console = refl
 
 pub told_json : {A O E : Type 0} (contents : O → Option (List ℕ)) (old new : Console O E) (bytes : List ℕ) (r : Result A Error) → new.errors ≡ old.errors
     → OnOk r (AreBytesWritten bytes (output_writing contents old.output new.output)) → OnOk r (IsToldOn contents Json old new)

@@ -1,6 +1,7 @@
 mod Bytes
 mod Judging
 mod Serving
+mod Speaking
 mod Stopping
 mod Listing
 mod PolicyShape

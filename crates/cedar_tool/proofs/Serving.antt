@@ -138,14 +138,6 @@ next_tried files request xs i x disk between after v last a b c more all tries =
     rw (map_more (λ n. n.now) xs i x more)
     (one_more files request (map (λ n. n.now) (take i xs)) (get_or xs i x).now disk between after v last a b c all tries)
 
--- both verdicts are good where the worse of them is
-pub both_accepted : (v w : Verdict) → worse v w ≡ Accepted → (v ≡ Accepted) × (w ≡ Accepted)
-both_accepted Accepted w is = (refl, is)
-both_accepted Refused Accepted is = cc
-both_accepted Refused Refused is = cc
-both_accepted Refused Failed is = cc
-both_accepted Failed w is = cc
-
 -- a text without a tree is refused, whatever becomes of its layout
 pub denied : (options : LayoutOptions) (does : Purpose) (table : Extensions) (text : List ℕ) → ¬ HasPolicies text → Denies (task.Format options does) table text
 denied options purpose.Print table text none = none

@@ -1,11 +1,11 @@
 //! Whether a text means policies, and what is told where it doesn't.
-ghost use Rattle.std.specs.Prelude.{◌≡◌, IfOk, IfErr, OnOk};
+ghost use Rattle.std.specs.Prelude.{◌≡◌, IfOk, IfErr, IsUtf8, OnOk};
 ghost use Rattle.cedar_conversion.specs.strict.Table.{table_of};
 ghost use Rattle.cedar_policy_parser.specs.meaning.Formatted.{MeansSet};
 ghost use Rattle.cedar_policy_store.specs.PlaceFree.{set_meaning};
 ghost use Rattle.cedar_syntax.specs.faults.ParseErrors.{IsMemory};
 ghost use Rattle.cedar_tool.specs.Answers.{HasMeaning, IsJudged};
-ghost use Rattle.cedar_tool.specs.Streams.{IsToldOn, StopsRun, output_writing};
+ghost use Rattle.cedar_tool.specs.Streams.{IsToldOn, SpeaksOf, StopsRun, output_writing};
 ghost use Rattle.cedar_tool.specs.declared.ending.Verdict.TheVariants as verdict;
 ghost use Rattle.cedar_tool.specs.declared.request.Task.TheVariants as task;
 
@@ -30,8 +30,8 @@ pub(crate) fn check<O: Write, E: Write>(
     ensures judged { IfOk result (λ v. IsJudged task.Check request.now.format
         (table_of request.now.styles) source.now.name.now source.now.text.now v
         (output_writing O.contents console.old.output console.new.output)) }
-    ensures quiet { IfOk result (λ v. v ≡ verdict.Accepted
-        → console.new.errors ≡ console.old.errors) }
+    ensures said { IfOk result (λ v. SpeaksOf v request.now.format
+        console.old.errors console.new.errors) }
     ensures stops { IfErr result (StopsRun console.new) }
 {
     match set_of(alloc, source.text, &request.styles) {
@@ -96,23 +96,25 @@ fn report_of<'a>(
     }
 }
 
-/// Tells of bytes that they aren't UTF-8, if they aren't.
+/// Tells of bytes that they aren't UTF-8.
 pub(crate) fn tell_not_utf8<O: Write, E: Write>(
     alloc: Global,
     format: Format,
     named: &Named<'_>,
     console: &mut Console<O, E>,
 ) -> io::Result<Verdict>
+    requires { ¬ (IsUtf8 named.now.bytes.now) }
     ensures verdict { IfOk result (λ v. v ≡ verdict.Refused) }
     ensures told { OnOk result (IsToldOn O.contents format console.old console.new) }
     ensures stops { IfErr result (StopsRun console.new) }
 {
-    match Report::not_utf8(alloc, named.name, named.bytes)? {
+    let told = Report::not_utf8(alloc, named.name, named.bytes)?;
+    match told {
         Some(report) => {
             tell(alloc, &report, format, console)?;
             Ok(Verdict::Refused)
         }
-        None => Ok(Verdict::Refused),
+        None => unreachable!(),
     }
 }
 

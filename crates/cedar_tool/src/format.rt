@@ -6,7 +6,7 @@ ghost use Rattle.cedar_policy_parser.specs.meaning.LaidOut.{IsLayoutOf};
 ghost use Rattle.cedar_syntax.specs.faults.ParseErrors.{IsMemory};
 ghost use Rattle.cedar_tool.specs.Answers.{HasPolicies, IsServed};
 ghost use Rattle.cedar_tool.specs.Layouts.{Compares, Rewrites};
-ghost use Rattle.cedar_tool.specs.Streams.{StopsRun, output_writing};
+ghost use Rattle.cedar_tool.specs.Streams.{SpeaksOf, StopsRun, output_state, output_writing};
 ghost use Rattle.cedar_tool.specs.declared.ending.Verdict.TheVariants as verdict;
 ghost use Rattle.cedar_tool.specs.declared.request.Task.TheVariants as task;
 
@@ -16,7 +16,7 @@ use crate::ending::Verdict;
 use crate::remark::not_laid_out;
 use crate::request::{Format, Purpose, Request};
 use crate::serve::fail;
-use crate::streams::Console;
+use crate::streams::{Console, WriterState};
 use crate::texts::Source;
 use cedar_policy_parser::err::Failure;
 use cedar_policy_parser::{LayoutOptions, layout_policies};
@@ -44,8 +44,8 @@ pub(crate) fn format<D: Disk, O: Write, E: Write>(
         layout.now.request.now.format table
         source.now.name.now source.now.text.now disk.old disk.new v
         (output_writing O.contents console.old.output console.new.output)) }
-    ensures quiet { IfOk result (λ v. v ≡ verdict.Accepted
-        → console.new.errors ≡ console.old.errors) }
+    ensures said { IfOk result (λ v. SpeaksOf v layout.now.request.now.format
+        console.old.errors console.new.errors) }
     ensures stops { IfErr result (StopsRun console.new) }
 {
     match laid_of(alloc, source.text, &layout.options) {
@@ -111,6 +111,8 @@ fn rewrite<D: Disk, O: Write, E: Write>(
     ensures output { console.new.output ≡ console.old.output }
     ensures quiet { IfOk result (λ v. v ≡ verdict.Accepted
         → console.new.errors ≡ console.old.errors) }
+    ensures said { IfOk result (λ v. v ≡ verdict.Failed
+        → output_state console.new.errors ≡ WriterState.Written) }
     ensures stops { IfErr result (StopsRun console.new) }
 {
     if laid == source.text {

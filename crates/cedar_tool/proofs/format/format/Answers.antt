@@ -3,6 +3,7 @@ use Rattle.cedar_tool.specs.declared.request.Task.TheVariants as task
 use Rattle.cedar_tool.specs.Streams.{output_writer}
 use Rattle.cedar_tool.proofs.Judging.{refused_by}
 use Rattle.cedar_tool.proofs.Serving.{judged_by, printed_by, compared_by, rewritten_by, denied}
+use Rattle.cedar_tool.proofs.Speaking as speaking
 use Rattle.cedar_tool.proofs.format.format.Goals as goal
 
 pub returns-in-Print-clause-served : goal.returns-in-Print-clause-served
@@ -37,3 +38,19 @@ returns-clause-served g c table =
     judged_by g.D.Disk.files t l.request.now.format table s.name.now s.text.now c.args.disk.now c.args.disk.now c.refuse.result _ refl
     (refused_by g.O.Write.contents t l.request.now.format table s.name.now s.text.now c.args.console.now c.refuse.new.console c.in-Err.failure c.refuse.result
     (λ some. denied l.options l.purpose table s.text.now (λ has. some (c.in-Err.ensures.only has))) c.refuse.ensures.verdict c.refuse.ensures.told)
+
+pub returns-in-Print-clause-said : goal.returns-in-Print-clause-said
+returns-in-Print-clause-said g c =
+    speaking.accepted c.args.layout.now.request.now.format c.args.console.now.errors c.print.new.console.errors c.print.result c.print.ensures.verdict c.print.ensures.quiet
+
+pub returns-in-Check-clause-said : goal.returns-in-Check-clause-said
+returns-in-Check-clause-said g c =
+    speaking.compared_by g.O.Write.contents c.args.layout.now.request.now.format _ _ c.args.console.now c.compare.new.console c.compare.result c.compare.ensures.compared
+
+pub returns-in-Ok-clause-said : goal.returns-in-Ok-clause-said
+returns-in-Ok-clause-said g c =
+    speaking.rewritten_by g.D.Disk.files c.args.layout.now.request.now.format _ _ _ c.args.disk.now c.rewrite.new.disk _ _ c.rewrite.result c.rewrite.ensures.rewritten c.rewrite.ensures.quiet c.rewrite.ensures.said
+
+pub returns-clause-said : goal.returns-clause-said
+returns-clause-said g c =
+    speaking.refused_by g.O.Write.contents c.args.layout.now.request.now.format c.args.console.now c.refuse.new.console _ c.refuse.result c.refuse.ensures.verdict c.refuse.ensures.told

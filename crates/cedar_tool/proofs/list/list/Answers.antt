@@ -1,6 +1,7 @@
 use Rattle.cedar_conversion.specs.strict.Table.{table_of}
 use Rattle.cedar_tool.specs.declared.request.Task.TheVariants as task
-use Rattle.cedar_tool.proofs.Judging.{listed_by, refused_by, unquiet}
+use Rattle.cedar_tool.proofs.Judging.{listed_by, refused_by}
+use Rattle.cedar_tool.proofs.Speaking as speaking
 use Rattle.cedar_tool.proofs.list.list.Goals as goal
 
 pub returns-in-Ok-clause-judged : goal.returns-in-Ok-clause-judged
@@ -12,5 +13,10 @@ returns-in-Err-clause-judged g c =
     refused_by g.O.Write.contents task.List c.args.request.now.format (table_of c.args.request.now.styles) c.args.source.now.name.now c.args.source.now.text.now _ _ c.in-Err.failure c.refuse.result
     (λ some meant. some (c.in-Err.ensures.only meant)) c.refuse.ensures.verdict c.refuse.ensures.told
 
-pub returns-in-Err-clause-quiet : goal.returns-in-Err-clause-quiet
-returns-in-Err-clause-quiet g c = unquiet _ c.in-Err.failure c.refuse.result c.refuse.ensures.verdict
+pub returns-in-Ok-clause-said : goal.returns-in-Ok-clause-said
+returns-in-Ok-clause-said g c =
+    speaking.accepted c.args.request.now.format c.args.console.now.errors c.list_set.new.console.errors c.list_set.result c.list_set.ensures.verdict c.list_set.ensures.quiet
+
+pub returns-in-Err-clause-said : goal.returns-in-Err-clause-said
+returns-in-Err-clause-said g c =
+    speaking.refused_by g.O.Write.contents c.args.request.now.format c.args.console.now c.refuse.new.console _ c.refuse.result c.refuse.ensures.verdict c.refuse.ensures.told

@@ -1,6 +1,7 @@
 use Rattle.std.proofs.Common.{refl}
 use Rattle.cedar_conversion.specs.strict.Table.{table_of}
 use Rattle.cedar_tool.proofs.Serving.{no_text_by}
+use Rattle.cedar_tool.proofs.Speaking.{told_by}
 use Rattle.cedar_tool.proofs.serve.serve_bytes.Goals as goal
 
 pub returns-in-Ok-clause-served : goal.returns-in-Ok-clause-served
@@ -12,3 +13,10 @@ returns-in-Err-clause-served g c =
     let n = c.args.named.now in
     no_text_by g.D.Disk.files g.O.Write.contents r.task r.format (table_of r.styles) n.name.now n.bytes.now c.args.disk.now c.args.disk.now c.args.console.now c.tell_not_utf8.new.console
     c.tell_not_utf8.result refl c.in-Err.ensures.cases.0 c.tell_not_utf8.ensures.verdict c.tell_not_utf8.ensures.told
+
+pub tell_not_utf8-requires : goal.tell_not_utf8-requires
+tell_not_utf8-requires g c = c.in-Err.ensures.cases.0
+
+pub returns-in-Err-clause-said : goal.returns-in-Err-clause-said
+returns-in-Err-clause-said g c =
+    told_by g.O.Write.contents c.args.request.now.format c.args.console.now c.tell_not_utf8.new.console c.tell_not_utf8.result c.tell_not_utf8.ensures.verdict c.tell_not_utf8.ensures.told
