@@ -87,9 +87,10 @@ fn fill<F: Files>(
     old: &Metadata,
     text: &str,
 ) -> io::Result<()> {
-    file.write_all(text.as_bytes())?;
-    // Another owner's file stays that owner's where this may be done.
+    // Another owner's file stays that owner's where this may be done. Both come before the bytes, so
+    // that these are never read by whom the old file is closed to.
     let _ = files.chown(name, Some(old.uid()), Some(old.gid()));
     file.set_permissions(old.permissions())?;
+    file.write_all(text.as_bytes())?;
     file.sync_all()
 }

@@ -47,9 +47,12 @@ fn task_of(name: &str, matches: &ArgMatches<'_>) -> Task {
 }
 
 fn layout_of(matches: &ArgMatches<'_>) -> LayoutOptions {
+    let own = LayoutOptions::default();
     LayoutOptions {
-        width: matches.get_one::<usize>("line-width").unwrap_or(80),
-        indent: matches.get_one::<usize>("indent-width").unwrap_or(2),
+        width: matches.get_one::<usize>("line-width").unwrap_or(own.width),
+        indent: matches
+            .get_one::<usize>("indent-width")
+            .unwrap_or(own.indent),
     }
 }
 
