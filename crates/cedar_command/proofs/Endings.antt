@@ -2,6 +2,7 @@
 use Rattle.std.proofs.Common.{◌≡◌, ◌⊎◌, ℕ, List, [], ◌++◌, Option, Some, None, Result, Ok, Err, IfOk, IfSome, IfErr, inl, inr, sym, ap, subst, ◌∙◌}
 use Rattle.std.specs.Prelude.{String}
 use Rattle.std.specs.Str.{IsUtf8}
+use Rattle.std.specs.declared.io.Error.{Error}
 use Rattle.std.specs.Str.Lossy.{utf8_valid_len}
 use Rattle.cedar_command.specs.declared.run.Ending.{Ending}
 use Rattle.cedar_command.specs.declared.run.Verdict.{Verdict}
@@ -10,14 +11,14 @@ use Rattle.cedar_command.specs.declared.streams.Stop.{Stop}
 use Rattle.cedar_command.specs.declared.streams.Stop.TheVariants.{InputOutput, NotUtf8}
 use Rattle.cedar_command.specs.declared.streams.WriterState.{WriterState}
 use Rattle.cedar_command.specs.Ends.{Streams, Stops, StopsWriting, Unanswered, Ends, TellsEnd, status_of, WasRead, IsAnswered, IsAnswerBegun, IsAnswerWritten, IsVerdict}
-use Rattle.cedar_command.specs.Streams.{Stream, Writing, IsNoText, IsUntouched, writer_state}
+use Rattle.cedar_command.specs.Streams.{FailsToRead, Stream, Writing, IsNoText, IsUntouched, writer_state}
 use Rattle.cedar_command.specs.declared.request.Command.{Command}
 use Rattle.cedar_conversion.specs.strict.Extensions.{Extensions}
 use Rattle.cedar_command.specs.Request.{AsksFor, AsksForNothing, styles_of}
 
 -- the text wasn't had
-pub unread : {O : Type 0} (command : Command) (table : Extensions) (known : Option (List ℕ)) (read : Option Stop) (out : Stream O) (stop : Stop) → IsUntouched out →
-    (read ≡ Some stop) ⊎ ((byte : ℕ) × (stop ≡ NotUtf8 byte) × IsNoText known byte) → Stops command table known read out stop
+pub unread : {O : Type 0} (command : Command) (table : Extensions) (known : Option (List ℕ)) (read : Option Error) (out : Stream O) (stop : Stop) → IsUntouched out →
+    FailsToRead read stop ⊎ ((byte : ℕ) × (stop ≡ NotUtf8 byte) × IsNoText known byte) → Stops command table known read out stop
 unread command table known read out stop same (inl failed) = Stops.unread stop failed same
 unread command table known read out stop same (inr none) = rw none.1 (Stops.no_text none.0 none.2 same)
 
@@ -36,12 +37,12 @@ was_read None given text is same utf8 = (utf8, tt)
 was_read (Some k) given text is same utf8 = (utf8, same ∙ is)
 
 -- it was had, and not answered
-unanswered : {O : Type 0} (command : Command) (table : Extensions) (known : Option (List ℕ)) (read : Option Stop) (out : Stream O) (stop : Stop) (text : List ℕ) →
+unanswered : {O : Type 0} (command : Command) (table : Extensions) (known : Option (List ℕ)) (read : Option Error) (out : Stream O) (stop : Stop) (text : List ℕ) →
     WasRead known text → read ≡ None → StopsWriting (IsAnswerBegun command table text out) (writer_state out.new) stop → Stops command table known read out stop
 unanswered command table known read out stop text had none (inl memory) = rw memory.0 (Stops.wanting text had none memory.1)
 unanswered command table known read out stop text had none (inr failed) = Stops.unwritten stop failed
 
-pub not_answered : {V O : Type 0} (answer : Result V Stop) (command : Command) (table : Extensions) (known : Option (List ℕ)) (read : Option Stop) (out : Stream O) (text : List ℕ) →
+pub not_answered : {V O : Type 0} (answer : Result V Stop) (command : Command) (table : Extensions) (known : Option (List ℕ)) (read : Option Error) (out : Stream O) (text : List ℕ) →
     WasRead known text → read ≡ None → IfErr answer (λ stop. StopsWriting (IsAnswerBegun command table text out) (writer_state out.new) stop) →
     IfErr answer (λ stop. Stops command table known read out stop)
 not_answered (Ok v) command table known read out text had none stops = tt

@@ -2,6 +2,7 @@
 use Rattle.std.specs.Prelude.{◌≡◌, ◌⊎◌, ◌++◌, ℕ, List, [], Option, Some, None, IfSome, String, codes}
 use Rattle.std.specs.Fmt.{decimal}
 use Rattle.std.specs.Str.{IsUtf8}
+use Rattle.std.specs.declared.io.Error.{Error}
 use Rattle.cedar_lexer.specs.Token.{Lexeme}
 use Rattle.cedar_lexer.specs.Cut.{Cuts}
 use Rattle.cedar_expressions.specs.Value.{Value}
@@ -26,10 +27,10 @@ use Rattle.cedar_command.specs.declared.streams.Stop.{Stop}
 use Rattle.cedar_command.specs.declared.streams.Stop.TheVariants.{Memory, InputOutput, NotUtf8}
 use Rattle.cedar_command.specs.declared.streams.Input.{Input}
 use Rattle.cedar_command.specs.declared.streams.WriterState.{WriterState}
-use Rattle.cedar_command.specs.declared.streams.WriterState.TheVariants.{Flushed, Written, Failed}
+use Rattle.cedar_command.specs.declared.streams.WriterState.TheVariants.{Flushed, Written}
 use Rattle.cedar_command.specs.FaultLines.{AreFaultsWritten}
 use Rattle.cedar_command.specs.PolicyLines.{IsSetBegun, IsSetWritten}
-use Rattle.cedar_command.specs.Streams.{Writing, Stream, IsUntouched, AreBytesWritten, read_failure, writer_state, IsNoText}
+use Rattle.cedar_command.specs.Streams.{Writing, Stream, IsUntouched, AreBytesWritten, FailsFor, FailsToRead, read_failure, writer_state, IsNoText}
 use Rattle.cedar_command.specs.declared.request.Command.{Command}
 use Rattle.cedar_command.specs.declared.request.Command.TheVariants.{Expression, Policies, Format}
 use Rattle.cedar_command.specs.Request.{AsksFor, AsksForNothing, styles_of}
@@ -88,7 +89,7 @@ IsAnswerBegun Format table text out = IsUntouched out
 -- what is said where there is none.
 pub record Streams (O E : Type 0) : Type 0 where
   pub known : Option (List ℕ)
-  pub read : Option Stop
+  pub read : Option Error
   pub out : Stream O
   pub err : Stream E
 
@@ -103,15 +104,15 @@ WasRead known text = IsUtf8 text × IfSome known (λ bytes. text ≡ bytes)
 
 -- Why a text gets no verdict, and what stands written then.
 pub data Stops {O : Type 0} (command : Command) (table : Extensions) (known : Option (List ℕ))
-    (read : Option Stop) (out : Stream O) : Stop → Type 0 where
+    (read : Option Error) (out : Stream O) : Stop → Type 0 where
   -- a read failed
-  unread : (stop : Stop) → read ≡ Some stop → IsUntouched out →
+  unread : (stop : Stop) → FailsToRead read stop → IsUntouched out →
       Stops command table known read out stop
   -- what was read isn't UTF-8
   no_text : (byte : ℕ) → IsNoText known byte → IsUntouched out →
       Stops command table known read out (NotUtf8 byte)
   -- a write or the flush failed
-  unwritten : (stop : Stop) → writer_state out.new ≡ Failed stop →
+  unwritten : (stop : Stop) → FailsFor (writer_state out.new) stop →
       Stops command table known read out stop
   -- memory was refused to what is made of a text that was read
   wanting : (text : List ℕ) → WasRead known text → read ≡ None →
@@ -120,7 +121,7 @@ pub data Stops {O : Type 0} (command : Command) (table : Extensions) (known : Op
 -- why a text that was read gets no verdict: memory was refused, where this stands written, or a
 -- write failed
 abbrev pub StopsWriting : Type 0 → WriterState → Stop → Type 0
-StopsWriting Begun state stop = ((stop ≡ Memory) × Begun) ⊎ (state ≡ Failed stop)
+StopsWriting Begun state stop = ((stop ≡ Memory) × Begun) ⊎ FailsFor state stop
 
 -- a text that was read has this verdict, and its answer is written
 abbrev pub IsAnswered : Command → Extensions → Option (List ℕ) → Verdict → Writing → Type 0
@@ -164,7 +165,7 @@ pub data Ends {A O E : Type 0} (words : List (String A)) (s : Streams O E) : End
       Ends words s end
   -- why the run ends could not be told
   untold : (end : Ending) (stop : Stop) → Unanswered words s end →
-      writer_state s.err.new ≡ Failed stop → Ends words s (Stopped InputOutput)
+      FailsFor (writer_state s.err.new) stop → Ends words s (Stopped InputOutput)
 
 abbrev pub status_of : Ending → ℕ
 status_of (Answered Accepted) = 0
@@ -178,4 +179,4 @@ status_of (Stopped (NotUtf8 byte)) = 4
 abbrev pub TellsEnd : {E : Type 0} → Ending → Stream E → ℕ → Type 0
 TellsEnd end err status =
     ((status ≡ status_of end) × IsMessageWritten (message_of end) err)
-    ⊎ ((stop : Stop) × (status ≡ 4) × (writer_state err.new ≡ Failed stop))
+    ⊎ ((stop : Stop) × (status ≡ 4) × FailsFor (writer_state err.new) stop)

@@ -3,13 +3,13 @@ ghost use Rattle.std.specs.Prelude.{◌≡◌, IfOk, OnOk, IfErr, string_bytes};
 ghost use Rattle.cedar_conversion.specs.strict.Table.{table_of};
 ghost use Rattle.cedar_policy_parser.specs.meaning.Formatted.{AreLinesOf};
 ghost use Rattle.cedar_command.specs.Ends.{IsMeant, IsVerdict, IsAnswerWritten, RefusesFor, StopsWriting};
-ghost use Rattle.cedar_command.specs.Streams.{writer_state, writing, AreBytesWritten};
+ghost use Rattle.cedar_command.specs.Streams.{writer_state, writing, AreBytesWritten, FailsFor};
 ghost use Rattle.cedar_command.specs.declared.run.Verdict.TheVariants as verdict;
 ghost use Rattle.cedar_command.specs.declared.request.Command.TheVariants as command;
 ghost use Rattle.cedar_syntax.specs.faults.ParseErrors.{IsMemory};
 
 use crate::run::{Verdict, print_failure};
-use crate::streams::{Output, Stop, WriterState};
+use crate::streams::{Output, Stop};
 use cedar_policy_parser::ExtStyles;
 use cedar_policy_parser::formatter::format_policies;
 use cedar_syntax::err::Failure;
@@ -51,7 +51,7 @@ fn print_lines<O: Write>(lines: &str, out: &mut Output<O>) -> Result<Verdict, St
     ensures verdict { IfOk result (λ v. v ≡ verdict.Accepted) }
     ensures written { OnOk result (AreBytesWritten lines.now
         (writing O.contents out.old out.new)) }
-    ensures failed { IfErr result (λ stop. writer_state out.new ≡ WriterState.Failed stop) }
+    ensures failed { IfErr result (FailsFor (writer_state out.new)) }
 {
     write!(out, "{lines}")?;
     Ok(Verdict::Accepted)

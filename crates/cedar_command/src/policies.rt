@@ -6,13 +6,13 @@ ghost use Rattle.cedar_policy_parser.specs.meaning.Formatted.{MeansSet};
 ghost use Rattle.cedar_policy_store.specs.PlaceFree.{set_meaning};
 ghost use Rattle.cedar_command.specs.Ends.{IsMeant, IsVerdict, IsAnswerWritten, IsAnswerBegun, RefusesFor, StopsWriting};
 ghost use Rattle.cedar_command.specs.PolicyLines.{AreFirstLinesWritten, kind_line, policy_line, policy_lines, set_lines, set_size};
-ghost use Rattle.cedar_command.specs.Streams.{stream, writer_state, writing, AreBytesWritten};
+ghost use Rattle.cedar_command.specs.Streams.{stream, writer_state, writing, AreBytesWritten, FailsFor};
 ghost use Rattle.cedar_command.specs.declared.run.Verdict.TheVariants as verdict;
 ghost use Rattle.cedar_command.specs.declared.request.Command.TheVariants as command;
 ghost use Rattle.cedar_syntax.specs.faults.ParseErrors.{IsMemory};
 
 use crate::run::{Verdict, print_failure};
-use crate::streams::{Output, Stop, WriterState};
+use crate::streams::{Output, Stop};
 use cedar_policy_parser::cst_to_ast::policy_id;
 use cedar_policy_parser::{ExtStyles, parse_policyset};
 use cedar_policy_store::{PolicyID, PolicySet};
@@ -126,7 +126,7 @@ fn print_kind<O: Write>(
 ) -> Result<(), Stop>
     ensures written { OnOk result (AreBytesWritten (kind_line is_kind id.now kind.now)
         (writing O.contents out.old out.new)) }
-    ensures failed { IfErr result (λ stop. writer_state out.new ≡ WriterState.Failed stop) }
+    ensures failed { IfErr result (FailsFor (writer_state out.new)) }
 {
     if is_kind {
         writeln!(out, "{} {kind}", id.as_str())?;

@@ -11,7 +11,7 @@ ghost use Rattle.cedar_conversion.specs.strict.Table.{table_of};
 ghost use Rattle.cedar_policy_parser.specs.faults.Refused.{TellsTree};
 ghost use Rattle.cedar_command.specs.Ends.{IsMeant, IsVerdict, IsAnswerWritten, IsAnswerBegun, IsAnswered, RefusesFor, tree_lines, streams_at, Ends, Stops, StopsWriting, TellsEnd, status_of};
 ghost use Rattle.cedar_command.specs.FaultLines.{AreFaultsWritten, fault_line};
-ghost use Rattle.cedar_command.specs.Streams.{AreBytesWritten, stream, writing, reader_of, read_failure, writer_state};
+ghost use Rattle.cedar_command.specs.Streams.{AreBytesWritten, FailsFor, stream, writing, reader_of, read_failure, writer_state};
 ghost use Rattle.cedar_command.specs.Request.{AsksForNothing, styles_of};
 ghost use Rattle.cedar_command.specs.declared.run.Ending.{Ending as How};
 ghost use Rattle.cedar_command.specs.declared.run.Ending.TheVariants.{Stopped, Usage};
@@ -287,7 +287,7 @@ fn print_tree<O: Write>(tree: &Node<Option<Expr>>, out: &mut Output<O>) -> Resul
     ensures verdict { IfOk result (λ v. v ≡ verdict.Accepted) }
     ensures written { OnOk result (AreBytesWritten (tree_lines tree.now.node)
         (writing O.contents out.old out.new)) }
-    ensures failed { IfErr result (λ stop. writer_state out.new ≡ WriterState.Failed stop) }
+    ensures failed { IfErr result (FailsFor (writer_state out.new)) }
 {
     match tree.as_inner() {
         Some(expr) => writeln!(out, "{expr}\nok")?,
@@ -320,7 +320,7 @@ pub(crate) fn print_failure<O: Write>(
 fn print_faults<O: Write>(faults: &ParseErrors, out: &mut Output<O>) -> Result<(), Stop>
     ensures written { OnOk result (AreBytesWritten (flat_map fault_line (faults_of faults.now))
         (writing O.contents out.old out.new)) }
-    ensures failed { IfErr result (λ stop. writer_state out.new ≡ WriterState.Failed stop) }
+    ensures failed { IfErr result (FailsFor (writer_state out.new)) }
 {
     for fault in faults.iter() {
         print_fault(fault, out)?;
@@ -332,7 +332,7 @@ fn print_faults<O: Write>(faults: &ParseErrors, out: &mut Output<O>) -> Result<(
 pub fn print_fault<O: Write>(fault: &ParseError, out: &mut Output<O>) -> Result<(), Stop>
     ensures written { OnOk result (AreBytesWritten (fault_line fault.now)
         (writing O.contents out.old out.new)) }
-    ensures failed { IfErr result (λ stop. writer_state out.new ≡ WriterState.Failed stop) }
+    ensures failed { IfErr result (FailsFor (writer_state out.new)) }
 {
     match fault.primary_source_span() {
         Some(span) => writeln!(out, "{}..{}: {fault}", span.offset(), span.end())?,

@@ -1,5 +1,5 @@
 //! The streams of a run: a reader and writers, each with how its calls went.
-ghost use Rattle.std.specs.Prelude.{◌≡◌, ◌⊎◌, ℕ, None, Some, OnOk, IfOk, IfErr, IfSome, string_bytes};
+ghost use Rattle.std.specs.Prelude.{◌≡◌, ◌⊎◌, ℕ, None, OnOk, IfOk, IfErr, IfSome, string_bytes};
 ghost use Rattle.std.specs.Io.KnownBytes.{Keeps};
 
 use std::alloc::Global;
@@ -57,11 +57,11 @@ fn cause_of(error: io::Error) -> io::Error {
 #[derive(Drop)]
 pub struct Input<R> {
     reader: R,
-    failure: Option<Stop>,
+    failure: Option<io::Error>,
 }
 
 impl<R: Read + Drop> Input<R> {
-    ghost use Rattle.cedar_command.specs.Streams.{reader_of, read_failure, IsNoText};
+    ghost use Rattle.cedar_command.specs.Streams.{reader_of, read_failure, FailsToRead, IsNoText};
 
     /// A reader that wasn't read yet.
     pub fn new(reader: R) -> Input<R>
@@ -80,18 +80,17 @@ impl<R: Read + Drop> Input<R> {
         ensures text { IfOk result (λ text.
             IfSome (R.remaining (reader_of self.old)) (λ known. string_bytes text ≡ known)) }
         ensures ok { OnOk result (read_failure self.new ≡ None) }
-        ensures err { IfErr result (λ stop. (read_failure self.new ≡ Some stop)
+        ensures err { IfErr result (λ stop. FailsToRead (read_failure self.new) stop
             ⊎ ((byte : ℕ) × (stop ≡ Stop.NotUtf8 byte)
             × IsNoText (R.remaining (reader_of self.old)) byte)) }
     {
-        if let Some(stop) = self.failure {
-            return Err(stop);
+        if let Some(first) = self.failure {
+            return Err(Stop::from(first));
         }
         let mut bytes = Vec::new(alloc);
         if let Err(error) = self.reader.read_to_end(&mut bytes) {
-            let stop = Stop::from(error);
-            self.failure = Some(stop);
-            return Err(stop);
+            self.failure = Some(error);
+            return Err(Stop::from(error));
         }
         match String::from_utf8(bytes) {
             Ok(text) => Ok(text),
@@ -108,7 +107,7 @@ pub enum WriterState {
     /// Each write succeeded, and no flush stands behind the last one.
     Written,
     /// A write or a flush failed; the first that did.
-    Failed(Stop),
+    Failed(io::Error),
 }
 
 /// A writer, and how its calls went. Behind one that failed each call answers that failure.
@@ -168,8 +167,8 @@ impl<W: Write> Output<W> {
         ensures left { Leaves state (writer_state self.old) result (writer_state self.new) }
         ensures kept { writer_of self.new ≡ writer_of self.old }
     {
-        if let WriterState::Failed(stop) = self.state {
-            return Err(stop);
+        if let WriterState::Failed(first) = self.state {
+            return Err(Stop::from(first));
         }
         match answer {
             Ok(()) => {
@@ -177,9 +176,8 @@ impl<W: Write> Output<W> {
                 Ok(())
             }
             Err(error) => {
-                let stop = Stop::from(error);
-                self.state = WriterState::Failed(stop);
-                Err(stop)
+                self.state = WriterState::Failed(error);
+                Err(Stop::from(error))
             }
         }
     }
