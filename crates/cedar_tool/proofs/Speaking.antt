@@ -3,6 +3,10 @@ use Rattle.std.proofs.Common.{◌≡◌, ℕ, List, Option, None, MatchOption, R
 use Rattle.std.specs.declared.io.Error.{Error}
 use Rattle.cedar_tool.specs.declared.ending.Verdict.{Verdict}
 use Rattle.cedar_tool.specs.declared.ending.Verdict.TheVariants.{Accepted, Refused, Failed}
+use Rattle.cedar_conversion.specs.strict.Extensions.{Extensions}
+use Rattle.cedar_report.specs.declared.finding.Finding.{Finding}
+use Rattle.cedar_syntax.specs.declared.err.faults.Failure.{Failure}
+use Rattle.cedar_tool.specs.declared.request.Task.{Task}
 use Rattle.cedar_tool.specs.declared.request.Format.{Format}
 use Rattle.cedar_tool.specs.declared.request.Format.TheVariants.{Human, Plain, Json}
 use Rattle.cedar_tool.specs.declared.streams.Console.{Console}
@@ -11,7 +15,8 @@ use Rattle.cedar_tool.specs.declared.streams.WriterState.TheVariants.{Written}
 use Rattle.cedar_tool.specs.Answers.{worse}
 use Rattle.cedar_tool.specs.Disks.{Files}
 use Rattle.cedar_tool.specs.Layouts.{Compares, Rewrites}
-use Rattle.cedar_tool.specs.Streams.{IsToldOn, SpeaksOf, output_state}
+use Rattle.cedar_tool.specs.Streams.{SpeaksOf, output_state}
+use Rattle.cedar_tool.specs.Told.{IsToldOn, TellsRefusal}
 
 -- what is said of no value
 pub none_said : {A : Type 0} (o : Option A) (P : Type 0) (Q : A → Type 0) → o ≡ None → MatchOption o P Q → P
@@ -23,20 +28,19 @@ accepted format old new (Ok v) is same = rw is same
 accepted format old new (Err e) is same = tt
 
 -- what is told of a refused one is said, but as JSON
-told : {O E : Type 0} (contents : O → Option (List ℕ)) (format : Format) (old new : Console O E) → IsToldOn contents format old new → SpeaksOf Refused format old.errors new.errors
-told contents Json old new (same, wrote) = same
-told contents Plain old new (same, said) = said
-told contents (Human colours) old new (same, said) = said
+pub told : {O E : Type 0} (contents : O → Option (List ℕ)) (format : Format) (name : List ℕ) (findings : List Finding) (old new : Console O E) → IsToldOn contents format name findings old new → SpeaksOf Refused format old.errors new.errors
+told contents Json name findings old new (same, wrote) = same
+told contents Plain name findings old new (same, said) = said
+told contents (Human colours) name findings old new (same, said) = said
 
-pub told_by : {O E : Type 0} (contents : O → Option (List ℕ)) (format : Format) (old new : Console O E) (r : Result Verdict Error) → IfOk r (λ v. v ≡ Refused) → OnOk r (IsToldOn contents format old new)
-    → IfOk r (λ v. SpeaksOf v format old.errors new.errors)
-told_by contents format old new (Ok v) is t = rw is (told contents format old new t)
-told_by contents format old new (Err e) is t = tt
+pub told_by : {E : Type 0} (format : Format) (old new : Output E) (T : Type 0) (r : Result Verdict Error) → (T → SpeaksOf Refused format old new) → IfOk r (λ v. v ≡ Refused) → OnOk r T → IfOk r (λ v. SpeaksOf v format old new)
+told_by format old new T (Ok v) speaks is t = rw is (speaks t)
+told_by format old new T (Err e) speaks is t = tt
 
-pub refused_by : {O E : Type 0} (contents : O → Option (List ℕ)) (format : Format) (old new : Console O E) (P : Type 0) (r : Result Verdict Error) → IfOk r (λ v. (v ≡ Refused) × P) → OnOk r (IsToldOn contents format old new)
-    → IfOk r (λ v. SpeaksOf v format old.errors new.errors)
-refused_by contents format old new P (Ok v) is t = rw is.0 (told contents format old new t)
-refused_by contents format old new P (Err e) is t = tt
+pub refused_by : {O E : Type 0} (contents : O → Option (List ℕ)) (t : Task) (format : Format) (table : Extensions) (name text : List ℕ) (failure : Failure) (old new : Console O E) (P : Type 0) (r : Result Verdict Error) → IfOk r (λ v. (v ≡ Refused) × P)
+    → OnOk r (TellsRefusal contents t format table name text failure old new) → IfOk r (λ v. SpeaksOf v format old.errors new.errors)
+refused_by contents t format table name text failure old new P (Ok v) is tells = rw is.0 (told contents format name tells.findings old new tells.told)
+refused_by contents t format table name text failure old new P (Err e) is tells = tt
 
 -- why a text can't be had is said
 pub failed_by : {E : Type 0} (format : Format) (old new : Output E) (P : Type 0) (r : Result Verdict Error) → IfOk r (λ v. (v ≡ Failed) × P) → OnOk r (output_state new ≡ Written) → IfOk r (λ v. SpeaksOf v format old new)
@@ -44,15 +48,15 @@ failed_by format old new P (Ok v) is said = rw is.0 said
 failed_by format old new P (Err e) is said = tt
 
 -- where two texts part is told
-compared : {O E : Type 0} (contents : O → Option (List ℕ)) (format : Format) (text laid : List ℕ) (old new : Console O E) (v : Verdict) → Compares contents format text laid old new v → SpeaksOf v format old.errors new.errors
-compared contents format text laid old new Accepted c = ap (λ o. o.errors) c.1
-compared contents format text laid old new Refused c = told contents format old new c.1
-compared contents format text laid old new Failed c = absurd c
+compared : {O E : Type 0} (contents : O → Option (List ℕ)) (format : Format) (name text laid : List ℕ) (old new : Console O E) (v : Verdict) → Compares contents format name text laid old new v → SpeaksOf v format old.errors new.errors
+compared contents format name text laid old new Accepted c = ap (λ o. o.errors) c.1
+compared contents format name text laid old new Refused c = told contents format name c.1.0 old new c.1.2
+compared contents format name text laid old new Failed c = absurd c
 
-pub compared_by : {O E : Type 0} (contents : O → Option (List ℕ)) (format : Format) (text laid : List ℕ) (old new : Console O E) (r : Result Verdict Error) → IfOk r (Compares contents format text laid old new)
+pub compared_by : {O E : Type 0} (contents : O → Option (List ℕ)) (format : Format) (name text laid : List ℕ) (old new : Console O E) (r : Result Verdict Error) → IfOk r (Compares contents format name text laid old new)
     → IfOk r (λ v. SpeaksOf v format old.errors new.errors)
-compared_by contents format text laid old new (Ok v) c = compared contents format text laid old new v c
-compared_by contents format text laid old new (Err e) c = tt
+compared_by contents format name text laid old new (Ok v) c = compared contents format name text laid old new v c
+compared_by contents format name text laid old new (Err e) c = tt
 
 -- why a file can't be written is said
 rewritten : {D E : Type 0} (files : D → Option Files) (format : Format) (name text laid : List ℕ) (disk after : D) (old new : Output E) (v : Verdict) → Rewrites files name text laid disk after v → (v ≡ Accepted → new ≡ old)

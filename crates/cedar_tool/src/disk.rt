@@ -87,8 +87,8 @@ fn fill<F: Files>(
     old: &Metadata,
     text: &str,
 ) -> io::Result<()> {
-    // Another owner's file stays that owner's where this may be done. Both come before the bytes, so
-    // that these are never read by whom the old file is closed to.
+    // Another owner's file stays that owner's where this may be done. Both come before the bytes,
+    // so that nobody reads these to whom the old file is closed.
     let _ = files.chown(name, Some(old.uid()), Some(old.gid()));
     file.set_permissions(old.permissions())?;
     file.write_all(text.as_bytes())?;

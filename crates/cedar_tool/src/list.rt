@@ -26,6 +26,7 @@ pub(crate) fn list<O: Write, E: Write>(
     source: &Source<'_>,
     console: &mut Console<O, E>,
 ) -> io::Result<Verdict>
+    requires { request.now.task ≡ task.List }
     ensures judged { IfOk result (λ v. IsJudged task.List request.now.format
         (table_of request.now.styles) source.now.name.now source.now.text.now v
         (output_writing O.contents console.old.output console.new.output)) }
