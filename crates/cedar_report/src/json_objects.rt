@@ -92,7 +92,7 @@ fn related_list(alloc: Global, related: &[Related]) -> Result<Value, AllocError>
 fn related_place(alloc: Global, other: &Related) -> Result<Value, AllocError>
     ensures { IfOk result (λ value. view value ≡ related_data other.now) }
 {
-    let range = range(alloc, &other.extent)?;
+    let range = other.extent.json(alloc)?;
     json!(in alloc; {"message": &other.text, "range": range})
 }
 
@@ -109,17 +109,21 @@ fn optional_range(alloc: Global, extent: &Option<Extent>) -> Result<Value, Alloc
     ensures { IfOk result (λ value. view value ≡ optional_range_data extent.now) }
 {
     match extent {
-        Some(extent) => range(alloc, extent),
+        Some(extent) => extent.json(alloc),
         None => Ok(Value::Null),
     }
 }
 
-fn range(alloc: Global, extent: &Extent) -> Result<Value, AllocError>
-    ensures { IfOk result (λ value. view value ≡ range_data extent.now) }
-{
-    let end = place(alloc, extent.end, &extent.to)?;
-    let start = place(alloc, extent.start, &extent.from)?;
-    json!(in alloc; {"end": end, "start": start})
+impl Extent {
+    /// The range as a JSON object, each end with its byte, its line and its columns. It is refused
+    /// for want of memory alone.
+    pub fn json(&self, alloc: Global) -> Result<Value, AllocError>
+        ensures { IfOk result (λ value. view value ≡ range_data self.now) }
+    {
+        let end = place(alloc, self.end, &self.to)?;
+        let start = place(alloc, self.start, &self.from)?;
+        json!(in alloc; {"end": end, "start": start})
+    }
 }
 
 fn place(alloc: Global, byte: usize, spot: &Spot) -> Result<Value, AllocError>

@@ -19,7 +19,7 @@ pub mod NumbersWritten
 pub mod NumberedSets
 pub mod OpenedParts
 pub mod Openings
-pub mod PlacesBlind
+pub mod WritableWithoutPlaces
 pub mod PoliciesAdded
 pub mod PoliciesWritten
 pub mod PolicyParts

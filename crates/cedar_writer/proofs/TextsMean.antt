@@ -17,7 +17,7 @@ use Rattle.cedar_writer.proofs.Heart.{reads}
 use Rattle.cedar_writer.proofs.Levels.{frees}
 use Rattle.cedar_writer.proofs.LinesCut.{line_cuts, lines_cut}
 use Rattle.cedar_writer.proofs.Meant.{writable}
-use Rattle.cedar_writer.proofs.PlacesBlind.{unplaced_writable}
+use Rattle.cedar_writer.proofs.WritableWithoutPlaces.{unplaced_writable}
 use Rattle.cedar_writer.proofs.Spelled.{spelled}
 use Rattle.cedar_policy_store.specs.declared.template.Template.{Template}
 use Rattle.cedar_policy_store.specs.Listing.{IsListing}
