@@ -1,6 +1,6 @@
 //! What a text may call.
 ghost use Rattle.std.specs.Prelude.{◌≡◌, ◌&&◌, true, false, ℕ, List, IfOk, MatchOption};
-ghost use Rattle.std.specs.BTreeSet.{contains};
+ghost use Rattle.std.specs.BTreeSet.{contains, keys};
 ghost use Rattle.std.specs.List.{list_any};
 ghost use Rattle.std.specs.Str.{bytes_eq};
 ghost use Rattle.cedar_expressions.specs.Path.{Path, is_unreserved_identifier};
@@ -10,6 +10,7 @@ ghost use Rattle.cedar_conversion.specs.strict.Table.{table_of};
 use cedar_expressions::{Id, Name, Text, UnreservedId};
 use std::alloc::{AllocError, Global};
 use std::collections::BTreeSet;
+use std::collections::btree_set::Iter;
 
 /// The functions of Cedar's own extensions.
 const CEDAR_FUNCTIONS: [&str; 4] = ["ip", "decimal", "datetime", "duration"];
@@ -80,6 +81,20 @@ impl ExtStyles {
         ensures { result ≡ (table_of self.now).methods id.now }
     {
         self.methods.contains(id)
+    }
+
+    /// The functions of the table, in the order of their names.
+    pub fn functions(&self) -> Iter<'_, Name>
+        ensures { result ≡ keys self.now.functions }
+    {
+        self.functions.iter()
+    }
+
+    /// The methods of the table, the same.
+    pub fn methods(&self) -> Iter<'_, UnreservedId>
+        ensures { result ≡ keys self.now.methods }
+    {
+        self.methods.iter()
     }
 }
 

@@ -1,7 +1,5 @@
 //! Names that the language has, and which of them a word is nearest to.
 
-use crate::sign::is_one_of;
-use cedar_expressions::{Id, Name, Text, UnreservedId};
 use cedar_policy_parser::ExtStyles;
 use std::alloc::{AllocError, Global};
 use strsim::osa_distance;
@@ -59,70 +57,54 @@ pub const CONDITIONS: &[&str] = &["when", "unless"];
 /// Longer words are near to no name.
 const LONGEST: usize = 64;
 
-/// The methods that a text may call under these styles, as far as they are Cedar's own; all of
-/// Cedar's own where the styles aren't known. Only want of memory refuses it.
-pub fn methods_of(
+/// The methods that a text may call under these styles; the language's and Cedar's own where the
+/// styles aren't known. Only want of memory refuses it.
+pub fn methods_of<'a>(
     alloc: Global,
-    styles: Option<&ExtStyles>,
-) -> Result<Vec<&'static str>, AllocError> {
+    styles: Option<&'a ExtStyles>,
+) -> Result<Vec<&'a str>, AllocError> {
+    let Some(styles) = styles else {
+        return listed(alloc, METHODS);
+    };
+    let mut known = listed(alloc, OF_LANGUAGE)?;
+    for method in styles.methods() {
+        known.push(method.as_str())?;
+    }
+    Ok(known)
+}
+
+/// The functions that a text may call under these styles by an identifier alone, the same.
+pub fn functions_of<'a>(
+    alloc: Global,
+    styles: Option<&'a ExtStyles>,
+) -> Result<Vec<&'a str>, AllocError> {
+    let Some(styles) = styles else {
+        return listed(alloc, FUNCTIONS);
+    };
     let mut known = Vec::new(alloc);
-    for name in METHODS {
-        if is_one_of(*name, OF_LANGUAGE) || is_method(alloc, styles, *name)? {
-            known.push(*name)?;
+    for function in styles.functions() {
+        if function.as_internal().namespace_components().is_empty() {
+            known.push(function.basename().as_str())?;
         }
     }
     Ok(known)
 }
 
-/// The functions that a text may call under these styles, the same.
-pub fn functions_of(
-    alloc: Global,
-    styles: Option<&ExtStyles>,
-) -> Result<Vec<&'static str>, AllocError> {
-    let mut known = Vec::new(alloc);
-    for name in FUNCTIONS {
-        if is_function(alloc, styles, *name)? {
-            known.push(*name)?;
-        }
+fn listed<'a>(alloc: Global, names: &[&'static str]) -> Result<Vec<&'a str>, AllocError> {
+    let mut known = Vec::with_capacity(alloc, names.len())?;
+    for name in names {
+        known.push(*name)?;
     }
     Ok(known)
-}
-
-fn is_method(alloc: Global, styles: Option<&ExtStyles>, name: &str) -> Result<bool, AllocError> {
-    let Some(styles) = styles else {
-        return Ok(true);
-    };
-    match unreserved(alloc, name)? {
-        Some(id) => Ok(styles.is_method(&id)),
-        None => Ok(false),
-    }
-}
-
-fn is_function(alloc: Global, styles: Option<&ExtStyles>, name: &str) -> Result<bool, AllocError> {
-    let Some(styles) = styles else {
-        return Ok(true);
-    };
-    match unreserved(alloc, name)? {
-        Some(id) => Ok(styles.is_function(&Name::from(id))),
-        None => Ok(false),
-    }
-}
-
-// The identifier with this text, where it is one that names may have.
-fn unreserved(alloc: Global, text: &str) -> Result<Option<UnreservedId>, AllocError> {
-    match Id::new(Text::from_str(alloc, text)?) {
-        Some(id) => Ok(UnreservedId::unless_reserved(id).ok()),
-        None => Ok(None),
-    }
 }
 
 /// The name to which a word is nearest, where it is near to one: equal but for capital letters, or
 /// with at most a third of its letters changed. Only want of memory refuses it.
-pub fn nearest(
+pub fn nearest<'a>(
     alloc: Global,
     word: &str,
-    names: &[&'static str],
-) -> Result<Option<&'static str>, AllocError> {
+    names: &[&'a str],
+) -> Result<Option<&'a str>, AllocError> {
     if word.len() > LONGEST {
         return Ok(None);
     }

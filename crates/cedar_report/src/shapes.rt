@@ -240,7 +240,7 @@ fn near_name(
     alloc: Global,
     tokens: &Tokens<'_>,
     sight: &Sight<'_>,
-    names: Vec<&'static str>,
+    names: Vec<&str>,
 ) -> Result<Option<Hint>, AllocError> {
     let Some(index) = sight.named else {
         return Ok(None);
@@ -256,11 +256,11 @@ fn near_word(
     alloc: Global,
     tokens: &Tokens<'_>,
     index: usize,
-    names: &[&'static str],
+    names: &[&str],
 ) -> Result<Option<Hint>, AllocError> {
     let word = tokens.word(index);
     match nearest(alloc, word, names)? {
-        // Cedar's own name, which the table of this run leaves out, gets no hint.
+        // Cedar's own name is near to itself where the table of the run isn't known.
         Some(name) if name != word => {
             let help = format!(in alloc; "write `{name}`")?;
             said(alloc, tokens.start(index), tokens.end(index), help.as_str())

@@ -1,7 +1,7 @@
 //! The ways in which a case's report is written, by their names.
 
 use cedar_policy_parser::err::{Failure, ParseErrors};
-use cedar_policy_parser::{ExtStyles, parse_policyset};
+use cedar_policy_parser::{ExtStyles, Id, Name, Text, UnreservedId, parse_policyset};
 use cedar_report::{Palette, Report};
 use std::alloc::{AllocError, Global};
 use std::collections::BTreeSet;
@@ -11,8 +11,9 @@ use std::fmt;
 const NAME: &str = "case";
 
 /// What is written of a text: `human`, `colour`, `plain` or `json` of its faults; behind `beyond `
-/// of what is told behind a bad place too, behind `bare ` without extensions, behind `encoding ` of
-/// the bytes that the text has in hex digits. `ok` where there is nothing to tell.
+/// of what is told behind a bad place too, behind `bare ` without extensions, behind `few ` with two
+/// of one's own, behind `encoding ` of the bytes that the text has in hex digits. `ok` where there is
+/// nothing to tell.
 pub(crate) fn written(alloc: Global, call: &str, text: &str) -> Result<String, AllocError> {
     match call.strip_prefix("encoding ") {
         Some(way) => of_bytes(alloc, way, text),
@@ -20,10 +21,12 @@ pub(crate) fn written(alloc: Global, call: &str, text: &str) -> Result<String, A
     }
 }
 
-fn of_text(alloc: Global, call: &str, text: &str) -> Result<String, AllocError> {
-    let (call, styles) = match call.strip_prefix("bare ") {
-        Some(call) => (call, bare(alloc)),
-        None => (call, ExtStyles::cedar(alloc)?),
+fn of_text(alloc: Global, words: &str, text: &str) -> Result<String, AllocError> {
+    let (table, call) = words.split_once(' ').unwrap_or(("", words));
+    let (styles, call) = match table {
+        "bare" => (bare(alloc), call),
+        "few" => (few(alloc)?, call),
+        _ => (ExtStyles::cedar(alloc)?, words),
     };
     let faults = match parse_policyset(alloc, text, &styles) {
         Ok(_) => return String::from_str(alloc, "ok"),
@@ -38,6 +41,26 @@ fn of_text(alloc: Global, call: &str, text: &str) -> Result<String, AllocError> 
 /// The table without extensions.
 fn bare(alloc: Global) -> ExtStyles {
     ExtStyles::new(BTreeSet::new(alloc), BTreeSet::new(alloc))
+}
+
+/// The table of the function `region` and the method `isNearby`.
+fn few(alloc: Global) -> Result<ExtStyles, AllocError> {
+    let mut functions = BTreeSet::new(alloc);
+    if let Some(id) = identifier(alloc, "region")? {
+        functions.insert(Name::from(id))?;
+    }
+    let mut methods = BTreeSet::new(alloc);
+    if let Some(id) = identifier(alloc, "isNearby")? {
+        methods.insert(id)?;
+    }
+    Ok(ExtStyles::new(functions, methods))
+}
+
+fn identifier(alloc: Global, word: &str) -> Result<Option<UnreservedId>, AllocError> {
+    match Id::new(Text::from_str(alloc, word)?) {
+        Some(id) => Ok(UnreservedId::try_from(id).ok()),
+        None => Ok(None),
+    }
 }
 
 fn told<'a>(
