@@ -35,7 +35,7 @@ pub struct Piece<'a> {
 }
 
 impl<'a> Report<'a> {
-    /// As `Report::of`, and hints offer no name that these styles don't have. Where the text has a
+    /// As `Report::of`, and hints offer the names that these styles have. Where the text has a
     /// place at which no token begins, what is told of the text behind it, too: it is parsed again
     /// from the next line on that begins a policy (by `permit`, `forbid` or `@`), again and again,
     /// under these styles. These findings stand behind the others and are marked as following. It
@@ -56,7 +56,7 @@ impl<'a> Report<'a> {
             name,
             lines,
             mut findings,
-        } = Report::under(alloc, name, text, faults, Some(styles))?;
+        } = Report::under(alloc, name, text, faults, styles)?;
         let pieces = pieces(alloc, text)?;
         add_pieces(alloc, &lines, pieces.as_slice(), styles, &mut findings)?;
         Ok(Report {
@@ -223,7 +223,7 @@ fn add_piece(
     let Some(faults) = faults_alone(alloc, piece.text, styles)? else {
         return Ok(());
     };
-    let told = Report::under(alloc, "", piece.text, &faults, Some(styles))?;
+    let told = Report::under(alloc, "", piece.text, &faults, styles)?;
     add_moved(alloc, lines, piece.start, told.findings, findings)
 }
 

@@ -4,34 +4,6 @@ use cedar_policy_parser::ExtStyles;
 use std::alloc::{AllocError, Global};
 use strsim::osa_distance;
 
-/// The methods of the language and of Cedar's own extensions.
-pub const METHODS: &[&str] = &[
-    "contains",
-    "containsAll",
-    "containsAny",
-    "isEmpty",
-    "hasTag",
-    "getTag",
-    "isIpv4",
-    "isIpv6",
-    "isLoopback",
-    "isMulticast",
-    "isInRange",
-    "lessThan",
-    "lessThanOrEqual",
-    "greaterThan",
-    "greaterThanOrEqual",
-    "offset",
-    "durationSince",
-    "toDate",
-    "toTime",
-    "toMilliseconds",
-    "toSeconds",
-    "toMinutes",
-    "toHours",
-    "toDays",
-];
-
 /// The methods of the language itself, which are in no table.
 const OF_LANGUAGE: &[&str] = &[
     "contains",
@@ -41,9 +13,6 @@ const OF_LANGUAGE: &[&str] = &[
     "hasTag",
     "getTag",
 ];
-
-/// The functions of Cedar's own extensions.
-pub const FUNCTIONS: &[&str] = &["ip", "decimal", "datetime", "duration"];
 
 /// The variables of a condition.
 pub const VARIABLES: &[&str] = &["principal", "action", "resource", "context"];
@@ -57,16 +26,12 @@ pub const CONDITIONS: &[&str] = &["when", "unless"];
 /// Longer words are near to no name.
 const LONGEST: usize = 64;
 
-/// The methods that a text may call under these styles; the language's and Cedar's own where the
-/// styles aren't known. Only want of memory refuses it.
-pub fn methods_of<'a>(
-    alloc: Global,
-    styles: Option<&'a ExtStyles>,
-) -> Result<Vec<&'a str>, AllocError> {
-    let Some(styles) = styles else {
-        return listed(alloc, METHODS);
-    };
-    let mut known = listed(alloc, OF_LANGUAGE)?;
+/// The methods that a text may call under these styles. Only want of memory refuses it.
+pub fn methods_of<'a>(alloc: Global, styles: &'a ExtStyles) -> Result<Vec<&'a str>, AllocError> {
+    let mut known = Vec::new(alloc);
+    for name in OF_LANGUAGE {
+        known.push(*name)?;
+    }
     for method in styles.methods() {
         known.push(method.as_str())?;
     }
@@ -74,26 +39,12 @@ pub fn methods_of<'a>(
 }
 
 /// The functions that a text may call under these styles by an identifier alone, the same.
-pub fn functions_of<'a>(
-    alloc: Global,
-    styles: Option<&'a ExtStyles>,
-) -> Result<Vec<&'a str>, AllocError> {
-    let Some(styles) = styles else {
-        return listed(alloc, FUNCTIONS);
-    };
+pub fn functions_of<'a>(alloc: Global, styles: &'a ExtStyles) -> Result<Vec<&'a str>, AllocError> {
     let mut known = Vec::new(alloc);
     for function in styles.functions() {
         if function.as_internal().namespace_components().is_empty() {
             known.push(function.basename().as_str())?;
         }
-    }
-    Ok(known)
-}
-
-fn listed<'a>(alloc: Global, names: &[&'static str]) -> Result<Vec<&'a str>, AllocError> {
-    let mut known = Vec::with_capacity(alloc, names.len())?;
-    for name in names {
-        known.push(*name)?;
     }
     Ok(known)
 }

@@ -21,7 +21,7 @@ pub struct Report<'a> {
 impl<'a> Report<'a> {
     /// What is told of a text's faults: a finding for each, in their order, with its kind's name,
     /// its bytes, its message, and what could have stood there. What it may call isn't known: so
-    /// hints offer all of Cedar's own names. Only want of memory refuses it.
+    /// hints offer Cedar's own names. Only want of memory refuses it.
     pub fn of(
         alloc: Global,
         name: &'a str,
@@ -33,16 +33,16 @@ impl<'a> Report<'a> {
         ensures told { IfOk result (λ report.
             AreTold text.now (faults_of faults.now) report.findings.items) }
     {
-        Report::under(alloc, name, text, faults, None)
+        Report::under(alloc, name, text, faults, &ExtStyles::cedar(alloc)?)
     }
 
-    /// As `of`, and hints offer no name that these styles don't have.
+    /// As `of`, and hints offer the names that these styles have.
     pub(crate) fn under(
         alloc: Global,
         name: &'a str,
         text: &'a str,
         faults: &ParseErrors,
-        styles: Option<&ExtStyles>,
+        styles: &ExtStyles,
     ) -> Result<Report<'a>, AllocError>
         ensures name { IfOk result (λ report. report.name.now ≡ name.now) }
         ensures text { IfOk result (λ report. report.lines.text.now ≡ text.now) }

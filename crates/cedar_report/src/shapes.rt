@@ -38,7 +38,7 @@ pub fn look_at_shape(
     alloc: Global,
     tokens: &Tokens<'_>,
     outline: &Outline,
-    styles: Option<&ExtStyles>,
+    styles: &ExtStyles,
     sight: &Sight<'_>,
 ) -> Result<Option<Hint>, AllocError> {
     if sight.is_invalid() {
@@ -188,7 +188,7 @@ pub fn ends_something(word: &str) -> bool {
 fn of_tree(
     alloc: Global,
     tokens: &Tokens<'_>,
-    styles: Option<&ExtStyles>,
+    styles: &ExtStyles,
     sight: &Sight<'_>,
 ) -> Result<Option<Hint>, AllocError> {
     match sight.code {
@@ -260,7 +260,6 @@ fn near_word(
 ) -> Result<Option<Hint>, AllocError> {
     let word = tokens.word(index);
     match nearest(alloc, word, names)? {
-        // Cedar's own name is near to itself where the table of the run isn't known.
         Some(name) if name != word => {
             let help = format!(in alloc; "write `{name}`")?;
             said(alloc, tokens.start(index), tokens.end(index), help.as_str())

@@ -25,8 +25,8 @@ pub struct Sources<'a, 's> {
     pub lines: Lines<'a>,
     pub tokens: Tokens<'a>,
     pub outline: Outline,
-    /// what the text may call, where it is known
-    pub styles: Option<&'s ExtStyles>,
+    /// what the text may call
+    pub styles: &'s ExtStyles,
 }
 
 impl<'a, 's> Sources<'a, 's> {
@@ -34,7 +34,7 @@ impl<'a, 's> Sources<'a, 's> {
     pub fn of(
         alloc: Global,
         text: &'a str,
-        styles: Option<&'s ExtStyles>,
+        styles: &'s ExtStyles,
     ) -> Result<Sources<'a, 's>, AllocError>
         ensures { IfOk result (λ sources. sources.lines.text.now ≡ text.now) }
     {

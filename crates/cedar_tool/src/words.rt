@@ -2,9 +2,7 @@
 
 use crate::request::{Colours, Format, Purpose, Request, Task};
 use cedar_command::request::{command_of, table_named};
-use cedar_expressions::{Id, Text, UnreservedId};
 use cedar_policy_parser::{ExtStyles, LayoutOptions};
-use cedar_report::{CEDAR_FUNCTIONS, CEDAR_METHODS};
 use clap::ArgMatches;
 use std::alloc::{AllocError, Global};
 
@@ -124,24 +122,13 @@ fn add_words(
     Ok(())
 }
 
-/// Adds Cedar's own extensions.
+/// Adds the extensions of a table.
 fn add_own(alloc: Global, own: &ExtStyles, words: &mut Vec<String>) -> Result<(), AllocError> {
-    add_words(alloc, words, "fn:", CEDAR_FUNCTIONS)?;
-    for name in CEDAR_METHODS {
-        if is_method(alloc, own, name)? {
-            words.push(format!(in alloc; "method:{name}")?)?;
-        }
+    for name in own.functions() {
+        words.push(format!(in alloc; "fn:{name}")?)?;
+    }
+    for name in own.methods() {
+        words.push(format!(in alloc; "method:{name}")?)?;
     }
     Ok(())
-}
-
-/// Whether a table has a method of this name; those of the language itself are in none.
-fn is_method(alloc: Global, styles: &ExtStyles, name: &str) -> Result<bool, AllocError> {
-    let Some(id) = Id::new(Text::from_str(alloc, name)?) else {
-        return Ok(false);
-    };
-    match UnreservedId::unless_reserved(id) {
-        Ok(id) => Ok(styles.is_method(&id)),
-        Err(_) => Ok(false),
-    }
 }
