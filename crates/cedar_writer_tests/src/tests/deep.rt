@@ -5,8 +5,8 @@ use cedar_policy_parser::{
 };
 use std::process::Abort;
 
-/// So many negations in one another that a stack of 8 MB hasn't 50 bytes for each.
-const LEVELS: usize = 200_000;
+/// So many negations in one another that a stack of 8 MB hasn't 200 bytes for each.
+const LEVELS: usize = 50_000;
 
 /// A variable within that many negations.
 pub(super) fn negations(rt: &(impl Abort + AllocGlobal), levels: usize) -> Expr {
