@@ -1,10 +1,7 @@
 mod Bytes
 mod Judging
-mod Parting
 mod Serving
-mod Speaking
 mod Stopping
 mod Listing
 mod PolicyShape
 mod Annotating
-mod Written

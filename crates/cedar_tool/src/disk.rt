@@ -87,10 +87,9 @@ fn fill<F: Files>(
     old: &Metadata,
     text: &str,
 ) -> io::Result<()> {
-    // Another owner's file stays that owner's where this may be done. Both come before the bytes,
-    // so that nobody reads these to whom the old file is closed.
+    file.write_all(text.as_bytes())?;
+    // Another owner's file stays that owner's where this may be done.
     let _ = files.chown(name, Some(old.uid()), Some(old.gid()));
     file.set_permissions(old.permissions())?;
-    file.write_all(text.as_bytes())?;
     file.sync_all()
 }
