@@ -31,5 +31,4 @@ mod told;
 pub use finding::{Extent, Finding, Related};
 pub use human::Palette;
 pub use lines::{Lines, Spot};
-pub use names::{FUNCTIONS as CEDAR_FUNCTIONS, METHODS as CEDAR_METHODS};
 pub use report::Report;

@@ -4,34 +4,6 @@ use cedar_policy_parser::ExtStyles;
 use std::alloc::{AllocError, Global};
 use strsim::osa_distance;
 
-/// The methods of the language and of Cedar's own extensions.
-pub const METHODS: &[&str] = &[
-    "contains",
-    "containsAll",
-    "containsAny",
-    "isEmpty",
-    "hasTag",
-    "getTag",
-    "isIpv4",
-    "isIpv6",
-    "isLoopback",
-    "isMulticast",
-    "isInRange",
-    "lessThan",
-    "lessThanOrEqual",
-    "greaterThan",
-    "greaterThanOrEqual",
-    "offset",
-    "durationSince",
-    "toDate",
-    "toTime",
-    "toMilliseconds",
-    "toSeconds",
-    "toMinutes",
-    "toHours",
-    "toDays",
-];
-
 /// The methods of the language itself, which are in no table.
 const OF_LANGUAGE: &[&str] = &[
     "contains",
@@ -41,9 +13,6 @@ const OF_LANGUAGE: &[&str] = &[
     "hasTag",
     "getTag",
 ];
-
-/// The functions of Cedar's own extensions.
-pub const FUNCTIONS: &[&str] = &["ip", "decimal", "datetime", "duration"];
 
 /// The variables of a condition.
 pub const VARIABLES: &[&str] = &["principal", "action", "resource", "context"];

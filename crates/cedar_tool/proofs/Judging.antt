@@ -1,11 +1,14 @@
 -- What is judged of a text, from what the calls say that judge it.
-use Rattle.std.proofs.Common.{◌≡◌, ℕ, List, [], Option, Result, Ok, Err, IfOk, IfErr, OnOk, MatchResult, refl, sym, ap, ◌∙◌}
+use Rattle.std.proofs.Common.{◌≡◌, ℕ, List, [], Option, Result, Ok, Err, IfOk, IfErr, OnOk, MatchResult, ap, subst}
 use Rattle.std.specs.declared.io.Error.{Error}
 use Rattle.cedar_command.specs.Streams.{Writing, AreBytesWritten}
 use Rattle.cedar_lexer.specs.Cut.{Cuts}
 use Rattle.cedar_lexer.specs.Token.{Lexeme}
 use Rattle.cedar_syntax.specs.tokens.Signs.{sign_limit}
+use Rattle.cedar_report.specs.declared.finding.Finding.{Finding}
 use Rattle.cedar_syntax.specs.declared.err.faults.Failure.{Failure}
+use Rattle.cedar_syntax.specs.declared.err.faults.Failure.TheVariants.{Errors}
+use Rattle.cedar_syntax.specs.declared.err.faults.ParseErrors.{ParseErrors}
 use Rattle.cedar_syntax.specs.faults.ParseErrors.{IsMemory}
 use Rattle.cedar_policy_store.specs.PlaceFree.{Policies, set_meaning}
 use Rattle.cedar_policy_store.specs.PolicyMaps.{PolicyMaps}
@@ -19,10 +22,12 @@ use Rattle.cedar_tool.specs.declared.request.Format.TheVariants.{Human, Plain, J
 use Rattle.cedar_tool.specs.declared.request.Task.{Task}
 use Rattle.cedar_tool.specs.declared.request.Task.TheVariants as task
 use Rattle.cedar_tool.specs.declared.streams.Console.{Console}
+use Rattle.cedar_tool.specs.declared.streams.Output.{Output}
 use Rattle.cedar_tool.specs.Answers.{Meets, Denies, Judges, IsJudged, HasMeaning}
 use Rattle.cedar_tool.specs.Listed.{listed_data, AreJsonLines}
-use Rattle.cedar_tool.specs.Streams.{IsToldOn, MayHold, output_writing, output_writer}
-use Rattle.cedar_tool.proofs.Bytes.{unchanged, nothing_written}
+use Rattle.cedar_tool.specs.Streams.{output_writing, output_writer}
+use Rattle.cedar_tool.specs.Told.{AddsReport, Finds, IsToldOn, FailsTask, TellsRefusal, FindsFaults, lines_told}
+use Rattle.cedar_tool.proofs.Bytes.{nothing_written}
 
 -- a set that is answered is what the text means under the table
 pub set_meant : {S : Type 0} (table : Extensions) (src : List ℕ) (meaning : S → Policies) (r : Result S Failure)
@@ -37,31 +42,32 @@ pub set_only : {S : Type 0} (table : Extensions) (src : List ℕ) (meaning : S �
 set_only table src meaning (Ok s) only meant = tt
 set_only table src meaning (Err f) only (set, (ts, cut, means)) = only ts set cut means
 
--- what is told holds just what it may hold of standard output
-pub told_bytes : {O E : Type 0} (contents : O → Option (List ℕ)) (format : Format) (old new : Console O E) → IsToldOn contents format old new
-    → (told : List ℕ) × MayHold format told × AreBytesWritten told (output_writing contents old.output new.output)
-told_bytes contents Json old new (same, (told, wrote)) = (told, tt, wrote)
-told_bytes contents Plain old new same = ([], refl, nothing_written _ _ (ap (λ o. contents (output_writer o)) same))
-told_bytes contents (Human colours) old new same = ([], refl, nothing_written _ _ (ap (λ o. contents (output_writer o)) same))
+-- what is told is written where it belongs
+pub told_bytes : {O E : Type 0} (contents : O → Option (List ℕ)) (format : Format) (name : List ℕ) (findings : List Finding) (old new : Console O E) → IsToldOn contents format name findings old new
+    → AreBytesWritten (lines_told format name findings) (output_writing contents old.output new.output)
+told_bytes contents Json name findings old new (same, wrote) = wrote
+told_bytes contents Plain name findings old new (same, said) = nothing_written _ _ (ap (λ o. contents (output_writer o)) same)
+told_bytes contents (Human colours) name findings old new (same, said) = nothing_written _ _ (ap (λ o. contents (output_writer o)) same)
 
 -- a text is refused whose faults were told
-pub refused : {O E : Type 0} (contents : O → Option (List ℕ)) (t : Task) (format : Format) (table : Extensions) (name text : List ℕ) (old new : Console O E) → Denies t table text
-    → IsToldOn contents format old new → IsJudged t format table name text Refused (output_writing contents old.output new.output)
-refused contents t format table name text old new denied told =
-    let t = told_bytes contents format old new told in (t.0, Judges.refused t.0 denied t.1, t.2)
+pub refused : {O E : Type 0} (contents : O → Option (List ℕ)) (t : Task) (format : Format) (table : Extensions) (name text : List ℕ) (findings : List Finding) (old new : Console O E) → Denies t table text
+    → Finds t table text findings → IsToldOn contents format name findings old new → IsJudged t format table name text Refused (output_writing contents old.output new.output)
+refused contents t format table name text findings old new denied finds told =
+    (lines_told format name findings, Judges.refused findings denied finds, told_bytes contents format name findings old new told)
+
+-- they were found
+found : {O E : Type 0} (contents : O → Option (List ℕ)) (t : Task) (format : Format) (table : Extensions) (name text : List ℕ) (failure : Failure) (old new : Console O E) → FailsTask t table text failure
+    → (tells : TellsRefusal contents t format table name text failure old new) → Finds t table text tells.findings
+found contents t format table name text failure old new refuses tells =
+    Finds.faults tells.faults tells.findings (subst (FailsTask t table text) tells.are refuses) tells.tells
 
 -- the same of a call's answer
 pub refused_by : {O E : Type 0} (contents : O → Option (List ℕ)) (t : Task) (format : Format) (table : Extensions) (name text : List ℕ) (old new : Console O E) (failure : Failure) (r : Result Verdict Error)
-    → (¬ IsMemory failure → Denies t table text) → IfOk r (λ v. (v ≡ Refused) × ¬ IsMemory failure) → OnOk r (IsToldOn contents format old new)
-    → IfOk r (λ v. IsJudged t format table name text v (output_writing contents old.output new.output))
-refused_by contents t format table name text old new failure (Ok v) denied is told =
-    rw is.0 (refused contents t format table name text old new (denied is.1) told)
-refused_by contents t format table name text old new failure (Err e) denied is told = tt
-
--- and it says nothing of a text that is accepted
-pub unquiet : (P : Type 0) (failure : Failure) (r : Result Verdict Error) → IfOk r (λ v. (v ≡ Refused) × ¬ IsMemory failure) → IfOk r (λ v. v ≡ Accepted → P)
-unquiet P failure (Ok v) is = λ same. let bad : Refused ≡ Accepted = sym is.0 ∙ same in cc
-unquiet P failure (Err e) is = tt
+    → (¬ IsMemory failure → Denies t table text) → FailsTask t table text failure → IfOk r (λ v. (v ≡ Refused) × ¬ IsMemory failure)
+    → OnOk r (TellsRefusal contents t format table name text failure old new) → IfOk r (λ v. IsJudged t format table name text v (output_writing contents old.output new.output))
+refused_by contents t format table name text old new failure (Ok v) denied refuses is tells =
+    rw is.0 (refused contents t format table name text tells.findings old new (denied is.1) (found contents t format table name text failure old new refuses tells) tells.told)
+refused_by contents t format table name text old new failure (Err e) denied refuses is tells = tt
 
 -- a text is accepted of which nothing is written
 pub silent : (t : Task) (format : Format) (table : Extensions) (name text : List ℕ) (a b : Option (List ℕ)) → b ≡ a → Meets t table name text [] → IsJudged t format table name text Accepted (record { before = a; after = b })
@@ -73,13 +79,21 @@ pub listed_by : (format : Format) (table : Extensions) (name text : List ℕ) (s
 listed_by format table name text set (Ok v) w means is (lines, are, wrote) = rw is (lines, Judges.accepted lines (set, means, are), wrote)
 listed_by format table name text set (Err e) w means is wrote = tt
 
--- nothing is told where nothing is written
-pub untold : {O E : Type 0} (contents : O → Option (List ℕ)) (format : Format) (console : Console O E) → IsToldOn contents format console console
-untold contents Json console = (refl, ([], unchanged _))
-untold contents Plain console = refl
-untold contents (Human colours) console = refl
+-- a report's lines are written as JSON
+pub told_json : {A E : Type 0} (name : List ℕ) (findings : List Finding) (a b : Output E) (bytes : List ℕ) (w : Writing) (r : Result A Error) → b ≡ a → AddsReport Json name findings [] bytes
+    → OnOk r (AreBytesWritten bytes w) → OnOk r ((b ≡ a) × AreBytesWritten (lines_told Json name findings) w)
+told_json name findings a b bytes w (Ok d) same is wrote =
+    let P : List ℕ → Type 0 = λ bs. AreBytesWritten bs w in
+    (same, subst P is wrote)
+told_json name findings a b bytes w (Err e) same is wrote = tt
 
-pub told_json : {A O E : Type 0} (contents : O → Option (List ℕ)) (old new : Console O E) (bytes : List ℕ) (r : Result A Error) → new.errors ≡ old.errors
-    → OnOk r (AreBytesWritten bytes (output_writing contents old.output new.output)) → OnOk r (IsToldOn contents Json old new)
-told_json contents old new bytes (Ok d) same wrote = (same, (bytes, wrote))
-told_json contents old new bytes (Err e) same wrote = tt
+-- of a text's faults, under its name
+pub told_faults : {O E : Type 0} (contents : O → Option (List ℕ)) (t : Task) (format : Format) (table : Extensions) (given name text : List ℕ) (failure : Failure) (faults : ParseErrors) (findings : List Finding) (old new : Console O E) → failure ≡ Errors faults
+    → given ≡ name → FindsFaults t table text faults findings → IsToldOn contents format given findings old new → TellsRefusal contents t format table name text failure old new
+told_faults contents t format table given name text failure faults findings old new are same tells told = record {
+  faults = faults;
+  are = are;
+  findings = findings;
+  tells = tells;
+  told = subst (λ n. IsToldOn contents format n findings old new) same told;
+}

@@ -1,7 +1,10 @@
 mod Bytes
 mod Judging
+mod Parting
 mod Serving
+mod Speaking
 mod Stopping
 mod Listing
 mod PolicyShape
 mod Annotating
+mod Written

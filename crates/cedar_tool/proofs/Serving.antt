@@ -9,6 +9,8 @@ use Rattle.cedar_layout.specs.declared.options.LayoutOptions.{LayoutOptions}
 use Rattle.cedar_conversion.specs.strict.Extensions.{Extensions}
 use Rattle.cedar_conversion.specs.strict.Table.{table_of}
 use Rattle.cedar_policy_parser.specs.meaning.LaidOut.{IsLayoutOf}
+use Rattle.cedar_report.specs.declared.finding.Finding.{Finding}
+use Rattle.cedar_report.specs.Encoding.{TellsEncoding}
 use Rattle.cedar_tool.specs.declared.ending.Verdict.{Verdict}
 use Rattle.cedar_tool.specs.declared.ending.Verdict.TheVariants.{Accepted, Refused, Failed}
 use Rattle.cedar_tool.specs.declared.request.Format.{Format}
@@ -21,9 +23,10 @@ use Rattle.cedar_tool.specs.declared.streams.Console.{Console}
 use Rattle.cedar_tool.specs.Disks.{Files, Has, Lacks}
 use Rattle.cedar_tool.specs.Answers.{Denies, HasPolicies, Judges, IsJudged, Serves, IsServed, Tries, IsTried, TriesAll, AreTried, worse}
 use Rattle.cedar_tool.specs.Layouts.{Compares, Rewrites}
-use Rattle.cedar_tool.specs.Streams.{IsToldOn, IsWant, output_writing, output_writer}
+use Rattle.cedar_tool.specs.Streams.{IsWant, output_writing, output_writer}
+use Rattle.cedar_tool.specs.Told.{Finds, IsToldOn, lines_told}
 use Rattle.cedar_tool.proofs.Bytes.{nothing_written}
-use Rattle.cedar_tool.proofs.Judging.{told_bytes}
+use Rattle.cedar_tool.proofs.Judging.{refused, told_bytes}
 
 -- ---- a text
 
@@ -41,11 +44,12 @@ judged_by files t format table name text disk after (Err e) w same j = tt
 
 -- bytes that are no text
 pub no_text_by : {D O E : Type 0} (files : D → Option Files) (contents : O → Option (List ℕ)) (t : Task) (format : Format) (table : Extensions) (name text : List ℕ) (disk after : D) (old new : Console O E) (r : Result Verdict Error)
-    → after ≡ disk → ¬ IsUtf8 text → IfOk r (λ v. v ≡ Refused) → OnOk r (IsToldOn contents format old new)
+    → after ≡ disk → ¬ IsUtf8 text → IfOk r (λ v. v ≡ Refused)
+    → OnOk r ((shown : List ℕ) × (findings : List Finding) × TellsEncoding text shown findings × IsToldOn contents format name findings old new)
     → IfOk r (λ v. IsServed files t format table name text disk after v (output_writing contents old.output new.output))
-no_text_by files contents t format table name text disk after old new (Ok v) same broken is told =
-    let b = told_bytes contents format old new told in
-    rw is (judged files t format table name text disk after Refused (output_writing contents old.output new.output) same (b.0, Judges.no_text b.0 broken b.1, b.2))
+no_text_by files contents t format table name text disk after old new (Ok v) same broken is (shown, findings, tells, told) =
+    rw is (judged files t format table name text disk after Refused (output_writing contents old.output new.output) same
+    (lines_told format name findings, Judges.no_text shown findings broken tells, told_bytes contents format name findings old new told))
 no_text_by files contents t format table name text disk after old new (Err e) same broken is told = tt
 
 -- ---- a layout
@@ -60,20 +64,20 @@ printed_by files options format table name text laid disk after a b (Err e) same
 
 -- it is compared
 compared : {D O E : Type 0} (files : D → Option Files) (contents : O → Option (List ℕ)) (options : LayoutOptions) (format : Format) (table : Extensions) (name text laid : List ℕ) (disk after : D) (old new : Console O E) (v : Verdict) → after ≡ disk
-    → IsLayoutOf options text laid → Compares contents format text laid old new v
+    → IsLayoutOf options text laid → Compares contents format name text laid old new v
     → IsServed files (task.Format options purpose.Check) format table name text disk after v (output_writing contents old.output new.output)
 compared files contents options format table name text laid disk after old new Accepted same lay c =
     let itself : IsLayoutOf options text text = subst (λ l. IsLayoutOf options text l) c.0 lay in
     judged files (task.Format options purpose.Check) format table name text disk after Accepted (output_writing contents old.output new.output) same
     ([], Judges.accepted [] (itself, refl), nothing_written _ _ (ap (λ o. contents (output_writer o.output)) c.1))
 compared files contents options format table name text laid disk after old new Refused same lay c =
-    let b = told_bytes contents format old new c.1 in
+    let findings = c.1.0 in
     judged files (task.Format options purpose.Check) format table name text disk after Refused (output_writing contents old.output new.output) same
-    (b.0, Judges.refused b.0 (inr (laid, lay, c.0)) b.1, b.2)
+    (refused contents (task.Format options purpose.Check) format table name text findings old new (inr (laid, lay, c.0)) (Finds.layout options laid findings refl lay c.0 c.1.1) c.1.2)
 compared files contents options format table name text laid disk after old new Failed same lay c = absurd c
 
 pub compared_by : {D O E : Type 0} (files : D → Option Files) (contents : O → Option (List ℕ)) (options : LayoutOptions) (format : Format) (table : Extensions) (name text laid : List ℕ) (disk after : D) (old new : Console O E) (r : Result Verdict Error) → after ≡ disk
-    → IsLayoutOf options text laid → IfOk r (Compares contents format text laid old new)
+    → IsLayoutOf options text laid → IfOk r (Compares contents format name text laid old new)
     → IfOk r (λ v. IsServed files (task.Format options purpose.Check) format table name text disk after v (output_writing contents old.output new.output))
 compared_by files contents options format table name text laid disk after old new (Ok v) same lay c =
     compared files contents options format table name text laid disk after old new v same lay c
@@ -137,14 +141,6 @@ pub next_tried : {D : Type 0} (files : D → Option Files) (request : Request) (
 next_tried files request xs i x disk between after v last a b c more all tries =
     rw (map_more (λ n. n.now) xs i x more)
     (one_more files request (map (λ n. n.now) (take i xs)) (get_or xs i x).now disk between after v last a b c all tries)
-
--- both verdicts are good where the worse of them is
-pub both_accepted : (v w : Verdict) → worse v w ≡ Accepted → (v ≡ Accepted) × (w ≡ Accepted)
-both_accepted Accepted w is = (refl, is)
-both_accepted Refused Accepted is = cc
-both_accepted Refused Refused is = cc
-both_accepted Refused Failed is = cc
-both_accepted Failed w is = cc
 
 -- a text without a tree is refused, whatever becomes of its layout
 pub denied : (options : LayoutOptions) (does : Purpose) (table : Extensions) (text : List ℕ) → ¬ HasPolicies text → Denies (task.Format options does) table text

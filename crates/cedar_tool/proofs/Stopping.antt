@@ -10,11 +10,12 @@ use Rattle.cedar_tool.specs.declared.ending.Verdict.{Verdict}
 use Rattle.cedar_tool.specs.declared.ending.Verdict.TheVariants.{Failed}
 use Rattle.cedar_tool.specs.declared.request.Request.{Request}
 use Rattle.cedar_tool.specs.declared.streams.Console.{Console}
+use Rattle.cedar_tool.specs.declared.streams.Output.{Output}
 use Rattle.cedar_tool.specs.declared.streams.WriterState.{WriterState}
 use Rattle.cedar_tool.specs.declared.streams.WriterState.TheVariants as writer
 use Rattle.cedar_tool.specs.Answers.{IsServed, AreTried}
-use Rattle.cedar_tool.specs.Ends.{Sources, Treats, AreTreated, RunEnds, IsShown, IsSaid, IsStopped, TellsRunEnd, run_status}
-use Rattle.cedar_tool.specs.Streams.{IsWant, LeavesState, output_writer, output_state, output_writing}
+use Rattle.cedar_tool.specs.Ends.{Sources, Treats, input_name, AreTreated, RunEnds, IsShown, IsSaid, IsStopped, TellsRunEnd, run_status}
+use Rattle.cedar_tool.specs.Streams.{IsWant, LeavesState, SpeaksOf, output_writer, output_state, output_writing}
 use Rattle.cedar_tool.proofs.Bytes.{nothing_written}
 
 -- ---- all texts
@@ -36,11 +37,11 @@ treated_files request t names (Ok v) w some (out, tries, wrote) =
     (out, Treats.files names out v some tries, wrote)
 treated_files request t names (Err e) w some tried = tt
 
-pub treated_input : {D : Type 0} (request : Request) (t : Sources D) (name text : List ℕ) (r : Result Verdict Error) (w : Writing) → IfSome t.known (λ known. text ≡ known)
-    → IfOk r (λ v. IsServed t.files request.task request.format (table_of request.styles) name text t.before t.after v w) → IfOk r (λ v. AreTreated request t [] v w)
-treated_input request t name text (Ok v) w is (out, serves, wrote) =
-    (out, Treats.input name text out v is serves, wrote)
-treated_input request t name text (Err e) w is served = tt
+pub treated_input : {D : Type 0} (request : Request) (t : Sources D) (text : List ℕ) (r : Result Verdict Error) (w : Writing) → IfSome t.known (λ known. text ≡ known)
+    → IfOk r (λ v. IsServed t.files request.task request.format (table_of request.styles) input_name text t.before t.after v w) → IfOk r (λ v. AreTreated request t [] v w)
+treated_input request t text (Ok v) w is (out, serves, wrote) =
+    (out, Treats.input text out v is serves, wrote)
+treated_input request t text (Err e) w is served = tt
 
 pub treated_unread : {D : Type 0} (request : Request) (t : Sources D) (error : Error) (r : Result Verdict Error) (a b : Option (List ℕ)) → t.failure ≡ Some error → t.after ≡ t.before → b ≡ a
     → IfOk r (λ v. (v ≡ Failed) × ¬ IsWant error) → IfOk r (λ v. AreTreated request t [] v (record { before = a; after = b }))
@@ -77,29 +78,29 @@ kept_on (Some x) (Some y) None bytes h k = absurd k
 kept_on (Some x) (Some y) (Some z) bytes h k = k ∙ h
 
 -- what was written is passed on, and the run answers
-pub answered_ends : {D : Type 0} (request : Request) (t : Sources D) (names : List (List ℕ)) (v : Verdict) (a b c : Option (List ℕ)) (output errors : WriterState)
-    → AreTreated request t names v (record { before = a; after = b }) → Keeps b c → output ≡ writer.Flushed → RunEnds t (record { before = a; after = c }) output errors (Answered v)
-answered_ends request t names v a b c output errors (out, treats, wrote) kept flushed =
-    RunEnds.answered request names v (out, treats, kept_on a b c out wrote kept) flushed
+pub answered_ends : {D E : Type 0} (request : Request) (t : Sources D) (names : List (List ℕ)) (v : Verdict) (a b c : Option (List ℕ)) (output : WriterState) (before errors : Output E)
+    → AreTreated request t names v (record { before = a; after = b }) → Keeps b c → output ≡ writer.Flushed → SpeaksOf v request.format before errors → RunEnds t (record { before = a; after = c }) output before errors (Answered v)
+answered_ends request t names v a b c output before errors (out, treats, wrote) kept flushed said =
+    RunEnds.answered request names v (out, treats, kept_on a b c out wrote kept) flushed said
 
 pub said_status : (wanted end : Ending) (errors : WriterState) (status : ℕ) → status ≡ run_status end → IsSaid wanted errors end → TellsRunEnd wanted errors status
 said_status wanted end errors status is said = (end, is, said)
 
 -- what was said of the words alone
 pub shown_ends : {D O E : Type 0} (t : Sources D) (contents : O → Option (List ℕ)) (old new : Console O E) (r : Result Ending Error) → t.after ≡ t.before
-    → IfOk r (IsShown old new) → IfOk r (RunEnds t (output_writing contents old.output new.output) (output_state new.output) (output_state new.errors))
+    → IfOk r (IsShown old new) → IfOk r (RunEnds t (output_writing contents old.output new.output) (output_state new.output) old.errors new.errors)
 shown_ends t contents old new (Err e) kept shown = tt
 shown_ends t contents old new (Ok (Answered v)) kept shown = absurd shown
-shown_ends t contents old new (Ok Shown) kept shown = RunEnds.shown kept shown
+shown_ends t contents old new (Ok Shown) kept (same, flushed) = RunEnds.shown kept flushed same
 shown_ends t contents old new (Ok Usage) kept (same, said) =
     RunEnds.usage kept (nothing_written _ _ (ap (λ o. contents (output_writer o)) same)) said
 shown_ends t contents old new (Ok Memory) kept shown = absurd shown
 shown_ends t contents old new (Ok Stream) kept shown = absurd shown
 
 -- why a run stopped
-pub stopped_ends : {D : Type 0} (t : Sources D) (w : Writing) (output errors : WriterState) (end : Ending) → IsStopped output errors end → RunEnds t w output errors end
-stopped_ends t w output errors end (inl (memory, said)) = rw memory (RunEnds.memory said)
-stopped_ends t w output errors end (inr (error, is, failed)) = rw is (RunEnds.stream error failed)
+pub stopped_ends : {D E : Type 0} (t : Sources D) (w : Writing) (output : WriterState) (before errors : Output E) (end : Ending) → IsStopped output (output_state errors) end → RunEnds t w output before errors end
+stopped_ends t w output before errors end (inl (memory, said)) = rw memory (RunEnds.memory said)
+stopped_ends t w output before errors end (inr (error, is, failed)) = rw is (RunEnds.stream error failed)
 
 -- a stream that failed before fails when it is to be said, and another one is told
 pub stopped_by : {A : Type 0} (output old new : WriterState) (error : Error) (r : Result A Error) → ¬ IsWant error → LeavesState writer.Written old r new

@@ -11,6 +11,8 @@ use Rattle.cedar_grammar.specs.grammar.Grammar.{IsTreeOf}
 use Rattle.cedar_grammar.specs.grammar.LoosePolicies.{ReadsPolicies}
 use Rattle.cedar_conversion.specs.strict.Extensions.{Extensions}
 use Rattle.cedar_conversion.specs.strict.Table.{table_of}
+use Rattle.cedar_report.specs.declared.finding.Finding.{Finding}
+use Rattle.cedar_report.specs.Encoding.{TellsEncoding}
 use Rattle.cedar_policy_parser.specs.meaning.Formatted.{MeansSet}
 use Rattle.cedar_policy_parser.specs.meaning.LaidOut.{IsLayoutOf}
 use Rattle.cedar_tool.specs.declared.ending.Verdict.{Verdict}
@@ -23,7 +25,7 @@ use Rattle.cedar_tool.specs.declared.request.Task.TheVariants.{Check, List as Li
 use Rattle.cedar_command.specs.Streams.{Writing, AreBytesWritten}
 use Rattle.cedar_tool.specs.Disks.{Files, Has, Lacks, Puts}
 use Rattle.cedar_tool.specs.Listed.{listed_data, AreJsonLines}
-use Rattle.cedar_tool.specs.Streams.{MayHold}
+use Rattle.cedar_tool.specs.Told.{Finds, lines_told}
 
 -- a text means policies that call no extension but those of a table
 abbrev pub HasMeaning : Extensions → List ℕ → Type 0
@@ -59,15 +61,18 @@ Denies (Formatting options purpose.Write) table text = ¬ HasPolicies text
 Denies (Formatting options purpose.Check) table text =
     (¬ HasPolicies text) ⊎ ((laid : List ℕ) × IsLayoutOf options text laid × (laid ≢ text))
 
--- a verdict on a text, its file left as it was, and what is written of it to standard output
+-- A verdict on a text, its file left as it was, and what is written of it to standard output: of a
+-- refused one just its findings, where they are told as JSON.
 pub data Judges (task : Task) (format : Format) (table : Extensions) (name text : List ℕ) :
     List ℕ → Verdict → Type 0 where
   accepted : (out : List ℕ) → Meets task table name text out →
       Judges task format table name text out Accepted
-  refused : (told : List ℕ) → Denies task table text → MayHold format told →
-      Judges task format table name text told Refused
-  no_text : (told : List ℕ) → ¬ IsUtf8 text → MayHold format told →
-      Judges task format table name text told Refused
+  refused : (findings : List Finding) → Denies task table text →
+      Finds task table text findings →
+      Judges task format table name text (lines_told format name findings) Refused
+  no_text : (shown : List ℕ) (findings : List Finding) → ¬ IsUtf8 text →
+      TellsEncoding text shown findings →
+      Judges task format table name text (lines_told format name findings) Refused
 
 -- the same of a writer of standard output, where its bytes are known
 abbrev pub IsJudged : Task → Format → Extensions → List ℕ → List ℕ → Verdict → Writing → Type 0

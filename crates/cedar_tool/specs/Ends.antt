@@ -1,5 +1,5 @@
 -- What each end of a run says of its texts, its files and its streams.
-use Rattle.std.specs.Prelude.{◌≡◌, ◌≢◌, ◌⊎◌, ℕ, List, [], Option, Some, IfSome}
+use Rattle.std.specs.Prelude.{◌≡◌, ◌≢◌, ◌⊎◌, ℕ, List, [], Option, Some, IfSome, codes}
 use Rattle.std.specs.declared.io.Error.{Error}
 use Rattle.cedar_conversion.specs.strict.Table.{table_of}
 use Rattle.cedar_command.specs.Streams.{Writing, AreBytesWritten}
@@ -10,10 +10,11 @@ use Rattle.cedar_tool.specs.declared.ending.Ending.TheVariants.{Answered, Shown,
 use Rattle.cedar_tool.specs.declared.request.Request.{Request}
 use Rattle.cedar_tool.specs.declared.serve.Texts.{Texts}
 use Rattle.cedar_tool.specs.declared.streams.Console.{Console}
+use Rattle.cedar_tool.specs.declared.streams.Output.{Output}
 use Rattle.cedar_tool.specs.declared.streams.WriterState.{WriterState}
 use Rattle.cedar_tool.specs.declared.streams.WriterState.TheVariants as writer
 use Rattle.cedar_tool.specs.Disks.{Files}
-use Rattle.cedar_tool.specs.Streams.{known_of, input_failure, output_state}
+use Rattle.cedar_tool.specs.Streams.{known_of, input_failure, output_state, SpeaksOf}
 use Rattle.cedar_tool.specs.Answers.{Serves, TriesAll}
 
 -- the status of the process
@@ -47,6 +48,10 @@ sources_of remaining files old new = record {
   after = new.disk;
 }
 
+-- the name under which standard input is told
+abbrev pub input_name : List ℕ
+input_name = codes "<stdin>"
+
 -- what a request made of the texts under these names, or of standard input where there are none:
 -- what is written of them, and the verdict
 pub data Treats {D : Type 0} (request : Request) (t : Sources D) :
@@ -55,8 +60,8 @@ pub data Treats {D : Type 0} (request : Request) (t : Sources D) :
       TriesAll t.files request.task request.format (table_of request.styles) t.before names
       t.after out verdict →
       Treats request t names out verdict
-  input : (name text out : List ℕ) (verdict : Verdict) → IfSome t.known (λ known. text ≡ known) →
-      Serves t.files request.task request.format (table_of request.styles) name text t.before
+  input : (text out : List ℕ) (verdict : Verdict) → IfSome t.known (λ known. text ≡ known) →
+      Serves t.files request.task request.format (table_of request.styles) input_name text t.before
       t.after out verdict →
       Treats request t [] out verdict
   unread : (error : Error) → t.failure ≡ Some error → t.after ≡ t.before →
@@ -68,30 +73,33 @@ abbrev pub AreTreated : {D : Type 0} → Request → Sources D → List (List �
 AreTreated request t names verdict w =
     (out : List ℕ) × Treats request t names out verdict × AreBytesWritten out w
 
--- what each end says, of the texts, of what was written to standard output, and of how the calls of
--- both writers went
-pub data RunEnds {D : Type 0} (t : Sources D) (w : Writing) (output errors : WriterState) :
-    Ending → Type 0 where
-  -- all texts were tried, and all that was written was passed on
+-- what each end says, of the texts, of what was written to standard output, of how its calls went,
+-- and of the stream of errors before the run and behind it
+pub data RunEnds {D E : Type 0} (t : Sources D) (w : Writing) (output : WriterState)
+    (before errors : Output E) : Ending → Type 0 where
+  -- all texts were tried, all that was written was passed on, and what the verdict calls for was
+  -- said, or nothing where it is good
   answered : (request : Request) (names : List (List ℕ)) (verdict : Verdict) →
       AreTreated request t names verdict w → output ≡ writer.Flushed →
-      RunEnds t w output errors (Answered verdict)
-  -- help or the version was written and passed on
-  shown : t.after ≡ t.before → output ≡ writer.Flushed → RunEnds t w output errors Shown
+      SpeaksOf verdict request.format before errors →
+      RunEnds t w output before errors (Answered verdict)
+  -- help or the version was written and passed on, and nothing to the stream of errors
+  shown : t.after ≡ t.before → output ≡ writer.Flushed → errors ≡ before →
+      RunEnds t w output before errors Shown
   -- what is wrong with the words was said, and nothing else was done
-  usage : t.after ≡ t.before → AreBytesWritten [] w → errors ≡ writer.Written →
-      RunEnds t w output errors Usage
+  usage : t.after ≡ t.before → AreBytesWritten [] w → output_state errors ≡ writer.Written →
+      RunEnds t w output before errors Usage
   -- that memory was refused was said
-  memory : errors ≡ writer.Written → RunEnds t w output errors Memory
+  memory : output_state errors ≡ writer.Written → RunEnds t w output before errors Memory
   -- a write or a flush failed
   stream : (error : Error) →
-      (output ≡ writer.Failed error) ⊎ (errors ≡ writer.Failed error) →
-      RunEnds t w output errors Stream
+      (output ≡ writer.Failed error) ⊎ (output_state errors ≡ writer.Failed error) →
+      RunEnds t w output before errors Stream
 
 -- what was said of the words alone: that they ask for nothing, or help and the version
 abbrev pub IsShown : {O E : Type 0} → Console O E → Console O E → Ending → Type 0
 IsShown old new Usage = (new.output ≡ old.output) × (output_state new.errors ≡ writer.Written)
-IsShown old new Shown = output_state new.output ≡ writer.Flushed
+IsShown old new Shown = (new.errors ≡ old.errors) × (output_state new.output ≡ writer.Flushed)
 IsShown old new (Answered verdict) = ⊥
 IsShown old new Memory = ⊥
 IsShown old new Stream = ⊥

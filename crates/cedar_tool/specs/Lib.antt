@@ -4,3 +4,4 @@ pub mod Ends
 pub mod Layouts
 pub mod Listed
 pub mod Streams
+pub mod Told

@@ -1,14 +1,16 @@
 -- What is seen of a run's streams, and what a call leaves.
-use Rattle.std.specs.Prelude.{◌≡◌, ◌⊎◌, ℕ, List, [], Option, Result, Ok, Err, option_and_then, ⊤}
+use Rattle.std.specs.Prelude.{◌≡◌, ◌⊎◌, ℕ, List, Option, Result, Ok, Err, option_and_then}
 use Rattle.std.specs.IoError.{error_kind}
 use Rattle.std.specs.declared.io.ErrorKind.TheVariants as kind
 use Rattle.std.specs.declared.io.Error.{Error}
-use Rattle.cedar_command.specs.Streams.{Writing, AreBytesWritten}
+use Rattle.cedar_command.specs.Streams.{Writing}
 use Rattle.cedar_tool.specs.declared.streams.Input.{Input}
 use Rattle.cedar_tool.specs.declared.streams.Output.{Output}
 use Rattle.cedar_tool.specs.declared.streams.Console.{Console}
 use Rattle.cedar_tool.specs.declared.streams.WriterState.{WriterState}
-use Rattle.cedar_tool.specs.declared.streams.WriterState.TheVariants.{Failed}
+use Rattle.cedar_tool.specs.declared.streams.WriterState.TheVariants.{Written, Failed}
+use Rattle.cedar_tool.specs.declared.ending.Verdict.{Verdict}
+use Rattle.cedar_tool.specs.declared.ending.Verdict.TheVariants as verdict
 use Rattle.cedar_tool.specs.declared.request.Format.{Format}
 use Rattle.cedar_tool.specs.declared.request.Format.TheVariants.{Human, Plain, Json}
 
@@ -54,17 +56,12 @@ abbrev pub StopsRun : {O E : Type 0} → Console O E → Error → Type 0
 StopsRun console error = IsWant error
     ⊎ ((output_state console.output ≡ Failed error) ⊎ (output_state console.errors ≡ Failed error))
 
--- What is told of a text stands on standard output as JSON, and else on the stream of errors; the
--- other stream stays as it was.
-abbrev pub IsToldOn : {O E : Type 0} → (O → Option (List ℕ)) → Format → Console O E → Console O E
-    → Type 0
-IsToldOn contents Json old new = (new.errors ≡ old.errors)
-    × ((told : List ℕ) × AreBytesWritten told (output_writing contents old.output new.output))
-IsToldOn contents Plain old new = new.output ≡ old.output
-IsToldOn contents (Human colours) old new = new.output ≡ old.output
-
--- so standard output may hold this of what is told
-abbrev pub MayHold : Format → List ℕ → Type 0
-MayHold Json told = ⊤
-MayHold Plain told = told ≡ []
-MayHold (Human colours) told = told ≡ []
+-- What the stream of errors, from what it was to what it is, has of texts with this verdict:
+-- nothing where they are accepted, or refused and told as JSON; else something was written to it
+-- last. Of an `Output` as `Output::new` makes it a state of `Written` says that the run wrote.
+abbrev pub SpeaksOf : {E : Type 0} → Verdict → Format → Output E → Output E → Type 0
+SpeaksOf verdict.Accepted format old new = new ≡ old
+SpeaksOf verdict.Refused Json old new = new ≡ old
+SpeaksOf verdict.Refused Plain old new = output_state new ≡ Written
+SpeaksOf verdict.Refused (Human colours) old new = output_state new ≡ Written
+SpeaksOf verdict.Failed format old new = output_state new ≡ Written

@@ -1,11 +1,15 @@
 //! Whether a text means policies, and what is told where it doesn't.
-ghost use Rattle.std.specs.Prelude.{◌≡◌, IfOk, IfErr, OnOk};
+ghost use Rattle.std.specs.Prelude.{◌≡◌, ℕ, List, IfOk, IfErr, IsUtf8, OnOk};
 ghost use Rattle.cedar_conversion.specs.strict.Table.{table_of};
+ghost use Rattle.cedar_policy_parser.specs.faults.Refused.{RefusesSet};
 ghost use Rattle.cedar_policy_parser.specs.meaning.Formatted.{MeansSet};
 ghost use Rattle.cedar_policy_store.specs.PlaceFree.{set_meaning};
+ghost use Rattle.cedar_report.specs.Encoding.{TellsEncoding};
+ghost use Rattle.cedar_report.specs.declared.finding.Finding.{Finding};
 ghost use Rattle.cedar_syntax.specs.faults.ParseErrors.{IsMemory};
 ghost use Rattle.cedar_tool.specs.Answers.{HasMeaning, IsJudged};
-ghost use Rattle.cedar_tool.specs.Streams.{IsToldOn, StopsRun, output_writing};
+ghost use Rattle.cedar_tool.specs.Streams.{SpeaksOf, StopsRun, output_writing};
+ghost use Rattle.cedar_tool.specs.Told.{IsToldOn, TellsRefusal, FindsFaults};
 ghost use Rattle.cedar_tool.specs.declared.ending.Verdict.TheVariants as verdict;
 ghost use Rattle.cedar_tool.specs.declared.request.Task.TheVariants as task;
 
@@ -27,11 +31,12 @@ pub(crate) fn check<O: Write, E: Write>(
     source: &Source<'_>,
     console: &mut Console<O, E>,
 ) -> io::Result<Verdict>
+    requires { request.now.task ≡ task.Check }
     ensures judged { IfOk result (λ v. IsJudged task.Check request.now.format
         (table_of request.now.styles) source.now.name.now source.now.text.now v
         (output_writing O.contents console.old.output console.new.output)) }
-    ensures quiet { IfOk result (λ v. v ≡ verdict.Accepted
-        → console.new.errors ≡ console.old.errors) }
+    ensures said { IfOk result (λ v. SpeaksOf v request.now.format
+        console.old.errors console.new.errors) }
     ensures stops { IfErr result (StopsRun console.new) }
 {
     match set_of(alloc, source.text, &request.styles) {
@@ -46,6 +51,7 @@ pub(crate) fn set_of(alloc: Global, text: &str, styles: &ExtStyles) -> Result<Po
     ensures set { IfOk result (λ set. MeansSet
         (table_of styles.now) text.now (set_meaning set)) }
     ensures only { HasMeaning (table_of styles.now) text.now → IfErr result IsMemory }
+    ensures refused { IfErr result (λ failure. RefusesSet (table_of styles.now) failure text.now) }
 {
     parse_policyset(alloc, text, styles)
 }
@@ -67,7 +73,9 @@ pub(crate) fn refuse<O: Write, E: Write>(
     console: &mut Console<O, E>,
 ) -> io::Result<Verdict>
     ensures verdict { IfOk result (λ v. (v ≡ verdict.Refused) × ¬ (IsMemory failure.now)) }
-    ensures told { OnOk result (IsToldOn O.contents request.now.format console.old console.new) }
+    ensures told { OnOk result (TellsRefusal O.contents request.now.task request.now.format
+        (table_of request.now.styles) source.now.name.now source.now.text.now failure.now
+        console.old console.new) }
     ensures stops { IfErr result (StopsRun console.new) }
 {
     match failure {
@@ -87,7 +95,11 @@ fn report_of<'a>(
     request: &Request,
     source: &Source<'a>,
     faults: &ParseErrors,
-) -> Result<Report<'a>, AllocError> {
+) -> Result<Report<'a>, AllocError>
+    ensures name { IfOk result (λ report. report.name.now ≡ source.now.name.now) }
+    ensures tells { IfOk result (λ report. FindsFaults request.now.task
+        (table_of request.now.styles) source.now.text.now faults.now report.findings.items) }
+{
     match request.task {
         Task::Check | Task::List => {
             Report::beyond(alloc, source.name, source.text, faults, &request.styles)
@@ -96,23 +108,27 @@ fn report_of<'a>(
     }
 }
 
-/// Tells of bytes that they aren't UTF-8, if they aren't.
+/// Tells of bytes that they aren't UTF-8.
 pub(crate) fn tell_not_utf8<O: Write, E: Write>(
     alloc: Global,
     format: Format,
     named: &Named<'_>,
     console: &mut Console<O, E>,
 ) -> io::Result<Verdict>
+    requires { ¬ (IsUtf8 named.now.bytes.now) }
     ensures verdict { IfOk result (λ v. v ≡ verdict.Refused) }
-    ensures told { OnOk result (IsToldOn O.contents format console.old console.new) }
+    ensures told { OnOk result ((shown : List ℕ) × (findings : List Finding)
+        × TellsEncoding named.now.bytes.now shown findings
+        × IsToldOn O.contents format named.now.name.now findings console.old console.new) }
     ensures stops { IfErr result (StopsRun console.new) }
 {
-    match Report::not_utf8(alloc, named.name, named.bytes)? {
+    let found = Report::not_utf8(alloc, named.name, named.bytes)?;
+    match found {
         Some(report) => {
             tell(alloc, &report, format, console)?;
             Ok(Verdict::Refused)
         }
-        None => Ok(Verdict::Refused),
+        None => unreachable!(),
     }
 }
 
@@ -123,7 +139,8 @@ pub(crate) fn tell<O: Write, E: Write>(
     format: Format,
     console: &mut Console<O, E>,
 ) -> io::Result<()>
-    ensures told { OnOk result (IsToldOn O.contents format console.old console.new) }
+    ensures told { OnOk result (IsToldOn O.contents format report.now.name.now
+        report.now.findings.items console.old console.new) }
     ensures stops { IfErr result (StopsRun console.new) }
 {
     let told = told(alloc, report, format)?;

@@ -87,9 +87,10 @@ fn fill<F: Files>(
     old: &Metadata,
     text: &str,
 ) -> io::Result<()> {
-    file.write_all(text.as_bytes())?;
-    // Another owner's file stays that owner's where this may be done.
+    // Another owner's file stays that owner's where this may be done. Both come before the bytes,
+    // which so never stand in a file with a new one's permissions, which may be wider.
     let _ = files.chown(name, Some(old.uid()), Some(old.gid()));
     file.set_permissions(old.permissions())?;
+    file.write_all(text.as_bytes())?;
     file.sync_all()
 }

@@ -1,12 +1,14 @@
 //! `format`: a text laid out anew, with its comments.
 ghost use Rattle.std.specs.Prelude.{◌≡◌, IfOk, IfErr, OnOk, string_bytes};
 ghost use Rattle.cedar_command.specs.Streams.{AreBytesWritten};
-ghost use Rattle.cedar_conversion.specs.strict.Extensions.{Extensions};
+ghost use Rattle.cedar_conversion.specs.strict.Table.{table_of};
+ghost use Rattle.cedar_grammar.specs.faults.MendedFaults.{IsMendedRefusal, PoliciesBefore};
+ghost use Rattle.cedar_grammar.specs.grammar.LoosePolicies.{ReadsPolicies};
 ghost use Rattle.cedar_policy_parser.specs.meaning.LaidOut.{IsLayoutOf};
 ghost use Rattle.cedar_syntax.specs.faults.ParseErrors.{IsMemory};
 ghost use Rattle.cedar_tool.specs.Answers.{HasPolicies, IsServed};
 ghost use Rattle.cedar_tool.specs.Layouts.{Compares, Rewrites};
-ghost use Rattle.cedar_tool.specs.Streams.{StopsRun, output_writing};
+ghost use Rattle.cedar_tool.specs.Streams.{SpeaksOf, StopsRun, output_state, output_writing};
 ghost use Rattle.cedar_tool.specs.declared.ending.Verdict.TheVariants as verdict;
 ghost use Rattle.cedar_tool.specs.declared.request.Task.TheVariants as task;
 
@@ -16,7 +18,7 @@ use crate::ending::Verdict;
 use crate::remark::not_laid_out;
 use crate::request::{Format, Purpose, Request};
 use crate::serve::fail;
-use crate::streams::Console;
+use crate::streams::{Console, WriterState};
 use crate::texts::Source;
 use cedar_policy_parser::err::Failure;
 use cedar_policy_parser::{LayoutOptions, layout_policies};
@@ -39,13 +41,14 @@ pub(crate) fn format<D: Disk, O: Write, E: Write>(
     disk: &mut D,
     console: &mut Console<O, E>,
 ) -> io::Result<Verdict>
-    ensures served { (table : Extensions) → IfOk result (λ v. IsServed D.files
-        (task.Format layout.now.options layout.now.purpose)
-        layout.now.request.now.format table
+    requires { layout.now.request.now.task
+        ≡ task.Format layout.now.options layout.now.purpose }
+    ensures served { IfOk result (λ v. IsServed D.files layout.now.request.now.task
+        layout.now.request.now.format (table_of layout.now.request.now.styles)
         source.now.name.now source.now.text.now disk.old disk.new v
         (output_writing O.contents console.old.output console.new.output)) }
-    ensures quiet { IfOk result (λ v. v ≡ verdict.Accepted
-        → console.new.errors ≡ console.old.errors) }
+    ensures said { IfOk result (λ v. SpeaksOf v layout.now.request.now.format
+        console.old.errors console.new.errors) }
     ensures stops { IfErr result (StopsRun console.new) }
 {
     match laid_of(alloc, source.text, &layout.options) {
@@ -62,6 +65,7 @@ pub(crate) fn format<D: Disk, O: Write, E: Write>(
 fn laid_of(alloc: Global, text: &str, options: &LayoutOptions) -> Result<String, Failure>
     ensures laid { IfOk result (λ laid. IsLayoutOf options.now text.now (string_bytes laid)) }
     ensures only { HasPolicies text.now → IfErr result IsMemory }
+    ensures refused { IfErr result (IsMendedRefusal ReadsPolicies PoliciesBefore text.now) }
 {
     layout_policies(alloc, text, options)
 }
@@ -86,8 +90,8 @@ fn compare<O: Write, E: Write>(
     laid: &str,
     console: &mut Console<O, E>,
 ) -> io::Result<Verdict>
-    ensures compared { IfOk result (Compares O.contents format source.now.text.now laid.now
-        console.old console.new) }
+    ensures compared { IfOk result (Compares O.contents format source.now.name.now
+        source.now.text.now laid.now console.old console.new) }
     ensures stops { IfErr result (StopsRun console.new) }
 {
     if laid == source.text {
@@ -111,6 +115,8 @@ fn rewrite<D: Disk, O: Write, E: Write>(
     ensures output { console.new.output ≡ console.old.output }
     ensures quiet { IfOk result (λ v. v ≡ verdict.Accepted
         → console.new.errors ≡ console.old.errors) }
+    ensures said { IfOk result (λ v. v ≡ verdict.Failed
+        → output_state console.new.errors ≡ WriterState.Written) }
     ensures stops { IfErr result (StopsRun console.new) }
 {
     if laid == source.text {

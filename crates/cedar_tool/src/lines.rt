@@ -3,14 +3,14 @@ ghost use Rattle.std.specs.Prelude.{◌≡◌, IfOk, string_bytes};
 ghost use Rattle.cedar_policy_store.specs.PolicyText.{effect_text};
 ghost use Rattle.cedar_policy_store.specs.TemplateSlots.{template_slots};
 ghost use Rattle.cedar_command.specs.PolicyLines.{set_size};
-ghost use Rattle.cedar_report.specs.JsonLines.{optional_range_data, range_data, place_data};
+ghost use Rattle.cedar_report.specs.JsonLines.{optional_range_data};
 ghost use Rattle.serde_json.specs.Data.{string};
 ghost use Rattle.serde_json.specs.View.{view};
 ghost use Rattle.cedar_tool.specs.Listed.{annotations_data, slots_data, line_data, policy_extent, policy_data, numbered_data, IsJsonLine, AreJsonLines};
 
 use cedar_policy_parser::cst_to_ast::policy_id;
 use cedar_policy_parser::{PolicySet, Template};
-use cedar_report::{Extent, Lines, Spot};
+use cedar_report::{Extent, Lines};
 use serde_json::{Map, Value, json};
 use std::alloc::{AllocError, Global};
 
@@ -147,23 +147,7 @@ fn policy_range(alloc: Global, lines: &Lines<'_>, policy: &Template) -> Result<V
         ≡ optional_range_data (policy_extent lines.now.text.now policy.now)) }
 {
     match extent(lines, policy) {
-        Some(extent) => range(alloc, &extent),
+        Some(extent) => extent.json(alloc),
         None => Ok(Value::Null),
     }
-}
-
-fn range(alloc: Global, extent: &Extent) -> Result<Value, AllocError>
-    ensures { IfOk result (λ value. view value ≡ range_data extent.now) }
-{
-    let end = place(alloc, extent.end, &extent.to)?;
-    let start = place(alloc, extent.start, &extent.from)?;
-    json!(in alloc; {"end": end, "start": start})
-}
-
-fn place(alloc: Global, byte: usize, spot: &Spot) -> Result<Value, AllocError>
-    ensures { IfOk result (λ value. view value ≡ place_data byte spot.now) }
-{
-    let (byte, line) = (byte as u64, spot.line as u64);
-    let (column, utf16) = (spot.column as u64, spot.utf16 as u64);
-    json!(in alloc; {"byte": byte, "column": column, "line": line, "utf16": utf16})
 }

@@ -4,7 +4,7 @@ ghost use Rattle.cedar_command.specs.Streams.{AreBytesWritten};
 ghost use Rattle.cedar_conversion.specs.strict.Table.{table_of};
 ghost use Rattle.cedar_tool.specs.Answers.{IsJudged};
 ghost use Rattle.cedar_tool.specs.Listed.{AreJsonLines, listed_data};
-ghost use Rattle.cedar_tool.specs.Streams.{StopsRun, output_writing};
+ghost use Rattle.cedar_tool.specs.Streams.{SpeaksOf, StopsRun, output_writing};
 ghost use Rattle.cedar_tool.specs.declared.ending.Verdict.TheVariants as verdict;
 ghost use Rattle.cedar_tool.specs.declared.request.Task.TheVariants as task;
 
@@ -26,11 +26,12 @@ pub(crate) fn list<O: Write, E: Write>(
     source: &Source<'_>,
     console: &mut Console<O, E>,
 ) -> io::Result<Verdict>
+    requires { request.now.task ≡ task.List }
     ensures judged { IfOk result (λ v. IsJudged task.List request.now.format
         (table_of request.now.styles) source.now.name.now source.now.text.now v
         (output_writing O.contents console.old.output console.new.output)) }
-    ensures quiet { IfOk result (λ v. v ≡ verdict.Accepted
-        → console.new.errors ≡ console.old.errors) }
+    ensures said { IfOk result (λ v. SpeaksOf v request.now.format
+        console.old.errors console.new.errors) }
     ensures stops { IfErr result (StopsRun console.new) }
 {
     match set_of(alloc, source.text, &request.styles) {

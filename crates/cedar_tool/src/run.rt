@@ -12,7 +12,7 @@ use crate::ending::Ending;
 use crate::request::Request;
 pub use crate::serve::Texts;
 use crate::serve::serve;
-use crate::streams::{Console, Output, WriterState};
+use crate::streams::{Console, Output};
 use crate::words::{Unasked, request_of};
 use clap::ArgMatches;
 use clap::error::{self, Error};
@@ -47,7 +47,7 @@ pub fn run<R: Read + Drop, D: Disk, O: Write, E: Write>(
     ensures { (end : How) × (result ≡ run_status end)
         × RunEnds (sources_of R.remaining D.files texts.old texts.new)
         (output_writing O.contents console.old.output console.new.output)
-        (output_state console.new.output) (output_state console.new.errors) end }
+        (output_state console.new.output) console.old.errors console.new.errors end }
 {
     match answer(alloc, words, texts, console) {
         Ok(ending) => ending.status(),
@@ -114,7 +114,7 @@ fn answer<R: Read + Drop, D: Disk, O: Write, E: Write>(
 ) -> io::Result<Ending>
     ensures ends { IfOk result (RunEnds (sources_of R.remaining D.files texts.old texts.new)
         (output_writing O.contents console.old.output console.new.output)
-        (output_state console.new.output) (output_state console.new.errors)) }
+        (output_state console.new.output) console.old.errors console.new.errors) }
     ensures stops { IfErr result (StopsRun console.new) }
 {
     let command = command(alloc)?;
@@ -133,7 +133,7 @@ fn obey<R: Read + Drop, D: Disk, O: Write, E: Write>(
 ) -> io::Result<Ending>
     ensures ends { IfOk result (RunEnds (sources_of R.remaining D.files texts.old texts.new)
         (output_writing O.contents console.old.output console.new.output)
-        (output_state console.new.output) (output_state console.new.errors)) }
+        (output_state console.new.output) console.old.errors console.new.errors) }
     ensures stops { IfErr result (StopsRun console.new) }
 {
     match matches.subcommand() {
@@ -152,7 +152,7 @@ fn obey_command<R: Read + Drop, D: Disk, O: Write, E: Write>(
 ) -> io::Result<Ending>
     ensures ends { IfOk result (RunEnds (sources_of R.remaining D.files texts.old texts.new)
         (output_writing O.contents console.old.output console.new.output)
-        (output_state console.new.output) (output_state console.new.errors)) }
+        (output_state console.new.output) console.old.errors console.new.errors) }
     ensures stops { IfErr result (StopsRun console.new) }
 {
     match request_of(alloc, name, matches, console.is_terminal) {
@@ -175,7 +175,7 @@ fn fulfil<R: Read + Drop, D: Disk, O: Write, E: Write>(
 ) -> io::Result<Ending>
     ensures ends { IfOk result (RunEnds (sources_of R.remaining D.files texts.old texts.new)
         (output_writing O.contents console.old.output console.new.output)
-        (output_state console.new.output) (output_state console.new.errors)) }
+        (output_state console.new.output) console.old.errors console.new.errors) }
     ensures stops { IfErr result (StopsRun console.new) }
 {
     let verdict = serve(alloc, request, names, texts, console)?;

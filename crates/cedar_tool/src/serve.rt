@@ -1,9 +1,9 @@
 //! What a request makes of its texts.
-ghost use Rattle.std.specs.Prelude.{◌≡◌, [], IfOk, IfErr, map};
+ghost use Rattle.std.specs.Prelude.{◌≡◌, [], IfOk, IfErr, OnOk, map};
 ghost use Rattle.cedar_conversion.specs.strict.Table.{table_of};
 ghost use Rattle.cedar_tool.specs.Answers.{IsServed, IsTried, AreTried};
 ghost use Rattle.cedar_tool.specs.Ends.{AreTreated, sources_of};
-ghost use Rattle.cedar_tool.specs.Streams.{IsWant, StopsRun, output_writing};
+ghost use Rattle.cedar_tool.specs.Streams.{IsWant, SpeaksOf, StopsRun, output_state, output_writing};
 ghost use Rattle.cedar_tool.specs.declared.ending.Verdict.TheVariants as verdict;
 
 use crate::check::{check, tell_not_utf8};
@@ -12,7 +12,7 @@ use crate::ending::Verdict;
 use crate::format::{Layout, format};
 use crate::list::list;
 use crate::request::{Request, Task};
-use crate::streams::{Console, Input};
+use crate::streams::{Console, Input, WriterState};
 use crate::texts::{Named, Source};
 use std::alloc::Global;
 use std::io::{self, ErrorKind, Read, Write};
@@ -40,8 +40,8 @@ pub(crate) fn serve<R: Read + Drop, D: Disk, O: Write, E: Write>(
     ensures treated { IfOk result (λ v. AreTreated request.now
         (sources_of R.remaining D.files texts.old texts.new) (map (λ name. name.now) names.now) v
         (output_writing O.contents console.old.output console.new.output)) }
-    ensures quiet { IfOk result (λ v. v ≡ verdict.Accepted
-        → console.new.errors ≡ console.old.errors) }
+    ensures said { IfOk result (λ v. SpeaksOf v request.now.format
+        console.old.errors console.new.errors) }
     ensures stops { IfErr result (StopsRun console.new) }
 {
     if names.is_empty() {
@@ -60,8 +60,8 @@ fn serve_input<R: Read + Drop, D: Disk, O: Write, E: Write>(
     ensures treated { IfOk result (λ v. AreTreated request.now
         (sources_of R.remaining D.files texts.old texts.new) [] v
         (output_writing O.contents console.old.output console.new.output)) }
-    ensures quiet { IfOk result (λ v. v ≡ verdict.Accepted
-        → console.new.errors ≡ console.old.errors) }
+    ensures said { IfOk result (λ v. SpeaksOf v request.now.format
+        console.old.errors console.new.errors) }
     ensures stops { IfErr result (StopsRun console.new) }
 {
     match texts.input.bytes(alloc) {
@@ -87,8 +87,8 @@ fn serve_files<D: Disk, O: Write, E: Write>(
     ensures tried { IfOk result (λ v. AreTried D.files request.now
         (map (λ name. name.now) names.now) disk.old disk.new v
         (output_writing O.contents console.old.output console.new.output)) }
-    ensures quiet { IfOk result (λ v. v ≡ verdict.Accepted
-        → console.new.errors ≡ console.old.errors) }
+    ensures said { IfOk result (λ v. SpeaksOf v request.now.format
+        console.old.errors console.new.errors) }
     ensures stops { IfErr result (StopsRun console.new) }
 {
     let mut verdict = Verdict::Accepted;
@@ -109,8 +109,8 @@ fn serve_file<D: Disk, O: Write, E: Write>(
 ) -> io::Result<Verdict>
     ensures tried { IfOk result (λ v. IsTried D.files request.now name.now disk.old disk.new v
         (output_writing O.contents console.old.output console.new.output)) }
-    ensures quiet { IfOk result (λ v. v ≡ verdict.Accepted
-        → console.new.errors ≡ console.old.errors) }
+    ensures said { IfOk result (λ v. SpeaksOf v request.now.format
+        console.old.errors console.new.errors) }
     ensures stops { IfErr result (StopsRun console.new) }
 {
     match disk.read(alloc, name) {
@@ -137,8 +137,8 @@ fn serve_bytes<D: Disk, O: Write, E: Write>(
         (table_of request.now.styles) named.now.name.now named.now.bytes.now
         disk.old disk.new v
         (output_writing O.contents console.old.output console.new.output)) }
-    ensures quiet { IfOk result (λ v. v ≡ verdict.Accepted
-        → console.new.errors ≡ console.old.errors) }
+    ensures said { IfOk result (λ v. SpeaksOf v request.now.format
+        console.old.errors console.new.errors) }
     ensures stops { IfErr result (StopsRun console.new) }
 {
     let name = named.name;
@@ -160,8 +160,8 @@ fn serve_text<D: Disk, O: Write, E: Write>(
         (table_of request.now.styles) source.now.name.now source.now.text.now
         disk.old disk.new v
         (output_writing O.contents console.old.output console.new.output)) }
-    ensures quiet { IfOk result (λ v. v ≡ verdict.Accepted
-        → console.new.errors ≡ console.old.errors) }
+    ensures said { IfOk result (λ v. SpeaksOf v request.now.format
+        console.old.errors console.new.errors) }
     ensures stops { IfErr result (StopsRun console.new) }
 {
     match request.task {
@@ -186,6 +186,7 @@ pub(crate) fn fail<O: Write, E: Write>(
 ) -> io::Result<Verdict>
     ensures verdict { IfOk result (λ v. (v ≡ verdict.Failed) × ¬ IsWant error) }
     ensures output { console.new.output ≡ console.old.output }
+    ensures said { OnOk result (output_state console.new.errors ≡ WriterState.Written) }
     ensures stops { IfErr result (StopsRun console.new) }
 {
     match error.kind() {

@@ -2,9 +2,7 @@
 
 use crate::request::{Colours, Format, Purpose, Request, Task};
 use cedar_command::request::{command_of, table_named};
-use cedar_expressions::{Id, Text, UnreservedId};
 use cedar_policy_parser::{ExtStyles, LayoutOptions};
-use cedar_report::{CEDAR_FUNCTIONS, CEDAR_METHODS};
 use clap::ArgMatches;
 use std::alloc::{AllocError, Global};
 
@@ -47,9 +45,14 @@ fn task_of(name: &str, matches: &ArgMatches<'_>) -> Task {
 }
 
 fn layout_of(matches: &ArgMatches<'_>) -> LayoutOptions {
+    let default = LayoutOptions::default();
     LayoutOptions {
-        width: matches.get_one::<usize>("line-width").unwrap_or(80),
-        indent: matches.get_one::<usize>("indent-width").unwrap_or(2),
+        width: matches
+            .get_one::<usize>("line-width")
+            .unwrap_or(default.width),
+        indent: matches
+            .get_one::<usize>("indent-width")
+            .unwrap_or(default.indent),
     }
 }
 
@@ -94,7 +97,7 @@ fn styles_of(alloc: Global, matches: &ArgMatches<'_>) -> Result<ExtStyles, Unask
     if words.len() == 1 {
         return Ok(own);
     }
-    add_own(alloc, &own, &mut words)?;
+    add_table(alloc, &own, &mut words)?;
     Ok(table_named(alloc, words.as_slice())?)
 }
 
@@ -121,24 +124,13 @@ fn add_words(
     Ok(())
 }
 
-/// Adds Cedar's own extensions.
-fn add_own(alloc: Global, own: &ExtStyles, words: &mut Vec<String>) -> Result<(), AllocError> {
-    add_words(alloc, words, "fn:", CEDAR_FUNCTIONS)?;
-    for name in CEDAR_METHODS {
-        if is_method(alloc, own, name)? {
-            words.push(format!(in alloc; "method:{name}")?)?;
-        }
+/// Adds the extensions of a table.
+fn add_table(alloc: Global, styles: &ExtStyles, words: &mut Vec<String>) -> Result<(), AllocError> {
+    for name in styles.functions() {
+        words.push(format!(in alloc; "fn:{name}")?)?;
+    }
+    for name in styles.methods() {
+        words.push(format!(in alloc; "method:{name}")?)?;
     }
     Ok(())
-}
-
-/// Whether a table has a method of this name; those of the language itself are in none.
-fn is_method(alloc: Global, styles: &ExtStyles, name: &str) -> Result<bool, AllocError> {
-    let Some(id) = Id::new(Text::from_str(alloc, name)?) else {
-        return Ok(false);
-    };
-    match UnreservedId::unless_reserved(id) {
-        Ok(id) => Ok(styles.is_method(&id)),
-        Err(_) => Ok(false),
-    }
 }

@@ -11,3 +11,6 @@ returns-clause-only c = set_only (table_of c.args.styles.now) c.args.text.now se
 
 pub returns-clause-set : goal.returns-clause-set
 returns-clause-set c = c.parse_policyset.ensures.value
+
+pub returns-clause-refused : goal.returns-clause-refused
+returns-clause-refused c = c.parse_policyset.ensures.refused

@@ -1,6 +1,10 @@
+use Rattle.std.proofs.Common.{OnOk, subst}
 use Rattle.cedar_conversion.specs.strict.Table.{table_of}
+use Rattle.cedar_tool.specs.declared.request.Task.{Task}
 use Rattle.cedar_tool.specs.declared.request.Task.TheVariants as task
-use Rattle.cedar_tool.proofs.Judging.{listed_by, refused_by, unquiet}
+use Rattle.cedar_tool.specs.Told.{TellsRefusal}
+use Rattle.cedar_tool.proofs.Judging.{listed_by, refused_by}
+use Rattle.cedar_tool.proofs.Speaking as speaking
 use Rattle.cedar_tool.proofs.list.list.Goals as goal
 
 pub returns-in-Ok-clause-judged : goal.returns-in-Ok-clause-judged
@@ -9,8 +13,16 @@ returns-in-Ok-clause-judged g c =
 
 pub returns-in-Err-clause-judged : goal.returns-in-Err-clause-judged
 returns-in-Err-clause-judged g c =
-    refused_by g.O.Write.contents task.List c.args.request.now.format (table_of c.args.request.now.styles) c.args.source.now.name.now c.args.source.now.text.now _ _ c.in-Err.failure c.refuse.result
-    (λ some meant. some (c.in-Err.ensures.only meant)) c.refuse.ensures.verdict c.refuse.ensures.told
+    let r = c.args.request.now in
+    let s = c.args.source.now in
+    let P : Task → Type 0 = λ t. OnOk c.refuse.result (TellsRefusal g.O.Write.contents t r.format (table_of r.styles) s.name.now s.text.now c.in-Err.failure c.args.console.now c.refuse.new.console) in
+    refused_by g.O.Write.contents task.List r.format (table_of r.styles) s.name.now s.text.now _ _ c.in-Err.failure c.refuse.result
+    (λ some meant. some (c.in-Err.ensures.only meant)) c.in-Err.ensures.refused c.refuse.ensures.verdict (subst P c.requires c.refuse.ensures.told)
 
-pub returns-in-Err-clause-quiet : goal.returns-in-Err-clause-quiet
-returns-in-Err-clause-quiet g c = unquiet _ c.in-Err.failure c.refuse.result c.refuse.ensures.verdict
+pub returns-in-Ok-clause-said : goal.returns-in-Ok-clause-said
+returns-in-Ok-clause-said g c =
+    speaking.accepted c.args.request.now.format c.args.console.now.errors c.list_set.new.console.errors c.list_set.result c.list_set.ensures.verdict c.list_set.ensures.quiet
+
+pub returns-in-Err-clause-said : goal.returns-in-Err-clause-said
+returns-in-Err-clause-said g c =
+    speaking.refused_by g.O.Write.contents _ c.args.request.now.format _ _ _ _ c.args.console.now c.refuse.new.console _ c.refuse.result c.refuse.ensures.verdict c.refuse.ensures.told

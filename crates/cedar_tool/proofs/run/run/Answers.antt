@@ -6,4 +6,4 @@ returns-in-Ok g c = (c.in-Ok.ending, c.status.ensures, c.in-Ok.ensures.ends)
 
 pub returns-in-Err : goal.returns-in-Err
 returns-in-Err g c =
-    (c.stop.result, c.status-in-Err.ensures, stopped_ends _ _ _ _ _ c.stop.ensures.stopped)
+    (c.stop.result, c.status-in-Err.ensures, stopped_ends _ _ _ _ _ _ c.stop.ensures.stopped)

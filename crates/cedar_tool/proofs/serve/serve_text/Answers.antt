@@ -18,4 +18,4 @@ returns-in-List-clause-served g c =
 
 pub returns-in-Format-clause-served : goal.returns-in-Format-clause-served
 returns-in-Format-clause-served g c =
-    rw c.in-Format.is (c.format.ensures.served (table_of c.args.request.now.styles))
+    c.format.ensures.served
