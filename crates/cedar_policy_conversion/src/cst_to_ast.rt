@@ -298,6 +298,11 @@ pub trait PolicyAst {
 
     /// A static policy, or a template where a slot stands in its scope. It is refused as
     /// `to_template` is.
+    ///
+    ///     match tree.to_policy_or_template(alloc, PolicyID::new(name), styles)? {
+    ///         Either::Left(policy) => writeln!(out, "static: {policy}")?,
+    ///         Either::Right(template) => writeln!(out, "a template: {template}")?,
+    ///     }
     fn to_policy_or_template(
         &self,
         alloc: Global,

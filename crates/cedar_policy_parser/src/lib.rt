@@ -3,7 +3,7 @@
 //!
 //! It passes on what its calls take and give: the modules of the crates below under their names,
 //! the values, the policies, and the owners of text and lists. So a program names this crate
-//! alone, and `either` where it calls `to_policy_or_template`.
+//! alone, and `either` where it makes an `Either`.
 #![tactic(auto)]
 
 pub mod formatter;
@@ -16,7 +16,7 @@ pub mod policy_laws;
 pub use cedar_expressions::{
     AddOp, AnyId, BinaryCall, BinaryOp, Boxed, Eid, EntityType, EntityUID, EscapedText, Expr,
     ExprBuilder, ExprBuilderInfallibleBuild, ExprKind, ExpressionConstructionError, Id,
-    InternalName, Items, ListCall, Literal, Name, NaryOp, OwnedText, PatternElem, Place,
+    InternalName, Items, ListCall, Literal, Name, NaryOp, NodePlace, OwnedText, PatternElem, Place,
     RecordError, ReservedNameError, Slot, SlotEntities, SlotId, Source, Subexpressions, Text,
     TryClone, UnaryCall, UnaryOp, UnreservedId, Var, push_escaped,
 };

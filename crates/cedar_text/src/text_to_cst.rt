@@ -72,6 +72,9 @@ pub fn parse_policies(alloc: Global, text: &str) -> Result<Node<Option<Policies>
 ///
 /// It answers and refuses as `parse_policies` does, of single policies; behind a whole policy the
 /// first fault stops the parse.
+///
+///     let tree = parse_policy(alloc, "permit(principal, action, resource);")?;
+///     let policy = tree.to_policy_or_template(alloc, id, &styles)?;
 pub fn parse_policy(alloc: Global, text: &str) -> Result<Node<Option<Policy>>, Failure>
     ensures found { IfOk result (λ x. IsTreeOf ReadsPolicy text.now x) }
     ensures places { IfOk result
@@ -126,6 +129,8 @@ pub fn parse_expr(alloc: Global, text: &str) -> Result<Node<Option<Expr>>, Failu
 /// the end of the last token or 0, each with the kinds of token that could have stood there;
 /// `User`, a number past `u64` where a number may stand, at its digits; `InvalidToken`, where no
 /// token starts. Or it is `Failure::Memory`.
+///
+///     let alice = parse_ref(alloc, "User::\"alice\"")?.to_ref(alloc)?;
 pub fn parse_ref(alloc: Global, text: &str) -> Result<Node<Option<Ref>>, Failure>
     ensures found { IfOk result (λ x. IsTreeOf ReadsRef text.now x) }
     ensures places { IfOk result (λ x. All (IsPlace text.now) (node_places ref_places x)) }
