@@ -75,7 +75,10 @@ impl From<StaticPolicy> for Template {
 ///
 ///     match StaticPolicy::try_from(template) {
 ///         Ok(policy) => set.add_static(policy)?,
-///         Err(refused) => set.add_template(refused.into_template())?,
+///         Err(refused) => match refused.reason() {
+///             NotStatic::UnexpectedSlot(_) => set.add_template(refused.into_template())?,
+///             NotStatic::Memory(want) => return Err(PolicySetError::from(want)),
+///         },
 ///     }
 impl TryFrom<Template> for StaticPolicy {
     type Error = RefusedTemplate;

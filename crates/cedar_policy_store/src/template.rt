@@ -84,7 +84,8 @@ impl Template {
         &self.id
     }
 
-    /// Where the template stands, if that is known.
+    /// Where the template stands, if that is known; a policy that was linked stands where its
+    /// template does.
     pub fn place(&self) -> Option<Place>
         ensures { result ≡ marked_place self.now.place }
     {
