@@ -14,6 +14,7 @@ pub mod Outcomes
 pub mod Parts
 pub mod PlainText
 pub mod Quoted
+pub mod RepeatedKeys
 pub mod RightSides
 pub mod Signed
 pub mod StringLiterals

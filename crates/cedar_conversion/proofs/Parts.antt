@@ -2,19 +2,21 @@
 use Rattle.std.proofs.Common.{◌≡◌, ◌<◌, ◌≤◌, ℕ, Bool, true, false, List, [], ◌∷◌, map, length, Option, Ok, Err, refl, ap, ◌∙◌, arith}
 use Rattle.std.specs.Map.{keys_of}
 use Rattle.cedar_expressions.specs.declared.operators.AddOp.{AddOp}
-use Rattle.cedar_expressions.specs.Keys.{repeats_key}
+use Rattle.cedar_expressions.specs.Keys.{repeats_key, StandsAgain}
 use Rattle.cedar_expressions.specs.Value as v
 use Rattle.cedar_expressions.specs.Value.{Value, values, terms}
 use Rattle.cedar_syntax.specs.declared.loc.Loc.{Loc}
 use Rattle.cedar_syntax.specs.trees.Forms.{parts_of}
 use Rattle.cedar_syntax.specs.trees.Located.{Located, Parts, none}
 use Rattle.cedar_syntax.specs.trees.Tree.{Operator, Level, disjunction, conjunction, relation, sum, product, add, compare}
-use Rattle.cedar_conversion.specs.outcome.Conversion.{Part, bodies, with_part, sum_terms, level_outcome, joint_outcome, operator_limit, chain_outcome, expression_at, record_outcome, set_value_outcome}
+use Rattle.cedar_conversion.specs.outcome.Conversion.{Part, bodies, with_part, sum_terms, level_outcome, joint_outcome, operator_limit, chain_outcome, expression_at, key_again, record_outcome, set_value_outcome}
+use Rattle.cedar_conversion.specs.outcome.Detail.{spelling, spelling_there}
 use Rattle.cedar_conversion.specs.outcome.Held.{Held, as_expression}
 use Rattle.cedar_conversion.specs.parts.Members.{call}
 use Rattle.cedar_syntax.specs.declared.cst.RelOp.{RelOp}
 use Rattle.cedar_conversion.specs.machines.Views.{alike_outcome, sides_outcome}
-use Rattle.cedar_conversion.specs.outcome.Outcome.{Outcome, both, fault_outcome, next, ambiguous_operators, expression_construction_error}
+use Rattle.cedar_conversion.proofs.RepeatedKeys.{first_again}
+use Rattle.cedar_conversion.specs.outcome.Outcome.{Outcome, both, detailed_outcome, fault_outcome, next, ambiguous_operators, expression_construction_error}
 
 pub bodies_behind : {O E : Type 0} (operator : O → Operator) (m : E → Value) (es : List (O × E)) → bodies (map (λ p. (operator p.0, m p.1)) es) ≡ map m (map (λ p. p.1) es)
 bodies_behind operator m [] = refl
@@ -66,9 +68,12 @@ pub record_made : {E : Type 0} (m : E → Value) (place : Option Loc) (ps : Outc
     → ps ≡ Ok (map (λ p. (p.0, m p.1)) es) → w ≡ v.«record» (v.fields (map (λ p. (p.0, m p.1)) es)) → repeats_key (map (λ p. p.0) es) ≡ false → next ps (record_outcome place) ≡ expression_at place w
 record_made m place ps es w h k l = let unrepeated = keyed m es false l in rw (h, k, unrepeated) refl
 
-pub record_refused : {E : Type 0} (m : E → Value) (place : Option Loc) (ps : Outcome (List (List ℕ × Value))) (es : List (List ℕ × E))
-    → ps ≡ Ok (map (λ p. (p.0, m p.1)) es) → repeats_key (map (λ p. p.0) es) ≡ true → next ps (record_outcome place) ≡ fault_outcome expression_construction_error place
-record_refused m place ps es h k = let again = keyed m es true k in rw (h, again) refl
+pub record_refused : {E : Type 0} (m : E → Value) (place : Option Loc) (ps : Outcome (List (List ℕ × Value))) (es : List (List ℕ × E)) (key : List ℕ)
+    → ps ≡ Ok (map (λ p. (p.0, m p.1)) es) → repeats_key (map (λ p. p.0) es) ≡ true → StandsAgain key (map (λ p. p.0) es) → next ps (record_outcome place) ≡ detailed_outcome expression_construction_error place (spelling key)
+record_refused m place ps es key h k s =
+    let again = keyed m es true k in
+    let first = ap (key_again []) (keys_seen m es) ∙ first_again key (map (λ p. p.0) es) s in
+    rw (h, again) (ap (λ o. detailed_outcome expression_construction_error place (spelling_there o)) first)
 
 -- ---- one operator at most
 

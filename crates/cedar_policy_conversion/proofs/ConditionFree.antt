@@ -11,7 +11,7 @@ use Rattle.cedar_syntax.specs.declared.cst.Policy.{Policy}
 use Rattle.cedar_syntax.specs.declared.cst.Policy.TheVariants as trees
 use Rattle.cedar_syntax.specs.declared.loc.Loc.{Loc}
 use Rattle.cedar_syntax.specs.declared.node.Node.{Node}
-use Rattle.cedar_policy_conversion.specs.Conditions.{clause, condition_of, condition_outcome, conditions_outcome, is_when, slots_outcome, without_slots}
+use Rattle.cedar_policy_conversion.specs.Conditions.{clause, condition_of, condition_outcome, condition_word, conditions_outcome, is_when, slots_outcome, without_slots}
 use Rattle.cedar_conversion.specs.strict.Extensions.{Extensions}
 use Rattle.cedar_conversion.specs.parts.Names.{all_of, content_outcome}
 use Rattle.cedar_conversion.specs.outcome.Outcome.{both}
@@ -29,8 +29,8 @@ condition_free e n c h =
     let a = next_ok (content_outcome n.loc n.node) (condition_of e n.loc) c h in
     let f = next_ok (is_when a.0.cond) _ c a.2 in
     let g = next_ok (clause e n.loc a.0.cond.node a.0.expr) (without_slots n.loc f.0) c f.2 in
-    let u = next_ok (slots_outcome n.loc g.0) _ c g.2 in
-    ap slots_of (sym (ok_is u.2)) ∙ value_free f.0 g.0 (no_slots n.loc (slots_of g.0) u.0 u.1)
+    let u = next_ok (slots_outcome n.loc (condition_word f.0) g.0) _ c g.2 in
+    ap slots_of (sym (ok_is u.2)) ∙ value_free f.0 g.0 (no_slots n.loc (condition_word f.0) (slots_of g.0) u.0 u.1)
 
 abbrev AllFree : List Value → Type 0
 AllFree [] = Unit {0}

@@ -25,14 +25,14 @@ use Rattle.cedar_syntax.specs.declared.node.Node.{Node}
 use Rattle.cedar_syntax.specs.trees.Forms.{located, expr_form}
 use Rattle.cedar_syntax.specs.trees.Located as f
 use Rattle.cedar_syntax.specs.trees.Located.{Located, Form}
-use Rattle.cedar_conversion.specs.outcome.Conversion.{Part, accesses_outcome, expression_at, form_outcome, held_string, literal_outcome, number_outcome, operands, outcome, pairs_outcome, record_outcome, set_value_outcome, tree_place, value_outcome}
+use Rattle.cedar_conversion.specs.outcome.Conversion.{Part, accesses_outcome, expression_at, form_outcome, held_string, literal_outcome, number_outcome, operands, outcome, pairs_outcome, record_outcome, repeated_key_outcome, set_value_outcome, tree_place, value_outcome}
 use Rattle.cedar_conversion.specs.parts.Entities.{entity_outcome, slot_outcome}
 use Rattle.cedar_conversion.specs.strict.Extensions.{Extensions}
 use Rattle.cedar_conversion.specs.outcome.Held.{Held, as_expression, bare_name, expression, text_value}
 use Rattle.cedar_conversion.specs.parts.Leaves.{slot_value, variable_or_name}
 use Rattle.cedar_conversion.specs.parts.Names.{name_outcome, named_variable}
 use Rattle.cedar_conversion.specs.outcome.Detail as detail
-use Rattle.cedar_conversion.specs.outcome.Outcome.{Outcome, detailed_outcome, expression_construction_error, fault_outcome, integer_literal_too_large, next}
+use Rattle.cedar_conversion.specs.outcome.Outcome.{Outcome, detailed_outcome, integer_literal_too_large, next}
 use Rattle.cedar_conversion.specs.outcome.Seen.{Refuses}
 use Rattle.cedar_conversion.specs.strict.Strict.{largest}
 use Rattle.cedar_conversion.specs.parts.Strings.{text_outcome}
@@ -95,7 +95,7 @@ from_record : (place : Option Loc) (o : Outcome (List (List ℕ × Value))) → 
 from_record place (Err fs) = refl
 from_record place (Ok fields) = go (repeats_key (keys_of fields))
   where
-    go : (b : Bool) → IsOther (if b then fault_outcome expression_construction_error place else expression_at place (v.«record» (v.fields fields)))
+    go : (b : Bool) → IsOther (if b then repeated_key_outcome place (keys_of fields) else expression_at place (v.«record» (v.fields fields)))
     go true = refl
     go false = refl
 

@@ -16,7 +16,7 @@ use Rattle.cedar_syntax.specs.declared.loc.Loc.{Loc}
 use Rattle.cedar_syntax.specs.declared.node.Node.{Node}
 use Rattle.cedar_policy_conversion.specs.AnnotationKeys.{AnnotationContent, Answers, AnswersEach, annotation_map, annotations_outcome, with_pair, with_annotation, kept_annotation, values_by_key, paired_keys}
 use Rattle.cedar_conversion.specs.outcome.Outcome.{NamedFault, expected_static_policy}
-use Rattle.cedar_policy_conversion.specs.Policies.{is_slot_fault, kept_outcome, slot_faults}
+use Rattle.cedar_policy_conversion.specs.Policies.{is_slot_fault, kept_outcome, slot_faults, slot_told}
 use Rattle.cedar_conversion.specs.outcome.Places.{bytes_of}
 use Rattle.cedar_conversion.specs.outcome.Seen.{named_faults, named_fault}
 use Rattle.cedar_conversion.specs.machines.Views.{lent_bytes}
@@ -48,7 +48,7 @@ module _ {F : Type 0} (g : Shared F (Option (String Global) × (Option (Bor Loc)
 -- ---- faults behind those of slots in conditions
 
 abbrev wanted : NamedFault → NamedFault
-wanted f = (expected_static_policy, f.1, f.2)
+wanted f = (expected_static_policy, f.1, slot_told f.2)
 
 one_more_by : (b : Bool) (f : NamedFault) (xs ys zs : List NamedFault) → map wanted xs ≡ map wanted ys ++ zs → map wanted (cond b (f ∷ xs) xs) ≡ map wanted (cond b (f ∷ ys) ys) ++ zs
 one_more_by true f xs ys zs h = ap (λ us. wanted f ∷ us) h

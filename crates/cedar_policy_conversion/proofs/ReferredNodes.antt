@@ -76,7 +76,7 @@ ref_referred k x n d a h e = referred_is k x n d _ h (ap primary_form e ∙ prim
 pub slot_referred : {T : Type 0} (k : RefKind T) (x : Var) (n : Node (Option Primary)) (d : Primary) (a : Node (Option Slot)) → n.node ≡ Some d → d ≡ primaries.Slot a → referent_at k x (located primary_form n) ≡ own_slot_outcome k x n.loc a
 slot_referred k x n d a h e = referred_is k x n d _ h (ap primary_form e ∙ primary_slot a)
 
-pub list_referred : {T : Type 0} (k : RefKind T) (x : Var) (n : Node (Option Primary)) (d : Primary) (a : List (Node (Option Expr))) → n.node ≡ Some d → d ≡ primaries.EList a → referent_at k x (located primary_form n) ≡ several_outcome n.loc k.several (entities (parts_of (map listed_expr a)))
+pub list_referred : {T : Type 0} (k : RefKind T) (x : Var) (n : Node (Option Primary)) (d : Primary) (a : List (Node (Option Expr))) → n.node ≡ Some d → d ≡ primaries.EList a → referent_at k x (located primary_form n) ≡ several_outcome n.loc k.takes k.several (entities (parts_of (map listed_expr a)))
 list_referred k x n d a h e = referred_is k x n d _ h (ap primary_form e ∙ primary_list a)
 
 pub literal_referred : {T : Type 0} (k : RefKind T) (x : Var) (n : Node (Option Primary)) (d : Primary) (a : Node (Option Literal)) → n.node ≡ Some d → d ≡ primaries.Literal a → referent_at k x (located primary_form n) ≡ detailed_outcome (literal_fault n.loc a.loc a.node).0 (literal_fault n.loc a.loc a.node).1 (literal_fault n.loc a.loc a.node).2

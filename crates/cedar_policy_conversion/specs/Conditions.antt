@@ -1,6 +1,6 @@
 -- The conditions of a policy: what `when` and `unless` give, an expression's value without slots,
 -- or faults. The rules are those of Cedar's `Cond::to_expr`. How they are joined: PolicyMeaning.
-use Rattle.std.specs.Prelude.{List, map, Option, Some, None, Ok, Bool, true, false}
+use Rattle.std.specs.Prelude.{ℕ, List, map, Option, Some, None, Ok, Bool, true, false, if◌then◌else◌, codes}
 use Rattle.cedar_expressions.specs.declared.place.Slot.{Slot}
 use Rattle.cedar_expressions.specs.Slots.{slots_of}
 use Rattle.cedar_expressions.specs.Value as v
@@ -41,16 +41,21 @@ abbrev pub condition_value : Bool → Value → Value
 condition_value true x = x
 condition_value false x = v.not x
 
--- a slot where it stands within the condition, else at the condition
-abbrev pub condition_slot_fault : Option Loc → Slot → NamedFault
-condition_slot_fault place s =
-    (slots_in_condition_clause, place_within place s.place, detail.slot s)
+-- the word of a condition
+abbrev pub condition_word : Bool → List ℕ
+condition_word when = if when then codes "when" else codes "unless"
 
-abbrev pub slots_outcome : Option Loc → Value → Outcome (Unit {0})
-slots_outcome place x = faults_outcome (map (condition_slot_fault place) (slots_of x))
+-- a slot where it stands within the condition, else at the condition
+abbrev pub condition_slot_fault : Option Loc → List ℕ → Slot → NamedFault
+condition_slot_fault place word s =
+    (slots_in_condition_clause, place_within place s.place, detail.condition_slot s word)
+
+abbrev pub slots_outcome : Option Loc → List ℕ → Value → Outcome (Unit {0})
+slots_outcome place word x = faults_outcome (map (condition_slot_fault place word) (slots_of x))
 
 abbrev pub without_slots : Option Loc → Bool → Value → Outcome Value
-without_slots place when x = next (slots_outcome place x) (λ _. Ok (condition_value when x))
+without_slots place when x =
+    next (slots_outcome place (condition_word when) x) (λ _. Ok (condition_value when x))
 
 abbrev pub condition_of : Extensions → Option Loc → Cond → Outcome Value
 condition_of e place c =

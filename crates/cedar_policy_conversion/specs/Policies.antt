@@ -155,10 +155,15 @@ abbrev pub is_slot_fault : Kind → Bool
 is_slot_fault slots_in_condition_clause = true
 is_slot_fault _ = false
 
+-- a slot by itself, of what tells one in a condition
+abbrev pub slot_told : detail.Detail → detail.Detail
+slot_told (detail.condition_slot s word) = detail.slot s
+slot_told told = told
+
 -- one more fault for each slot in a condition, with it and at its place
 abbrev pub slot_faults : List NamedFault → List NamedFault
 slot_faults faults =
-    map (λ f. (expected_static_policy, f.1, f.2)) (filter (λ f. is_slot_fault f.0) faults)
+    map (λ f. (expected_static_policy, f.1, slot_told f.2)) (filter (λ f. is_slot_fault f.0) faults)
 
 abbrev pub only_static : Option Loc → Outcome TemplateParts → Outcome TemplateParts
 only_static place (Ok t) = unless_slots place (scope_slots t) t

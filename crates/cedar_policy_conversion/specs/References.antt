@@ -3,6 +3,7 @@
 -- as in Cedar's `to_ref_or_refs`. A slot or a set that the kind doesn't take is refused before its
 -- match or its items; any other form is refused where it stands.
 use Rattle.std.specs.Prelude.{List, [], ◌∷◌, Option, Some, None, Ok, Err, if◌then◌else◌}
+use Rattle.either.specs.declared.Either.TheVariants.{Left, Right}
 use Rattle.cedar_expressions.specs.declared.entity.EntityUID.{EntityUID}
 use Rattle.cedar_expressions.specs.declared.atoms.Var.{Var}
 use Rattle.cedar_policy_store.specs.declared.constraints.EntityReference.{EntityReference}
@@ -11,6 +12,8 @@ use Rattle.cedar_syntax.specs.declared.cst.Expr.{Expr}
 use Rattle.cedar_syntax.specs.declared.cst.Literal.{Literal}
 use Rattle.cedar_syntax.specs.declared.cst.Ref.{Ref}
 use Rattle.cedar_syntax.specs.declared.cst.Slot.{Slot}
+use Rattle.cedar_syntax.specs.declared.err.parse_errors.Ref as expected
+use Rattle.cedar_syntax.specs.declared.err.parse_errors.Ref.TheVariants as stands
 use Rattle.cedar_syntax.specs.declared.loc.Loc.{Loc}
 use Rattle.cedar_syntax.specs.declared.node.Node.{Node}
 use Rattle.cedar_syntax.specs.trees.Forms.{located, expr_form}
@@ -25,14 +28,24 @@ use Rattle.cedar_conversion.specs.parts.Entities.{entity_outcome}
 use Rattle.cedar_conversion.specs.parts.HasSide.{no_sign}
 use Rattle.cedar_conversion.specs.parts.Names.{content_outcome}
 use Rattle.cedar_conversion.specs.outcome.Places.{place_mark}
-use Rattle.cedar_conversion.specs.outcome.Detail.{nothing}
-use Rattle.cedar_conversion.specs.outcome.Outcome.{NamedFault, Outcome, fault_outcome, both, next, empty_node, wrong_node, wrong_entity_argument}
+use Rattle.cedar_conversion.specs.outcome.Detail.{ExpectedRef, nothing, references}
+use Rattle.cedar_conversion.specs.outcome.Outcome.{NamedFault, Outcome, fault_outcome, detailed_outcome, both, next, empty_node, wrong_node, wrong_entity_argument}
 
 -- ---- kinds of reference
 
--- what a kind makes of an entity, of the variable's slot at a place, and of a set of entities, if
--- it takes one
+-- what isn't taken is told with what is
+abbrev pub refused_reference : {X : Type 0} → Option Loc → ExpectedRef → expected.Ref → Outcome X
+refused_reference place takes got =
+    detailed_outcome wrong_entity_argument place (references takes got)
+
+-- where one entity is wanted
+abbrev pub single_alone : {X : Type 0} → Option Loc → expected.Ref → Outcome X
+single_alone place got = refused_reference place (Left stands.Single) got
+
+-- what a kind takes, and what it makes of an entity, of the variable's slot at a place, and of a
+-- set of entities, if it takes one
 pub record RefKind (T : Type 0) : Type 0 where
+  pub takes : ExpectedRef
   pub single : EntityUID → T
   pub slot : Option Loc → Outcome T
   pub several : Option (List EntityUID → T)
@@ -40,14 +53,16 @@ pub record RefKind (T : Type 0) : Type 0 where
 -- one entity and nothing else
 abbrev pub single_entity : RefKind SingleEntity
 single_entity = record {
+  takes = Left stands.Single;
   single = λ uid. record { 0 = uid };
-  slot = λ place. fault_outcome wrong_entity_argument place;
+  slot = λ place. single_alone place stands.Template;
   several = None;
 }
 
 -- an entity, or the variable's slot
 abbrev pub entity_or_slot : RefKind EntityReference
 entity_or_slot = record {
+  takes = Right (stands.Single, stands.Template);
   single = λ uid. reference.EUID uid;
   slot = λ place. Ok (reference.Slot (place_mark place));
   several = None;
@@ -56,8 +71,9 @@ entity_or_slot = record {
 -- an entity, or a set of entities
 abbrev pub one_or_multiple : RefKind OneOrMultipleRefs
 one_or_multiple = record {
+  takes = Right (stands.Single, stands.Set);
   single = λ uid. refs.Single uid;
-  slot = λ place. fault_outcome wrong_entity_argument place;
+  slot = λ place. refused_reference place (Right (stands.Single, stands.Set)) stands.Template;
   several = Some (λ uids. refs.Multiple uids);
 }
 
@@ -102,8 +118,8 @@ no_reference place form = Err (form_fault place form ∷ [])
 -- an entity alone
 abbrev pub entity_form : Option Loc → Form → Outcome EntityUID
 entity_form place (f.reference n) = entity_outcome n
-entity_form place (f.slot n) = fault_outcome wrong_entity_argument place
-entity_form place (f.set items) = fault_outcome wrong_entity_argument place
+entity_form place (f.slot n) = single_alone place stands.Template
+entity_form place (f.set items) = single_alone place stands.Set
 entity_form place form = no_reference place form
 
 abbrev pub entity_at : Located → Outcome EntityUID
@@ -133,15 +149,16 @@ own_slot_outcome k x place n =
     next (k.slot place) (λ made. next (content_outcome n.loc n.node) (of_variable place x made))
 
 -- the set of a kind that takes one; else a refusal before its items are looked at
-abbrev pub several_outcome : {T : Type 0} → Option Loc → Option (List EntityUID → T)
-    → Outcome (List EntityUID) → Outcome T
-several_outcome place (Some make) uids = next uids (λ all. Ok (make all))
-several_outcome place None uids = fault_outcome wrong_entity_argument place
+abbrev pub several_outcome : {T : Type 0} → Option Loc → ExpectedRef
+    → Option (List EntityUID → T) → Outcome (List EntityUID) → Outcome T
+several_outcome place takes (Some make) uids = next uids (λ all. Ok (make all))
+several_outcome place takes None uids = refused_reference place takes stands.Set
 
 abbrev pub referred_form : {T : Type 0} → RefKind T → Var → Option Loc → Form → Outcome T
 referred_form k x place (f.reference n) = single_outcome k n
 referred_form k x place (f.slot n) = own_slot_outcome k x place n
-referred_form k x place (f.set items) = several_outcome place k.several (entities items)
+referred_form k x place (f.set items) =
+    several_outcome place k.takes k.several (entities items)
 referred_form k x place form = no_reference place form
 
 abbrev pub referent_at : {T : Type 0} → RefKind T → Var → Located → Outcome T

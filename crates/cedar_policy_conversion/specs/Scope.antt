@@ -243,7 +243,7 @@ if_there x f before None =
 
 -- each element beyond the third
 abbrev pub extra_element_fault : Option Loc → Option VariableDef → NamedFault
-extra_element_fault place (Some d) = (extra_scope_element, place, detail.nothing)
+extra_element_fault place (Some d) = (extra_scope_element, place, detail.element d)
 extra_element_fault place None = (empty_node, place, detail.nothing)
 
 abbrev pub no_extra : List (Node (Option VariableDef)) → Outcome (Unit {0})

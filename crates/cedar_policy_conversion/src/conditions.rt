@@ -5,8 +5,7 @@ ghost use Rattle.cedar_expressions.specs.Meaning.{expr_meaning, unplaced};
 ghost use Rattle.cedar_syntax.specs.declared.err.faults.ParseError.TheVariants.{ToAST};
 ghost use Rattle.cedar_policy_conversion.specs.Conditions as k;
 ghost use Rattle.cedar_conversion.specs.outcome.Detail as d;
-ghost use Rattle.cedar_conversion.specs.outcome.Outcome.{empty_clause, invalid_condition, slots_in_condition_clause, faults_outcome};
-ghost use Rattle.cedar_conversion.specs.outcome.Places.{place_within};
+ghost use Rattle.cedar_conversion.specs.outcome.Outcome.{empty_clause, invalid_condition, faults_outcome};
 ghost use Rattle.cedar_policy_conversion.specs.PolicyMeaning.{joint_condition};
 ghost use Rattle.cedar_policy_conversion.specs.machines.PolicyViews.{meanings};
 ghost use Rattle.cedar_conversion.specs.outcome.Seen.{Gives, itself, named_fault};
@@ -70,16 +69,23 @@ fn clause(site: CallSite<'_>, cond: &Cond) -> Result<Expr, BoxedFailure>
 /// A slot in a condition.
 fn slot_fault(slot: Slot, word: &'static str, loc: &Option<Loc>) -> Result<ToASTError, AllocError>
     ensures { IfOk result (λ made. named_fault (ToAST made)
-        ≡ (slots_in_condition_clause, place_within loc.now slot.place, d.slot slot)) }
+        ≡ k.condition_slot_fault loc.now word.now slot) }
 {
     let loc = place_within(loc, slot.place)?;
     Ok(ToASTError::new(ToASTErrorKind::slots_in_condition_clause(slot, word), loc))
 }
 
+/// The word of a condition.
+fn condition_word(when: bool) -> &'static str
+    ensures { result.now ≡ k.condition_word when }
+{
+    if when { "when" } else { "unless" }
+}
+
 /// Refuses each slot of a condition.
 fn refuse_slots(site: CallSite<'_>, word: &'static str, slots: &[Slot]) -> Result<(), BoxedFailure>
     ensures { Gives empty_view result
-        (faults_outcome (map (k.condition_slot_fault site.entry.loc.now) slots.now)) }
+        (faults_outcome (map (k.condition_slot_fault site.entry.loc.now word.now) slots.now)) }
 {
     let mut all: Result<(), BoxedFailure> = Ok(());
     for slot in slots {
@@ -92,9 +98,9 @@ fn refuse_slots(site: CallSite<'_>, word: &'static str, slots: &[Slot]) -> Resul
 /// Refuses a condition in which slots stand.
 fn refuse_slots_of(site: CallSite<'_>, when: bool, expr: &Expr) -> Result<(), BoxedFailure>
     ensures { Gives empty_view result
-        (k.slots_outcome site.entry.loc.now (expr_meaning expr.now)) }
+        (k.slots_outcome site.entry.loc.now (k.condition_word when) (expr_meaning expr.now)) }
 {
-    let word = if when { "when" } else { "unless" };
+    let word = condition_word(when);
     let slots = expr.slots(site.alloc)?;
     refuse_slots(site, word, slots.as_slice())
 }

@@ -53,7 +53,7 @@ pub(crate) trait RefKind: Drop {
         items: &[Node<Option<cst::Expr>>],
     ) -> Result<Self, BoxedFailure>
         ensures { Gives itself result
-            (several_outcome loc.now kind.several
+            (several_outcome loc.now kind.takes kind.several
             (entities (parts_of (map listed_expr items.now)))) };
 }
 

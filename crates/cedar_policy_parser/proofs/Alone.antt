@@ -4,7 +4,7 @@
 use Rattle.std.proofs.Common.{◌≡◌, ℕ, zero, suc, true, List, [], ◌∷◌, ◌++◌, Option, Some, None, Ok, Err, refl, sym, ap, ◌∙◌}
 use Rattle.std.specs.Map.{keys_of}
 use Rattle.cedar_expressions.specs.Keys.{repeats_key}
-use Rattle.cedar_expressions.specs.Path.{Path}
+use Rattle.cedar_expressions.specs.Path.{Path, name_text}
 use Rattle.cedar_expressions.specs.Value.{Value}
 use Rattle.cedar_expressions.specs.declared.operators.UnaryOp.TheVariants as signs
 use Rattle.cedar_syntax.specs.declared.loc.Loc.{Loc}
@@ -20,7 +20,7 @@ use Rattle.cedar_syntax.specs.trees.Tree as t
 use Rattle.cedar_syntax.specs.trees.Tree.{Level, Operator, disjunction, conjunction, relation, sum, product}
 use Rattle.cedar_policy_parser.specs.faults.Alone as way
 use Rattle.cedar_policy_parser.specs.faults.Alone.{HasValue, HaveValues, OperandsHaveValues, quotient, quotients, IsPair, ArePairs, ComesTo, IsAlone, IsBareName}
-use Rattle.cedar_conversion.specs.outcome.Conversion.{Part, outcome, form_outcome, operands, pairs_outcome, pair_outcome, pair_form_outcome, value_outcome, accesses_outcome, tree_place, expression_at, chain_outcome, record_outcome, factor, with_part, signs_outcome, number_in, lone_literal}
+use Rattle.cedar_conversion.specs.outcome.Conversion.{Part, outcome, form_outcome, operands, pairs_outcome, pair_outcome, pair_form_outcome, value_outcome, accesses_outcome, tree_place, expression_at, chain_outcome, key_again, record_outcome, factor, with_part, signs_outcome, number_in, lone_literal}
 use Rattle.cedar_conversion.specs.strict.Extensions.{Extensions}
 use Rattle.cedar_conversion.specs.parts.HasSide.{no_sign}
 use Rattle.cedar_conversion.specs.outcome.Held.{Held, bare_name, as_expression, as_attribute}
@@ -28,6 +28,7 @@ use Rattle.cedar_conversion.specs.parts.Leaves.{name_leaf, variable_or_name}
 use Rattle.cedar_conversion.specs.parts.Members.{member_outcome}
 use Rattle.cedar_conversion.specs.parts.Names.{name_outcome, named_variable}
 use Rattle.cedar_conversion.specs.outcome.Detail as detail
+use Rattle.cedar_conversion.specs.outcome.Detail.{spelling, spelling_there}
 use Rattle.cedar_conversion.specs.outcome.Outcome.{NamedFault, Outcome, detailed_outcome, fault_outcome, both, next, ambiguous_operators, invalid_single_eq, unary_op_limit, expression_construction_error, arbitrary_variable}
 use Rattle.cedar_conversion.proofs.Inverted.{next_ok}
 
@@ -202,26 +203,26 @@ all_pairs e f.none (pair ∷ pairs) h = absurd h
 all_pairs e (f.more op n others) [] h = absurd h
 all_pairs e (f.more op n others) (pair ∷ pairs) h = rw (one_pair e n pair h.0, all_pairs e others pairs h.1) refl
 
-repeats : (place : Option Loc) (o : Outcome (List (List ℕ × Value))) (pairs : List (List ℕ × Value)) → o ≡ Ok pairs → repeats_key (keys_of pairs) ≡ true → next o (record_outcome place) ≡ fault_outcome expression_construction_error place
+repeats : (place : Option Loc) (o : Outcome (List (List ℕ × Value))) (pairs : List (List ℕ × Value)) → o ≡ Ok pairs → repeats_key (keys_of pairs) ≡ true → next o (record_outcome place) ≡ detailed_outcome expression_construction_error place (spelling_there (key_again [] (keys_of pairs)))
 repeats place o pairs e k = rw (e, k) refl
 
 pub repeated_key : (e : Extensions) (place : Option Loc) (inits : Parts) (pairs : List (List ℕ × Value)) → ArePairs e inits pairs → repeats_key (keys_of pairs) ≡ true
-    → outcome e (at place (f.record_of inits)) ≡ fault_outcome expression_construction_error place
+    → outcome e (at place (f.record_of inits)) ≡ detailed_outcome expression_construction_error place (spelling_there (key_again [] (keys_of pairs)))
 unfolding outcome form_outcome
 repeated_key e place inits pairs h k = repeats place (pairs_outcome e inits) pairs (all_pairs e inits pairs h) k
 
 pub repeated_key_alone : (e : Extensions) (tree : Located) (place : Option Loc) (inits : Parts) (pairs : List (List ℕ × Value)) → IsAlone tree (at place (f.record_of inits)) → ArePairs e inits pairs → repeats_key (keys_of pairs) ≡ true
-    → value_outcome e tree ≡ fault_outcome expression_construction_error place
+    → value_outcome e tree ≡ detailed_outcome expression_construction_error place (spelling_there (key_again [] (keys_of pairs)))
 repeated_key_alone e tree place inits pairs i h k = refused_alone e tree (at place (f.record_of inits)) _ i (repeated_key e place inits pairs h k)
 
 -- ---- a name
 
-bare : (place : Option Loc) (n : Node (Option Name)) (path : Path) → named_variable n.node ≡ None → name_outcome n ≡ Ok path → next (name_leaf place n) as_expression ≡ fault_outcome arbitrary_variable place
+bare : (place : Option Loc) (n : Node (Option Name)) (path : Path) → named_variable n.node ≡ None → name_outcome n ≡ Ok path → next (name_leaf place n) as_expression ≡ detailed_outcome arbitrary_variable place (spelling (name_text path))
 bare place n path h k = ap (λ o. next (variable_or_name place o n) as_expression) h ∙ ap (λ o. next (next o (λ name. Ok (bare_name place name))) as_expression) k
 
-name_node : (e : Extensions) (place : Option Loc) (n : Node (Option Name)) (path : Path) → named_variable n.node ≡ None → name_outcome n ≡ Ok path → value_outcome e (at place (f.name n)) ≡ fault_outcome arbitrary_variable place
+name_node : (e : Extensions) (place : Option Loc) (n : Node (Option Name)) (path : Path) → named_variable n.node ≡ None → name_outcome n ≡ Ok path → value_outcome e (at place (f.name n)) ≡ detailed_outcome arbitrary_variable place (spelling (name_text path))
 unfolding outcome form_outcome
 name_node e place n path h k = bare place n path h k
 
-pub lone_name : (e : Extensions) (tree : Located) (place : Option Loc) → IsBareName tree place → value_outcome e tree ≡ fault_outcome arbitrary_variable place
-lone_name e tree place h = alone e h.is ∙ name_node e place h.name h.path h.no_variable h.converts
+pub lone_name : (e : Extensions) (tree : Located) (place : Option Loc) (path : Path) → IsBareName tree place path → value_outcome e tree ≡ detailed_outcome arbitrary_variable place (spelling (name_text path))
+lone_name e tree place path h = alone e h.is ∙ name_node e place h.name path h.no_variable h.converts

@@ -26,7 +26,7 @@ use Rattle.cedar_grammar.specs.grammar.LoosePolicies.{ReadsPolicies, ReadsPolicy
 use Rattle.cedar_syntax.specs.trees.Trees.{Cell}
 use Rattle.cedar_policy_conversion.specs.AnnotationKeys.{annotation_outcome, annotations_outcome, with_new_key}
 use Rattle.cedar_policy_parser.specs.faults.Blocks.{faults_from}
-use Rattle.cedar_policy_conversion.specs.Conditions.{is_when_of, condition_value, condition_slot_fault, slots_outcome, without_slots, condition_of, condition_outcome}
+use Rattle.cedar_policy_conversion.specs.Conditions.{is_when_of, condition_value, condition_slot_fault, condition_word, slots_outcome, without_slots, condition_of, condition_outcome}
 use Rattle.cedar_conversion.specs.outcome.Conversion.{Converts, value_outcome}
 use Rattle.cedar_policy_parser.specs.faults.Due.{HoldsCondition, IsWhenOrUnless, is_missing_variable, is_extra_element, count, OfParts, RefusesEffect, TellsMissing, TellsExtra, IsTellable}
 use Rattle.cedar_conversion.specs.strict.Extensions.{Extensions}
@@ -35,7 +35,7 @@ use Rattle.cedar_conversion.specs.parts.Literals.{string_outcome}
 use Rattle.cedar_conversion.specs.parts.Names.{content_outcome, valid_ident, any_ident}
 use Rattle.cedar_conversion.specs.outcome.Detail as detail
 use Rattle.cedar_conversion.specs.outcome.Outcome.{Kind, NamedFault, Outcome, detailed_outcome, both, next, invalid_effect, invalid_condition, empty_clause, missing_scope_variable, extra_scope_element, expected_static_policy, duplicate_policy_id, duplicate_template_id, membership_invariant_violation, faults_outcome}
-use Rattle.cedar_policy_conversion.specs.Policies.{TemplateParts, effect_of, effect_outcome, template_outcome, scope_slots, unless_slots, is_slot_fault, slot_faults, slot_place, only_static, static_outcome, side_outcome, either_outcome, policies_outcome}
+use Rattle.cedar_policy_conversion.specs.Policies.{TemplateParts, effect_of, effect_outcome, template_outcome, scope_slots, unless_slots, is_slot_fault, slot_faults, slot_place, slot_told, only_static, static_outcome, side_outcome, either_outcome, policies_outcome}
 use Rattle.cedar_policy_conversion.specs.References.{referent_outcome, single_entity, entity_or_slot, one_or_multiple}
 use Rattle.cedar_policy_conversion.specs.Scope.{principal_outcome, action_outcome, resource_outcome, place_behind, if_there, extra_element_fault, no_extra, scope_of, elements_outcome, scope_outcome}
 use Rattle.cedar_expressions.specs.Slots.{slots_of}
@@ -87,17 +87,16 @@ unless_is : (fs : List NamedFault) → faults_from (faults_outcome fs) ≡ fs
 unless_is [] = refl
 unless_is (f ∷ fs) = refl
 
-slots_alone : (p : Option Loc) (when : Bool) (x : Value) → faults_from (without_slots p when x) ≡ map (condition_slot_fault p) (slots_of x)
-slots_alone p when x = made_told (slots_outcome p x) (λ _. condition_value when x) ∙ unless_is (map (condition_slot_fault p) (slots_of x))
+slots_alone : (p : Option Loc) (when : Bool) (x : Value) → faults_from (without_slots p when x) ≡ map (condition_slot_fault p (condition_word when)) (slots_of x)
+slots_alone p when x = made_told (slots_outcome p (condition_word when) x) (λ _. condition_value when x) ∙ unless_is (map (condition_slot_fault p (condition_word when)) (slots_of x))
 
 joined_clause : (p : Option Loc) (b : Bool) (o : Outcome Bool) (c : Outcome Value) (x : Value) → o ≡ Ok b → c ≡ Ok x → next o (λ when. next c (without_slots p when)) ≡ without_slots p b x
 joined_clause p b o c x h k = rw (h, k) refl
 
-pub clause_slots : (e : Extensions) (n : Node (Option Cond)) (word : Ident) (place : Option Loc) (expr : Node (Option Expr)) (x : Value) → HoldsCondition n word place (Some expr) → IsWhenOrUnless word → Converts e (located expr_form expr) x
-    → faults_from (condition_outcome e n) ≡ map (condition_slot_fault n.loc) (slots_of x)
-clause_slots e n word place expr x i h k =
-    let d = one_is_given place word h in
-    ap faults_from (condition_is e n _ i ∙ joined_clause n.loc d.0 (is_when_of place word) _ x d.1 k) ∙ slots_alone n.loc d.0 x
+pub clause_slots : (e : Extensions) (n : Node (Option Cond)) (word : Ident) (place : Option Loc) (when : Bool) (expr : Node (Option Expr)) (x : Value) → HoldsCondition n word place (Some expr) → is_when_of place word ≡ Ok when → Converts e (located expr_form expr) x
+    → faults_from (condition_outcome e n) ≡ map (condition_slot_fault n.loc (condition_word when)) (slots_of x)
+clause_slots e n word place when expr x i h k =
+    ap faults_from (condition_is e n _ i ∙ joined_clause n.loc when (is_when_of place word) _ x h k) ∙ slots_alone n.loc when x
 
 -- ---- counts
 
@@ -322,9 +321,9 @@ static_no_template e = cc
 static_no_text : expected_static_policy ≢ membership_invariant_violation
 static_no_text e = cc
 
-wanted_names : (faults : List NamedFault) → All IsTellable (map (λ f. (expected_static_policy, f.1, f.2)) faults)
+wanted_names : (faults : List NamedFault) → All IsTellable (map (λ f. (expected_static_policy, f.1, slot_told f.2)) faults)
 wanted_names [] = All-nil IsTellable
-wanted_names (f ∷ fs) = All-cons IsTellable (expected_static_policy, f.1, f.2) (map (λ f. (expected_static_policy, f.1, f.2)) fs) (static_no_policy, static_no_template, static_no_text) (wanted_names fs)
+wanted_names (f ∷ fs) = All-cons IsTellable (expected_static_policy, f.1, slot_told f.2) (map (λ f. (expected_static_policy, f.1, slot_told f.2)) fs) (static_no_policy, static_no_template, static_no_text) (wanted_names fs)
 
 unless_names : (p : Option Loc) (slots : List Slot) (t : TemplateParts) → All IsTellable (faults_from (unless_slots p slots t))
 unless_names p [] t = All-nil IsTellable

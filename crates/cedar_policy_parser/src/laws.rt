@@ -7,7 +7,7 @@ ghost use Rattle.cedar_lexer.specs.Cut.{Cuts};
 ghost use Rattle.cedar_lexer.specs.Spelling.{IsIdentifierText};
 ghost use Rattle.cedar_lexer.specs.Token.{Lexeme};
 ghost use Rattle.cedar_expressions.specs.Keys.{repeats_key};
-ghost use Rattle.cedar_expressions.specs.Path.{is_identifier};
+ghost use Rattle.cedar_expressions.specs.Path.{Path, is_identifier, name_text};
 ghost use Rattle.cedar_expressions.specs.Value.{Value};
 ghost use Rattle.cedar_expressions.specs.WithoutPlaces.{without_places};
 ghost use Rattle.cedar_expressions.specs.Written.{entity_text};
@@ -36,7 +36,7 @@ ghost use Rattle.cedar_syntax.specs.strings.Piece.{IsLaidOut};
 ghost use Rattle.cedar_grammar.specs.grammar.Place.{placed};
 ghost use Rattle.cedar_syntax.specs.trees.Trees.{Cell};
 ghost use Rattle.cedar_policy_parser.specs.faults.Alone.{HasValue, HaveValues, OperandsHaveValues, quotients, ArePairs, ComesTo, IsAlone, IsBareName};
-ghost use Rattle.cedar_conversion.specs.outcome.Conversion.{Converts, outcome, value_outcome};
+ghost use Rattle.cedar_conversion.specs.outcome.Conversion.{Converts, key_again, outcome, value_outcome};
 ghost use Rattle.cedar_policy_parser.specs.faults.Due.{HaveDueFaults, OfParts};
 ghost use Rattle.cedar_policy_parser.specs.faults.DueKinds.{AreDueIn, IsDue, IsProduct, kinds_of_site};
 ghost use Rattle.cedar_conversion.specs.parts.Entities.{entity_outcome};
@@ -159,15 +159,18 @@ pub fn refused_alone()
         (pairs : List (List ℕ × Value))
         → ArePairs table inits pairs → repeats_key (keys_of pairs) ≡ true
         → outcome table (f.at place (f.record_of inits))
-        ≡ fault_outcome expression_construction_error place }
+        ≡ detailed_outcome expression_construction_error place
+        (detail.spelling_there (key_again [] (keys_of pairs))) }
     ensures repeated_key_alone { (table : Extensions) (tree : Located) (place : Option Loc)
         (inits : Parts) (pairs : List (List ℕ × Value))
         → IsAlone tree (f.at place (f.record_of inits))
         → ArePairs table inits pairs → repeats_key (keys_of pairs) ≡ true
-        → value_outcome table tree ≡ fault_outcome expression_construction_error place }
-    ensures lone_name { (table : Extensions) (tree : Located) (place : Option Loc)
-        → IsBareName tree place
-        → value_outcome table tree ≡ fault_outcome arbitrary_variable place }
+        → value_outcome table tree ≡ detailed_outcome expression_construction_error place
+        (detail.spelling_there (key_again [] (keys_of pairs))) }
+    ensures lone_name { (table : Extensions) (tree : Located) (place : Option Loc) (path : Path)
+        → IsBareName tree place path
+        → value_outcome table tree ≡ detailed_outcome arbitrary_variable place
+        (detail.spelling (name_text path)) }
     ensures own_place { (src : List ℕ) (ts : List Lexeme) (x : Tree) (place : Option Loc)
         (form : Form)
         → ReadsExpr src ts x → ComesTo (located expr_form (placed src ts x)) (f.at place form)

@@ -1,6 +1,6 @@
 //! Laws that join the definitions: what the trees of policies are converted to is what their
 //! tokens mean.
-ghost use Rattle.std.specs.Prelude.{◌≡◌, ◌≢◌, ◌↔◌, ◌≤◌, ℕ, List, [], map, Option, Some, None, Ok, Err};
+ghost use Rattle.std.specs.Prelude.{◌≡◌, ◌≢◌, ◌↔◌, ◌≤◌, ℕ, List, [], map, Option, Some, None, Ok, Err, Bool};
 ghost use Rattle.std.specs.List.{All};
 ghost use Rattle.either.specs.declared.Either.TheVariants.{Left, Right};
 ghost use Rattle.cedar_expressions.specs.Value.{Value};
@@ -31,7 +31,7 @@ ghost use Rattle.cedar_syntax.specs.trees.Trees.{Cell};
 ghost use Rattle.cedar_syntax.specs.trees.UnlocatedTrees.{unlocated_policies};
 ghost use Rattle.cedar_policy_conversion.specs.AnnotationKeys.{annotation_outcome, annotations_outcome, with_new_key};
 ghost use Rattle.cedar_policy_parser.specs.faults.Blocks.{PartsStandWithin, faults_from, policy_faults, set_faults};
-ghost use Rattle.cedar_policy_conversion.specs.Conditions.{condition_outcome, condition_slot_fault};
+ghost use Rattle.cedar_policy_conversion.specs.Conditions.{condition_outcome, condition_slot_fault, condition_word, is_when_of};
 ghost use Rattle.cedar_conversion.specs.outcome.Conversion.{Converts, value_outcome};
 ghost use Rattle.cedar_policy_parser.specs.faults.Due.{HoldsCondition, IsWhenOrUnless, IsTellable, OfParts, RefusesEffect, TellsExtra, TellsMissing};
 ghost use Rattle.cedar_conversion.specs.parts.Entities.{entity_outcome};
@@ -300,11 +300,12 @@ pub fn due()
         → condition_outcome table node
         ≡ detailed_outcome empty_clause node.loc (detail.word word) }
     ensures slots { (table : Extensions) (node : Node (Option Cond))
-        (word : Ident) (place : Option Loc) (expr : Node (Option Expr)) (value : Value)
-        → HoldsCondition node word place (Some expr) → IsWhenOrUnless word
+        (word : Ident) (place : Option Loc) (when : Bool) (expr : Node (Option Expr))
+        (value : Value)
+        → HoldsCondition node word place (Some expr) → is_when_of place word ≡ Ok when
         → Converts table (located expr_form expr) value
         → faults_from (condition_outcome table node)
-        ≡ map (condition_slot_fault node.loc) (slots_of value) }
+        ≡ map (condition_slot_fault node.loc (condition_word when)) (slots_of value) }
 {}
 
 /// What tokens mean with a limit of signs they mean with each higher one.

@@ -1,8 +1,10 @@
 -- The conversion of an expression's tree: what each node gives, a value or the faults in their
 -- order. A line for each form, of what its parts give. The rules and the kinds of faults are those
 -- of Cedar's `cst_to_ast`; that the values are what the tokens mean (`Strict`) is a law.
-use Rattle.std.specs.Prelude.{◌≡◌, ℕ, zero, suc, nat_le, List, [], ◌∷◌, map, Option, Some, None, Ok, if◌then◌else◌, pos, neg_ℤ}
+use Rattle.std.specs.Prelude.{◌≡◌, ℕ, zero, suc, nat_le, List, [], ◌∷◌, ◌++◌, map, Option, Some, None, Ok, if◌then◌else◌, pos, neg_ℤ}
+use Rattle.std.specs.List.{list_any}
 use Rattle.std.specs.Map.{keys_of}
+use Rattle.std.specs.Str.{bytes_eq}
 use Rattle.cedar_syntax.specs.declared.loc.Loc.{Loc}
 use Rattle.cedar_syntax.specs.declared.cst.NegOp.{NegOp}
 use Rattle.cedar_syntax.specs.declared.cst.NegOp.TheVariants as sign
@@ -173,10 +175,20 @@ type_within_outcome place p x = expression_at place (v.is_in_entity_type p.0 p.1
 abbrev pub set_value_outcome : Option Loc → List Part → Outcome Held
 set_value_outcome place ps = expression_at place (v.set (values (bodies ps)))
 
+-- the first key that is one of those before it
+abbrev pub key_again : List (List ℕ) → List (List ℕ) → Option (List ℕ)
+key_again before [] = None
+key_again before (key ∷ keys) =
+    if list_any (bytes_eq key) before then Some key else key_again (before ++ key ∷ []) keys
+
 -- a record has no key twice
+abbrev pub repeated_key_outcome : Option Loc → List (List ℕ) → Outcome Held
+repeated_key_outcome place keys =
+    detailed_outcome expression_construction_error place (detail.spelling_there (key_again [] keys))
+
 abbrev pub record_outcome : Option Loc → List (List ℕ × Value) → Outcome Held
 record_outcome place fs =
-    if repeats_key (keys_of fs) then fault_outcome expression_construction_error place
+    if repeats_key (keys_of fs) then repeated_key_outcome place (keys_of fs)
     else expression_at place (v.«record» (fields fs))
 
 abbrev pub with_first : {X : Type 0} → X × List X → Outcome (List X)

@@ -9,11 +9,11 @@ use Rattle.cedar_expressions.specs.declared.entity.EntityType.{EntityType}
 use Rattle.cedar_expressions.specs.declared.atoms.PatternElem.{PatternElem}
 use Rattle.cedar_expressions.specs.declared.atoms.Var.{Var}
 use Rattle.cedar_expressions.specs.declared.atoms.Literal.TheVariants as literals
-use Rattle.cedar_expressions.specs.Path.{Path}
+use Rattle.cedar_expressions.specs.Path.{Path, name_text}
 use Rattle.cedar_expressions.specs.Value as v
 use Rattle.cedar_expressions.specs.Value.{Value}
 use Rattle.cedar_expressions.specs.Written.{var_text}
-use Rattle.cedar_conversion.specs.outcome.Detail.{word}
+use Rattle.cedar_conversion.specs.outcome.Detail.{spelling, word}
 use Rattle.cedar_conversion.specs.outcome.Outcome.{Outcome, fault_outcome, detailed_outcome, next, arbitrary_variable, invalid_pattern, invalid_is_type, invalid_string, invalid_attribute, path_as_attribute, reserved_identifier}
 use Rattle.cedar_conversion.specs.parts.Strings.{text_outcome, pattern_outcome}
 
@@ -31,7 +31,8 @@ text_value text = Ok (v.val (literals.String text))
 abbrev pub as_expression : Held → Outcome Value
 as_expression (expression place x) = Ok x
 as_expression (variable place x) = Ok (v.var x)
-as_expression (bare_name place name) = fault_outcome arbitrary_variable place
+as_expression (bare_name place name) =
+    detailed_outcome arbitrary_variable place (spelling (name_text name))
 as_expression (bare_truth place b) = Ok (v.val (literals.Bool b))
 as_expression (bare_string place raw) = next (text_outcome place raw) text_value
 

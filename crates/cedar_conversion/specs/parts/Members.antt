@@ -11,7 +11,7 @@ use Rattle.cedar_conversion.specs.strict.Extensions.{Extensions}
 use Rattle.cedar_conversion.specs.outcome.Held.{Held, expression, variable, bare_name, as_expression}
 use Rattle.cedar_conversion.specs.outcome.Detail as detail
 use Rattle.cedar_conversion.specs.outcome.Outcome.{Outcome, fault_outcome, detailed_outcome, next, variable_call, no_methods, invalid_access, invalid_index, expression_call, wrong_arity, function_call_on_method, method_call_on_function, unknown_method, unknown_function}
-use Rattle.cedar_conversion.specs.strict.StrictCalls.{standard_method, names_method}
+use Rattle.cedar_conversion.specs.strict.StrictCalls.{method_word, standard_method, names_method}
 
 -- what an access gives
 pub data Access : Type 0 where
@@ -36,15 +36,16 @@ arity (Some make) = 1
 arity None = 0
 
 -- one argument, or none for `isEmpty`
-abbrev pub with_arguments : Option Loc → Option (Value → Value → Value) → Value → List Value
-    → Outcome Value
-with_arguments place (Some make) x (y ∷ []) = Ok (make x y)
-with_arguments place None x [] = Ok (v.is_empty x)
-with_arguments place make x args =
-    detailed_outcome wrong_arity place (detail.arguments (arity make) (length args))
+abbrev pub with_arguments : Option Loc → List ℕ → Option (Value → Value → Value) → Value
+    → List Value → Outcome Value
+with_arguments place word (Some make) x (y ∷ []) = Ok (make x y)
+with_arguments place word None x [] = Ok (v.is_empty x)
+with_arguments place word make x args =
+    detailed_outcome wrong_arity place (detail.arguments word (arity make) (length args))
 
 abbrev pub standard_outcome : Option Loc → Standard → Value → List Value → Outcome Value
-standard_outcome place method x args = with_arguments place (takes_one method) x args
+standard_outcome place method x args =
+    with_arguments place (method_word method) (takes_one method) x args
 
 abbrev pub plain_name : List ℕ → Path
 plain_name id = record { path = []; id = id }

@@ -10,15 +10,23 @@ use Rattle.cedar_conversion.specs.declared.primaries.methods.Standard.TheVariant
 use Rattle.cedar_conversion.specs.strict.Extensions.{Extensions}
 use Rattle.cedar_conversion.specs.strict.StrictWords.{path_value}
 
--- the methods that every text may call
+-- the methods that every text may call, by their words
+abbrev pub method_word : Standard → List ℕ
+method_word standard.Contains = codes "contains"
+method_word standard.ContainsAll = codes "containsAll"
+method_word standard.ContainsAny = codes "containsAny"
+method_word standard.IsEmpty = codes "isEmpty"
+method_word standard.GetTag = codes "getTag"
+method_word standard.HasTag = codes "hasTag"
+
 abbrev pub standard_method : List ℕ → Option Standard
 standard_method id =
-    if bytes_eq id (codes "contains") then Some standard.Contains
-    else (if bytes_eq id (codes "containsAll") then Some standard.ContainsAll
-    else (if bytes_eq id (codes "containsAny") then Some standard.ContainsAny
-    else (if bytes_eq id (codes "isEmpty") then Some standard.IsEmpty
-    else (if bytes_eq id (codes "getTag") then Some standard.GetTag
-    else (if bytes_eq id (codes "hasTag") then Some standard.HasTag
+    if bytes_eq id (method_word standard.Contains) then Some standard.Contains
+    else (if bytes_eq id (method_word standard.ContainsAll) then Some standard.ContainsAll
+    else (if bytes_eq id (method_word standard.ContainsAny) then Some standard.ContainsAny
+    else (if bytes_eq id (method_word standard.IsEmpty) then Some standard.IsEmpty
+    else (if bytes_eq id (method_word standard.GetTag) then Some standard.GetTag
+    else (if bytes_eq id (method_word standard.HasTag) then Some standard.HasTag
     else None)))))
 
 -- whether a name is a method's: one identifier that is one of the six, or a method of the table

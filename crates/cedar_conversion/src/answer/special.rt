@@ -1,9 +1,10 @@
 //! Expressions, and what is one but may be something else where it stands bare; refusals at a
 //! place.
-ghost use Rattle.std.specs.Prelude.{◌≡◌, IfOk, Ok};
+ghost use Rattle.std.specs.Prelude.{◌≡◌, ℕ, List, Some, IfOk, Ok};
 ghost use Rattle.std.specs.Option.{option_map};
+ghost use Rattle.cedar_expressions.specs.Path.{name_text};
 ghost use Rattle.cedar_conversion.specs.outcome.Held.{Held, expression, as_expression};
-ghost use Rattle.cedar_conversion.specs.outcome.Detail.{Detail};
+ghost use Rattle.cedar_conversion.specs.outcome.Detail.{Detail, spelling};
 ghost use Rattle.cedar_conversion.specs.outcome.Outcome.{Kind, Outcome, arbitrary_variable, empty_node, next};
 ghost use Rattle.cedar_conversion.specs.outcome.Places.{bytes_of};
 ghost use Rattle.cedar_conversion.specs.parts.Names.{content_outcome};
@@ -94,7 +95,10 @@ pub fn refusal_with(
 }
 
 /// A value as it is printed.
-pub(crate) fn to_text<T: Display>(alloc: Global, value: &T) -> Result<Text, AllocError> {
+pub(crate) fn to_text<T: Display>(alloc: Global, value: &T) -> Result<Text, AllocError>
+    ensures { (shown : List ℕ) → T.Display.output value.now ≡ Some shown
+        → IfOk result (λ text. text ≡ shown) }
+{
     match format!(in alloc; "{value}") {
         Ok(shown) => Text::from_string(shown),
         Err(error) => Err(AllocError::from(error)),
@@ -123,7 +127,7 @@ pub fn content<T>(alloc: Global, node: &Node<Option<T>>) -> Result<&T, BoxedFail
 #[cold]
 #[inline(never)]
 fn arbitrary_variable(alloc: Global, name: &Name, loc: &Option<Loc>) -> BoxedFailure
-    ensures { TellsAlone result arbitrary_variable loc.now }
+    ensures { TellsOne result (arbitrary_variable, loc.now, spelling (name_text name.now)) }
 {
     let kind = to_text(alloc, name).map(ToASTErrorKind::ArbitraryVariable);
     refusal_with(alloc, kind, loc)

@@ -5,7 +5,7 @@ ghost use Rattle.cedar_conversion.specs.outcome.Detail.{arguments};
 ghost use Rattle.cedar_conversion.specs.parts.Members.{arity, takes_one, standard_outcome, extension_method, method_outcome, function_outcome, no_method};
 ghost use Rattle.cedar_conversion.specs.outcome.Outcome.{wrong_arity};
 ghost use Rattle.cedar_conversion.specs.outcome.Seen.{Gives};
-ghost use Rattle.cedar_conversion.specs.strict.StrictCalls.{standard_method, names_method};
+ghost use Rattle.cedar_conversion.specs.strict.StrictCalls.{method_word, standard_method, names_method};
 ghost use Rattle.cedar_conversion.specs.strict.Table.{table_of};
 ghost use Rattle.cedar_conversion.specs.machines.Views.{TellsOne};
 
@@ -52,7 +52,8 @@ fn standard_method(id: &str) -> Option<Standard>
 
 /// A method as it is called, and how many arguments it takes.
 fn usage(method: Standard) -> (&'static str, usize)
-    ensures { result.1 ≡ arity (takes_one method) }
+    ensures word { result.0.now ≡ method_word method }
+    ensures takes { result.1 ≡ arity (takes_one method) }
 {
     match method {
         Standard::Contains => ("contains", 1),
@@ -66,8 +67,11 @@ fn usage(method: Standard) -> (&'static str, usize)
 
 /// A call with another number of arguments than the method takes.
 fn wrong_arity(site: CallSite<'_>, method: Standard, got: usize) -> BoxedFailure
-    ensures { TellsOne result
-        (wrong_arity, site.entry.loc.now, arguments (arity (takes_one method)) got) }
+    ensures { TellsOne result (
+      wrong_arity,
+      site.entry.loc.now,
+      arguments (method_word method) (arity (takes_one method)) got,
+    ) }
 {
     let (name, expected) = usage(method);
     refusal(

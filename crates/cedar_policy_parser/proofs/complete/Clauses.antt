@@ -16,7 +16,7 @@ use Rattle.cedar_grammar.specs.grammar.LooseWords as lw
 use Rattle.cedar_grammar.specs.grammar.Place.{placed}
 use Rattle.cedar_syntax.specs.tokens.Tokens.{one}
 use Rattle.cedar_syntax.specs.trees.Trees.{Cell, cond_of}
-use Rattle.cedar_policy_conversion.specs.Conditions.{condition_of, condition_outcome, conditions_outcome, condition_slot_fault, without_slots}
+use Rattle.cedar_policy_conversion.specs.Conditions.{condition_of, condition_outcome, conditions_outcome, condition_slot_fault, condition_word, without_slots}
 use Rattle.cedar_conversion.specs.outcome.Conversion.{value_outcome}
 use Rattle.cedar_conversion.specs.strict.Extensions.{Extensions}
 use Rattle.cedar_conversion.specs.parts.Names.{all_of}
@@ -32,14 +32,14 @@ record ConditionRead (e : Extensions) (src : List ℕ) (ts : List Lexeme) (c : V
   reads : ReadsCond src ts tree
   gives : (place : Option Loc) → condition_of e place tree ≡ Ok c
 
-none_there : (place : Option Loc) (slots : List Slot) → slots ≡ [] → faults_outcome (map (condition_slot_fault place) slots) ≡ Ok tt
-none_there place slots h = rw h refl
+none_there : (place : Option Loc) (word : List ℕ) (slots : List Slot) → slots ≡ [] → faults_outcome (map (condition_slot_fault place word) slots) ≡ Ok tt
+none_there place word slots h = rw h refl
 
 when_given : (place : Option Loc) (o : Outcome Value) (x : Value) → o ≡ Ok x → slots_of x ≡ [] → next o (without_slots place true) ≡ Ok x
-when_given place o x h none = rw h (ap (λ u. next u (λ _. Ok x)) (none_there place (slots_of x) none))
+when_given place o x h none = rw h (ap (λ u. next u (λ _. Ok x)) (none_there place (condition_word true) (slots_of x) none))
 
 unless_given : (place : Option Loc) (o : Outcome Value) (x : Value) → o ≡ Ok x → slots_of x ≡ [] → next o (without_slots place false) ≡ Ok (v.not x)
-unless_given place o x h none = rw h (ap (λ u. next u (λ _. Ok (v.not x))) (none_there place (slots_of x) none))
+unless_given place o x h none = rw h (ap (λ u. next u (λ _. Ok (v.not x))) (none_there place (condition_word false) (slots_of x) none))
 
 condition_read : (e : Extensions) (src : List ℕ) {ts : List Lexeme} {c : Value} → IsCondition e sign_limit ts c → ConditionRead e src ts c
 condition_read e src (m.when {ts = ts} {a = x} p a z i none) =

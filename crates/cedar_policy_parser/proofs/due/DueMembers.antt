@@ -25,7 +25,7 @@ use Rattle.cedar_conversion.specs.outcome.Outcome as k
 use Rattle.cedar_conversion.specs.outcome.Detail.{Detail}
 use Rattle.cedar_conversion.specs.outcome.Outcome.{Kind, NamedFault, Outcome, detailed_outcome, both, next}
 use Rattle.cedar_policy_parser.specs.faults.Standing.{LiesWithin}
-use Rattle.cedar_conversion.specs.strict.StrictCalls.{standard_method, names_method}
+use Rattle.cedar_conversion.specs.strict.StrictCalls.{method_word, standard_method, names_method}
 use Rattle.cedar_conversion.specs.parts.Strings.{text_outcome}
 use Rattle.cedar_policy_parser.proofs.standing.Standing.{Anything}
 use Rattle.cedar_policy_parser.proofs.Telling.{Sited, Tells, one, next_tells, lift, if_tells, Due, in_part, here, text_tells}
@@ -61,16 +61,16 @@ no_one n e = cc
 not_none : zero ≢ suc zero
 not_none e = cc
 
-arguments_due : (P : Kind → Type 0) (p : Option Loc) (m : Option (Value → Value → Value)) (x : Value) (args : List Value) → (length args ≢ arity m → P k.wrong_arity) → Tells (At P p) Anything (with_arguments p m x args)
-arguments_due P p (Some make) x [] h = told {Y = Value} P p Anything k.wrong_arity _ (h not_none)
-arguments_due P p (Some make) x (y ∷ []) h = tt
-arguments_due P p (Some make) x (y ∷ z ∷ args) h = told {Y = Value} P p Anything k.wrong_arity _ (h (no_one (length args)))
-arguments_due P p None x [] h = tt
-arguments_due P p None x (y ∷ args) h = told {Y = Value} P p Anything k.wrong_arity _ (h (no_zero (length args)))
+arguments_due : (P : Kind → Type 0) (p : Option Loc) (word : List ℕ) (m : Option (Value → Value → Value)) (x : Value) (args : List Value) → (length args ≢ arity m → P k.wrong_arity) → Tells (At P p) Anything (with_arguments p word m x args)
+arguments_due P p word (Some make) x [] h = told {Y = Value} P p Anything k.wrong_arity _ (h not_none)
+arguments_due P p word (Some make) x (y ∷ []) h = tt
+arguments_due P p word (Some make) x (y ∷ z ∷ args) h = told {Y = Value} P p Anything k.wrong_arity _ (h (no_one (length args)))
+arguments_due P p word None x [] h = tt
+arguments_due P p word None x (y ∷ args) h = told {Y = Value} P p Anything k.wrong_arity _ (h (no_zero (length args)))
 
 method_by_due : (e : Extensions) (P : Kind → Type 0) (p : Option Loc) (id : List ℕ) (s : Option Standard) (x : Value) (args : List Value) (n : ℕ) → n ≡ length args → standard_method id ≡ s → ((kind : Kind) → IsDueMethod e id n kind → P kind)
     → Tells (At P p) Anything (method_by e p id s x args)
-method_by_due e P p id (Some s) x args n d g t = arguments_due P p (takes_one s) x args (λ h. t k.wrong_arity (due.other_number s g (λ i. h (sym d ∙ i))))
+method_by_due e P p id (Some s) x args n d g t = arguments_due P p (method_word s) (takes_one s) x args (λ h. t k.wrong_arity (due.other_number s g (λ i. h (sym d ∙ i))))
 method_by_due e P p id None x args n d g t =
     if_tells (At P p) Anything (e.methods id) _ _ (λ h. tt)
     (λ h. if_tells (At P p) Anything (e.functions (plain_name id)) _ _ (λ i. told {Y = Value} P p Anything k.method_call_on_function _ (t k.method_call_on_function (due.a_function g h i)))
@@ -86,12 +86,12 @@ function_due e P p name args t =
 abbrev value_given : Value → Outcome Value
 value_given y = Ok y
 
-number_given : (p : Option Loc) (m : Option (Value → Value → Value)) (x y : Value) (args : List Value) → with_arguments p m x args ≡ value_given y → length args ≡ arity m
-number_given p (Some make) x y [] h = cc
-number_given p (Some make) x y (z ∷ []) h = refl
-number_given p (Some make) x y (z ∷ w ∷ args) h = cc
-number_given p None x y [] h = refl
-number_given p None x y (z ∷ args) h = cc
+number_given : (p : Option Loc) (word : List ℕ) (m : Option (Value → Value → Value)) (x y : Value) (args : List Value) → with_arguments p word m x args ≡ value_given y → length args ≡ arity m
+number_given p word (Some make) x y [] h = cc
+number_given p word (Some make) x y (z ∷ []) h = refl
+number_given p word (Some make) x y (z ∷ w ∷ args) h = cc
+number_given p word None x y [] h = refl
+number_given p word None x y (z ∷ args) h = cc
 
 abbrev one_fault : NamedFault → Outcome Value
 one_fault fault = Err (fault ∷ [])
@@ -119,7 +119,7 @@ pub not_other : {b : Bool} → b ≡ true → b ≢ false
 not_other g h = cc
 
 method_given : (e : Extensions) (p : Option Loc) (id : List ℕ) (s : Option Standard) (x y : Value) (args : List Value) (n : ℕ) → n ≡ length args → standard_method id ≡ s → method_by e p id s x args ≡ Ok y → (kind : Kind) → ¬ (IsDueMethod e id n kind)
-method_given e p id (Some s) x y args n d g c kind (due.other_number m h i) = i (d ∙ number_given p (takes_one s) x y args c ∙ ap (λ o. arity (takes_one o)) (one_standard g h))
+method_given e p id (Some s) x y args n d g c kind (due.other_number m h i) = i (d ∙ number_given p (method_word s) (takes_one s) x y args c ∙ ap (λ o. arity (takes_one o)) (one_standard g h))
 method_given e p id (Some s) x y args n d g c kind (due.a_function h i j) = not_standard g h
 method_given e p id (Some s) x y args n d g c kind (due.no_method h i j) = not_standard g h
 method_given e p id None x y args n d g c kind (due.other_number m h i) = not_standard h g

@@ -14,7 +14,7 @@ use Rattle.cedar_syntax.specs.trees.Located.{Located, Form, Parts}
 use Rattle.cedar_syntax.specs.trees.Unlocated.{unlocated, unlocated_form, unlocated_parts}
 use Rattle.cedar_conversion.specs.declared.primaries.methods.Standard.{Standard}
 use Rattle.cedar_conversion.specs.declared.primaries.methods.Standard.TheVariants as standard
-use Rattle.cedar_conversion.specs.strict.StrictCalls.{standard_method, names_method}
+use Rattle.cedar_conversion.specs.strict.StrictCalls.{method_word, standard_method, names_method}
 use Rattle.cedar_policy_parser.proofs.Alike.{Alike, Same}
 use Rattle.cedar_conversion.specs.strict.Extensions.{Extensions}
 use Rattle.cedar_conversion.specs.parts.HasSide.{attributes_of, begins_with, beginning_outcome, behind_first, field_form, field_of, fields_of, no_sign, right_form, right_side, string_alone}
@@ -24,7 +24,7 @@ use Rattle.cedar_policy_parser.proofs.independent.IndependentLeaves.{Equal, Asid
 
 -- ---- calls
 
-arguments_alike : (p q : Option Loc) (m : Standard) (x : Value) (args : List Value) → Alike Aside (with_arguments p (takes_one m) x args) (with_arguments q (takes_one m) (without_places x) (map without_places args))
+arguments_alike : (p q : Option Loc) (m : Standard) (x : Value) (args : List Value) → Alike Aside (with_arguments p (method_word m) (takes_one m) x args) (with_arguments q (method_word m) (takes_one m) (without_places x) (map without_places args))
 unfolding without_places
 arguments_alike p q standard.Contains x [] = tt
 arguments_alike p q standard.Contains x (y ∷ []) = refl

@@ -19,7 +19,7 @@ use Rattle.cedar_syntax.specs.trees.Unlocated.{unlocated, unlocated_form, unloca
 use Rattle.cedar_syntax.specs.trees.UnlocatedTrees.{bare_cell, bare_cells, unlocated_expr, unlocated_annotation, BareCondition, unlocated_clause}
 use Rattle.cedar_policy_parser.proofs.Alike.{Alike}
 use Rattle.cedar_policy_conversion.specs.AnnotationKeys.{AnnotationContent, value_text_outcome, key_value_outcome, annotation_outcome, has_key, with_new_key, converted_key, Gathering, gathering_with, gathering_with_node, empty_gathering, annotations_outcome}
-use Rattle.cedar_policy_conversion.specs.Conditions.{is_when_of, clause, condition_value, condition_slot_fault, without_slots, condition_of, condition_outcome, conditions_outcome}
+use Rattle.cedar_policy_conversion.specs.Conditions.{is_when_of, clause, condition_value, condition_slot_fault, condition_word, without_slots, condition_of, condition_outcome, conditions_outcome}
 use Rattle.cedar_conversion.specs.outcome.Conversion.{value_outcome}
 use Rattle.cedar_conversion.specs.parts.Entities.{id_text, id_outcome}
 use Rattle.cedar_conversion.specs.strict.Extensions.{Extensions}
@@ -230,7 +230,7 @@ free_same x y e h k = sym (no_place x h) ∙ e ∙ no_place y k
 bare_same : (p q : Option Loc) (when : Bool) (x y : Value) → Both x y → Alike Equal (without_slots p when x) (without_slots q when y)
 bare_same p q when x y e = go (slots_of x) (slots_of y) refl refl
   where
-    go : (xs ys : List Slot) → slots_of x ≡ xs → slots_of y ≡ ys → Alike Equal (next (faults_outcome (map (condition_slot_fault p) xs)) (λ _. Ok (condition_value when x))) (next (faults_outcome (map (condition_slot_fault q) ys)) (λ _. Ok (condition_value when y)))
+    go : (xs ys : List Slot) → slots_of x ≡ xs → slots_of y ≡ ys → Alike Equal (next (faults_outcome (map (condition_slot_fault p (condition_word when)) xs)) (λ _. Ok (condition_value when x))) (next (faults_outcome (map (condition_slot_fault q (condition_word when)) ys)) (λ _. Ok (condition_value when y)))
     go [] [] h k = ap (condition_value when) (free_same x y e h k)
     go [] (t ∷ ts) h k = let none = sym k ∙ slots_go x y e h in absurd (cc)
     go (s ∷ ss) [] h k = let none = sym h ∙ slots_go y x (sym e) k in absurd (cc)

@@ -18,6 +18,7 @@ use Rattle.cedar_policy_parser.proofs.Alike.{Alike}
 use Rattle.cedar_conversion.specs.parts.HasSide.{no_sign}
 use Rattle.cedar_conversion.specs.parts.Names.{content_outcome}
 use Rattle.cedar_conversion.specs.outcome.Outcome.{Outcome, fault_outcome, next, wrong_node}
+use Rattle.cedar_conversion.specs.outcome.Detail.{ExpectedRef}
 use Rattle.cedar_policy_conversion.specs.References.{RefKind, single_entity, entity_or_slot, one_or_multiple, lone, lone_form, entity_at, lone_entity, entities, of_variable, several_outcome, referred_form, referent_at, referent_outcome}
 use Rattle.cedar_policy_parser.proofs.independent.IndependentLeaves.{Equal, Pairs, both_alike, next_alike, then_alike, if_alike, entity_in_alike}
 use Rattle.cedar_policy_parser.proofs.independent.IndependentParts.{meet, same_form_cell}
@@ -82,15 +83,15 @@ slot_in : {T : Type 0} (S : T → T → Type 0) (x : Var) (p q r : Option Loc) (
 slot_in S x p q r None a b h = tt
 slot_in S x p q r (Some s) a b h = if_alike S (matches s x) (Ok a) (Ok b) (fault_outcome wrong_node p) (fault_outcome wrong_node q) h tt
 
-several_alike : {T : Type 0} (S : T → T → Type 0) (p q : Option Loc) (o : Option (List EntityUID → T)) (u w : Outcome (List EntityUID)) → ((x : T) → S x x) → Alike Equal u w → Alike S (several_outcome p o u) (several_outcome q o w)
-several_alike S p q None u w s h = tt
-several_alike S p q (Some make) u w s h = then_alike S u w _ _ h (λ all. s (make all))
+several_alike : {T : Type 0} (S : T → T → Type 0) (p q : Option Loc) (takes : ExpectedRef) (o : Option (List EntityUID → T)) (u w : Outcome (List EntityUID)) → ((x : T) → S x x) → Alike Equal u w → Alike S (several_outcome p takes o u) (several_outcome q takes o w)
+several_alike S p q takes None u w s h = tt
+several_alike S p q takes (Some make) u w s h = then_alike S u w _ _ h (λ all. s (make all))
 
 referred_alike : {T : Type 0} (k : RefKind T) (S : T → T → Type 0) → IsIndependent k S → (x : Var) (p : Option Loc) (u : Form) → Alike S (referred_form k x p u) (referred_form k x None (unlocated_form u))
 unfolding unlocated_form
 referred_alike k S b x p (f.reference n) = then_alike S _ _ _ _ (entity_in_alike n.loc None n.node) (λ uid. b.itself (k.single uid))
 referred_alike k S b x p (f.slot n) = next_alike S S _ _ _ _ (b.slots p None) (λ a c h. slot_in S x p None n.loc n.node a c h)
-referred_alike k S b x p (f.set ps) = several_alike S p None k.several (entities ps) (entities (unlocated_parts ps)) b.itself (items_alike ps)
+referred_alike k S b x p (f.set ps) = several_alike S p None k.takes k.several (entities ps) (entities (unlocated_parts ps)) b.itself (items_alike ps)
 referred_alike k S b x p _ = tt
 
 referent_alike : {T : Type 0} (k : RefKind T) (S : T → T → Type 0) → IsIndependent k S → (x : Var) (n : Located) → Alike S (referent_at k x n) (referent_at k x (unlocated n))

@@ -1,6 +1,6 @@
 -- Texts with the same words have the same tree and mean the same; so does a text that is laid out,
 -- and is left as it is where it is laid out again.
-use Rattle.std.proofs.Common.{◌≡◌, ℕ, false, List, [], ◌∷◌, Option, Some, Result, Ok, Err, IfErr, IsErrAnd, MatchResult, String, string_bytes, refl, sym, ap, ap₂, ◌∙◌, subst}
+use Rattle.std.proofs.Common.{◌≡◌, ℕ, false, List, [], ◌∷◌, Some, Result, Ok, Err, IfErr, IsErrAnd, String, string_bytes, refl, sym, ap, ap₂, ◌∙◌, subst}
 use Rattle.std.specs.Prelude.{option_map}
 use Rattle.cedar_lexer.specs.Cut.{Cuts}
 use Rattle.cedar_lexer.specs.Token.{Lexeme}
@@ -30,7 +30,7 @@ use Rattle.cedar_grammar.proofs.again.Law.{one_cut}
 use Rattle.cedar_grammar.proofs.again.SamePolicies.{policies_same}
 use Rattle.cedar_conversion.specs.strict.Extensions.{Extensions}
 use Rattle.cedar_policy_parser.specs.meaning.Formatted.{MeansSet}
-use Rattle.cedar_policy_parser.specs.meaning.LaidOut.{HaveSameWords, KeepsTree, KeepsMeaning, Keeps, IsLayoutOf, LaysOut, IsLeftAlone}
+use Rattle.cedar_policy_parser.specs.meaning.LaidOut.{HaveSameWords, KeepsTree, KeepsMeaning, Keeps, LaysOut, IsLeftAlone}
 use Rattle.cedar_policy_parser.proofs.meaning.VariedTexts.{same_words_mean}
 
 -- ---- texts with the same words

@@ -1,5 +1,5 @@
 -- A call that is converted means what the table and the methods of every text say of it.
-use Rattle.std.proofs.Common.{◌≡◌, ℕ, Bool, true, false, cond, List, [], ◌∷◌, Option, Some, None, Ok, refl, codes}
+use Rattle.std.proofs.Common.{◌≡◌, ℕ, Bool, true, false, cond, List, [], ◌∷◌, Option, Some, None, Ok, refl}
 use Rattle.std.proofs.lemmas.Slice.Eq.{bytes_eq-Decides}
 use Rattle.cedar_expressions.specs.Path.{Path}
 use Rattle.cedar_expressions.specs.Value as v
@@ -11,7 +11,7 @@ use Rattle.cedar_conversion.specs.strict.Extensions.{Extensions}
 use Rattle.cedar_conversion.specs.parts.Members as g
 use Rattle.cedar_conversion.specs.parts.Members.{takes_one, with_arguments, method_outcome, method_by, function_outcome}
 use Rattle.cedar_conversion.specs.strict.StrictCalls as m
-use Rattle.cedar_conversion.specs.strict.StrictCalls.{CallsMethod, IsFunction, names_method, standard_method}
+use Rattle.cedar_conversion.specs.strict.StrictCalls.{CallsMethod, IsFunction, method_word, names_method, standard_method}
 use Rattle.cedar_conversion.specs.strict.StrictWords.{path_value}
 use Rattle.cedar_conversion.proofs.Inverted.{ok_is}
 
@@ -20,20 +20,11 @@ abbrev chosen : Bool → Bool → Bool → Bool → Bool → Bool → Option Sta
 chosen a b c d f g =
     cond a (Some standard.Contains) (cond b (Some standard.ContainsAll) (cond c (Some standard.ContainsAny) (cond d (Some standard.IsEmpty) (cond f (Some standard.GetTag) (cond g (Some standard.HasTag) None)))))
 
--- the word that a method is called by
-abbrev word_of : Standard → List ℕ
-word_of standard.Contains = codes "contains"
-word_of standard.ContainsAll = codes "containsAll"
-word_of standard.ContainsAny = codes "containsAny"
-word_of standard.IsEmpty = codes "isEmpty"
-word_of standard.GetTag = codes "getTag"
-word_of standard.HasTag = codes "hasTag"
-
 abbrev IsThen : List ℕ → Standard → Bool → Type 0
-IsThen id s b = b ≡ true → id ≡ word_of s
+IsThen id s b = b ≡ true → id ≡ method_word s
 
 word_chosen : (id : List ℕ) (a b c d f h : Bool) (s : Standard) → IsThen id standard.Contains a → IsThen id standard.ContainsAll b → IsThen id standard.ContainsAny c → IsThen id standard.IsEmpty d → IsThen id standard.GetTag f → IsThen id standard.HasTag h
-    → chosen a b c d f h ≡ Some s → id ≡ word_of s
+    → chosen a b c d f h ≡ Some s → id ≡ method_word s
 word_chosen id true b c d f h s p q r t u z e = let same : standard.Contains ≡ s = cc in rw (← same) (p refl)
 word_chosen id false true c d f h s p q r t u z e = let same : standard.ContainsAll ≡ s = cc in rw (← same) (q refl)
 word_chosen id false false true d f h s p q r t u z e = let same : standard.ContainsAny ≡ s = cc in rw (← same) (r refl)
@@ -42,14 +33,14 @@ word_chosen id false false false false true h s p q r t u z e = let same : stand
 word_chosen id false false false false false true s p q r t u z e = let same : standard.HasTag ≡ s = cc in rw (← same) (z refl)
 word_chosen id false false false false false false s p q r t u z e = cc
 
-standard_word : (id : List ℕ) (s : Standard) → standard_method id ≡ Some s → id ≡ word_of s
-standard_word id s e = word_chosen id _ _ _ _ _ _ s (bytes_eq-Decides id (codes "contains")).0 (bytes_eq-Decides id (codes "containsAll")).0 (bytes_eq-Decides id (codes "containsAny")).0 (bytes_eq-Decides id (codes "isEmpty")).0 (bytes_eq-Decides id (codes "getTag")).0 (bytes_eq-Decides id (codes "hasTag")).0 e
+standard_word : (id : List ℕ) (s : Standard) → standard_method id ≡ Some s → id ≡ method_word s
+standard_word id s e = word_chosen id _ _ _ _ _ _ s (bytes_eq-Decides id (method_word standard.Contains)).0 (bytes_eq-Decides id (method_word standard.ContainsAll)).0 (bytes_eq-Decides id (method_word standard.ContainsAny)).0 (bytes_eq-Decides id (method_word standard.IsEmpty)).0 (bytes_eq-Decides id (method_word standard.GetTag)).0 (bytes_eq-Decides id (method_word standard.HasTag)).0 e
 
 calls_at : {e : Extensions} {id word : List ℕ} {x : Value} {args : List Value} {y z : Value} → id ≡ word → z ≡ y → CallsMethod e word x args z → CallsMethod e id x args y
 calls_at h k i = rw (h, ← k) i
 
 -- each of the six, with its arguments
-standard_meant : (e : Extensions) (place : Option Loc) (s : Standard) (x : Value) (args : List Value) (y : Value) → with_arguments place (takes_one s) x args ≡ Ok y → CallsMethod e (word_of s) x args y
+standard_meant : (e : Extensions) (place : Option Loc) (s : Standard) (x : Value) (args : List Value) (y : Value) → with_arguments place (method_word s) (takes_one s) x args ≡ Ok y → CallsMethod e (method_word s) x args y
 standard_meant e place standard.Contains x (b ∷ []) y h = calls_at refl (ok_is h) m.contains
 standard_meant e place standard.Contains x [] y h = cc
 standard_meant e place standard.Contains x (b ∷ c ∷ bs) y h = cc

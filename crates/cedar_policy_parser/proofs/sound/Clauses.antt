@@ -15,7 +15,7 @@ use Rattle.cedar_grammar.specs.grammar.LooseWords.{ReadsAny}
 use Rattle.cedar_grammar.specs.grammar.Place.{placed}
 use Rattle.cedar_syntax.specs.tokens.Tokens.{Spot, one, any_of}
 use Rattle.cedar_syntax.specs.trees.Trees.{Cell}
-use Rattle.cedar_policy_conversion.specs.Conditions.{clause, condition_of, condition_outcome, conditions_outcome, is_when, is_when_of, condition_value, slots_outcome, without_slots}
+use Rattle.cedar_policy_conversion.specs.Conditions.{clause, condition_of, condition_outcome, conditions_outcome, is_when, is_when_of, condition_value, condition_word, slots_outcome, without_slots}
 use Rattle.cedar_conversion.specs.strict.Extensions.{Extensions}
 use Rattle.cedar_conversion.specs.parts.Names.{content_outcome}
 use Rattle.cedar_conversion.specs.outcome.Outcome.{next}
@@ -54,9 +54,9 @@ condition_meant : {src : List ℕ} {ts : List Lexeme} {x : Cond} (e : Extensions
 condition_meant {src = src} e place c (l.cond {ts = ts} {us = us} {i = i} a z r (l.body {x = x} b)) h =
     let f = next_ok (is_when (placed src ts i)) _ c h in
     let g = next_ok (clause e place (placed src ts i).node (Some (placed src us x))) (without_slots place f.0) c f.2 in
-    let n = next_ok (slots_outcome place g.0) _ c g.2 in
+    let n = next_ok (slots_outcome place (condition_word f.0) g.0) _ c g.2 in
     let word = clause_word src f.0 r f.1 in
-    clause_meant e f.0 g.0 c word.1 a z word.2 word.3 (sound_value e (placed src us x).loc g.0 b g.1) (no_slots place (slots_of g.0) n.0 n.1) (ok_is n.2)
+    clause_meant e f.0 g.0 c word.1 a z word.2 word.3 (sound_value e (placed src us x).loc g.0 b g.1) (no_slots place (condition_word f.0) (slots_of g.0) n.0 n.1) (ok_is n.2)
 condition_meant {src = src} e place c (l.cond {ts = ts} {i = i} a z r l.no_body) h =
     let f = next_ok (is_when (placed src ts i)) _ c h in
     let g = next_ok (clause e place (placed src ts i).node None) (without_slots place f.0) c f.2 in

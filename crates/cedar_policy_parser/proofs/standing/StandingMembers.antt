@@ -17,25 +17,25 @@ use Rattle.cedar_conversion.specs.parts.Literals.{literal_outcome}
 use Rattle.cedar_conversion.specs.parts.Leaves.{name_leaf}
 use Rattle.cedar_conversion.specs.parts.Members.{Access, field, call, index, takes_one, with_arguments, plain_name, extension_method, method_by, method_outcome, function_outcome, accesses_of, name_accesses, variable_accesses, some_accesses, member_outcome}
 use Rattle.cedar_conversion.specs.outcome.Outcome.{variable_call, no_methods, invalid_access, invalid_index, expression_call, wrong_arity, function_call_on_method, method_call_on_function, unknown_method, unknown_function, invalid_has_rhs, reserved_identifier, empty_node}
-use Rattle.cedar_conversion.specs.strict.StrictCalls.{standard_method, names_method}
+use Rattle.cedar_conversion.specs.strict.StrictCalls.{method_word, standard_method, names_method}
 use Rattle.cedar_policy_parser.proofs.standing.Standing.{Origin, LiesIn, anywhere, IsPlain, Stands, Anything, alone, next_stands, then_stands, if_stands}
 use Rattle.cedar_policy_parser.proofs.standing.StandingLeaves.{HeldWithin, as_value, text_stands, unqualified_stands, unreserved_stands, literal_stands, named_stands}
 use Rattle.cedar_policy_parser.proofs.tidy.Tidy.{Tidy, FormTidy, AccessesTidy, AccessTidy, AccessFormTidy}
 
 -- ---- calls
 
-arguments_stand : (o : Origin) (p : Option Loc) (m : Option (Value → Value → Value)) (x : Value) (args : List Value) → LiesIn o p → Stands IsPlain o Anything (with_arguments p m x args)
-arguments_stand o p (Some make) x [] h = alone IsPlain o wrong_arity p tt h
-arguments_stand o p (Some make) x (y ∷ []) h = tt
-arguments_stand o p (Some make) x (y ∷ z ∷ args) h = alone IsPlain o wrong_arity p tt h
-arguments_stand o p None x [] h = tt
-arguments_stand o p None x (y ∷ args) h = alone IsPlain o wrong_arity p tt h
+arguments_stand : (o : Origin) (p : Option Loc) (word : List ℕ) (m : Option (Value → Value → Value)) (x : Value) (args : List Value) → LiesIn o p → Stands IsPlain o Anything (with_arguments p word m x args)
+arguments_stand o p word (Some make) x [] h = alone IsPlain o wrong_arity p tt h
+arguments_stand o p word (Some make) x (y ∷ []) h = tt
+arguments_stand o p word (Some make) x (y ∷ z ∷ args) h = alone IsPlain o wrong_arity p tt h
+arguments_stand o p word None x [] h = tt
+arguments_stand o p word None x (y ∷ args) h = alone IsPlain o wrong_arity p tt h
 
 extension_stands : (e : Extensions) (o : Origin) (p : Option Loc) (id : List ℕ) (x : Value) (args : List Value) → LiesIn o p → Stands IsPlain o Anything (extension_method e p id x args)
 extension_stands e o p id x args h = if_stands IsPlain o Anything (e.methods id) _ _ tt (if_stands IsPlain o Anything (e.functions (plain_name id)) _ _ (alone IsPlain o method_call_on_function p tt h) (alone IsPlain o unknown_method p tt h))
 
 method_by_stands : (e : Extensions) (o : Origin) (p : Option Loc) (id : List ℕ) (m : Option Standard) (x : Value) (args : List Value) → LiesIn o p → Stands IsPlain o Anything (method_by e p id m x args)
-method_by_stands e o p id (Some m) x args h = arguments_stand o p (takes_one m) x args h
+method_by_stands e o p id (Some m) x args h = arguments_stand o p (method_word m) (takes_one m) x args h
 method_by_stands e o p id None x args h = extension_stands e o p id x args h
 
 method_stands : (e : Extensions) (o : Origin) (p : Option Loc) (id : List ℕ) (x : Value) (args : List Value) → LiesIn o p → Stands IsPlain o Anything (method_outcome e p id x args)

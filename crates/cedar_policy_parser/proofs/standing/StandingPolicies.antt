@@ -16,7 +16,7 @@ use Rattle.cedar_syntax.specs.declared.cst.Policy.TheVariants as trees
 use Rattle.cedar_syntax.specs.declared.cst.Str.{Str}
 use Rattle.cedar_syntax.specs.trees.Forms.{located, expr_form}
 use Rattle.cedar_policy_conversion.specs.AnnotationKeys.{AnnotationContent, value_text_outcome, key_value_outcome, annotation_outcome, has_key, with_new_key, Gathering, gathering_with, gathering_with_node, empty_gathering, annotations_outcome}
-use Rattle.cedar_policy_conversion.specs.Conditions.{is_when_of, is_when, clause, condition_slot_fault, slots_outcome, condition_of, condition_outcome, conditions_outcome}
+use Rattle.cedar_policy_conversion.specs.Conditions.{is_when_of, is_when, clause, condition_slot_fault, condition_word, slots_outcome, condition_of, condition_outcome, conditions_outcome}
 use Rattle.cedar_conversion.specs.outcome.Places.{lies_within, bytes_at, place_within}
 use Rattle.cedar_conversion.specs.outcome.Conversion.{value_outcome}
 use Rattle.cedar_conversion.specs.parts.Entities.{id_outcome}
@@ -101,9 +101,9 @@ found_in : (w : Origin) (p : Option Loc) (q : Option Place) → LiesIn w p → L
 found_in by_hand p q h = tt
 found_in (parsed outer) p q h = found_within outer p q h
 
-slots_within : (w : Origin) (p : Option Loc) (slots : List Slot) → LiesIn w p → All (KindWithin IsTold w) (map (condition_slot_fault p) slots)
-slots_within w p [] h = no_faults IsTold w
-slots_within w p (s ∷ slots) h = one_before IsTold w slots_in_condition_clause (place_within p s.place) _ _ tt (found_in w p s.place h) (slots_within w p slots h)
+slots_within : (w : Origin) (p : Option Loc) (word : List ℕ) (slots : List Slot) → LiesIn w p → All (KindWithin IsTold w) (map (condition_slot_fault p word) slots)
+slots_within w p word [] h = no_faults IsTold w
+slots_within w p word (s ∷ slots) h = one_before IsTold w slots_in_condition_clause (place_within p s.place) _ _ tt (found_in w p s.place h) (slots_within w p word slots h)
 
 when_of_stands : (w : Origin) (p : Option Loc) (i : Ident) → LiesIn w p → Stands IsTold w Anything (is_when_of p i)
 when_of_stands w p words.When h = tt
@@ -121,7 +121,7 @@ condition_of_stands : (e : Extensions) (w : Origin) (p : Option Loc) (c : Cond) 
 condition_of_stands e w p c k h =
     then_stands IsTold w Anything (is_when c.cond) _ (when_stands w c.cond h.0)
     (λ when. then_stands IsTold w Anything (clause e p c.cond.node c.expr) _ (clause_stands e w p c.cond.node c.expr k h.1)
-    (λ x. then_stands IsTold w Anything (slots_outcome p x) _ (unless_told_stands w _ (slots_within w p (slots_of x) k)) (λ _. tt)))
+    (λ x. then_stands IsTold w Anything (slots_outcome p (condition_word when) x) _ (unless_told_stands w _ (slots_within w p (condition_word when) (slots_of x) k)) (λ _. tt)))
 
 pub condition_stands : (e : Extensions) (w : Origin) (n : Node (Option Cond)) → NodeTidy w (CondTidy w) n → Stands IsTold w Anything (condition_outcome e n)
 condition_stands e w n h = filled_then IsTold w n.loc (CondTidy w) Anything n.node (condition_of e n.loc) h (λ e. e) (λ c i. condition_of_stands e w n.loc c h.0 i)

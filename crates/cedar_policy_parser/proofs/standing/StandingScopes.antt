@@ -31,6 +31,7 @@ use Rattle.cedar_conversion.specs.parts.Entities.{entity_outcome}
 use Rattle.cedar_conversion.specs.strict.Extensions.{Extensions}
 use Rattle.cedar_conversion.specs.parts.HasSide.{no_sign}
 use Rattle.cedar_conversion.specs.outcome.Held.{as_entity_type}
+use Rattle.cedar_conversion.specs.outcome.Detail.{ExpectedRef}
 use Rattle.cedar_conversion.specs.outcome.Outcome.{NamedFault, Outcome, empty_node, invalid_scope_variable, type_constraints, inverted_is_in, is_with_eq, invalid_single_eq, invalid_scope_operator, incorrect_variable, is_in_action_scope, invalid_action_scope_operator, invalid_action_type, missing_scope_variable, extra_scope_element, wrong_node, wrong_entity_argument, faults_outcome}
 use Rattle.cedar_policy_conversion.specs.References.{RefKind, single_entity, entity_or_slot, one_or_multiple, lone, lone_form, literal_fault, form_fault, entity_form, entity_at, lone_entity, entities, of_variable, several_outcome, referred_form, referent_at, referent_outcome}
 use Rattle.cedar_policy_conversion.specs.Scope.{scope_variable_of, scope_variable, type_name, no_type_name, element_variable, is_inverted, type_outcome, operator_outcome, asked_type, constraint_outcome, stands_there, in_its_place, element_of, element_outcome, principal_outcome, resource_outcome, action_alone, no_entity_type, action_in, action_by, unless_others, asked_action, action_variable, action_of, action_outcome, or_before, place_behind, end_place, if_there, extra_element_fault, no_extra, scope_of, scope_outcome}
@@ -94,15 +95,15 @@ RefusesThere w k = (p : Option Loc) → LiesIn w p → Stands IsPlain w Anything
 of_variable_stands : {T : Type 0} (w : Origin) (p : Option Loc) (x : Var) (made : T) (s : Slot) → LiesIn w p → Stands IsPlain w Anything (of_variable p x made s)
 of_variable_stands w p x made s h = if_stands IsPlain w Anything (matches s x) _ _ tt (alone IsPlain w wrong_node p tt h)
 
-set_stands : {T : Type 0} (w : Origin) (p : Option Loc) (several : Option (List EntityUID → T)) (uids : Outcome (List EntityUID)) → LiesIn w p → Stands IsPlain w Anything uids → Stands IsPlain w Anything (several_outcome p several uids)
-set_stands w p (Some make) uids k h = then_stands IsPlain w Anything uids _ h (λ all. tt)
-set_stands w p None uids k h = alone IsPlain w wrong_entity_argument p tt k
+set_stands : {T : Type 0} (w : Origin) (p : Option Loc) (takes : ExpectedRef) (several : Option (List EntityUID → T)) (uids : Outcome (List EntityUID)) → LiesIn w p → Stands IsPlain w Anything uids → Stands IsPlain w Anything (several_outcome p takes several uids)
+set_stands w p takes (Some make) uids k h = then_stands IsPlain w Anything uids _ h (λ all. tt)
+set_stands w p takes None uids k h = alone IsPlain w wrong_entity_argument p tt k
 
 referred_form_stands : {T : Type 0} (w : Origin) (k : RefKind T) (x : Var) (p : Option Loc) (u : Form) → RefusesThere w k → LiesIn w p → FormTidy w u → Stands IsPlain w Anything (referred_form k x p u)
 referred_form_stands w k x p (f.reference n) r i h = then_stands IsPlain w Anything (entity_outcome n) _ (entity_stands w n h) (λ uid. tt)
 referred_form_stands w k x p (f.slot n) r i h =
     then_stands IsPlain w Anything (k.slot p) _ (r p i) (λ made. filled_then IsPlain w n.loc Anything Anything n.node (of_variable p x made) h (λ e. e) (λ s _. of_variable_stands w p x made s i))
-referred_form_stands w k x p (f.set items) r i h = set_stands w p k.several (entities items) i (entities_stand w items h)
+referred_form_stands w k x p (f.set items) r i h = set_stands w p k.takes k.several (entities items) i (entities_stand w items h)
 referred_form_stands w k x p u r i h = some_faults IsPlain w (form_fault p u) [] (form_within w p u i h)
 
 referred_at_stands : {T : Type 0} (w : Origin) (k : RefKind T) (x : Var) (n : Located) → RefusesThere w k → Tidy w n → Stands IsPlain w Anything (referent_at k x n)

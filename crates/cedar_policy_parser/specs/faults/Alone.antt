@@ -82,9 +82,8 @@ pub data IsAlone : Located → Located → Type 0 where
       → ComesTo tree (at place (parens part)) → IsAlone part node → IsAlone tree node
 
 -- a tree that is a name and no more, and no variable; its identifiers convert
-pub record IsBareName (tree : Located) (place : Option Loc) : Type 0 where
+pub record IsBareName (tree : Located) (place : Option Loc) (path : Path) : Type 0 where
   pub name : Node (Option Name)
-  pub path : Path
   pub is : IsAlone tree (at place (f.name name))
   pub no_variable : named_variable name.node ≡ None
   pub converts : name_outcome name ≡ Ok path

@@ -12,7 +12,7 @@ loop-slot-init c = refl
 pub loop-slot-preserved : goal.loop-slot-preserved
 loop-slot-preserved c =
     gives_at empty_view c.add_fault-all.result _ _
-    (told_read (condition_slot_fault c.args.site.loc.now) c.args.slots.now c.loop-slot.slot-index _ c.loop-slot-test.true)
+    (told_read (condition_slot_fault c.args.site.loc.now c.args.word.now) c.args.slots.now c.loop-slot.slot-index _ c.loop-slot-test.true)
     (c.add_fault-all.ensures.told _ _ c.loop-slot.invariant c.slot_fault.ensures)
 
 pub returns : goal.returns
