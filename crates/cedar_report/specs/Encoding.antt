@@ -1,5 +1,5 @@
 -- The one finding of bytes that are no UTF-8 text.
-use Rattle.std.specs.Prelude.{◌≡◌, ℕ, List, [], ◌∷◌, codes, IsUtf8, take}
+use Rattle.std.specs.Prelude.{◌≡◌, ℕ, List, [], ◌∷◌, None, false, codes, IsUtf8, take}
 use Rattle.std.specs.Str.{IsValidUpTo}
 use Rattle.cedar_report.specs.declared.finding.Finding.{Finding}
 use Rattle.cedar_report.specs.Findings.{IsSeenAt}
@@ -15,3 +15,7 @@ pub record TellsEncoding (bytes text : List ℕ) (findings : List Finding) : Typ
   pub code : finding.code.now ≡ codes "NotUtf8"
   pub range : IsSeenAt text place place finding.extent
   pub cause : IsSeenAt text place place finding.cause
+  pub label : finding.label ≡ None
+  pub expected : finding.expected.items ≡ []
+  pub related : finding.related.items ≡ []
+  pub follows : finding.follows ≡ false

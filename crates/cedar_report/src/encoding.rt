@@ -1,5 +1,5 @@
 //! Bytes that are no text, as a finding.
-ghost use Rattle.std.specs.Prelude.{◌≡◌, ◌≤◌, IfOk, IsUtf8, MatchOption, codes, take, length};
+ghost use Rattle.std.specs.Prelude.{◌≡◌, ◌≤◌, [], None, false, IfOk, IsUtf8, MatchOption, codes, take, length};
 ghost use Rattle.std.specs.Str.{IsValidUpTo};
 ghost use Rattle.std.proofs.Common.{Some};
 ghost use Rattle.cedar_report.specs.Encoding.{TellsEncoding};
@@ -72,6 +72,10 @@ fn encoding_finding(alloc: Global, bytes: &[u8], at: Extent) -> Result<Finding, 
     ensures code { IfOk result (λ finding. finding.code.now ≡ codes "NotUtf8") }
     ensures range { IfOk result (λ finding. finding.extent ≡ Some at) }
     ensures cause { IfOk result (λ finding. finding.cause ≡ Some at) }
+    ensures label { IfOk result (λ finding. finding.label ≡ None) }
+    ensures expected { IfOk result (λ finding. finding.expected.items ≡ []) }
+    ensures related { IfOk result (λ finding. finding.related.items ≡ []) }
+    ensures follows { IfOk result (λ finding. finding.follows ≡ false) }
 {
     let byte = bytes.get(at.start).copied().unwrap_or(0);
     Ok(Finding {

@@ -2,7 +2,7 @@
 ghost use Rattle.std.specs.Prelude.{◌≡◌};
 ghost use Rattle.std.proofs.Common.{Some};
 ghost use Rattle.std.specs.Fmt.{WritesOnOk};
-ghost use Rattle.cedar_report.specs.Escapes.{escaped, escaped_char, shows_itself};
+ghost use Rattle.cedar_report.specs.Escapes.{escaped, escaped_char, has_columns, shows_itself};
 
 use std::fmt;
 use unicode_width::UnicodeWidthChar;
@@ -21,15 +21,12 @@ enum Shown {
     Number,
 }
 
-// How a character is shown from a column on: a tab goes on to the next column of tabs, and what has
-// no width of its own (controls, marks of direction, a byte order mark) is shown by its number, so
-// that nothing hides.
+// How a character is shown from a column on: a tab goes on to the next column of tabs, and what
+// doesn't show itself is shown by its number, so that nothing hides and no line ends.
 fn how_shown(c: char, column: usize) -> Shown {
-    if c == '\t' {
-        return Shown::Spaces(TAB - column % TAB);
-    }
     match c.width() {
-        Some(width) if width > 0 => Shown::Plain(width),
+        _ if c == '\t' => Shown::Spaces(TAB - column % TAB),
+        Some(width) if shows_itself(c) => Shown::Plain(width),
         _ => Shown::Number,
     }
 }
@@ -136,11 +133,21 @@ impl fmt::Display for EscapedChar {
     }
 }
 
-// Whether a character has columns of its own.
+// Whether a character has columns of its own, and ends no line.
 fn shows_itself(c: char) -> bool
     ensures { result ≡ shows_itself c }
 {
-    match c.width() {
+    match c {
+        '\u{2028}' | '\u{2029}' => false,
+        _ => has_columns(c.width()),
+    }
+}
+
+// Whether what takes this width takes a column.
+fn has_columns(width: Option<usize>) -> bool
+    ensures { result ≡ has_columns width }
+{
+    match width {
         Some(width) => width > 0,
         None => false,
     }

@@ -16,4 +16,8 @@ returns-clause-told c =
       code = c.in_ok-encoding_finding.ensures.code;
       range = seen_at text c.args.end c.args.end _ at c.in_ok-encoding_finding.ensures.range c.of-at.ensures.start c.of-at.ensures.end c.of-at.ensures.seen;
       cause = seen_at text c.args.end c.args.end _ at c.in_ok-encoding_finding.ensures.cause c.of-at.ensures.start c.of-at.ensures.end c.of-at.ensures.seen;
+      label = c.in_ok-encoding_finding.ensures.label;
+      expected = c.in_ok-encoding_finding.ensures.expected;
+      related = c.in_ok-encoding_finding.ensures.related;
+      follows = c.in_ok-encoding_finding.ensures.follows;
     }
