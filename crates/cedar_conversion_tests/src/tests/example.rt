@@ -1,4 +1,4 @@
-//! The README's example of library use.
+//! The whole program of docs/LIBRARY.md.
 use super::assertions::{holds, holds_for};
 use cedar_policy_parser::err::{Failure, ParseError};
 use cedar_policy_parser::position::Position;

@@ -1,4 +1,5 @@
-//! The programs of docs/LIBRARY.md, as they stand there.
+//! The programs of the README and of docs/LIBRARY.md, as they stand there.
+mod counting;
 mod linking;
 mod linting;
 mod listing;
