@@ -1,5 +1,5 @@
-//! Tests of the conversion and of the door above it: trees that no text gives, parts of trees,
-//! what faults hold, names of policies, deep texts, a whole program of docs/LIBRARY.md.
+//! Tests of the conversion and of `cedar_policy_parser`: trees that no text gives, parts of trees,
+//! what faults hold, names of policies, deep texts, the whole program of docs/LIBRARY.md.
 mod assertions;
 mod deep;
 mod door;

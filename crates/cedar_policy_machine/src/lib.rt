@@ -1,5 +1,5 @@
-//! How policies are read and how a fault in them is left: the machines of their parts, over any
-//! machines that read the names, sums and expressions in them.
+//! How policies are read, and how reading goes on behind a fault in them: the machines of their
+//! parts, over any machines that read the names, sums and expressions in them.
 #![tactic(auto)]
 
 pub mod annotation;

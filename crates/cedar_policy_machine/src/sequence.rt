@@ -1,4 +1,5 @@
-//! Forms that are begun, and what stands before them.
+//! Items that stand one behind another, or are parted by commas: those that are read, and the one
+//! that has begun.
 ghost use Rattle.std.specs.Prelude.{◌≡◌, [], Some, None, IfOk, OnOk, IsTrue};
 ghost use Rattle.cedar_lexer.specs.Token.{lexeme_of};
 ghost use Rattle.cedar_grammar.specs.grammar.WrittenTokens.{IsWritten};

@@ -1,4 +1,5 @@
--- How contracts inside both conversions see what the program holds: as what the outcomes speak of.
+-- How private contracts of both conversions see the program's values, operators and faults: as
+-- those of which the outcomes speak.
 use Rattle.std.specs.Prelude.{◌≡◌, List, [], ◌∷◌, ◌++◌, map, Option, Some, None, Result, Ok, Err}
 use Rattle.std.specs.Option.{option_copied, option_map}
 use denote.Ref.{Bor}

@@ -1,5 +1,5 @@
--- The failure that one of the conversion stands for, whose faults stand in memory of their own:
--- the same faults, or want of memory.
+-- The failure that a caller is told for one of the conversion's own, which keep their faults in
+-- memory of their own: the same faults, or want of memory.
 use Rattle.std.specs.Prelude.{List, [], ◌∷◌, ◌++◌, reverse}
 use Rattle.cedar_syntax.specs.faults.ParseErrors.{faults_of}
 use Rattle.cedar_syntax.specs.declared.err.faults.Failure.{Failure}

@@ -1,5 +1,6 @@
--- Machines that read tokens, and what one shows of itself to all that stands above it. `K` is what
--- it takes for a token: the machine itself reads tokens, and its shapes read kinds.
+-- Machines that read tokens one by one, and what the driver that runs one, or a machine that
+-- contains it, may rely on. `K` is what it takes for a token: the machine itself reads tokens, and
+-- its shapes read kinds.
 use Rattle.std.specs.Prelude.{◌≡◌, ℕ, Bool, true, false, List, [], ◌∷◌, Option, Some, None}
 use Rattle.cedar_lexer.specs.Token.{Lexeme}
 use Rattle.cedar_lexer.specs.declared.token.TokenKind.{TokenKind}

@@ -1,4 +1,4 @@
-//! The bytes of what is begun.
+//! The bytes of a form that has begun and hasn't ended.
 ghost use Rattle.std.specs.Prelude.{◌≡◌};
 ghost use Rattle.cedar_grammar.specs.grammar.Place.{joint_extent};
 

@@ -1,4 +1,4 @@
-//! Recovery: how a fault in a policy is left.
+//! Recovery: how reading goes on behind a fault in a policy.
 ghost use Rattle.std.specs.Prelude.{◌≡◌};
 ghost use Rattle.cedar_grammar.specs.machines.Skipping.{skip, skip_answer};
 

@@ -1,6 +1,6 @@
-//! What comes of a token with which something is planned.
+//! What a machine answers to a token that it can take.
 
-/// What comes of a token with which something is planned.
+/// What a machine answers to a token that it can take.
 #[derive(Drop, Clone, Copy)]
 pub enum TokenRead {
     /// It is read: the state is the one behind it.

@@ -1,5 +1,5 @@
--- How private functions' contracts see what the program holds of policies: as what the outcomes
--- speak of.
+-- How private contracts see the program's templates, annotations and conditions: as those of which
+-- the outcomes speak.
 use Rattle.std.specs.Prelude.{◌≡◌, ℕ, List, [], map, Option, Bool, true, false, string_bytes}
 use Rattle.std.specs.Option.{option_map}
 use Rattle.std.specs.FinMap.{FinMap}

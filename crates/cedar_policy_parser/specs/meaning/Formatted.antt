@@ -1,4 +1,5 @@
--- A text of policies laid out anew, and what is promised of it.
+-- The lines of a text of policies, each policy on one: they mean what the text means, and their own
+-- lines are the same.
 use Rattle.std.specs.Prelude.{◌≡◌, ℕ, List, Result, IfOk, IfErr, MatchResult, String, string_bytes}
 use Rattle.cedar_lexer.specs.Cut.{Cuts}
 use Rattle.cedar_lexer.specs.Token.{Lexeme}

@@ -1,5 +1,5 @@
-//! A token behind an operand. What a large part of the tree is made in is a function of its own:
-//! what happens at each token clears no room.
+//! A token behind an operand. Where a large part of the tree is made there is a function for that
+//! alone, so that the functions which each token goes through have small frames.
 ghost use Rattle.std.specs.Prelude.{◌≡◌, [], Some, None, IfOk, OnOk};
 ghost use Rattle.cedar_lexer.specs.Token.{lexeme_of};
 ghost use Rattle.cedar_grammar.specs.grammar.Place.{extent_of};

@@ -1,4 +1,4 @@
-//! Closes a relation with its last sum: the left side is taken out of its slot.
+//! Closes a relation with its last sum: its left side is taken out of the state.
 ghost use Rattle.std.specs.Prelude.{◌≡◌, None, Some, IfOk, OnOk, IsSome, IsTrue};
 ghost use Rattle.cedar_expression_machine.specs.declared.expression.state.PendingRelation.TheVariants as left;
 ghost use Rattle.cedar_expression_machine.specs.machines.Closing.{made_common, node_of, relation_with_sum};
