@@ -1,4 +1,5 @@
--- What each call answers of a text.
+-- What each call answers of a text under Cedar's table: what each status says, and all that the
+-- answer holds then.
 use Rattle.std.specs.Prelude.{◌≡◌, ℕ, List, [], length, map}
 use Rattle.std.specs.Str.{IsUtf8}
 use Rattle.cedar_lexer.specs.Cut.{Cuts}

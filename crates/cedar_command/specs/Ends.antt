@@ -1,4 +1,4 @@
--- What each end of a run says of the words and of the text.
+-- What each end of a run says of the words, the text and the streams.
 use Rattle.std.specs.Prelude.{◌≡◌, ◌⊎◌, ◌++◌, ℕ, List, [], Option, Some, None, IfSome, String, codes}
 use Rattle.std.specs.Fmt.{decimal}
 use Rattle.std.specs.Str.{IsUtf8}

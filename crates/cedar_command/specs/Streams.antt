@@ -1,4 +1,4 @@
--- What is seen of a run's streams, and what a call leaves.
+-- What is seen of a run's streams: what is read, what is written, how the first failure stays.
 use Rattle.std.specs.Prelude.{◌≡◌, ◌≢◌, ℕ, List, Option, Result, Ok, Err, IfSome, IsSomeAnd, IsErrAnd, ⊤}
 use Rattle.std.specs.Str.{IsUtf8}
 use Rattle.std.specs.Str.Lossy.{utf8_valid_len}

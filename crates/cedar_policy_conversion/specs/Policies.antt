@@ -1,5 +1,6 @@
--- Policies and sets of them: what their trees give. The rules are those of Cedar's
--- `to_policy_template`, `to_policy_or_template`, `to_policy` and `to_policyset`.
+-- Policies and sets of them: what their trees give, templates, static policies and sets with their
+-- places, or faults. The rules are those of Cedar's `to_policy_template`, `to_policy_or_template`,
+-- `to_policy` and `to_policyset`.
 use Rattle.std.specs.Prelude.{ℕ, suc, ◌+◌, ◌^◌, nat_lt, List, [], ◌∷◌, ◌++◌, map, filter, fold, Option, Some, Ok, Err, Bool, true, false, if◌then◌else◌}
 use Rattle.std.specs.Option.{option_map}
 use Rattle.either.specs.declared.Either.{Either}

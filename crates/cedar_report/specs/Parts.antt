@@ -1,4 +1,4 @@
--- Parts of a text.
+-- A part of a text: some of its bytes, from one of them on.
 use Rattle.std.specs.Prelude.{◌≡◌, ℕ, List, length, take, drop}
 
 -- the bytes of a text from one of them on; no bytes are part of each

@@ -1,4 +1,5 @@
--- Sentences that go on behind the beginning of a text: other bytes stand behind it.
+-- A text that begins correctly goes on, as text, with each kind of token that is allowed: other
+-- bytes stand behind it.
 use Rattle.std.specs.Prelude.{◌≡◌, ℕ, List, ◌++◌, take}
 use Rattle.std.specs.Str.{IsUtf8}
 use Rattle.cedar_lexer.specs.Cut.{Cuts, Layout}

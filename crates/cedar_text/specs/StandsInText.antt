@@ -1,5 +1,5 @@
--- Sentences that stand in texts. What may come next is told by tokens that may be the cut of no
--- text (`Sentences` of cedar_grammar); each such sentence is also one of the tokens of a text.
+-- Each sentence, which is kinds of token that have a tree, is the cut of some text. What may come
+-- next is told by tokens that may be the cut of no text (`Sentences` of cedar_grammar).
 use Rattle.std.specs.Prelude.{◌≡◌, ℕ, List}
 use Rattle.std.specs.Str.{IsUtf8}
 use Rattle.cedar_lexer.specs.Cut.{Cuts}

@@ -1,4 +1,5 @@
--- What holds of each rule by which a whole text is read.
+-- What holds of each rule by which a whole text is read: one tree, or one first fault; each
+-- sentence stands in a text, and goes on behind each text that begins it.
 use Rattle.cedar_grammar.specs.declared.reading.expected.ClosersOnly.{ClosersOnly}
 use Rattle.cedar_grammar.specs.faults.FirstFault.{HasOneTree, HasTreeOrFault, HasOneFault, HasNotBoth}
 use Rattle.cedar_grammar.specs.grammar.Grammar.{Rule}

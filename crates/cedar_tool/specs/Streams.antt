@@ -1,4 +1,4 @@
--- What is seen of a run's streams, and what a call leaves.
+-- What is seen of a run's streams: how their calls went, what is written, and why a run stops.
 use Rattle.std.specs.Prelude.{◌≡◌, ◌⊎◌, ℕ, List, Option, Result, Ok, Err, option_and_then}
 use Rattle.std.specs.IoError.{error_kind}
 use Rattle.std.specs.declared.io.ErrorKind.TheVariants as kind

@@ -1,4 +1,5 @@
--- Sets whose policies are named as those of a text are, which are read of their text as they are.
+-- Sets whose policies are named `policy0`, `policy1` .. as they are listed, each template with a
+-- slot in its scope: what is written of one is read as that very set.
 use Rattle.std.specs.Prelude.{◌≡◌, ℕ, ◌+◌, true, false, List, [], ◌∷◌}
 use Rattle.std.specs.List.{AllByRecursion}
 use denote.Ref.{Bor}

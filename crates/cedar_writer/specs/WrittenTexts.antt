@@ -1,4 +1,5 @@
--- What is said of a text that a value was written as, and of a value that isn't written.
+-- What is said of a text that a value, a policy or a set was written as, and of what isn't
+-- written.
 use Rattle.std.specs.Prelude.{◌≡◌, ℕ, List, [], ◌∷◌, map, fold, ◌⊎◌}
 use denote.Ref.{Bor}
 use Rattle.std.specs.FinMap.{entries}

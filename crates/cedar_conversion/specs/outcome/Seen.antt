@@ -1,4 +1,5 @@
--- What the program holds and answers, seen without what is there for people alone.
+-- The program's answers seen as outcomes, and its kinds of fault as those of outcomes, without
+-- what is there for people alone.
 use Rattle.std.specs.Prelude.{◌≡◌, List, map, Result, Ok, Err, None}
 use Rattle.cedar_syntax.specs.faults.NonEmpty.{list_of}
 use Rattle.cedar_syntax.specs.faults.ParseErrors.{faults_of}

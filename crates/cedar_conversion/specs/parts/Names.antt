@@ -1,6 +1,6 @@
--- Identifiers and names: what an identifier's node and a name's node give. The words that no name
--- may hold, and `__cedar`, are those of `cedar_expressions` (`Path`). An identifier with a text is
--- never a word, whatever its text.
+-- Identifiers and names: what an identifier's node and a name's node give, a text or why it is
+-- none. The words that no name may hold, and `__cedar`, are those of `cedar_expressions` (`Path`).
+-- An identifier with a text is never a word, whatever its text.
 use Rattle.std.specs.Prelude.{ℕ, List, [], ◌∷◌, Option, Some, None, Ok, if◌then◌else◌, codes}
 use Rattle.cedar_syntax.specs.declared.loc.Loc.{Loc}
 use Rattle.cedar_syntax.specs.declared.node.Node.{Node}

@@ -1,4 +1,5 @@
--- Which kinds of token a refusal records as expected.
+-- Which kinds of token a refusal records as expected: all that are allowed, or of them those that
+-- close what is open.
 use Rattle.std.specs.Prelude.{Bool, true, false, ◌&&◌, IsTrue, ◌⊎◌, List, [], ◌∷◌, Option, Some, None}
 use Rattle.std.specs.Cmp.Lexicographic.{slice_cmp}
 use Rattle.std.specs.Ordering.{nat_cmp}

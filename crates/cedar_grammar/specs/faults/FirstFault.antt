@@ -1,6 +1,7 @@
--- The one fault of tokens that have no tree, and of a text. What stands behind the tokens is the
--- end, or a place at which no token starts; so it can be said also of tokens that are the cut of
--- no text.
+-- The one fault of tokens that have no tree, and of a text: a token that is refused, an end that
+-- is too early, a number that is too large, a place at which no token starts. What stands behind
+-- the tokens is the end, or such a place; so it can be said also of tokens that are the cut of no
+-- text.
 use Rattle.std.specs.Prelude.{◌≡◌, ◌⊎◌, ℕ, false, List, [], ◌∷◌, ◌++◌, Option, Some, None, codes}
 use Rattle.cedar_lexer.specs.Token.{Lexeme}
 use Rattle.cedar_lexer.specs.LexerState.{IsCutOrStop}

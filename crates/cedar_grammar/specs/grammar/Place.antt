@@ -1,4 +1,4 @@
--- Where tokens and trees stand.
+-- Where tokens and trees stand: from the first byte of the first token to the end of the last.
 use Rattle.std.specs.Prelude.{ℕ, ◌-◌, List, [], ◌∷◌, Option, Some, None}
 use Rattle.cedar_lexer.specs.Token.{Lexeme}
 use Rattle.cedar_syntax.specs.declared.loc.Loc.{Loc}

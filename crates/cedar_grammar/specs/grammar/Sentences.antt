@@ -1,5 +1,5 @@
--- Which tokens may stand behind others, by the existence of tokens that have a tree. `R` is any
--- relation of tokens and trees.
+-- Which kinds of token may stand behind tokens: those with which some tokens that have a tree go
+-- on. `R` is any relation of tokens and trees.
 use Rattle.std.specs.Prelude.{◌≡◌, List, [], ◌∷◌, ◌++◌, Option, Some, None}
 use Rattle.cedar_lexer.specs.Token.{Lexeme}
 use Rattle.cedar_lexer.specs.declared.token.TokenKind.{TokenKind}

@@ -1,4 +1,5 @@
--- Which trees and which texts are refused, and with which faults.
+-- Which trees and which texts are refused, and with which faults: those of the tokens, or, where
+-- these have a tree, those of the tree.
 use Rattle.std.specs.Prelude.{◌⊎◌, ℕ, List}
 use Rattle.cedar_syntax.specs.declared.cst.Expr.{Expr}
 use Rattle.cedar_syntax.specs.declared.cst.Policies.{Policies}
