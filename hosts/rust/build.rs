@@ -32,7 +32,9 @@ fn carried() -> PathBuf {
     }
     let target = env::var("TARGET").expect("cargo names the target");
     if target != CARRIED_FOR {
-        panic!("the library in this crate is for {CARRIED_FOR}, and not for {target}: set CEDAR_LIB");
+        panic!(
+            "the library in this crate is for {CARRIED_FOR}, and not for {target}: set CEDAR_LIB"
+        );
     }
     folder
 }
