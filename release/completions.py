@@ -44,7 +44,8 @@ class Program:
         words = lambda its: " ".join(flag for it in its for flag in it.flags())
         cases = [f"        {name}) words='{words(its)}' ;;" for name, its in self.of.items()]
         taking = {" | ".join(it.flags()): it for its in self.of.values() for it in its if it.value}
-        values = [f"        {flags}) {bash_values(self.name, it)} ;;" for flags, it in taking.items()]
+        value = lambda flags, it: f"        {flags}) {bash_values(self.name, it)} ;;"
+        values = [value(*it) for it in taking.items()]
         return BASH.format(
             name=self.name,
             first=" ".join([*self.told, words(self.first)]),
@@ -59,7 +60,8 @@ class Program:
         cases = []
         for command, its in self.of.items():
             lines = " \\\n".join(f"                {zsh_option(it)}" for it in its)
-            cases.append(f"            {command})\n                _arguments -s -S \\\n{lines} ;;")
+            head = f"            {command})\n                _arguments -s -S"
+            cases.append(f"{head} \\\n{lines} ;;")
         first = " \\\n".join(f"        {zsh_option(it)}" for it in self.first)
         return ZSH.format(name=self.name, told=told, first=first, cases="\n".join(cases))
 

@@ -9,9 +9,9 @@ import subprocess
 SYMBOLS, DYNAMIC, DYNAMIC_SYMBOLS, VERSIONS_NEEDED = 2, 6, 11, 0x6FFFFFFE
 NEEDED, SONAME, RPATH, RUNPATH = 1, 14, 15, 29
 X86_64 = 62
-# Instructions by which the levels of the x86-64 psABI are known from those below them. Of level 2 are
-# SSE3, SSSE3, SSE4.1 and SSE4.2, POPCNT and CMPXCHG16B; of level 3 AVX, BMI, FMA, LZCNT and MOVBE.
-# TZCNT isn't among them: an older processor takes it for BSF.
+# Instructions by which the levels of the x86-64 psABI are known from those below them. Of level 2
+# are SSE3, SSSE3, SSE4.1 and SSE4.2, POPCNT and CMPXCHG16B; of level 3 AVX, BMI, FMA, LZCNT and
+# MOVBE. TZCNT isn't among them: an older processor takes it for BSF.
 LEVEL_2 = r"popcnt|cmpxchg16b|crc32[bwlq]?|lddqu|movddup|movs[hl]dup|h?addsubp[sd]|haddp[sd]"
 LEVEL_2 += r"|pshufb|palignr|pabs[bwd]|psign[bwd]|ph(add|sub)(s?w|d)|pmaddubsw|pmulhrsw|ptest"
 LEVEL_2 += r"|pcmp(eq|gt)q|p(ins|ext)r[bdq]|insertps|extractps|pblend(w|vb)|blendv?p[sd]|dpp[sd]"
@@ -42,7 +42,7 @@ class Elf:
         self.is_stripped = SYMBOLS not in self.kinds
 
     def read_sections(self):
-        """The heads of its sections by their names and by their kinds, and where its strings are."""
+        """The heads of its sections, by their names and by their kinds, and its strings."""
         at, = struct.unpack_from("<Q", self.data, 40)
         size, count, names = struct.unpack_from("<HHH", self.data, 58)
         head = lambda number: struct.unpack_from("<IIQQQQIIQQ", self.data, at + size * number)
@@ -83,8 +83,8 @@ class Elf:
 
 
 def processor(file):
-    """The level of x86-64 whose instructions a program or a library has, by objdump; none where that
-    isn't on this machine. What the code asks before it takes them isn't looked at."""
+    """The level of x86-64 whose instructions a program or a library has, by objdump; none where
+    that isn't on this machine. What the code asks before it takes them isn't looked at."""
     objdump = shutil.which("objdump")
     if not objdump:
         return None

@@ -12,8 +12,8 @@ TOP = pathlib.Path(__file__).resolve().parent.parent
 PROGRAMS = ("cedar", "cedar-parse")
 LIBRARIES = ("libcedar.a", "libcedar.so")
 FACTS = "kept.json"
-# How the gate's log tells of a crate's proof: .ci/prove by the crate's name before the line that ends
-# it; `rt ci` by a head over all that was said; or that it took over what an earlier run had proved.
+# How the gate's log tells of a crate's proof: .ci/prove by the crate's name before the line that
+# ends it; `rt ci` by a head over all that was said, or that an earlier run had proved it.
 OF_SCHEDULE = r"(?m)^(\w+): (logic=.*)$"
 OF_GATE = r"(?ms)^== (\w+)(?:: its tests)?\n(.*?)(?=^== |\Z)"
 TAKEN_OVER = r"(?m)^rt: (\w+) (is kept: .*)$"
@@ -30,8 +30,8 @@ def crates():
 
 
 def verdicts(log):
-    """What the gate's log says of each crate: the lines that end its proof and that of its tests; else,
-    where the gate took it over, that it did."""
+    """What the gate's log says of each crate: the lines that end its proof and that of its tests;
+    else, where the gate took it over, that it did."""
     told = collections.defaultdict(list)
     for name, line in re.findall(OF_SCHEDULE, log):
         told[name].append(line)
@@ -91,7 +91,7 @@ class Kept:
         if facts["unproved"]:
             yield facts["unproved"]
         if not re.fullmatch(r"[1-9]\d* passed, 0 failed", end or ""):
-            yield f"the gate's log ends with {end!r}" if end else "the log has no last line of a gate"
+            yield f"the gate's log ends with {end!r}" if end else "the log isn't a gate's"
         words = ["git", "rev-parse", "HEAD^{tree}"]
         tree = subprocess.run(words, cwd=TOP, capture_output=True, text=True).stdout.strip()
         if tree != facts["tree"]:
@@ -109,5 +109,6 @@ class Kept:
                 yield f"{name} has the checks of memory with which `rt try` builds"
 
     def logic(self):
-        found = sorted(set(re.findall(r"(?m)^(?:\w+: )?logic=proved .*?\bsum=([0-9a-f]+)", self.log)))
-        return ", ".join(found) or self.facts["kit"].partition(" logic ")[2]
+        """The sum of the logic that the proofs stand on."""
+        sums = re.findall(r"(?m)^(?:\w+: )?logic=proved .*?\bsum=([0-9a-f]+)", self.log)
+        return ", ".join(sorted(set(sums))) or self.facts["kit"].partition(" logic ")[2]

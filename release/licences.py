@@ -6,7 +6,7 @@ Beside what this project wrote, the programs and the libraries hold ports of the
 has them, and the kit's own libraries (json, std and below), of which the kit states no licence.
 """
 RULE = "=" * 80
-APACHE_OF_DEBIAN = "The Apache License 2.0: /usr/share/common-licenses/Apache-2.0 on Debian systems."
+APACHE_OF_DEBIAN = "The Apache License 2.0: on Debian, /usr/share/common-licenses/Apache-2.0."
 
 
 def licence_of(text):
@@ -47,7 +47,8 @@ def third_party(kept, is_debian=False):
     lines = [HEAD]
     for name, told in kept.facts["libraries"].items():
         if told["ported"] or told["licences"]:
-            port = f", a port of the Rust crate {' '.join(told['ported'])}" if told["ported"] else ""
+            ported = " ".join(told["ported"] or [])
+            port = f", a port of the Rust crate {ported}" if ported else ""
             lines.append(f"- {name}{port}: {', '.join(told['licences']) or 'no licence is told'}")
     texts = {}
     for file in sorted((kept.folder / "licences").iterdir()):

@@ -115,7 +115,7 @@ def lay(tree, top):
 
 
 def deb(tree, control, epoch):
-    """A package of Debian, by dpkg-deb: a tree of its files, and the fields of its control file."""
+    """A package of Debian, by dpkg-deb: a tree of its files, and its control file."""
     size = sum(-(-len(data) // 1024) for data, _ in tree.files.values()) + len(tree.folders())
     sums = [f"{hashlib.md5(tree.files[it][0]).hexdigest()}  {it}\n" for it in sorted(tree.files)]
     about = Tree().add("control", control.replace("@SIZE@", str(size)))

@@ -1,5 +1,5 @@
-"""The pages of a release: the READMEs of its archives, made of parts/ and of the pages of hosts/, and
-the manual."""
+"""The pages of a release: the READMEs of its archives, made of parts/ and of the pages of hosts/,
+and the manual."""
 import re
 
 import completions
@@ -14,7 +14,7 @@ SYSTEMS = {
     "Fedora": {"34": (2, 33), "35": (2, 34)},
     "RHEL": {"8": (2, 28), "9": (2, 34)},
 }
-# Where `cedar --help` and that of each command are stored, which the gate compares with the program.
+# Where the help of `cedar` and of each command is stored; the gate compares it with the program.
 HELPS = {"": "help", "check-parse": "help_check", "format": "help_format", "list": "help_list"}
 
 
@@ -30,9 +30,10 @@ def needs(release, *names):
     fit = lambda its: next(version for version, has in its.items() if has >= glibc)
     systems = ", ".join(f"{name} {fit(its)}" for name, its in SYSTEMS.items())
     asked = {it for name in names if name in release.elfs for it in release.elfs[name].needed}
+    machine = f"Linux on {release.kept.processor(*names)} with glibc {dotted(glibc)} or later"
     return (
-        f"It needs Linux on {release.kept.processor(*names)} with glibc {dotted(glibc)} or later, as "
-        f"{systems} and\nlater have it, and of that {', '.join(sorted(asked))}; musl (Alpine) won't do."
+        f"It needs {machine}, as {systems} and\n"
+        f"later have it, and of that {', '.join(sorted(asked))}; musl (Alpine) won't do."
     )
 
 

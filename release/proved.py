@@ -5,14 +5,14 @@ from kept import crates
 from pages import section
 
 HOW = """\
-Each crate's name, and the line that ended its proof, as the gate printed it; two lines where its tests
-are proved too. `logic=proved functions=N`: N functions meet their contracts. `sum` is the logic's, the
-same for all. `X=trusted`: X was taken as the kit, or an earlier check, had made it. `is kept`: the gate
-took the crate over, since it had proved the same files over the same libraries on that machine before;
-the line of that proof isn't in this log, and isn't made up here. Who doubts any of it runs .ci/run on
-a clone of the commit, with this kit.
+Each crate's name, and the line that ended its proof, as the gate printed it; two lines where its
+tests are proved too. `logic=proved functions=N`: N functions meet their contracts. `sum` is the
+logic's, the same for all. `X=trusted`: X was taken as the kit, or an earlier check, had made it.
+`is kept`: the gate took the crate over, since it had proved the same files over the same libraries
+on that machine before; the line of that proof isn't in this log, and isn't made up here. Who
+doubts any of it runs .ci/run on a clone of the commit, with this kit.
 """
-PACKED = "The files that were tried there, and are packed unchanged, with the processor that each needs:"
+PACKED = "The files that were tried there, packed unchanged, with the processor that each needs:"
 CLAIMS = "WHAT THAT MEANS (README.md of the commit)"
 TRUSTED = "TRUSTED BY THE LIBRARY, BESIDE THAT (hosts/README.md of the commit)"
 
@@ -41,9 +41,9 @@ def made_by(release):
     yield "Gate", kept.end() or "NONE"
     if taken:
         yield "Taken over", f"{len(taken)} of {len(crates())} crates, marked 'is kept' below"
-    yield "Compiled by", "the kit's clang; the C half of the library by " + (
-        f"{facts['c_compiler']}, {facts['linker']}" if kept.has_library() else "nothing: it has none"
-    )
+    yield "Compiled by", "the kit's clang"
+    if kept.has_library():
+        yield "The C half", f"of the library, by {facts['c_compiler']}, {facts['linker']}"
 
 
 def file_lines(release):

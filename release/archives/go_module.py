@@ -25,7 +25,8 @@ def module_tree(release, go_mod):
     folder = HOSTS / "go"
     source = (folder / "cedar.go").read_text()
     tree = Tree().add("go.mod", go_mod)
-    tree.add("cedar.go", source.replace(f"by cgo: {BY_VARIABLES}", "by cgo; the module carries it."))
+    source = source.replace(f"by cgo: {BY_VARIABLES}", "by cgo; the module carries it.")
+    tree.add("cedar.go", source)
     tree.add("cedar_test.go", (folder / "cedar_test.go").read_bytes())
     tree.add("carried_linux_amd64.go", CARRIED)
     tree.add("cedar.h", (HOSTS / "c/cedar.h").read_bytes())

@@ -1,4 +1,4 @@
-"""The archive of the programs, with the manual and completions; it can be unpacked over a prefix."""
+"""The archive of the programs, manual and completions; it can be unpacked over a prefix."""
 import packing
 from archives.notices import add_notices
 from kept import PROGRAMS
@@ -13,8 +13,8 @@ FISH = "share/fish/vendor_completions.d/cedar.fish"
 
 
 def tree_of_tools(release, zsh, is_squeezed=False):
-    """Programs, manual and completions, where a prefix has them; Debian has zsh's elsewhere, and its
-    manual squeezed."""
+    """Programs, manual and completions, where a prefix has them; Debian has zsh's elsewhere, and
+    its manual squeezed."""
     tree = Tree()
     for name in PROGRAMS:
         if release.kept.has(name):

@@ -20,8 +20,9 @@ class Count:
         return is_well
 
     def run(self, name, words, folder, **wanted):
-        """Runs a command. It has to end with the `status` 0, or what is wanted, and has to show each of
-        the words `shown`; `given` is its standard input, and what else is named is its environment."""
+        """Runs a command. It has to end with the `status` 0, or what is wanted, and has to show
+        each of the words `shown`; `given` is its standard input, and its environment has what else
+        is named."""
         begun, words = time.monotonic(), [str(it) for it in words]
         status, shown = wanted.pop("status", 0), wanted.pop("shown", [])
         given = {"input": wanted.pop("given", ""), "cwd": folder, "timeout": SECONDS}

@@ -7,10 +7,10 @@ import shutil
 import subprocess
 
 # What a small system has: no compiler, no Python, no Rattle.
-TOOLS = """bash sh cat cp ls mv rm mkdir chmod ln tar gzip gunzip zcat xz diff sed grep sort uniq head
-    tail tr env true test dpkg dpkg-deb dpkg-split dpkg-query ldconfig start-stop-daemon man groff troff
-    grotty preconv tbl eqn nroff col less ldd id sha256sum find dirname basename mktemp uname locale
-    update-alternatives manpath""".split()
+TOOLS = """bash sh cat cp ls mv rm mkdir chmod ln tar gzip gunzip zcat xz diff sed grep sort uniq
+    head tail tr env true test dpkg dpkg-deb dpkg-split dpkg-query ldconfig start-stop-daemon man
+    groff troff grotty preconv tbl eqn nroff col less ldd id sha256sum find dirname basename mktemp
+    uname locale update-alternatives manpath""".split()
 FOLDERS = """usr/bin usr/sbin usr/lib usr/lib64 usr/share tmp proc dev etc root var/lib/dpkg/info
     var/lib/dpkg/updates var/lib/dpkg/triggers var/log var/cache/man""".split()
 SHARED = """/usr/share/groff /etc/groff /etc/manpath.config /usr/lib/locale/C.utf8
