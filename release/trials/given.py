@@ -10,7 +10,7 @@ PLAIN = "<stdin>:1:18: unexpected token `action`: expected an operator, `)`, `,`
 SHORT = "1:18: unexpected token `action`"
 # What the first program of each page says.
 FIRST = "my.cedar:2:18: unexpected token `action`"
-BLOCK = r"(?ms)^```rust\n(.*?)^```|((?:^    .*\n|^\n)+)"
+BLOCK = r"(?m)^```rust\n([\s\S]*?)^```|((?:^    .*\n|^\n)+)"
 STARTS = {"c": "#include", "python": "import ", "rust": "use ", "go": "package main"}
 
 
