@@ -14,6 +14,9 @@ SYSTEMS = {
     "Fedora": {"34": (2, 33), "35": (2, 34)},
     "RHEL": {"8": (2, 28), "9": (2, 34)},
 }
+LICENCES = """\
+Licences: LICENSE, NOTICE, THIRD-PARTY.txt. Rattle's kit states none of its own parts that are linked
+in (std, json and below)."""
 # Where the help of `cedar` and of each command is stored; the gate compares it with the program.
 HELPS = {"": "help", "check-parse": "help_check", "format": "help_format", "list": "help_list"}
 
@@ -47,6 +50,7 @@ def filled(release, text, **more):
     """A text with what stands between two @ filled in."""
     series = ".".join(release.plain.split(".")[:2])
     known = {"VERSION": release.version, "SERIES": series, "ABI": release.abi}
+    known["LICENCES"] = LICENCES
     known |= {"BANNER": banner(release), **release.settings, **more}
     return re.sub(r"@([A-Z_]+)@", lambda it: known.get(it[1], it[0]), text)
 
