@@ -12,6 +12,9 @@ TOP = pathlib.Path(__file__).resolve().parent.parent
 PROGRAMS = ("cedar", "cedar-parse")
 LIBRARIES = ("libcedar.a", "libcedar.so")
 FACTS = "kept.json"
+# The crates of which they are made, and the processor that the kit compiles for where it isn't told.
+CRATES = {"cedar": "cedar", "cedar-parse": "cedar_parse"} | dict.fromkeys(LIBRARIES, "cedar_c")
+COMPILED_FOR = "x86-64-v2"
 # How the gate's log tells of a crate's proof: .ci/prove by the crate's name before the line that
 # ends it; `rt ci` by a head over all that was said, or that an earlier run had proved it.
 OF_SCHEDULE = r"(?m)^(\w+): (logic=.*)$"
@@ -66,10 +69,19 @@ class Kept:
     def has_library(self):
         return all(map(self.has, LIBRARIES))
 
+    def compiled_for(self, name):
+        """The processor that the kit compiled a file for, which a program asks for as it starts. A
+        verdict names it, but for the plainest."""
+        told = [it for it in self.verdicts[CRATES[name]] if it.startswith("logic=")]
+        named = re.findall(r" cpu=(\S+)", " ".join(told))
+        return max(named, default="x86-64") if told else COMPILED_FOR
+
     def processor(self, *names):
-        """The highest level of x86-64 whose instructions these files have."""
+        """The processor that these files need: by what they were compiled for, and by the
+        instructions that they have."""
         found = [self.facts["processors"].get(it) for it in names]
-        return max((it for it in found if it), default="x86-64-v2")
+        found += [self.compiled_for(it) for it in names if self.has(it)]
+        return max(filter(None, found), default=COMPILED_FOR)
 
     def end(self):
         """The gate's last line."""

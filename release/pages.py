@@ -15,8 +15,8 @@ SYSTEMS = {
     "RHEL": {"8": (2, 28), "9": (2, 34)},
 }
 LICENCES = """\
-Licences: LICENSE, NOTICE, THIRD-PARTY.txt. Rattle's kit states none of its own parts that are linked
-in (std, json and below)."""
+Licences: LICENSE, NOTICE, THIRD-PARTY.txt. Rattle's kit states none of its own parts that are
+linked in (std, json and below)."""
 # Where the help of `cedar` and of each command is stored; the gate compares it with the program.
 HELPS = {"": "help", "check-parse": "help_check", "format": "help_format", "list": "help_list"}
 

@@ -50,8 +50,7 @@ def file_lines(release):
     kept = release.kept
     for name, known in kept.facts["files"].items():
         if name != "gate.log":
-            level = kept.facts["processors"].get(name)
-            yield f"    {known}  {name}{f' ({level})' if level else ''}"
+            yield f"    {known}  {name} ({kept.processor(name)})"
 
 
 def proved(release):
