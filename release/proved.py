@@ -1,7 +1,7 @@
 """PROVED.txt: what was proved, of which commit, as the gate printed it, and what is trusted."""
 import re
 
-from kept import crates
+from kept import CRATES, crates
 from pages import section
 
 HOW = """\
@@ -50,7 +50,8 @@ def file_lines(release):
     kept = release.kept
     for name, known in kept.facts["files"].items():
         if name != "gate.log":
-            yield f"    {known}  {name} ({kept.processor(name)})"
+            level = f" ({kept.processor(name)})" if name in CRATES else ""
+            yield f"    {known}  {name}{level}"
 
 
 def proved(release):
