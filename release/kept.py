@@ -12,7 +12,7 @@ TOP = pathlib.Path(__file__).resolve().parent.parent
 PROGRAMS = ("cedar", "cedar-parse")
 LIBRARIES = ("libcedar.a", "libcedar.so")
 FACTS = "kept.json"
-# The crates of which they are made, and the processor for which the kit compiles where none is told.
+# The crates of which they are made, and the processor that the kit compiles for of itself.
 CRATES = {"cedar": "cedar", "cedar-parse": "cedar_parse"} | dict.fromkeys(LIBRARIES, "cedar_c")
 COMPILED_FOR = "x86-64-v2"
 # How the gate's log tells of a crate's proof: .ci/prove by the crate's name before the line that

@@ -7,6 +7,8 @@ from trials.roots import inside
 
 STEPS = {"go get": "go get {module}@{version}", "go build": "go build -o first ."}
 STEPS |= {"go vet": "go vet .", "go mod verify": "go mod verify"}
+# With the folder of `chroot`, too.
+PATH = "/usr/local/go/bin:/usr/bin:/bin:/usr/sbin:/sbin"
 VENDORED = "go mod vendor && GOFLAGS=-mod=vendor go build -o second . && ./second"
 
 
@@ -31,7 +33,7 @@ def try_go(count, folder, room, root=None):
     at = "/tmp/go-try" if root else str(home)
     flags = {"GOPROXY": f"file://{at}/proxy", "GONOSUMDB": module, "GOTOOLCHAIN": "local"}
     flags |= {"GOFLAGS": "-mod=mod -modcacherw", "GOPATH": f"{at}/path", "GOCACHE": f"{at}/cache"}
-    flags |= {"HOME": at, "CGO_ENABLED": 1, "PATH": "/usr/local/go/bin:/usr/bin:/bin"}
+    flags |= {"HOME": at, "CGO_ENABLED": 1, "PATH": PATH}
     if not root:
         flags["PATH"] = f"{shutil.which('go').rpartition('/')[0]}:{flags['PATH']}"
 
