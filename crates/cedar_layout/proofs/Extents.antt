@@ -12,7 +12,8 @@ use Rattle.cedar_layout.specs.Brackets.{brackets_behind}
 use Rattle.cedar_layout.specs.Hugs.{first_flag, rest_flags, hugs_of}
 use Rattle.cedar_layout.specs.Laid.{words_in}
 use Rattle.cedar_layout.specs.Pieces.{Item, word, beside, below, SpacedItem, items_of, IsReadAs}
-use Rattle.cedar_layout.specs.Spots.{byte_width, width_of, spots_from, spots_of}
+use Rattle.cedar_layout.specs.Columns.{byte_width, width_of}
+use Rattle.cedar_layout.specs.Spots.{spots_from, spots_of}
 use Rattle.cedar_layout.proofs.Stood.{words_read}
 
 abbrev pub extent : List Spot → ℕ
@@ -23,11 +24,11 @@ abbrev words_extent : List TokenText → ℕ
 words_extent [] = 0
 words_extent (w ∷ ws) = width_of w.text + 1 + words_extent ws
 
-spots_extent : (is : List Item) (bs : List Bracket) (before last : Option TokenKind) (commented : Bool) (hugs : List Bool) → extent (spots_from bs before last commented hugs is) ≡ words_extent (words_in is)
-spots_extent [] bs before last commented hugs = refl
-spots_extent (word w ∷ is) bs before last commented hugs = ap (λ n. width_of w.text + 1 + n) (spots_extent is (brackets_behind bs before w.kind (first_flag hugs)) last (Some w.kind) false (rest_flags hugs))
-spots_extent (beside c ∷ is) bs before last commented hugs = spots_extent is bs before last true hugs
-spots_extent (below c ∷ is) bs before last commented hugs = spots_extent is bs before last true hugs
+spots_extent : (is : List Item) (bs : List Bracket) (before last : Option TokenKind) (led commented : Bool) (told : List Bool) → extent (spots_from bs before last led commented told is) ≡ words_extent (words_in is)
+spots_extent [] bs before last led commented told = refl
+spots_extent (word w ∷ is) bs before last led commented told = ap (λ n. width_of w.text + 1 + n) (spots_extent is (brackets_behind bs before w.kind (first_flag told)) last (Some w.kind) commented false (rest_flags told))
+spots_extent (beside c ∷ is) bs before last led commented told = spots_extent is bs before last led true told
+spots_extent (below c ∷ is) bs before last led commented told = spots_extent is bs before last led true told
 
 byte_small : (b : ℕ) → byte_width b ≤ 1
 byte_small b = grind (arith, nat_tests)
@@ -43,5 +44,5 @@ laid_extent (token {t = t} s more) = omega (arith, s.ends, width_small t.text, s
 
 pub text_extent : (source : List ℕ) (ps : List SpacedItem) → IsReadAs source ps → length source < 2 ^ 63 → extent (spots_of (items_of ps)) < 2 ^ 64
 text_extent source ps (ts, cut, is) small =
-    let e : extent (spots_of (items_of ps)) ≡ words_extent (words_of ts) = spots_extent (items_of ps) [] None None false (hugs_of (items_of ps)) ∙ ap words_extent (words_read source ts ps is) in
+    let e : extent (spots_of (items_of ps)) ≡ words_extent (words_of ts) = spots_extent (items_of ps) [] None None false false (hugs_of (items_of ps)) ∙ ap words_extent (words_read source ts ps is) in
     omega (arith, e, laid_extent cut, small)

@@ -6,11 +6,11 @@ use Rattle.std.proofs.lemmas.Bool.Decides.{nat_tests}
 use Rattle.cedar_layout.specs.declared.frames.Frame.{Frame}
 use Rattle.cedar_layout.specs.declared.gaps.Gap.{Gap}
 use Rattle.cedar_layout.specs.declared.levels.Level.{Level}
-use Rattle.cedar_layout.specs.declared.levels.Level.TheVariants.{Listed, Branched, Disjoined, Conjoined, Filled, Fixed}
+use Rattle.cedar_layout.specs.declared.levels.Level.TheVariants.{Listed, Branched, Disjoined, Conjoined, Related, Added, Multiplied, Chained, Packed, Filled, Fixed}
 use Rattle.cedar_layout.specs.declared.measures.Ahead.{Ahead}
 use Rattle.cedar_layout.specs.declared.measures.Distance.{Distance}
 use Rattle.cedar_layout.specs.declared.spots.Spot.{Spot}
-use Rattle.cedar_layout.specs.Frames.{breaks_level}
+use Rattle.cedar_layout.specs.Frames.{breaks_level, is_fine}
 use Rattle.cedar_layout.specs.Kinds.{opens, closes}
 use Rattle.cedar_layout.specs.Levels.{rank}
 use Rattle.cedar_layout.specs.Measures.{plus, fits_from, the_end, ones, before_text, ends_line, nearer, past_gap, first_ahead, at_opening, whole_of, without_first, place_before, scanned}
@@ -124,7 +124,7 @@ past_ordered g commented p q a ahead f (r, h) =
     let branched = far_on disjoined r.branched in (
       record {
         ending = nearer_far (ends_line g Fixed || commented) ending;
-        conjoined = both_nearer (ends_line g Fixed || commented) (ends_line g Conjoined) (λ e. or_left (ends_line g Fixed) commented (ends_more line k 3 5 (omega arith) e)) conjoined r.conjoined;
+        conjoined = both_nearer (ends_line g Fixed || commented) (ends_line g Conjoined) (λ e. or_left (ends_line g Fixed) commented (ends_more line k 3 10 (omega arith) e)) conjoined r.conjoined;
         disjoined = both_nearer (ends_line g Conjoined) (ends_line g Disjoined) (ends_more line k 2 3 (omega arith)) disjoined r.disjoined;
         branched = both_nearer (ends_line g Disjoined) (ends_line g Branched) (ends_more line k 1 2 (omega arith)) branched r.branched;
       },
@@ -190,6 +190,11 @@ LevelFits w c p a Listed = ⊥
 LevelFits w c p a Branched = Within w c p a.branched
 LevelFits w c p a Disjoined = Within w c p a.disjoined
 LevelFits w c p a Conjoined = Within w c p a.conjoined
+LevelFits w c p a Related = Unit {0}
+LevelFits w c p a Added = Unit {0}
+LevelFits w c p a Multiplied = Unit {0}
+LevelFits w c p a Chained = Unit {0}
+LevelFits w c p a Packed = Unit {0}
 LevelFits w c p a Filled = Unit {0}
 LevelFits w c p a Fixed = Unit {0}
 
@@ -198,16 +203,7 @@ pub record Good (w c : ℕ) (p : Distance) (f : Frame) (a : Ahead) (next : Dista
   pub level : f.flat ≡ false → LevelFits w c p a f.fitting
 
 abbrev pub is_narrow : Level → Bool
-is_narrow Listed = true
-is_narrow Branched = true
-is_narrow Disjoined = true
-is_narrow Conjoined = true
-is_narrow Filled = false
-is_narrow Fixed = false
-
--- all of a line of the bracket stands on one line
-abbrev pub is_fine : Frame → Bool
-is_fine f = f.flat || is_narrow f.fitting
+is_narrow l = nat_lt (rank l) (rank Related)
 
 -- where a bracket isn't flat, no line of those around it stands on one line
 abbrev pub Above : ℕ → ℕ → Distance → Frame → List Frame → List Ahead → Type 0
@@ -230,6 +226,11 @@ level_moved w c d p q a Listed move r h = h
 level_moved w c d p q a Branched move r h = move a.branched (far_on (far_on (far_on r.ending r.conjoined) r.disjoined) r.branched) h
 level_moved w c d p q a Disjoined move r h = move a.disjoined (far_on (far_on r.ending r.conjoined) r.disjoined) h
 level_moved w c d p q a Conjoined move r h = move a.conjoined (far_on r.ending r.conjoined) h
+level_moved w c d p q a Related move r h = tt
+level_moved w c d p q a Added move r h = tt
+level_moved w c d p q a Multiplied move r h = tt
+level_moved w c d p q a Chained move r h = tt
+level_moved w c d p q a Packed move r h = tt
 level_moved w c d p q a Filled move r h = tt
 level_moved w c d p q a Fixed move r h = tt
 
@@ -270,6 +271,11 @@ level_passed w c p g commented a Listed line inner h = h
 level_passed w c p g commented a Branched line inner h = subst (λ b. Within w c p (nearer b p a.branched)) (both_false g.begins_line (nat_lt (rank g.level) 1) line inner) h
 level_passed w c p g commented a Disjoined line inner h = subst (λ b. Within w c p (nearer b p a.disjoined)) (both_false g.begins_line (nat_lt (rank g.level) 2) line inner) h
 level_passed w c p g commented a Conjoined line inner h = subst (λ b. Within w c p (nearer b p a.conjoined)) (both_false g.begins_line (nat_lt (rank g.level) 3) line inner) h
+level_passed w c p g commented a Related line inner h = tt
+level_passed w c p g commented a Added line inner h = tt
+level_passed w c p g commented a Multiplied line inner h = tt
+level_passed w c p g commented a Chained line inner h = tt
+level_passed w c p g commented a Packed line inner h = tt
 level_passed w c p g commented a Filled line inner h = tt
 level_passed w c p g commented a Fixed line inner h = tt
 

@@ -4,10 +4,14 @@ pub mod Extents
 pub mod Fitting
 pub mod Found
 pub mod GapBytes
+pub mod InStep
+pub mod KeptMeasures
 pub mod Kept
 pub mod KnownGaps
 pub mod LineWidths
+pub mod Operands
 pub mod Readings
 pub mod Rereading
 pub mod Stood
 pub mod Touching
+pub mod Wholes

@@ -2,8 +2,8 @@
 use Rattle.std.specs.Prelude.{Bool, false, cond, List, [], ◌∷◌, Option, Some, None}
 use Rattle.cedar_lexer.specs.declared.token.TokenKind.{TokenKind}
 use Rattle.cedar_layout.specs.declared.brackets.Bracket.{Bracket}
-use Rattle.cedar_layout.specs.declared.brackets.Bracket.TheVariants.{Annotation, Body, Sole, Inner}
-use Rattle.cedar_layout.specs.Kinds.{opens, closes, is_at, is_brace}
+use Rattle.cedar_layout.specs.declared.brackets.Bracket.TheVariants.{Annotation, Body, Sole, Short, Inner}
+use Rattle.cedar_layout.specs.Kinds.{opens, closes, is_at, is_brace, is_square}
 
 abbrev pub is_at_sign : Option TokenKind → Bool
 is_at_sign None = false
@@ -13,14 +13,17 @@ is_at_sign (Some kind) = is_at kind
 abbrev pub outer_bracket : Option TokenKind → TokenKind → Bracket
 outer_bracket before kind = cond (is_brace kind) Body (cond (is_at_sign before) Annotation Inner)
 
--- one list or one record and nothing else, or anything
-abbrev pub inner_bracket : Bool → Bracket
-inner_bracket hugs = cond hugs Sole Inner
+-- one list or one record and nothing else, or in a list numbers and short texts; or anything
+abbrev pub told_bracket : TokenKind → Bracket
+told_bracket kind = cond (is_square kind) Short Sole
+
+abbrev pub inner_bracket : TokenKind → Bool → Bracket
+inner_bracket kind told = cond told (told_bracket kind) Inner
 
 -- in another bracket, or in none, where `before` stands two words before the bracket
 abbrev pub new_bracket : Option Bracket → Option TokenKind → TokenKind → Bool → Bracket
-new_bracket None before kind hugs = outer_bracket before kind
-new_bracket (Some bracket) before kind hugs = inner_bracket hugs
+new_bracket None before kind told = outer_bracket before kind
+new_bracket (Some bracket) before kind told = inner_bracket kind told
 
 abbrev pub innermost_of : List Bracket → Option Bracket
 innermost_of [] = None
@@ -30,9 +33,9 @@ abbrev pub without_first : List Bracket → List Bracket
 without_first [] = []
 without_first (bracket ∷ brackets) = brackets
 
--- the brackets that are open behind a word, where `before` stands two words before it, and with
--- which one opens that hugs one list or record or not
+-- the brackets that are open behind a word, where `before` stands two words before it, and of which
+-- is told what it holds
 abbrev pub brackets_behind : List Bracket → Option TokenKind → TokenKind → Bool → List Bracket
-brackets_behind brackets before kind hugs =
-    cond (opens kind) (new_bracket (innermost_of brackets) before kind hugs ∷ brackets)
+brackets_behind brackets before kind told =
+    cond (opens kind) (new_bracket (innermost_of brackets) before kind told ∷ brackets)
     (cond (closes kind) (without_first brackets) brackets)

@@ -59,6 +59,12 @@ is_list OpenBracket = true
 is_list OpenBrace = true
 is_list kind = false
 
+-- a condition begins with it
+abbrev pub begins_condition : TokenKind → Bool
+begins_condition When = true
+begins_condition Unless = true
+begins_condition kind = false
+
 -- one kind alone
 abbrev pub is_semicolon : TokenKind → Bool
 is_semicolon Semicolon = true
@@ -71,6 +77,10 @@ is_at kind = false
 abbrev pub is_paren : TokenKind → Bool
 is_paren OpenParen = true
 is_paren kind = false
+
+abbrev pub is_square : TokenKind → Bool
+is_square OpenBracket = true
+is_square kind = false
 
 abbrev pub is_brace : TokenKind → Bool
 is_brace OpenBrace = true

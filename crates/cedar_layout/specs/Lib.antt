@@ -1,4 +1,5 @@
 pub mod Brackets
+pub mod Columns
 pub mod Ends
 pub mod Entries
 pub mod Frames
@@ -12,5 +13,7 @@ pub mod Measures
 pub mod Pieces
 pub mod Read
 pub mod Spots
+pub mod Steps
 pub mod Style
+pub mod Whole
 pub mod Widths

@@ -7,8 +7,9 @@ use Rattle.cedar_layout.specs.declared.measures.Distance.{Distance}
 use Rattle.cedar_layout.specs.declared.measures.Ahead.{Ahead}
 use Rattle.cedar_layout.specs.declared.measures.Measure.{Measure}
 use Rattle.cedar_layout.specs.declared.measures.MeasuredWord.{MeasuredWord}
+use Rattle.cedar_layout.specs.declared.measures.Words as code
 use Rattle.cedar_layout.specs.declared.levels.Level.{Level}
-use Rattle.cedar_layout.specs.declared.levels.Level.TheVariants.{Branched, Disjoined, Conjoined, Fixed}
+use Rattle.cedar_layout.specs.declared.levels.Level.TheVariants.{Branched, Disjoined, Conjoined, Related, Added, Multiplied, Chained, Packed, Fixed}
 use Rattle.cedar_layout.specs.Kinds.{opens, closes}
 use Rattle.cedar_layout.specs.Levels.{rank}
 
@@ -20,6 +21,11 @@ plus a b = min (a + b) (2 ^ 64 - 1)
 abbrev pub fits_from : ℕ → ℕ → Distance → Distance → Bool
 fits_from width column from to =
     from.comments == to.comments && nat_le (plus column (from.columns - to.columns)) width
+
+-- one place stands before another one
+abbrev pub stands_before : Distance → Distance → Bool
+stands_before a b =
+    nat_lt b.comments a.comments || a.comments == b.comments && nat_lt b.columns a.columns
 
 -- read from the end to here: where the word before ends, what is ahead, what is ahead behind each
 -- bracket whose end has been read, and the words so far
@@ -41,8 +47,17 @@ abbrev pub the_end : Distance
 the_end = record { comments = 0; columns = 0 }
 
 abbrev pub end_ahead : Ahead
-end_ahead =
-    record { branched = the_end; disjoined = the_end; conjoined = the_end; ending = the_end }
+end_ahead = record {
+  branched = the_end;
+  disjoined = the_end;
+  conjoined = the_end;
+  related = the_end;
+  added = the_end;
+  multiplied = the_end;
+  chained = the_end;
+  packed = the_end;
+  ending = the_end;
+}
 
 abbrev pub end_scan : Scan
 end_scan = scan_of the_end end_ahead [] []
@@ -74,6 +89,11 @@ past_gap g commented place ahead = record {
   branched = nearer (ends_line g Branched) place ahead.branched;
   disjoined = nearer (ends_line g Disjoined) place ahead.disjoined;
   conjoined = nearer (ends_line g Conjoined) place ahead.conjoined;
+  related = nearer (ends_line g Related) place ahead.related;
+  added = nearer (ends_line g Added) place ahead.added;
+  multiplied = nearer (ends_line g Multiplied) place ahead.multiplied;
+  chained = nearer (ends_line g Chained) place ahead.chained;
+  packed = nearer (ends_line g Packed) place ahead.packed;
   ending = nearer (ends_line g Fixed || commented) place ahead.ending;
 }
 
@@ -88,6 +108,11 @@ at_opening (Some behind) ahead = record {
   branched = behind.branched;
   disjoined = behind.disjoined;
   conjoined = behind.conjoined;
+  related = behind.related;
+  added = behind.added;
+  multiplied = behind.multiplied;
+  chained = behind.chained;
+  packed = behind.packed;
   ending = ahead.ending;
 }
 
@@ -135,3 +160,51 @@ scanned (spot ∷ spots) = scan_before spot (scanned spots)
 
 abbrev pub words_measured : List Spot → List MeasuredWord
 words_measured spots = (scanned spots).words
+
+-- ---- the measures that are kept
+
+-- only where a line may begin or a bracket opens is a word's measure asked for
+abbrev pub is_measured : Spot → Bool
+is_measured s =
+    s.commented || s.gap.begins_line || nat_lt (rank s.gap.level) (rank Fixed) || opens s.kind
+
+abbrev pub kept_with : MeasuredWord → List Measure → List Measure
+kept_with w ms = cond (is_measured w.spot) (w.measure ∷ ms) ms
+
+abbrev pub kept_measures : List MeasuredWord → List Measure
+kept_measures [] = []
+kept_measures (w ∷ ws) = kept_with w (kept_measures ws)
+
+-- the words with these gaps, to which these measures are given in order; the others have none
+abbrev pub no_measure : Measure
+no_measure = record { from = the_end; ahead = end_ahead; whole = the_end }
+
+abbrev pub first_measure : List Measure → Measure
+first_measure [] = no_measure
+first_measure (m ∷ ms) = m
+
+abbrev pub rest_measures : List Measure → List Measure
+rest_measures [] = []
+rest_measures (m ∷ ms) = ms
+
+abbrev pub measured_by : Spot → List Measure → MeasuredWord
+measured_by s ms =
+    record { spot = s; measure = cond (is_measured s) (first_measure ms) no_measure }
+
+abbrev pub measures_past : Spot → List Measure → List Measure
+measures_past s ms = cond (is_measured s) (rest_measures ms) ms
+
+abbrev pub words_kept : List Spot → List Measure → List MeasuredWord
+words_kept [] ms = []
+words_kept (s ∷ ss) ms = measured_by s ms ∷ words_kept ss (measures_past s ms)
+
+abbrev pub words_now : code.Words → List MeasuredWord
+words_now w = words_kept w.spots.items w.measures.items
+
+abbrev pub first_word : List MeasuredWord → Option MeasuredWord
+first_word [] = None
+first_word (w ∷ ws) = Some w
+
+abbrev pub rest_words : List MeasuredWord → List MeasuredWord
+rest_words [] = []
+rest_words (w ∷ ws) = ws

@@ -1,40 +1,68 @@
 -- The style: at which gaps lines end, and how deep they begin.
-use Rattle.std.specs.Prelude.{ℕ, Bool, true, false, cond, not, ◌&&◌, ◌||◌, List, [], ◌∷◌, Option, Some, None}
+use Rattle.std.specs.Prelude.{ℕ, nat_lt, Bool, true, false, cond, not, ◌&&◌, ◌||◌, List, [], ◌∷◌, Option, Some, None}
 use Rattle.cedar_lexer.specs.declared.token.TokenKind.{TokenKind}
 use Rattle.cedar_layout.specs.Pieces.{Item, word, beside, below}
 use Rattle.cedar_layout.specs.declared.decisions.Form.TheVariants.{Joined, Apart, Broken}
 use Rattle.cedar_layout.specs.declared.decisions.BlankRule.{BlankRule}
-use Rattle.cedar_layout.specs.declared.decisions.BlankRule.TheVariants.{Never, Kept}
+use Rattle.cedar_layout.specs.declared.decisions.BlankRule.TheVariants.{Kept}
 use Rattle.cedar_layout.specs.declared.decisions.Decision.{Decision}
 use Rattle.cedar_layout.specs.declared.levels.Level.{Level}
-use Rattle.cedar_layout.specs.declared.levels.Level.TheVariants.{Filled}
+use Rattle.cedar_layout.specs.declared.levels.Level.TheVariants.{Related, Added, Multiplied, Chained, Fixed}
 use Rattle.cedar_layout.specs.declared.gaps.Gap.{Gap}
 use Rattle.cedar_layout.specs.declared.spots.Spot.{Spot}
+use Rattle.cedar_layout.specs.declared.measures.Distance.{Distance}
 use Rattle.cedar_layout.specs.declared.measures.Measure.{Measure}
 use Rattle.cedar_layout.specs.declared.measures.MeasuredWord.{MeasuredWord}
 use Rattle.cedar_layout.specs.declared.options.LayoutOptions.{LayoutOptions}
 use Rattle.cedar_layout.specs.declared.frames.Frame.{Frame}
 use Rattle.cedar_layout.specs.declared.style.State as code
 use Rattle.cedar_layout.specs.Layouts.{LayoutRule, undecided}
-use Rattle.cedar_layout.specs.Frames.{new_frame, line_depth, comment_depth, line_begun_at, breaks_level}
-use Rattle.cedar_layout.specs.Gaps.{line_gap}
+use Rattle.cedar_layout.specs.Frames.{new_frame, line_depth, comment_depth, line_begun_at, breaks_level, is_fine}
+use Rattle.cedar_layout.specs.Gaps.{line_gap, line_rule}
 use Rattle.cedar_layout.specs.Kinds.{opens, closes}
-use Rattle.cedar_layout.specs.Measures.{plus, fits_from, ones, words_measured}
+use Rattle.cedar_layout.specs.Levels.{rank}
+use Rattle.cedar_layout.specs.Measures.{plus, fits_from, stands_before, ones, words_measured}
 use Rattle.cedar_layout.specs.Spots.{spots_of}
 
 -- ---- whether a line begins at the gap before a word
 
-abbrev pub is_filled : Level → Bool
-is_filled Filled = true
-is_filled level = false
+-- at gaps of this level it does where what follows doesn't fit
+abbrev pub is_loose : Level → Bool
+is_loose level = not (nat_lt (rank level) (rank Related)) && nat_lt (rank level) (rank Fixed)
+
+-- where the word begins if its line goes on
+abbrev pub next_column : ℕ → Spot → ℕ
+next_column column s = plus column (ones s.gap.spaced)
 
 abbrev pub fills : LayoutOptions → ℕ → Spot → Measure → Bool
-fills o column s m = fits_from o.width (plus column (ones s.gap.spaced)) m.from m.ahead.ending
+fills o column s m = fits_from o.width (next_column column s) m.from m.ahead.ending
+
+-- an operand that begins in a column doesn't fit up to its end, but would on a line of its own, or
+-- can be parted itself
+abbrev pub operand_breaks : LayoutOptions → ℕ → ℕ → Measure → Distance → Bool
+operand_breaks o depth column m end =
+    not (fits_from o.width column m.from end)
+    && (fits_from o.width depth m.from end || stands_before m.ahead.packed end)
+
+-- an operand behind a gap of this level
+abbrev pub operand_breaks_at : LayoutOptions → ℕ → ℕ → Measure → Level → Bool
+operand_breaks_at o depth column m Related = operand_breaks o depth column m m.ahead.related
+operand_breaks_at o depth column m Added = operand_breaks o depth column m m.ahead.added
+operand_breaks_at o depth column m Multiplied = operand_breaks o depth column m m.ahead.multiplied
+operand_breaks_at o depth column m Chained = operand_breaks o depth column m m.ahead.chained
+operand_breaks_at o depth column m level = false
+
+abbrev pub breaks_loosely : LayoutOptions → Option Frame → ℕ → Spot → Measure → Bool
+breaks_loosely o None column s m = false
+breaks_loosely o (Some f) column s m =
+    not (is_fine f) && is_loose s.gap.level
+    && (not (fills o column s m)
+    || operand_breaks_at o (line_depth o (Some f) s.gap) (next_column column s) m s.gap.level)
 
 abbrev pub begins : LayoutOptions → Option Frame → ℕ → Spot → Measure → Bool
 begins o f column s m =
     s.commented || s.gap.begins_line || breaks_level f s.gap.level
-    || is_filled s.gap.level && not (fills o column s m)
+    || breaks_loosely o f column s m
 
 -- ---- the decisions
 
@@ -42,7 +70,7 @@ abbrev pub begun_decision : LayoutOptions → Option Frame → BlankRule → Gap
 begun_decision o f rule g = record {
   form = Broken;
   depth = line_depth o f g;
-  rule = cond g.closing Never rule;
+  rule = line_rule rule g;
 }
 
 abbrev pub joined_decision : Gap → Decision
@@ -103,6 +131,7 @@ at_word o false t s m = record {
 abbrev pub opened_frame : LayoutOptions → ℕ → ℕ → Measure → Frame
 opened_frame o column depth m =
     new_frame (fits_from o.width column m.from m.whole) depth (plus depth o.indent)
+    (plus (plus depth o.indent) o.indent)
 
 -- a bracket opens or closes with a word, or none does
 abbrev pub frames_behind : List Frame → TokenKind → Frame → List Frame

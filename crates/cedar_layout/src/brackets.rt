@@ -2,7 +2,7 @@
 ghost use Rattle.std.specs.Prelude.{◌≡◌};
 ghost use Rattle.cedar_layout.specs.Brackets as spec;
 
-use crate::kinds::{is_at, is_brace};
+use crate::kinds::{is_at, is_brace, is_square};
 use cedar_lexer::token::TokenKind;
 
 /// What an open bracket holds.
@@ -14,6 +14,8 @@ pub enum Bracket {
     Body,
     /// one list or one record and nothing else
     Sole,
+    /// numbers and short texts, in a list
+    Short,
     /// anything else
     Inner,
 }
@@ -42,25 +44,41 @@ fn outer_bracket(before: Option<TokenKind>, kind: TokenKind) -> Bracket
     }
 }
 
-/// What a bracket holds that opens in another one.
-fn inner_bracket(hugs: bool) -> Bracket
-    ensures { result ≡ spec.inner_bracket hugs }
+/// What a bracket holds that opens in another one, where it is one list or record, or numbers and
+/// short texts.
+fn told_bracket(kind: TokenKind) -> Bracket
+    ensures { result ≡ spec.told_bracket kind }
 {
-    if hugs { Bracket::Sole } else { Bracket::Inner }
+    if is_square(kind) {
+        Bracket::Short
+    } else {
+        Bracket::Sole
+    }
+}
+
+/// What a bracket holds that opens in another one.
+fn inner_bracket(kind: TokenKind, told: bool) -> Bracket
+    ensures { result ≡ spec.inner_bracket kind told }
+{
+    if told {
+        told_bracket(kind)
+    } else {
+        Bracket::Inner
+    }
 }
 
 /// What a bracket holds that opens in another one, or in none, where `before` stands two words
-/// before it, and it hugs one list or record or not.
+/// before it, and it is told that it holds one list or record, or numbers and short texts, or not.
 pub(crate) fn new_bracket(
     bracket: Option<Bracket>,
     before: Option<TokenKind>,
     kind: TokenKind,
-    hugs: bool,
+    told: bool,
 ) -> Bracket
-    ensures { result ≡ spec.new_bracket bracket before kind hugs }
+    ensures { result ≡ spec.new_bracket bracket before kind told }
 {
     match bracket {
         None => outer_bracket(before, kind),
-        Some(_) => inner_bracket(hugs),
+        Some(_) => inner_bracket(kind, told),
     }
 }

@@ -5,8 +5,8 @@ ghost use Rattle.cedar_layout.specs.Gaps as spec;
 use crate::brackets::{Bracket, is_at_sign};
 use crate::decisions::BlankRule;
 use crate::kinds::{
-    closes, ends_operand, first_byte, goes_on, is_at, is_comma, is_lettered, is_paren,
-    is_semicolon, opens,
+    begins_condition, closes, ends_operand, first_byte, goes_on, is_at, is_comma, is_lettered,
+    is_paren, is_semicolon, opens,
 };
 use crate::levels::{Level, level_apart, level_joined};
 use cedar_lexer::token::TokenKind;
@@ -24,6 +24,32 @@ pub struct Gap {
     pub rule: BlankRule,
     /// a bracket closes behind it
     pub closing: bool,
+}
+
+/// Two words that follow one another, and what the gap between them depends on.
+#[derive(Clone, Copy)]
+pub struct Neighbours {
+    /// what stands before the two
+    pub before: Option<TokenKind>,
+    pub last: TokenKind,
+    pub next: TokenKind,
+    /// a comment stands between the two
+    pub leads: bool,
+    /// one stands before `last`, and none behind it
+    pub led: bool,
+}
+
+/// What stands before a word that is read.
+#[derive(Clone, Copy)]
+pub struct Behind {
+    /// the innermost open bracket
+    pub bracket: Option<Bracket>,
+    /// the two words before
+    pub before: Option<TokenKind>,
+    pub last: Option<TokenKind>,
+    /// a comment stands behind them, and one between them
+    pub commented: bool,
+    pub led: bool,
 }
 
 /// Between two words of a line.
@@ -104,72 +130,101 @@ fn holds_back(last: TokenKind, next: TokenKind) -> bool
 }
 
 /// Between two words of an expression.
-fn flat_gap(before: Option<TokenKind>, last: TokenKind, next: TokenKind) -> Gap
-    ensures { result ≡ spec.flat_gap before last next }
+fn flat_gap(words: Neighbours) -> Gap
+    ensures { result
+        ≡ spec.flat_gap words.leads words.led words.before words.last words.next }
 {
-    if holds_next(before, last) {
+    let Neighbours { last, next, .. } = words;
+    if holds_next(words.before, last) {
         word_gap(false, Level::Fixed)
     } else if holds_back(last, next) {
         word_gap(false, level_joined(last, next))
     } else {
-        word_gap(true, level_apart(last, next))
+        let leads = words.leads && ends_operand(last);
+        word_gap(true, level_apart(leads, words.led, last, next))
+    }
+}
+
+/// No blank line stands before a condition.
+fn outer_rule(next: TokenKind) -> BlankRule
+    ensures { result ≡ spec.outer_rule next }
+{
+    if begins_condition(next) {
+        BlankRule::Never
+    } else {
+        BlankRule::Kept
     }
 }
 
 /// Outside of brackets a policy ends, and an annotation, an effect or a condition begins a line.
-fn outer_gap(before: Option<TokenKind>, last: TokenKind, next: TokenKind) -> Gap
-    ensures { result ≡ spec.outer_gap before last next }
+fn outer_gap(words: Neighbours) -> Gap
+    ensures { result ≡ spec.outer_gap words.before words.last words.next }
 {
+    let Neighbours { last, next, .. } = words;
     if is_semicolon(last) {
         line_gap(BlankRule::Always)
     } else if !is_at(last) && (is_at(next) || is_lettered(next)) {
-        line_gap(BlankRule::Kept)
-    } else if is_paren(next) && is_lettered(last) && !is_at_sign(before) {
+        line_gap(outer_rule(next))
+    } else if is_paren(next) && is_lettered(last) && !is_at_sign(words.before) {
         word_gap(true, Level::Fixed)
     } else {
-        word_gap(flat_gap(before, last, next).spaced, Level::Fixed)
+        let unled = Neighbours {
+            leads: false,
+            led: false,
+            ..words
+        };
+        word_gap(flat_gap(unled).spaced, Level::Fixed)
     }
 }
 
-/// Inside of a bracket that isn't an annotation's; inside of its ends stands a space, or nothing.
-fn held_gap(spaced: bool, before: Option<TokenKind>, last: TokenKind, next: TokenKind) -> Gap
-    ensures { result ≡ spec.held_gap spaced before last next }
+/// Behind a comma; but behind one that begins its line the next item follows on it.
+fn comma_level(led: bool, level: Level) -> Level
+    ensures { result ≡ spec.comma_level led level }
 {
+    if led { Level::Filled } else { level }
+}
+
+/// Inside of a bracket that isn't an annotation's; inside of its ends stands a space, or nothing,
+/// and behind a comma its lines end at gaps of this level.
+fn held_gap(spaced: bool, level: Level, words: Neighbours) -> Gap
+    ensures { result ≡ spec.held_gap spaced level
+        words.leads words.led words.before words.last words.next }
+{
+    let Neighbours { last, next, .. } = words;
     if opens(last) && closes(next) {
         end_gap(false, Level::Fixed, true)
     } else if opens(last) || closes(next) {
         end_gap(spaced, Level::Listed, closes(next))
     } else if is_comma(last) {
-        word_gap(true, Level::Listed)
+        word_gap(true, comma_level(words.led, level))
+    } else if words.leads && is_comma(next) {
+        word_gap(false, Level::Listed)
     } else {
-        flat_gap(before, last, next)
+        flat_gap(words)
     }
 }
 
 /// Inside of a bracket.
-fn inner_gap(bracket: Bracket, before: Option<TokenKind>, last: TokenKind, next: TokenKind) -> Gap
-    ensures { result ≡ spec.inner_gap bracket before last next }
+fn inner_gap(bracket: Bracket, words: Neighbours) -> Gap
+    ensures { result ≡ spec.inner_gap bracket
+        words.leads words.led words.before words.last words.next }
 {
     match bracket {
-        Bracket::Annotation => word_gap(false, Level::Fixed),
-        Bracket::Body => held_gap(true, before, last, next),
-        Bracket::Sole => end_gap(false, Level::Fixed, closes(next)),
-        Bracket::Inner => held_gap(false, before, last, next),
+        Bracket::Annotation | Bracket::Sole => { end_gap(false, Level::Fixed, closes(words.next)) }
+        Bracket::Body => held_gap(true, Level::Listed, words),
+        Bracket::Short => held_gap(false, Level::Packed, words),
+        Bracket::Inner => held_gap(false, Level::Listed, words),
     }
 }
 
-/// The gap between two words, by the innermost open bracket, where `before` stands before the two.
-fn gap_between(
-    bracket: Option<Bracket>,
-    before: Option<TokenKind>,
-    last: TokenKind,
-    next: TokenKind,
-) -> Gap
-    ensures { result ≡ spec.gap_between bracket before last next }
+/// The gap between two words, by the innermost open bracket.
+fn gap_between(bracket: Option<Bracket>, words: Neighbours) -> Gap
+    ensures { result ≡ spec.gap_between bracket
+        words.leads words.led words.before words.last words.next }
 {
     match bracket {
-        None => outer_gap(before, last, next),
-        Some(bracket) => inner_gap(bracket, before, last, next),
+        None => outer_gap(words),
+        Some(bracket) => inner_gap(bracket, words),
     }
 }
 
@@ -183,21 +238,42 @@ fn parted(gap: Gap, glued: bool) -> Gap
     }
 }
 
-/// The gap before a word, or before the first.
-pub(crate) fn gap_at(
-    bracket: Option<Bracket>,
-    before: Option<TokenKind>,
-    last: Option<TokenKind>,
-    kind: TokenKind,
-    text: &str,
-) -> Gap
-    ensures { result ≡ spec.gap_at bracket before last kind text.now }
+/// The gap before a word, or before the first. An operator behind a comment begins its line; with
+/// another comment behind it its operand begins one too.
+pub(crate) fn gap_at(behind: Behind, kind: TokenKind, text: &str) -> Gap
+    ensures { result ≡ spec.gap_at behind.bracket behind.commented behind.led behind.before
+        behind.last kind text.now }
 {
-    match last {
+    match behind.last {
         None => word_gap(false, Level::Fixed),
         Some(last) => {
-            let between = gap_between(bracket, before, last, kind);
+            let words = Neighbours {
+                before: behind.before,
+                last,
+                next: kind,
+                leads: behind.commented,
+                led: behind.led && !behind.commented,
+            };
+            let between = gap_between(behind.bracket, words);
             parted(between, goes_on(last, first_byte(text)))
         }
     }
+}
+
+/// What becomes of a blank line before a word that begins a line, where this is the rule of what
+/// stands before the word and behind the last comment.
+pub(crate) fn line_rule(rule: BlankRule, gap: Gap) -> BlankRule
+    ensures { result ≡ spec.line_rule rule gap }
+{
+    if gap.closing || gap.begins_line && is_never(gap.rule) {
+        BlankRule::Never
+    } else {
+        rule
+    }
+}
+
+fn is_never(rule: BlankRule) -> bool
+    ensures { result ≡ spec.is_never rule }
+{
+    matches!(rule, BlankRule::Never)
 }

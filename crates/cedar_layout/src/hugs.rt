@@ -1,9 +1,11 @@
-//! Which parentheses hold one list or one record and nothing else.
+//! Which parentheses hold one list or one record and nothing else, and which lists numbers and short
+//! texts.
 ghost use Rattle.std.specs.Prelude.{◌≡◌, IfOk};
 ghost use Rattle.cedar_layout.specs.Hugs as spec;
 ghost use Rattle.cedar_layout.specs.Read.{item_now, items_now};
 
-use crate::kinds::{closes, is_list, is_paren, opens};
+use crate::columns::width_of;
+use crate::kinds::{closes, is_list, is_paren, is_square, opens};
 use crate::pieces::{Item, SpacedItem};
 use cedar_lexer::token::TokenKind;
 use std::alloc::{AllocError, Global};
@@ -16,9 +18,12 @@ pub struct Tail {
     pub closing: bool,
     /// a list or a record opens at once, and behind its end another bracket closes at once
     pub sole: bool,
+    /// numbers, short texts and what stands between them, and no comment, up to a bracket's end
+    pub short: bool,
     /// of each bracket that closes here and opens before: another one closes at once behind it
     pub behind: VecDeque<bool>,
-    /// of each word: parentheses open with it that hold one list or one record
+    /// of each word: parentheses open with it that hold one list or one record, or a list that
+    /// holds numbers and short texts
     pub hugs: VecDeque<bool>,
 }
 
@@ -61,15 +66,30 @@ fn read_bracket(
     Ok(())
 }
 
+/// The widest text, with its quotes, beside which another one stands on the line.
+const SHORT: usize = 10;
+
+/// A list's line goes on with it, where it has this text.
+fn is_short(kind: TokenKind, text: &str) -> bool
+    ensures { result ≡ spec.is_short kind text.now }
+{
+    match kind {
+        TokenKind::Number | TokenKind::Minus | TokenKind::Comma => true,
+        TokenKind::StringLit => width_of(text) <= SHORT,
+        _ => false,
+    }
+}
+
 /// What is known from a word on.
-fn read_word(tail: &mut Tail, kind: TokenKind) -> Result<(), AllocError>
+fn read_word(tail: &mut Tail, kind: TokenKind, text: &str) -> Result<(), AllocError>
     ensures { IfOk result (λ _. spec.tail_now tail.new
-        ≡ spec.before_kind kind (spec.tail_now tail.old)) }
+        ≡ spec.before_word kind text.now (spec.tail_now tail.old)) }
 {
     let sole = is_list(kind) && first_flag(&tail.behind);
-    tail.hugs.push_front(is_paren(kind) && tail.sole)?;
+    tail.hugs.push_front(is_paren(kind) && tail.sole || is_square(kind) && tail.short)?;
     read_bracket(&mut tail.behind, kind, tail.closing)?;
     tail.closing = closes(kind);
+    tail.short = closes(kind) || tail.short && is_short(kind, text);
     tail.sole = sole;
     Ok(())
 }
@@ -80,24 +100,27 @@ fn read_item(tail: &mut Tail, item: Item<'_>) -> Result<(), AllocError>
         ≡ spec.before_item (item_now item.entry) (spec.tail_now tail.old)) }
 {
     match item {
-        Item::Word(kind, _) => read_word(tail, kind),
+        Item::Word(kind, text) => read_word(tail, kind, text),
         Item::Beside(_) | Item::Below(_) => {
             tail.closing = false;
             tail.sole = false;
+            tail.short = false;
             Ok(())
         }
     }
 }
 
-/// Of each word of a text, whether parentheses open with it that hold one list or one record.
+/// Of each word of a text, whether parentheses open with it that hold one list or one record, or a
+/// list that holds numbers and short texts.
 pub(crate) fn hugs(alloc: Global, pieces: &[SpacedItem<'_>]) -> Result<VecDeque<bool>, AllocError>
     ensures { IfOk result (λ hugs. hugs.items ≡ spec.hugs_of (items_now pieces.now)) }
 {
     let mut tail = Tail {
         closing: false,
         sole: false,
+        short: false,
         behind: VecDeque::new(alloc),
-        hugs: VecDeque::new(alloc),
+        hugs: VecDeque::with_capacity(alloc, pieces.len())?,
     };
     let mut at = pieces.len();
     while at > 0 {

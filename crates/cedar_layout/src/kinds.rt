@@ -32,6 +32,13 @@ pub(crate) fn is_list(kind: TokenKind) -> bool
     matches!(kind, TokenKind::OpenBracket | TokenKind::OpenBrace)
 }
 
+/// A condition begins with it.
+pub(crate) fn begins_condition(kind: TokenKind) -> bool
+    ensures { result ≡ spec.begins_condition kind }
+{
+    matches!(kind, TokenKind::When | TokenKind::Unless)
+}
+
 /// Letters: a word of the language or an identifier.
 pub(crate) fn is_lettered(kind: TokenKind) -> bool
     ensures { result ≡ spec.is_lettered kind }
@@ -138,6 +145,12 @@ pub(crate) fn is_paren(kind: TokenKind) -> bool
     ensures { result ≡ spec.is_paren kind }
 {
     matches!(kind, TokenKind::OpenParen)
+}
+
+pub(crate) fn is_square(kind: TokenKind) -> bool
+    ensures { result ≡ spec.is_square kind }
+{
+    matches!(kind, TokenKind::OpenBracket)
 }
 
 pub(crate) fn is_brace(kind: TokenKind) -> bool

@@ -8,7 +8,9 @@ ghost use Rattle.cedar_layout.specs.Entries.{entries_of, entries_in};
 ghost use Rattle.cedar_layout.specs.Laid.{LaidItem, MayStand, MayFollow, start, file_text, pieces_of};
 ghost use Rattle.cedar_layout.specs.Layouts.{LayoutRule, laid_out};
 ghost use Rattle.cedar_layout.specs.Pieces.{SpacedItem, IsReadAs, items_of};
+ghost use Rattle.cedar_layout.specs.Steps.{KeepsSteps};
 ghost use Rattle.cedar_layout.specs.Style.{style};
+ghost use Rattle.cedar_layout.specs.Whole.{KeepsWhole, KeepsOperands};
 ghost use Rattle.cedar_layout.specs.Widths.{KeepsWidth};
 ghost use Rattle.cedar_layout.specs.declared.options.LayoutOptions.{LayoutOptions};
 
@@ -69,4 +71,29 @@ pub fn lines_keep_the_width()
         → IsReadAs source ps
         → length source < 2 ^ 63
         → KeepsWidth options.width ps (laid_out (style options) ps) }
+{}
+
+/// In a text that the style lays out each line in a bracket begins one or more steps of `indent`
+/// spaces deeper than the line on which the bracket opens, its end as deep as that line, and each
+/// line outside of brackets at the margin; but none begins further on than the width.
+pub fn lines_begin_in_step()
+    ensures { (options : LayoutOptions) (source : List ℕ) (ps : List SpacedItem)
+        → IsReadAs source ps
+        → options.width < 2 ^ 64
+        → KeepsSteps options ps (laid_out (style options) ps) }
+{}
+
+/// In a text that the style lays out no line begins in a bracket that fits on its line, from where
+/// it opens up to where the line can end next behind it, without a comment; nor in an operand that
+/// fits on its line, from where it begins up to the next `&&`, `||`, `then`, `else`, comma or
+/// bracket's end.
+pub fn what_fits_stays_whole()
+    ensures brackets { (options : LayoutOptions) (source : List ℕ) (ps : List SpacedItem)
+        → IsReadAs source ps
+        → length source < 2 ^ 63
+        → KeepsWhole options.width ps (laid_out (style options) ps) }
+    ensures operands { (options : LayoutOptions) (source : List ℕ) (ps : List SpacedItem)
+        → IsReadAs source ps
+        → length source < 2 ^ 63
+        → KeepsOperands options.width ps (laid_out (style options) ps) }
 {}

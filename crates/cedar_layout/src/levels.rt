@@ -5,7 +5,7 @@ ghost use Rattle.cedar_layout.specs.Levels as spec;
 use cedar_lexer::token::TokenKind;
 
 /// Where a line may end: at all gaps of a level or at none, the outermost level first; at those
-/// that are filled where what follows doesn't fit.
+/// that are packed or filled where what follows doesn't fit.
 #[derive(Clone, Copy)]
 pub enum Level {
     /// inside a bracket's ends, and behind a comma
@@ -16,7 +16,18 @@ pub enum Level {
     Disjoined,
     /// behind `&&`
     Conjoined,
-    /// behind another operator, and before the dot of a call on a call's answer
+    /// behind a relation
+    Related,
+    /// behind `+` and `-`
+    Added,
+    /// behind `*`
+    Multiplied,
+    /// before the dot of a call on a call's answer
+    Chained,
+    /// behind a comma between numbers and short texts
+    Packed,
+    /// where nothing else helps: before a list or a record behind a relation, behind `has`, `like`,
+    /// `is`, `if`, `then`, `else` and a key, and behind an operator that begins its line
     Filled,
     /// a line ends here only behind a comment
     Fixed,
@@ -34,8 +45,13 @@ impl Level {
             Level::Branched => 1,
             Level::Disjoined => 2,
             Level::Conjoined => 3,
-            Level::Filled => 4,
-            Level::Fixed => 5,
+            Level::Related => 4,
+            Level::Added => 5,
+            Level::Multiplied => 6,
+            Level::Chained => 7,
+            Level::Packed => 8,
+            Level::Filled => 9,
+            Level::Fixed => 10,
         }
     }
 
@@ -47,28 +63,13 @@ impl Level {
     }
 }
 
-/// Behind a relation; but a list or a record stands on the line of its operator.
-fn behind_relation(next: TokenKind) -> Level
-    ensures { result ≡ spec.behind_relation next }
+/// The level of the gap at an operator.
+fn operator_level(kind: TokenKind) -> Level
+    ensures { result ≡ spec.operator_level kind }
 {
-    match next {
-        TokenKind::OpenBracket | TokenKind::OpenBrace => Level::Fixed,
-        _ => Level::Filled,
-    }
-}
-
-/// The level of the gap behind an operator.
-fn level_behind(last: TokenKind, next: TokenKind) -> Level
-    ensures { result ≡ spec.level_behind last next }
-{
-    match last {
+    match kind {
         TokenKind::OrOr => Level::Disjoined,
         TokenKind::AndAnd => Level::Conjoined,
-        TokenKind::Plus
-        | TokenKind::Minus
-        | TokenKind::Star
-        | TokenKind::Slash
-        | TokenKind::Percent => Level::Filled,
         TokenKind::EqEq
         | TokenKind::NotEq
         | TokenKind::Less
@@ -76,18 +77,83 @@ fn level_behind(last: TokenKind, next: TokenKind) -> Level
         | TokenKind::GreaterEq
         | TokenKind::Greater
         | TokenKind::Eq
-        | TokenKind::In => behind_relation(next),
+        | TokenKind::In => Level::Related,
+        TokenKind::Plus | TokenKind::Minus => Level::Added,
+        TokenKind::Star | TokenKind::Slash | TokenKind::Percent => Level::Multiplied,
+        TokenKind::Has | TokenKind::Like | TokenKind::Is => Level::Filled,
         _ => Level::Fixed,
     }
 }
 
-/// The level of a gap between words that stand a space apart.
-pub(crate) fn level_apart(last: TokenKind, next: TokenKind) -> Level
-    ensures { result ≡ spec.level_apart last next }
+/// The level of the gap behind a word before an operand.
+fn word_level(kind: TokenKind) -> Level
+    ensures { result ≡ spec.word_level kind }
+{
+    match kind {
+        TokenKind::If | TokenKind::Then | TokenKind::Else | TokenKind::Colon => Level::Filled,
+        _ => operator_level(kind),
+    }
+}
+
+/// Behind an operator; but a list or a record stands on the line of its relation.
+fn before_operand(level: Level, next: TokenKind) -> Level
+    ensures { result ≡ spec.before_operand level next }
+{
+    match (level, next) {
+        (Level::Related, TokenKind::OpenBracket | TokenKind::OpenBrace) => Level::Filled,
+        _ => level,
+    }
+}
+
+/// Behind an operator that begins its line its operand follows on it.
+fn behind_led(level: Level) -> Level
+    ensures { result ≡ spec.behind_led level }
+{
+    match level {
+        Level::Fixed => Level::Fixed,
+        _ => Level::Filled,
+    }
+}
+
+/// The level of the gap behind a word.
+fn level_behind(led: bool, last: TokenKind, next: TokenKind) -> Level
+    ensures { result ≡ spec.level_behind led last next }
+{
+    let level = before_operand(word_level(last), next);
+    if led { behind_led(level) } else { level }
+}
+
+/// The level of a gap before a word that isn't an operator behind a comment.
+fn plain_level(led: bool, last: TokenKind, next: TokenKind) -> Level
+    ensures { result ≡ spec.plain_level led last next }
 {
     match next {
         TokenKind::Then | TokenKind::Else => Level::Branched,
-        _ => level_behind(last, next),
+        _ => level_behind(led, last, next),
+    }
+}
+
+/// An operator that begins its line does so at its own level.
+fn led_level(level: Level, plain: Level) -> Level
+    ensures { result ≡ spec.led_level level plain }
+{
+    match level {
+        Level::Fixed => plain,
+        _ => level,
+    }
+}
+
+/// The level of a gap between words that stand a space apart. An operator leads its line in the
+/// place of ending it where a comment stands before it: `leads` says this of `next`, `led` of
+/// `last`.
+pub(crate) fn level_apart(leads: bool, led: bool, last: TokenKind, next: TokenKind) -> Level
+    ensures { result ≡ spec.level_apart leads led last next }
+{
+    let plain = plain_level(led, last, next);
+    if leads {
+        led_level(operator_level(next), plain)
+    } else {
+        plain
     }
 }
 
@@ -96,7 +162,7 @@ pub(crate) fn level_joined(last: TokenKind, next: TokenKind) -> Level
     ensures { result ≡ spec.level_joined last next }
 {
     match (last, next) {
-        (TokenKind::CloseParen, TokenKind::Dot) => Level::Filled,
+        (TokenKind::CloseParen, TokenKind::Dot) => Level::Chained,
         _ => Level::Fixed,
     }
 }

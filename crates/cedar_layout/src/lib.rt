@@ -2,6 +2,7 @@
 #![tactic(auto)]
 
 mod brackets;
+mod columns;
 mod decisions;
 mod frames;
 mod gaps;
@@ -20,5 +21,5 @@ mod style;
 mod writing;
 
 pub use crate::layout::lay_out;
-pub use crate::options::LayoutOptions;
+pub use crate::options::{IndentPastWidth, LayoutOptions};
 pub use crate::reading::LayoutError;

@@ -18,13 +18,18 @@ pub struct Distance {
     pub columns: usize,
 }
 
-/// What is ahead in a bracket: where the next gap stands that is outside of `Branched`, of
-/// `Disjoined` and of `Conjoined`, or the bracket's end; and where the line can end first.
+/// What is ahead in a bracket: where the next gap stands that is outside of a level, or the
+/// bracket's end, for the levels from `Branched` to `Packed`; and where the line can end first.
 #[derive(Clone, Copy)]
 pub struct Ahead {
     pub branched: Distance,
     pub disjoined: Distance,
     pub conjoined: Distance,
+    pub related: Distance,
+    pub added: Distance,
+    pub multiplied: Distance,
+    pub chained: Distance,
+    pub packed: Distance,
     pub ending: Distance,
 }
 
@@ -44,6 +49,14 @@ pub struct MeasuredWord {
     pub measure: Measure,
 }
 
+/// The words of a text, in order, and the measures of those at which a line may begin or a bracket
+/// opens.
+#[derive(Drop)]
+pub struct Words {
+    pub spots: VecDeque<Spot>,
+    pub measures: VecDeque<Measure>,
+}
+
 /// Numbers end at the largest `usize`.
 pub(crate) fn plus(a: usize, b: usize) -> usize
     ensures { result ≡ spec.plus a b }
@@ -58,6 +71,13 @@ pub(crate) fn fits_from(width: usize, column: usize, from: Distance, to: Distanc
     from.comments == to.comments && plus(column, from.columns.saturating_sub(to.columns)) <= width
 }
 
+/// Place `a` stands before place `b`.
+pub(crate) fn stands_before(a: Distance, b: Distance) -> bool
+    ensures { result ≡ spec.stands_before a b }
+{
+    b.comments < a.comments || a.comments == b.comments && b.columns < a.columns
+}
+
 /// What is ahead before a gap that ends at a place.
 fn past_gap(gap: Gap, commented: bool, place: Distance, ahead: Ahead) -> Ahead
     ensures { result ≡ spec.past_gap gap commented place ahead }
@@ -66,6 +86,11 @@ fn past_gap(gap: Gap, commented: bool, place: Distance, ahead: Ahead) -> Ahead
         branched: nearer(ends_line(gap, Level::Branched), place, ahead.branched),
         disjoined: nearer(ends_line(gap, Level::Disjoined), place, ahead.disjoined),
         conjoined: nearer(ends_line(gap, Level::Conjoined), place, ahead.conjoined),
+        related: nearer(ends_line(gap, Level::Related), place, ahead.related),
+        added: nearer(ends_line(gap, Level::Added), place, ahead.added),
+        multiplied: nearer(ends_line(gap, Level::Multiplied), place, ahead.multiplied),
+        chained: nearer(ends_line(gap, Level::Chained), place, ahead.chained),
+        packed: nearer(ends_line(gap, Level::Packed), place, ahead.packed),
         ending: nearer(
             ends_line(gap, Level::Fixed) || commented,
             place,
@@ -106,6 +131,11 @@ fn end_ahead() -> Ahead
         branched: the_end(),
         disjoined: the_end(),
         conjoined: the_end(),
+        related: the_end(),
+        added: the_end(),
+        multiplied: the_end(),
+        chained: the_end(),
+        packed: the_end(),
         ending: the_end(),
     }
 }
@@ -216,14 +246,33 @@ fn behind_word(
     Ok(())
 }
 
-/// The words with their measures, which are taken from the last word to the first.
-pub(crate) fn words_measured(
-    alloc: Global,
-    spots: &[Spot],
-) -> Result<VecDeque<MeasuredWord>, AllocError>
-    ensures { IfOk result (λ words. words.items ≡ spec.words_measured spots.now) }
+/// A word's measure is asked for: a line may begin at it, or a bracket opens.
+fn is_measured(spot: Spot) -> bool
+    ensures { result ≡ spec.is_measured spot }
 {
-    let mut words = VecDeque::new(alloc);
+    spot.commented
+        || spot.gap.begins_line
+        || spot.gap.level.is_outside(Level::Fixed)
+        || opens(spot.kind)
+}
+
+/// Keeps the measure of a word where it is asked for.
+fn keep_measure(measures: &mut VecDeque<Measure>, word: MeasuredWord) -> Result<(), AllocError>
+    ensures { IfOk result (λ _. measures.new.items ≡ spec.kept_with word measures.old.items) }
+{
+    if is_measured(word.spot) {
+        measures.push_front(word.measure)?;
+    }
+    Ok(())
+}
+
+/// The measures of words, which are taken from the last word to the first.
+fn measures_of(alloc: Global, spots: &[Spot]) -> Result<VecDeque<Measure>, AllocError>
+    ensures { IfOk result (λ measures. measures.items
+        ≡ spec.kept_measures (spec.words_measured spots.now)) }
+{
+    let count = spots.iter().filter(|spot| is_measured(**spot)).count();
+    let mut measures = VecDeque::with_capacity(alloc, count)?;
     let mut behind = VecDeque::new(alloc);
     let mut place = the_end();
     let mut ahead = end_ahead();
@@ -232,10 +281,62 @@ pub(crate) fn words_measured(
         at -= 1;
         let spot = spots[at];
         let measure = measure_at(spot, first_ahead(&behind), ahead, place);
-        words.push_front(MeasuredWord { spot, measure })?;
+        keep_measure(&mut measures, MeasuredWord { spot, measure })?;
         behind_word(spot.kind, &mut behind, ahead)?;
         place = place_before(spot, place);
         ahead = past_gap(spot.gap, spot.commented, place, measure.ahead);
     }
-    Ok(words)
+    Ok(measures)
+}
+
+/// The words with their measures.
+pub(crate) fn words_measured(alloc: Global, spots: Vec<Spot>) -> Result<Words, AllocError>
+    ensures spots { IfOk result (λ words. words.spots.items ≡ spots.items) }
+    ensures measures { IfOk result (λ words. words.measures.items
+        ≡ spec.kept_measures (spec.words_measured spots.items)) }
+{
+    let measures = measures_of(alloc, &spots)?;
+    Ok(Words {
+        spots: VecDeque::from_vec(spots),
+        measures,
+    })
+}
+
+/// No measure is asked for.
+fn no_measure() -> Measure
+    ensures { result ≡ spec.no_measure }
+{
+    Measure {
+        from: the_end(),
+        ahead: end_ahead(),
+        whole: the_end(),
+    }
+}
+
+/// Takes the measure of a word, where one is kept.
+fn next_measure(measures: &mut VecDeque<Measure>, spot: Spot) -> Measure
+    ensures measure { result ≡ (spec.measured_by spot measures.old.items).measure }
+    ensures rest { measures.new.items ≡ spec.measures_past spot measures.old.items }
+{
+    if !is_measured(spot) {
+        return no_measure();
+    }
+    match measures.pop_front() {
+        None => no_measure(),
+        Some(measure) => measure,
+    }
+}
+
+/// Takes the next word.
+pub(crate) fn next_measured(words: &mut Words) -> Option<MeasuredWord>
+    ensures word { result ≡ spec.first_word (spec.words_now words.old) }
+    ensures rest { spec.words_now words.new ≡ spec.rest_words (spec.words_now words.old) }
+{
+    match words.spots.pop_front() {
+        None => None,
+        Some(spot) => {
+            let measure = next_measure(&mut words.measures, spot);
+            Some(MeasuredWord { spot, measure })
+        }
+    }
 }

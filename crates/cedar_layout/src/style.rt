@@ -2,16 +2,22 @@
 ghost use Rattle.std.specs.Prelude.{◌≡◌, IfOk};
 ghost use Rattle.cedar_lexer.specs.Words.{TokenText};
 ghost use Rattle.cedar_layout.specs.Layouts.{undecided as is_undecided};
+ghost use Rattle.cedar_layout.specs.Measures.{words_now};
 ghost use Rattle.cedar_layout.specs.Pieces.{word};
 ghost use Rattle.cedar_layout.specs.Read.{item_now, items_now};
 ghost use Rattle.cedar_layout.specs.Style as spec;
 
 use crate::decisions::{BlankRule, Decision, Form};
-use crate::frames::{Frame, breaks_level, comment_depth, line_begun_at, line_depth, new_frame};
-use crate::gaps::{Gap, line_gap};
+use crate::frames::{
+    Frame, breaks_level, comment_depth, is_fine, line_begun_at, line_depth, new_frame,
+};
+use crate::gaps::{Gap, line_gap, line_rule};
 use crate::kinds::{closes, opens};
 use crate::levels::Level;
-use crate::measures::{Measure, MeasuredWord, fits_from, ones, plus, words_measured};
+use crate::measures::{
+    Distance, Measure, MeasuredWord, Words, fits_from, next_measured, ones, plus, stands_before,
+    words_measured,
+};
 use crate::options::LayoutOptions;
 use crate::pieces::{Item, SpacedItem};
 use crate::spots::{Spot, spots};
@@ -20,18 +26,85 @@ use std::alloc::{AllocError, Global};
 use std::collections::VecDeque;
 
 /// Lines end at gaps of this level where what follows doesn't fit.
-fn is_filled(level: Level) -> bool
-    ensures { result ≡ spec.is_filled level }
+fn is_loose(level: Level) -> bool
+    ensures { result ≡ spec.is_loose level }
 {
-    matches!(level, Level::Filled)
+    !level.is_outside(Level::Related) && level.is_outside(Level::Fixed)
+}
+
+/// Where the word begins if its line goes on.
+fn next_column(column: usize, spot: Spot) -> usize
+    ensures { result ≡ spec.next_column column spot }
+{
+    plus(column, ones(spot.gap.spaced))
 }
 
 /// What follows fits, up to where the line can end next.
 fn fills(options: LayoutOptions, column: usize, spot: Spot, measure: Measure) -> bool
     ensures { result ≡ spec.fills options column spot measure }
 {
-    let begin = plus(column, ones(spot.gap.spaced));
+    let begin = next_column(column, spot);
     fits_from(options.width, begin, measure.from, measure.ahead.ending)
+}
+
+/// An operand that begins in a column doesn't fit up to its end, but would on a line of its own, or
+/// can be parted itself.
+fn operand_breaks(
+    options: LayoutOptions,
+    depth: usize,
+    column: usize,
+    measure: Measure,
+    end: Distance,
+) -> bool
+    ensures { result ≡ spec.operand_breaks options depth column measure end }
+{
+    !fits_from(options.width, column, measure.from, end)
+        && (fits_from(options.width, depth, measure.from, end)
+            || stands_before(measure.ahead.packed, end))
+}
+
+/// Lines end at a gap of a level because of the operand behind it.
+fn operand_breaks_at(
+    options: LayoutOptions,
+    depth: usize,
+    column: usize,
+    measure: Measure,
+    level: Level,
+) -> bool
+    ensures { result ≡ spec.operand_breaks_at options depth column measure level }
+{
+    let ahead = measure.ahead;
+    match level {
+        Level::Related => operand_breaks(options, depth, column, measure, ahead.related),
+        Level::Added => operand_breaks(options, depth, column, measure, ahead.added),
+        Level::Multiplied => operand_breaks(options, depth, column, measure, ahead.multiplied),
+        Level::Chained => operand_breaks(options, depth, column, measure, ahead.chained),
+        _ => false,
+    }
+}
+
+/// Lines end at the gap because of what follows, in the innermost open bracket or in none.
+fn breaks_loosely(
+    options: LayoutOptions,
+    frame: Option<Frame>,
+    column: usize,
+    spot: Spot,
+    measure: Measure,
+) -> bool
+    ensures { result ≡ spec.breaks_loosely options frame column spot measure }
+{
+    match frame {
+        None => false,
+        Some(inner) => {
+            let level = spot.gap.level;
+            let depth = line_depth(options, frame, spot.gap);
+            let begin = next_column(column, spot);
+            !is_fine(inner)
+                && is_loose(level)
+                && (!fills(options, column, spot, measure)
+                    || operand_breaks_at(options, depth, begin, measure, level))
+        }
+    }
 }
 
 /// A line begins at the gap before a word.
@@ -47,7 +120,7 @@ fn begins(
     spot.commented
         || spot.gap.begins_line
         || breaks_level(frame, spot.gap.level)
-        || is_filled(spot.gap.level) && !fills(options, column, spot, measure)
+        || breaks_loosely(options, frame, column, spot, measure)
 }
 
 /// What is decided for a word that begins a line or doesn't, in the innermost open bracket.
@@ -64,7 +137,7 @@ fn word_decision(
         Decision {
             form: Form::Broken,
             depth: line_depth(options, frame, gap),
-            rule: if gap.closing { BlankRule::Never } else { rule },
+            rule: line_rule(rule, gap),
         }
     } else {
         Decision {
@@ -149,7 +222,8 @@ fn opened_frame(options: LayoutOptions, column: usize, depth: usize, measure: Me
     ensures { result ≡ spec.opened_frame options column depth measure }
 {
     let flat = fits_from(options.width, column, measure.from, measure.whole);
-    new_frame(flat, depth, plus(depth, options.indent))
+    let inner = plus(depth, options.indent);
+    new_frame(flat, depth, inner, plus(inner, options.indent))
 }
 
 /// A bracket opens or closes with a word, or none does.
@@ -227,12 +301,12 @@ fn read_word(
     Ok(decision)
 }
 
-fn next_gap(words: &VecDeque<MeasuredWord>) -> Gap
-    ensures { result ≡ spec.next_gap words.now.items }
+fn next_gap(words: &Words) -> Gap
+    ensures { result ≡ spec.next_gap (words_now words.now) }
 {
-    match words.front() {
+    match words.spots.front() {
         None => line_gap(BlankRule::Kept),
-        Some(word) => word.spot.gap,
+        Some(spot) => spot.gap,
     }
 }
 
@@ -240,15 +314,15 @@ fn next_gap(words: &VecDeque<MeasuredWord>) -> Gap
 fn read_item(
     options: LayoutOptions,
     state: &mut State,
-    words: &mut VecDeque<MeasuredWord>,
+    words: &mut Words,
     item: Item<'_>,
 ) -> Result<Decision, AllocError>
     ensures decision { IfOk result (λ decision. decision ≡ spec.decision_at options
-        (spec.state_now state.old) (item_now item.entry) words.old.items) }
+        (spec.state_now state.old) (item_now item.entry) (words_now words.old)) }
     ensures state { IfOk result (λ _. spec.state_now state.new ≡ spec.state_past options
-        (spec.state_now state.old) (item_now item.entry) words.old.items) }
-    ensures words { IfOk result (λ _. words.new.items
-        ≡ spec.words_past (item_now item.entry) words.old.items) }
+        (spec.state_now state.old) (item_now item.entry) (words_now words.old)) }
+    ensures words { IfOk result (λ _. words_now words.new
+        ≡ spec.words_past (item_now item.entry) (words_now words.old)) }
 {
     match item {
         Item::Word(_, _) => next_word(options, state, words),
@@ -267,16 +341,16 @@ fn read_item(
 fn next_word(
     options: LayoutOptions,
     state: &mut State,
-    words: &mut VecDeque<MeasuredWord>,
+    words: &mut Words,
 ) -> Result<Decision, AllocError>
     ensures decision { (w : TokenText) → IfOk result (λ decision. decision
-        ≡ spec.decision_at options (spec.state_now state.old) (word w) words.old.items) }
+        ≡ spec.decision_at options (spec.state_now state.old) (word w) (words_now words.old)) }
     ensures state { (w : TokenText) → IfOk result (λ _. spec.state_now state.new
-        ≡ spec.state_past options (spec.state_now state.old) (word w) words.old.items) }
-    ensures words { (w : TokenText) → IfOk result (λ _. words.new.items
-        ≡ spec.words_past (word w) words.old.items) }
+        ≡ spec.state_past options (spec.state_now state.old) (word w) (words_now words.old)) }
+    ensures words { (w : TokenText) → IfOk result (λ _. words_now words.new
+        ≡ spec.words_past (word w) (words_now words.old)) }
 {
-    match words.pop_front() {
+    match next_measured(words) {
         None => Ok(undecided()),
         Some(next) => {
             let gap = next_gap(words);
@@ -290,12 +364,12 @@ fn plan(
     alloc: Global,
     options: LayoutOptions,
     pieces: &[SpacedItem<'_>],
-    words: VecDeque<MeasuredWord>,
+    words: Words,
 ) -> Result<VecDeque<Decision>, AllocError>
     ensures { IfOk result (λ decisions. decisions.items
-        ≡ spec.planned options spec.first_state (items_now pieces.now) words.items) }
+        ≡ spec.planned options spec.first_state (items_now pieces.now) (words_now words)) }
 {
-    let mut decisions = VecDeque::new(alloc);
+    let mut decisions = VecDeque::with_capacity(alloc, pieces.len())?;
     let mut state = State {
         frames: VecDeque::new(alloc),
         column: 0,
@@ -320,6 +394,6 @@ pub(crate) fn style(
         ≡ spec.style options (items_now pieces.now)) }
 {
     let spots = spots(alloc, pieces)?;
-    let words = words_measured(alloc, &spots)?;
+    let words = words_measured(alloc, spots)?;
     plan(alloc, options, pieces, words)
 }

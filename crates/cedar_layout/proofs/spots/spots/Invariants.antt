@@ -5,4 +5,4 @@ use Rattle.cedar_layout.specs.Read.{items_now}
 use Rattle.cedar_layout.proofs.spots.spots.Given as goal
 
 abbrev pub invariant-loop-piece : goal.invariant-loop-piece
-invariant-loop-piece l = l.spots.items ++ spec.spots_from l.brackets.items l.before l.last l.commented l.flags.items (items_now (drop l.piece-index l.pieces)) ≡ spec.spots_of (items_now l.pieces)
+invariant-loop-piece l = l.spots.items ++ spec.spots_from l.brackets.items l.before l.last l.led l.commented l.flags.items (items_now (drop l.piece-index l.pieces)) ≡ spec.spots_of (items_now l.pieces)

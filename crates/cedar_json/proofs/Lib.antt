@@ -1,0 +1,6 @@
+mod FreeOfSlots
+mod Joining
+mod KeysInOrder
+mod PolicyRoundTrip
+mod ReadAgain
+mod RoundTrip

@@ -1,0 +1,5 @@
+pub mod AsRead
+pub mod Members
+pub mod PolicyReadings
+pub mod Readings
+pub mod Legible

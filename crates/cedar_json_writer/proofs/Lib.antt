@@ -1,0 +1,11 @@
+mod Chained
+mod Conditions
+mod Listed
+mod MeaningByKind
+mod Openings
+mod Patterns
+mod Policies
+mod Scopes
+mod Shaped
+mod Steps
+mod WithoutPlaces
