@@ -1,4 +1,4 @@
-/* Cedar policies for C: a text in, its policies or its faults out. Version 0.1.0, ABI 1.
+/* Cedar policies for C: a text in, its policies or its faults out. Version 0.2.0, ABI 1.
  *
  * Every call returns, on every text, in time linear in it and with a small stack (256 KB are what
  * is tested): none aborts, blocks, opens, prints or keeps anything. An answer is plain data: read
@@ -22,7 +22,7 @@ extern "C" {
 #endif
 
 /* The version that this header is of. */
-#define CEDAR_VERSION "0.1.0"
+#define CEDAR_VERSION "0.2.0"
 /* The layout of these structs; another layout has another number. */
 #define CEDAR_ABI 1
 

@@ -13,7 +13,7 @@ pub fn command<'a>(alloc: Global) -> Result<Command<'a>, AllocError> {
     let list = Command::new(alloc, "list").about("Lists policies, each as a JSON object on a line");
     Command::new(alloc, "cedar")
         .bin_name("cedar")?
-        .version("0.1.0")
+        .version("0.2.0")
         .about("Reads policies of the Cedar language")
         .subcommand_required(true)
         .arg_required_else_help(true)
